@@ -14,6 +14,7 @@ between a capture of 30,000 packets and its first 10,000: they are the same agai
 --instructions counts them alone.
 """
 import argparse
+import ipaddress
 import math
 import os
 import pathlib
@@ -38,6 +39,11 @@ HOSTS = [f"10.0.0.{k}" for k in range(1, 26)] + [
     ".".join(str(chooser.randrange(1, 224)) for _ in range(4)) for _ in range(25)
 ]
 
+def network(prefix):
+    """A network with a prefix of this length."""
+    return f"{ipaddress.IPv4Address(chooser.randrange(1 << 24, 224 << 24) >> 32 - prefix << 32 - prefix)}/{prefix}"
+
+
 EXPRESSIONS = {
     "tcp": "tcp",
     "web": "tcp port 80 or 443",
@@ -48,6 +54,9 @@ EXPRESSIONS = {
     "ports-6": " or ".join(f"port {port}" for port in (80, 443, 53, 22, 25, 8080)),
     "hosts-50": " or ".join(f"host {host}" for host in HOSTS),
     "ports-300": " or ".join(f"port {port}" for port in PORTS),
+    "nets-100": " or ".join(f"net {network(chooser.randrange(8, 29))}" for _ in range(100)),
+    "nets-600": " or ".join(f"net {network(24)}" for _ in range(600)),
+    "portranges-20": " or ".join(f"portrange {port}-{port + 99}" for port in range(1000, 61000, 3000)),
 }
 
 
@@ -97,7 +106,7 @@ def jobs(capkit, capture, folder):
     for count in (2, 16):
         words = ["-F", "pcap", "-w", "OUT", *parts_of(capture, count, folder)]
         yield f"merge-{count}", "mergecap", [capkit, "merge", *words], ["mergecap", *words]
-    yield "infos", "capinfos", [capkit, "infos", capture], ["capinfos", "-M", capture]
+    yield "infos", "capinfos", [capkit, "infos", capture], ["capinfos", "-cudsaeM", capture]
     for name, expression in EXPRESSIONS.items():
         own = [capkit, "print", "-w", "OUT", "--format", "pcap", capture, expression]
         yield name, "tcpdump", own, ["tcpdump", "-Z", "root", "-r", capture, "-w", "OUT", expression]

@@ -1,601 +1,865 @@
 #!/usr/bin/env python3
 """Writes the packets of a damaged capture, also those that come after the damage, with capkit.
 
-usage: salvage.py [-F FORMAT] [-n ROW] IN OUT
+usage: salvage.py [-F FORMAT] [-n ROW] IN OUT        (- is standard input or output)
 
-capkit stops at the first record or block that fails a check. This goes on at the next place from
-which ROW records or blocks in a row are plausible (3 where no -n is given), or all up to the end of
-the file. IN is pcap, in either byte order and with microseconds or nanoseconds, or pcapng, or
-several of these one after another; it isn't changed. OUT is written by `capkit merge -a`, in the
-format that -F names: pcap, nsecpcap or pcapng, which is the default.
+Two rules:
 
-Each place at which something is left out or put right is a line, with the offset in IN; the last
-line says how many packets OUT has. The status is 0 where IN was in order, 1 where anything was left
-out or put right, or nothing could be written, and 2 where the command line is wrong.
+1. What capkit reads is right. A file that it reads to its end is written as `capkit edit` writes
+   it. In another file nothing is guessed before the first fault.
+2. Between two faults the chain that explains most bytes wins. A chain is a row of records (or
+   blocks) whose lengths are consistent. It counts if it is longer than a packet can be (64 KiB), or
+   leads to the end of the file or to a file header. A shorter one, of at least ROW records (3),
+   could be a capture inside a lost packet: it counts only if its time isn't more than a second
+   before the last packet, nor more than a day after it. A chain isn't believed if its fractions are
+   its captured lengths: it is the true chain, read four bytes off.
 
-A plausible record has a captured length of at most 262,144 bytes, an original length, and a time
-less than 30 days from the one before it. A plausible block has its length at both ends. Of what is
-plausible, nothing is known: a packet with changed bytes is a packet like another, and a capture
-within a packet, as of a file that was sent, is taken for records if the damage is right before it.
-It needs Python 3, and capkit in PATH.
+Odd fields are put right in place, and reported: a fraction of a second or more becomes 0 if records
+follow, the upper half of the link type field is cleared, and a damaged length is replaced by the
+other length of the packet if that leads to a chain. If each line feed comes after a carriage return,
+these are removed, if capkit reads further then.
+
+Rule 1 is bent in four places; without each of them packets were made up when this was tested:
+- The last eight records before a fault are doubted: those in the way of the chain that goes over
+  the fault are dropped.
+- A record without bytes is a packet only if it has an original length (zeros have none), and a time
+  near that of the last one.
+- Reading stops if it has slid into the true chain four bytes off, though capkit reads on.
+- Up to half of the last eight records are dropped if their lengths are impossible.
+
+Made-up packets are still possible if damage stands right before a packet that carries a capture of
+the last second, and if the section header of a pcapng file is lost with its interfaces.
+
+IN isn't changed. It is copied only if it is a pipe, since capkit reads it first, or was in text mode. OUT is written
+under a name of its own and renamed. Standard error has a line for each place (the first 20), and a
+last one with packets, places and bytes left out. The status is 0 if IN was in order, 1 if it wasn't
+or nothing was written, 2 if the command line is wrong. Needs Python 3.10 and capkit in PATH.
 """
 import argparse
-import mmap
+import collections
 import os
 import re
 import shutil
+import signal
+import stat
 import struct
 import subprocess
 import sys
 import tempfile
 
-FORMS = {
-    b"\xd4\xc3\xb2\xa1": ("<", 10**6), b"\x4d\x3c\xb2\xa1": ("<", 10**9),
-    b"\xa1\xb2\xc3\xd4": (">", 10**6), b"\xa1\xb2\x3c\x4d": (">", 10**9),
-}
+FORMS = {b"\xd4\xc3\xb2\xa1": ("<", 10**6), b"\x4d\x3c\xb2\xa1": ("<", 10**9),
+         b"\xa1\xb2\xc3\xd4": (">", 10**6), b"\xa1\xb2\x3c\x4d": (">", 10**9)}
+MAGICS = {form: magic for magic, form in FORMS.items()}
 SECTION, INTERFACE, OBSOLETE, SIMPLE, ENHANCED = 0x0A0D0D0A, 1, 2, 3, 6
-BYTE_ORDER = 0x1A2B3C4D
-STARTS = re.compile(b"|".join(map(re.escape, [*FORMS, b"\x0a\x0d\x0d\x0a"])))
-LIKELY = {
-    "<": re.compile(b"[\x01-\x06\x0a]\0\0\0|\x0a\x0d\x0d\x0a"),
-    ">": re.compile(b"\0\0\0[\x01-\x06\x0a]|\x0a\x0d\x0d\x0a"),
-}
-LONGEST, LONGEST_BLOCK, MOST_INTERFACES, MOST_FILES = 262_144, 1_048_576, 256, 256
-# How far the times of records in a row may be apart, in seconds.
-NEAR = 30 * 86_400
-# Over how many records with a damaged time or original length a record may lead to a row.
-HOPS = 8
-ETHERNET = 1
-# What is done where capkit refuses a block.
-PLAIN = {
-    "bad time resolution": "its times are read as microseconds",
-    "time out of range": "written as 0",
-}
+SECTION_TYPE, BYTE_ORDER = b"\n\r\r\n", 0x1A2B3C4D
+LONGEST, LONGEST_BLOCK, MOST_INTERFACES, ETHERNET = 262_144, 1_048_576, 256, 1
+# How much of the file is held, how far a chain may be looked at, and what no packet's inside exceeds.
+HELD, AHEAD, INSIDE = 8 << 20, 3 << 20, 65_552
+ZONE, DOUBTED, NOTES, PLACES = 1 << 20, 8, 20, 200_000
+# A time is near another one within a day; a short chain isn't earlier than a second before the last
+# packet, since a packet can't carry a later one.
+NEAR, EARLIER = 86_400, 1
+NOT_ZERO = re.compile(rb"[^\0]")
 
 
 class Refused(Exception):
     """What keeps anything from being written."""
 
 
-class File:
-    """The file, what was found in it, and what is kept."""
+class Source:
+    """The file: some MiB of it are held, and what goes to the output goes without passing here."""
 
-    def __init__(self, data, row):
-        self.data, self.row, self.size = data, row, len(data)
-        self.notes, self.gaps, self.pieces = [], [], []
+    def __init__(self, held, name):
+        self.held, self.name, self.size = held, name, os.fstat(held.fileno()).st_size
+        self.data, self.base, self.tried = b"", 0, 0
+
+    def load(self, at, ahead=AHEAD):
+        """Holds the bytes from a place on, as many as asked for or all that are left."""
+        end = self.base + len(self.data)
+        if not self.base <= at or at + ahead > end < self.size:
+            self.data = b""
+            self.data, self.base = os.pread(self.held.fileno(), HELD, at), at
+
+    def get(self, at, size):
+        return os.pread(self.held.fileno(), size, at)
+
+
+class Output:
+    """Captures that follow one another, as one stream that capkit reads and writes."""
+
+    def __init__(self, source, form, path):
+        self.source, self.words = source, ["capkit", "edit", "-F", form, "-", path]
+        self.most = 2**63 if form == "pcapng" else 2**32 * 10**9
+        self.final = self.piece = self.pending = self.header = None
+        self.buffer, self.packets, self.places, self.left_out, self.last = bytearray(), 0, 0, 0, 0
+
+    def begin(self, header, is_pcap):
+        """Another capture begins: one of pcap becomes pcapng by a capkit of its own."""
+        self.flush()
+        self.end(self.piece)
+        self.piece, self.header = None, (header, is_pcap)
+
+    def start(self):
+        """Starts what a header waits for: its first packet is there."""
+        header, is_pcap = self.header
+        self.header = None
+        if not self.final:
+            self.final = subprocess.Popen(self.words, stdin=subprocess.PIPE, stderr=subprocess.PIPE)
+        if is_pcap:
+            words = ["capkit", "edit", "-F", "pcapng", "-", "-"]
+            self.piece = subprocess.Popen(words, stdin=subprocess.PIPE, stdout=self.final.stdin,
+                                          stderr=subprocess.PIPE)
+        self.buffer += header
+
+    def keep(self, begin, end):
+        """Keeps bytes of the file as they are."""
+        if self.pending and self.pending[1] == begin:
+            self.pending[1] = end
+        elif begin < end:
+            self.settle()
+            self.pending = [begin, end]
+
+    def put(self, data):
+        """Writes what is put right."""
+        self.settle()
+        self.buffer += data
+        if len(self.buffer) > 1 << 20:
+            self.flush()
+
+    def settle(self):
+        if self.header:
+            self.start()
+        if self.pending:
+            (begin, end), base = self.pending, self.source.base
+            self.pending = None
+            if base <= begin and end <= base + len(self.source.data) and end - begin < 1 << 16:
+                self.buffer += memoryview(self.source.data)[begin - base : end - base]
+            else:
+                self.flush()
+                out = (self.piece or self.final).stdin.fileno()
+                while begin < end:
+                    sent = os.sendfile(out, self.source.held.fileno(), begin, min(end - begin, 1 << 30))
+                    if not sent:
+                        raise Refused("it became shorter as it was read")
+                    begin += sent
+
+    def flush(self):
+        if self.pending:
+            self.settle()
+        if self.buffer:
+            stream = (self.piece or self.final).stdin
+            stream.write(self.buffer)
+            stream.flush()
+            self.buffer.clear()
+
+    def end(self, process):
+        """Waits for a capkit, and fails where it failed."""
+        if process:
+            try:
+                process.stdin.close()
+            except BrokenPipeError:
+                pass
+            said = process.stderr.read().decode(errors="replace").strip()
+            if process.wait():
+                raise Refused(re.sub(r"^capkit: (\S*: offset \d+: )?", "", said) or "the output was closed")
 
     def note(self, at, text):
-        self.notes.append((at, text))
+        self.places += 1
+        if self.places <= NOTES:
+            print(f"{self.source.name}: offset {at}: {text}", file=sys.stderr)
 
     def leave_out(self, begin, end, why=""):
-        if self.gaps and self.gaps[-1][1:] == [begin, why]:
-            self.gaps[-1][1] = end
-        elif begin < end:
-            self.gaps.append([begin, end, why])
-
-    def keep(self, begin, end, mended=None):
-        """Keeps a unit as it is in the file, or as it is put right."""
-        parts = self.pieces[-1].parts
-        if mended is None and parts and parts[-1][2] is None and parts[-1][1] == begin:
-            parts[-1][1] = end
-        else:
-            parts.append([begin, end, mended])
+        if begin < end:
+            self.left_out += end - begin
+            self.note(begin, f"{end - begin} bytes left out{why}")
 
 
-class Piece:
-    """A capture of its own: a file header, and parts of the file."""
-
-    def __init__(self, header, reader):
-        # A part is its begin and end in the file, and what it is replaced by, if anything.
-        self.header, self.reader, self.parts = header, reader, []
-
-    def write(self, name, data):
-        with open(name, "wb") as out:
-            out.write(self.header)
-            for begin, end, mended in self.parts:
-                out.write(data[begin:end] if mended is None else mended)
-
-    def drop(self, offset, file, why):
-        """Leaves out the unit at this offset of the capture, or puts it right."""
-        start = len(self.header)
-        for number, (begin, end, mended) in enumerate(self.parts):
-            size = end - begin if mended is None else len(mended)
-            if offset < start + size:
-                at = begin + (offset - start if mended is None else 0)
-                to = end if mended is not None else self.reader.length_at(at) + at
-                plain = self.reader.plain(at) if mended is None else b""
-                split = [[begin, at, None], [at, to, plain], [to, end, None]]
-                self.parts[number : number + 1] = [it for it in split if it[0] < it[1] and it[2] != b""]
-                if plain:
-                    file.note(at, f"{why}: {PLAIN.get(why, 'an interface without its options')}")
-                else:
-                    file.leave_out(at, to, f" ({why})")
-                return
-            start += size
+Chain = collections.namedtuple("Chain", "reader start bounds end")
 
 
-def likely_record(order, units):
-    """What finds places where a record's fraction of a second and captured length may be in range."""
-    if order == "<":
-        part = b"..[\0-\x0f]\0" if units == 10**6 else b"...[\0-\x3b]"
-        length = b"..[\0-\x04]\0"
-    else:
-        part = b"\0[\0-\x0f].." if units == 10**6 else b"[\0-\x3b]..."
-        length = b"\0[\0-\x04].."
-    # An original length of 0 isn't plausible: so holes of zeros are passed at once.
-    return re.compile(b"(?s)(?!.{12}\0{4})(?=...." + part + length + b"....)")
+class Reader:
+    """What records and blocks have in common: how chains of them are found."""
+
+    def chain(self, start, weak=False):
+        """The row of units from a place on: it is open where it is longer than what may be inside of
+        a packet, or leads to a file header, ends or is cut at the end of the file, or is dead."""
+        source, at, bounds = self.source, start, [start]
+        source.load(start)
+        while True:
+            if at == source.size:
+                return Chain(self, start, bounds, "end")
+            if len(bounds) > 8 and at - start > INSIDE:
+                return Chain(self, start, bounds, "open")
+            end = self.step(at, weak)
+            if end is None:
+                how = "open" if len(bounds) > 1 and header_at(source, at) else "dead"
+                return Chain(self, start, bounds, how)
+            if end > source.size:
+                return Chain(self, start, bounds, "cut")
+            at = end
+            bounds.append(at)
+
+    def counts(self, chain, row):
+        """Whether a chain is believed."""
+        units = len(chain.bounds) - 1
+        if units == 0 or not self.is_start(chain):
+            return False
+        if chain.end == "open" or chain.end == "end" and (units >= row or isinstance(self, Blocks)):
+            return True
+        if self.time is None:
+            return isinstance(self, Blocks) and units >= row
+        return self.is_near(chain.start) and (units >= row or chain.end != "dead")
+
+    def places(self, at, end):
+        """Where units could begin, from a place to another one; zeros are passed."""
+        source, zeros = self.source, -1
+        end = min(end, source.size)
+        while at < end:
+            source.load(at)
+            data, base = source.data, source.base
+            stop = min(len(data), end - base + self.back + 8)
+            if zeros < at:
+                zeros = data.find(bytes(64), at - base, stop)
+                zeros = zeros + base if zeros >= 0 else source.size
+            found = self.likely.search(data, at - base + self.back, min(stop, zeros - base + 64))
+            if found and found.start() - self.back + base < end:
+                at = found.start() - self.back + base
+                yield at
+                # A file in which nearly each place looks like a header is looked through coarsely.
+                at += 1 if source.tried < PLACES + source.size // 32 else 4096
+            elif zeros < base + stop - 64:
+                found = NOT_ZERO.search(data, zeros - base, stop)
+                at = max(at + 1, (found.start() if found else stop) + base - 15)
+                at = end if not found and stop < len(data) else at
+            else:
+                at = end if stop < len(data) or base + stop == source.size else base + stop - 30
+
+    def first(self, begin, end, passes, row):
+        """The chain that wins among those that begin between two places; one that begins before
+        `passes` goes over it."""
+        for place in self.places(begin, end):
+            best = self.chain(place)
+            if not self.counts(best, row):
+                self.source.tried += len(best.bounds)
+                continue
+            is_over = best.end == "open" or best.bounds[-1] > passes and passes not in best.bounds
+            if place < passes and (not is_over or len(best.bounds) <= row or place in self.last):
+                self.source.tried += len(best.bounds)
+                continue
+            stop = min(max(place + 4096, best.bounds[:3][-1]), best.bounds[-1])
+            for other in self.places(place + 1, stop):
+                if other not in best.bounds and self.is_better(found := self.chain(other), best, row):
+                    best = found
+                self.source.tried += 2
+            return self.without_chance(best)
+        return None
+
+    def without_chance(self, chain):
+        """A chain without the records at its start that only lead to it: one by chance, whose time is far
+        from those of the next three, or those that a lost packet carried."""
+        bounds = chain.bounds
+        is_chance = len(bounds) > 4 and self.score(bounds[:2]) == 0 and self.score(bounds[1:4]) == 2
+        first = 1 if is_chance else self.carried(bounds)
+        return chain._replace(start=bounds[first], bounds=bounds[first:])
+
+    def is_better(self, one, other, row):
+        """Whether a chain wins over one that begins before it. Of two that meet it is the one with more
+        records before that, whose times are near the next one's, or at all."""
+        if not self.counts(one, row):
+            return False
+        both = set(one.bounds).intersection(other.bounds)
+        if both:
+            before = [it.bounds[: it.bounds.index(min(both)) + 1] for it in (one, other)]
+            sums = [(self.score(it), len(it)) for it in before]
+            return sums[0] > sums[1]
+        if other.end == "dead" or one.end == "dead":
+            is_inside = len(one.bounds) > 2 and one.bounds[2] < other.bounds[-1] < one.bounds[-1]
+            return other.end == "dead" and is_inside
+        return self.score(one.bounds) > self.score(other.bounds)
 
 
-class Records:
+class Records(Reader):
     """The records of pcap."""
 
-    def __init__(self, file, order, units, link):
-        self.file, self.data, self.size = file, file.data, file.size
-        self.order, self.units = order, units
+    def __init__(self, source, out, order, units, link=ETHERNET, snap=LONGEST):
+        self.source, self.out, self.order, self.units, self.link = source, out, order, units, link
+        self.limit = snap if 0 < snap < LONGEST else LONGEST
         self.fields = struct.Struct(order + "IIII")
-        # The seconds of the last record whose time is plausible.
-        self.near = None
-        magic = next(magic for magic, form in FORMS.items() if form == (order, units))
-        self.header = magic + struct.pack(order + "HHIIII", 2, 4, 0, 0, LONGEST, link)
-        self.likely = likely_record(order, units)
+        self.snap, self.time, self.sure, self.is_odd, self.last = snap, None, 0, False, collections.deque(maxlen=DOUBTED)
+        # The high bytes of both lengths; that the first one is not 0 is looked at later.
+        little, big = rb"(?s)\0(?<=[\0-\4]\0)(?!\0{4})..[\0-\4]\0", rb"(?s)\0[\0-\4]..(?!\0{4})\0[\0-\4].."
+        self.likely, self.back = (re.compile(little), 11) if order == "<" else (re.compile(big), 8)
 
-    def end_of(self, at):
-        """Where the record ends, or None where it has an impossible length."""
-        if at + 16 > self.size:
-            return None
-        captured = self.fields.unpack_from(self.data, at)[2]
-        return at + 16 + captured if captured <= LONGEST and at + 16 + captured <= self.size else None
+    def begin(self, at):
+        """The file header of what is written."""
+        if self.units is None:
+            parts = [self.head(it)[1] for it in self.chain(at).bounds[:-1]]
+            self.units = 10**9 if max(parts, default=0) >= 10**6 else 10**6
+            self.out.note(at, f"no file header that is known: read as pcap of link type {self.link}")
+        version = struct.pack(self.order + "HHIIII", 2, 4, 0, 0, self.snap, self.link)
+        self.out.begin(MAGICS[self.order, self.units] + version, True)
 
-    def length_at(self, at):
-        """How long the record is."""
-        return 16 + self.fields.unpack_from(self.data, at)[2]
+    def head(self, at):
+        self.source.load(at, 16)
+        return self.fields.unpack_from(self.source.data, at - self.source.base)
 
-    def plain(self, _at):
-        """A record that capkit reads in place of one that it refuses: there is none."""
-        return b""
+    def step(self, at, weak):
+        """Where a record ends; past the end of the file where it is cut; None where it is none."""
+        place = at - self.source.base
+        if place + 16 > len(self.source.data):
+            return self.source.size + 1
+        _, part, captured, original = self.fields.unpack_from(self.source.data, place)
+        if captured <= original <= LONGEST and captured <= self.limit and original:
+            is_right = self.is_odd or weak or part < (self.units or 10**9)
+        else:
+            is_right = weak and captured <= LONGEST and captured
+        return at + 16 + captured if is_right else None
 
-    def is_good(self, at, near, needs_data=False):
-        """Whether the header of a record is plausible; its data may go past the end of the file."""
-        if at + 16 > self.size:
-            return False
-        seconds, part, captured, original = self.fields.unpack_from(self.data, at)
-        if part >= self.units or captured > LONGEST or not original or captured > original:
-            return False
-        if near is None:
-            return captured > 0
-        return abs(seconds - near) <= NEAR and (captured > 0 or not needs_data)
+    def is_near(self, at):
+        return -EARLIER <= self.head(at)[0] - self.time <= NEAR
 
-    def is_row(self, at, near, least=1):
-        """Whether records in a row from a place on are plausible: as many as asked for, or all up to
-        the end, at least as many as given if the file ends within one."""
-        count = 0
-        while at < self.size and count < self.file.row:
-            end = self.end_of(at)
-            if not self.is_good(at, near, True) or end is None:
-                # The file may end within a record.
-                is_cut = self.size - at < 16 or end is None and self.is_good(at, near)
-                return count >= least and is_cut
-            near, at, count = self.fields.unpack_from(self.data, at)[0], end, count + 1
-        return count > 0
+    def score(self, bounds):
+        """How many times are near the one before."""
+        times = [self.head(it)[0] for it in bounds[:64] if it + 16 <= self.source.size]
+        return sum(abs(one - two) <= NEAR for one, two in zip(times, times[1:]))
 
-    def can_pass(self, at):
-        """Whether a record may be one whose time or original length is damaged."""
-        if self.end_of(at) is None:
-            return False
-        seconds, part, captured, original = self.fields.unpack_from(self.data, at)
-        is_near = self.near is not None and abs(seconds - self.near) <= NEAR
-        if not captured:
-            return is_near and part < self.units and original > 0
-        return is_near or part < self.units or captured <= original
+    def is_plain(self, at):
+        captured, original = self.head(at)[2:]
+        return 0 < captured <= original <= LONGEST
 
-    def is_timely(self, at):
-        """Whether a record's time is plausible."""
-        seconds, part = self.fields.unpack_from(self.data, at)[:2]
-        return part < self.units and (self.near is None or abs(seconds - self.near) <= NEAR)
+    def run(self, at):
+        """Keeps the records from a place on that need no second look, as far as they are held. Returns
+        where they end, and whether all that is held was read."""
+        source, unpack, units, limit, append = self.source, self.fields.unpack_from, self.units, self.limit, self.last.append
+        source.load(at)
+        data, base, held = source.data, source.base, len(source.data)
+        place, count = at - base, 0
+        while place + 16 <= held:
+            _, part, captured, original = unpack(data, place)
+            end = place + 16 + captured
+            if part >= units or captured > limit or end > held or not captured or part == captured:
+                break
+            append(base + place)
+            count += 1
+            place = end
+        self.out.packets += count
+        self.out.keep(at, base + place)
+        return base + place, place + 16 > held
 
-    def takes_in_header(self, end):
-        """Whether a record ends with a file header after which times are microseconds, where those
-        of this file are nanoseconds: else it would make no difference to what comes after."""
-        if self.units == 10**6 or FORMS.get(self.data[end - 24 : end - 20]) != (self.order, 10**6):
-            return False
-        start = reader_at(self.file, end - 24)
-        return start is not None and end < self.size and start[0].is_row(end, None)
-
-    def end_by_original(self, at):
-        """Where the record ends if its captured length is damaged, is above the original length, and
-        a row comes after as many bytes as that says: else it would take in the next packets."""
-        if at + 16 > self.size:
-            return None
-        captured, original = self.fields.unpack_from(self.data, at)[2:]
-        is_less = 0 < original < captured and at + 16 + original < self.size
-        return at + 16 + original if is_less and self.is_row(at + 16 + original, self.near) else None
-
-    def leads_on(self, at, *near):
-        """Whether the records from a place on lead to the end or to a row of plausible ones, near one
-        of these times, or are themselves many in a row, with plausible times."""
-        are_timely = True
-        for _ in range(HOPS):
-            if at == self.size or any(self.is_row(at, it) for it in near):
-                return True
-            if not self.can_pass(at):
-                return False
-            are_timely &= self.is_timely(at)
-            at = self.end_of(at)
-        return are_timely
-
-    def next_row(self, at):
-        """The next place from which a row is plausible, at a time near the last one if there is
-        such a place; the end of the file if there is none."""
-        for near in dict.fromkeys([self.near, None]):
-            place, least = at, 1 if near is not None else 2
-            while found := self.likely.search(self.data, place):
-                place = found.start()
-                if self.is_good(place, near, True) and self.is_row(place, near, least):
-                    return place
-                place += 1
-        return self.size
-
-    def keep(self, at, end):
-        """Keeps a record, with a fraction of a second that can be read."""
-        seconds, part, captured, original = self.fields.unpack_from(self.data, at)
-        if self.near is None or abs(seconds - self.near) <= NEAR or self.is_row(at, None):
-            self.near = seconds
-        if part < self.units:
-            self.file.keep(at, end)
-            return
-        self.file.note(at, f"a fraction of {part} units of a second, written as 0")
-        fields = self.fields.pack(seconds, 0, captured, original)
-        self.file.keep(at, end, fields + self.data[at + 16 : end])
-
-    def walk(self, at):
-        """Keeps records up to the end, or up to another capture: returns its place."""
-        while at < self.size:
-            end = self.end_of(at)
-            if end is not None and self.near is not None and self.is_good(at, self.near):
-                if self.takes_in_header(end):
-                    self.file.leave_out(at, end - 24)
-                    return end - 24
-                if end == self.size or self.is_good(end, self.near):
-                    self.keep(at, end)
-                    at = end
-                    continue
-            at, is_start = self.settle(at, end)
-            if is_start:
-                return at
+    def read(self, at):
+        """Reads records as capkit does, up to a fault, and returns its place."""
+        source, out = self.source, self.out
+        self.last.clear()
+        while at < source.size:
+            at, is_all = self.run(at)
+            if is_all:
+                if source.base + len(source.data) == source.size:
+                    break
+                continue
+            _, part, captured, original = self.head(at)
+            end = at + 16 + captured
+            if captured > LONGEST or end > source.size or not captured and not (original and self.is_after_last(at)):
+                break
+            if part == captured and len(self.chain(at - 4).bounds) > 2:
+                break
+            self.limit = self.limit if captured <= self.limit else LONGEST
+            if part < self.units:
+                self.last.append(at)
+                out.packets += 1
+                out.keep(at, end)
+            elif self.is_in_place(at):
+                self.put(at, part, captured, f"a fraction of {part} units of a second, written as 0")
+                self.is_odd = True
+                self.last.clear()
+            else:
+                break
+            at = end
         return at
 
-    def settle(self, at, end):
-        """Decides on a place that isn't clear; returns where to go on, and whether that is the
-        start of another capture."""
-        if reader_at(self.file, at):
-            return at, True
-        shorter = self.end_by_original(at)
-        if shorter is not None:
-            self.mend(at, end, shorter)
-            return shorter, False
-        if end is not None and self.leads_on(at, self.near):
-            self.keep(at, end)
-            return end, False
-        # Times that go on elsewhere may be those of another capture, whose header this record takes in.
-        start = end and next_start(self.file, at + 1, end)
-        if start:
-            self.mend(at, end, start)
-            return start, True
-        if end is not None and self.leads_on(at, None):
-            self.keep(at, end)
-            return end, False
-        place = self.next_row(at + 1)
-        start = next_start(self.file, at + 1, place)
-        place = place if start is None else start
-        self.mend(at, end, place)
-        return place, start is not None
+    def is_after_last(self, at):
+        return not self.last or self.score([self.last[-1], at])
 
-    def mend(self, at, end, place):
-        """Keeps what can be kept of the bytes before the place where records go on."""
-        if at + 16 > self.size:
-            self.file.leave_out(at, place)
-            return
-        seconds, part, captured, original = self.fields.unpack_from(self.data, at)
-        if end == place and self.can_pass(at):
-            self.keep(at, end)
-        elif 0 < original == place - at - 16 and original <= LONGEST and part < self.units:
-            self.file.note(at, f"a captured length of {captured}, written as {original}")
-            fields = self.fields.pack(seconds, part, original, original)
-            self.file.keep(at, place, fields + self.data[at + 16 : place])
-        elif end is not None and end <= place and self.is_good(at, self.near):
-            self.keep(at, end)
-            self.mend(end, self.end_of(end), place)
-        else:
-            self.file.leave_out(at, place)
+    def put(self, at, part, captured, why):
+        """Writes a record with another fraction or captured length."""
+        seconds, was, _, original = self.head(at)
+        self.out.note(at, why)
+        self.out.put(self.fields.pack(seconds, part if part < self.units else 0, captured, original))
+        self.out.keep(at + 16, at + 16 + captured)
+        self.out.packets += 1
+
+    def is_in_place(self, at):
+        """Whether a record whose fraction is out of range is followed by others."""
+        if at >= self.sure:
+            chain = self.chain(at, True)
+            plain = sum(self.is_plain(it) for it in chain.bounds[:8] if it + 16 <= self.source.size)
+            if len(chain.bounds) == 1 or chain.end in ("dead", "cut") and plain < 2 and len(chain.bounds) < 9:
+                return False
+            self.sure = max(at + 1, chain.bounds[-1 if chain.end == "end" else -4 : ][0])
+        return True
+
+    def carried(self, bounds):
+        """How many records at the start of a chain a lost packet may have carried: those before the last
+        packet's time, if they are no longer than a packet, and three follow that aren't."""
+        first = 0
+        while first < len(bounds) - 4 and self.time is not None and self.head(bounds[first])[0] < self.time - EARLIER:
+            first += 1
+        is_carried = first and bounds[first] - bounds[0] <= INSIDE and all(map(self.is_near, bounds[first : first + 3]))
+        return first if is_carried else 0
+
+    def is_start(self, chain):
+        """Whether a chain may be one, and isn't another one 4 bytes on: then its fractions are that
+        one's captured lengths."""
+        heads = [self.head(it) for it in chain.bounds[:3] if it + 16 <= self.source.size]
+        return heads[0][2] > 0 and (len(heads) < 2 or sum(it[1] == it[2] for it in heads) < 2)
+
+    def doubted(self, at):
+        """From where on a chain may begin that goes over a fault, and what it has to go over: the fault,
+        or records before it whose times are far from those before them, or whose lengths are odd if
+        those aren't. One time before several that agree is the odd one. Sets the time before the fault."""
+        last = list(self.last)
+        begin = last[0] + 1 if last else at
+        second = 2 if len(last) > 3 and self.score(last[1:]) == len(last) - 2 else 1
+        for far in range(1, len(last)):
+            is_even = self.score(last[:far]) == far - 1
+            is_far = far >= second and is_even and not self.score(last[far - 1 : far + 1])
+            if is_far or not self.is_plain(last[far]) and all(map(self.is_plain, last[:far])):
+                at, last = last[far], last[:far]
+                break
+        plain = [it for it in last if self.is_plain(it)]
+        self.time = self.head(plain[-1])[0] if plain else self.time
+        return begin, at
+
+    def settle(self, at, place):
+        """Drops the records before a fault that are in the way of the chain that begins at a place, and
+        keeps the one that leads there by its other length. Returns the end of what is kept."""
+        last, kept, end = list(self.last), list(self.last), at
+        odd = [it for it in last if not self.is_plain(it)]
+        is_whole = all(self.head(it)[2] == self.head(it)[3] for it in last[:-2])
+        while kept and (kept[-1] + 16 + self.head(kept[-1])[2] > place
+                        or not any(self.head(kept[-1])[2:])
+                        or kept[-1] in odd and 2 * len(odd) <= len(last)):
+            end = kept.pop()
+        for start in [it for it in [*last[-3:], at] if it < place and it + 16 <= self.source.size]:
+            _, part, captured, original = self.head(start)
+            leads = start + 16 + original == place and 0 < original <= LONGEST and captured != original
+            if leads and (captured > original or is_whole) and (part < self.units or start == at):
+                self.take_back([it for it in last if it >= start], start)
+                self.put(start, part, original, f"a captured length of {captured}, written as {original}")
+                return place
+        self.take_back(last[len(kept) :], end)
+        if end == at and at + 16 <= self.source.size and place < self.source.size:
+            _, part, captured, original = self.head(at)
+            if at + 16 + captured == place and 0 < captured <= original <= LONGEST and part >= self.units:
+                self.put(at, part, captured, f"a fraction of {part} units of a second, written as 0")
+                return place
+        return end
+
+    def take_back(self, dropped, end):
+        if dropped:
+            self.out.pending[1] = end
+            self.out.packets -= len(dropped)
 
 
-class Blocks:
+class Blocks(Reader):
     """The blocks of pcapng."""
 
-    def __init__(self, file, order):
-        self.file, self.data, self.size = file, file.data, file.size
-        self.order, self.interfaces, self.header = order, 0, b""
+    def __init__(self, source, out, order):
+        self.source, self.out, self.order = source, out, order
+        # Of each interface of the section the least and greatest ticks, and the ticks of a second.
+        self.faces, self.is_torn, self.is_lost, self.time, self.last = [], False, False, None, ()
+        little, big = rb"\0\0\0(?<=[\1-\3\6]\0\0\0)", rb"\0\0\0[\1-\3\6]"
+        self.likely, self.back = (re.compile(little), 1) if order == "<" else (re.compile(big), 0)
 
-    @property
-    def likely(self):
-        return LIKELY[self.order]
+    def begin(self, at):
+        """A section header, where there is none."""
+        if self.source.get(at, 4) == SECTION_TYPE:
+            self.out.begin(b"", False)
+        else:
+            self.out.note(at, "no section header that is known")
+            self.out.begin(self.block(SECTION, struct.pack(self.order + "IHHq", BYTE_ORDER, 1, 0, -1)), False)
 
-    def number(self, at, block=None):
-        return struct.unpack_from(self.order + "I", self.data if block is None else block, at)[0]
+    def block(self, kind, body):
+        size = 12 + len(body)
+        return struct.pack(self.order + "II", kind, size) + body + struct.pack(self.order + "I", size)
 
-    def is_section(self, at):
-        return self.data[at : at + 4] == b"\x0a\x0d\x0d\x0a"
+    def numbers(self, form, at):
+        self.source.load(at, 32)
+        return struct.unpack_from(self.order + form, self.source.data, at - self.source.base)
 
-    def order_at(self, at):
-        """The byte order of a block: a section header has its own."""
-        if self.is_section(at):
-            for order in "<>":
-                if self.data[at + 8 : at + 12] == struct.pack(order + "I", BYTE_ORDER):
-                    return order
-        return self.order
-
-    def end_of(self, at):
-        """Where the block ends, or None where it hasn't the same possible length at both ends."""
-        if at + 12 > self.size:
+    def step(self, at, weak):
+        """Where a block ends; past the end of the file where it is cut; None where it is none."""
+        if at + 12 > self.source.size:
+            return self.source.size + 1
+        kind, length = self.numbers("II", at)
+        if length < 12 or length % 4 or length > LONGEST_BLOCK or kind == SECTION:
             return None
-        order = self.order_at(at)
-        length = struct.unpack_from(order + "I", self.data, at + 4)[0]
-        if length < 12 or length % 4 or at + length > self.size:
+        end = at + length
+        if end > self.source.size:
+            return end if kind <= 10 else None
+        if kind == ENHANCED and (length < 32 or 32 + padded(self.numbers("I", at + 20)[0]) > length):
             return None
-        again = struct.unpack_from(order + "I", self.data, at + length - 4)[0]
-        return at + length if again == length else None
+        return end if self.numbers("I", end - 4)[0] == length else None
 
-    def length_at(self, at):
-        return self.end_of(at) - at
+    def is_near(self, at):
+        if self.source.size - at < 32:
+            return False
+        kind, _, face, high, low = self.numbers("IIIII", at)
+        is_known = kind == ENHANCED and face < len(self.faces)
+        return is_known and -EARLIER <= ((high << 32) + low) / self.faces[face][2] - self.time <= NEAR
 
-    def is_row(self, at):
-        count = 0
-        while at < self.size and count < self.file.row:
-            if not self.likely.match(self.data, at):
-                return False
-            end = self.end_of(at)
-            if end is None:
-                return count > 0 and at + 8 < self.size < at + self.number(at + 4) <= at + LONGEST_BLOCK
-            at, count = end, count + 1
-        return count > 0
+    def score(self, bounds):
+        return 0
 
-    def next_row(self, at):
-        while found := self.likely.search(self.data, at):
-            if self.is_row(found.start()):
-                return found.start()
-            at = found.start() + 1
-        return self.size
+    def carried(self, _bounds):
+        return 0
 
-    def walk(self, at):
-        while at < self.size:
-            end = self.end_of(at)
-            if end is not None:
-                self.take(at, end, self.data[at:end])
-                at = end
+    def is_start(self, chain):
+        return True
+
+    def doubted(self, at):
+        return at, at
+
+    def read(self, at):
+        """Reads blocks as capkit does, up to one that is none, and returns its place."""
+        source = self.source
+        while at + 12 <= source.size:
+            source.load(at)
+            data, place = source.data, at - source.base
+            if data[place : place + 4] == SECTION_TYPE:
+                self.order = order_of_section(source, at) or self.order
+            kind, length = struct.unpack_from(self.order + "II", data, place)
+            end = place + length
+            if length < 12 or length % 4 or length > LONGEST_BLOCK or at + length > source.size:
+                break
+            if data[end - 4 : end] != data[place + 4 : place + 8]:
+                # The second length alone is damaged where the fields fit the first one, and a block follows.
+                fits = kind == ENHANCED and length == 32 + padded(self.numbers("I", at + 20)[0])
+                if not fits or not (self.step(at + length, False) or self.source.size + 1) <= source.size:
+                    break
+                self.take(at, at + length, data[place : end - 4] + data[place + 4 : place + 8], None)
+                at += length
                 continue
-            if at and reader_at(self.file, at):
-                return at
-            place = self.next_row(at + 1)
-            start = next_start(self.file, at + 1, place)
-            place = place if start is None else start
-            self.mend(at, place)
-            at = place
-            if start is not None:
-                return at
+            if kind == ENHANCED and self.is_right(data, place, length):
+                self.out.packets += 1
+                self.out.keep(at, at + length)
+            else:
+                self.take(at, at + length, block := data[place:end], block)
+            at += length
         return at
 
-    def mend(self, at, place):
-        """Puts a block's length right, if the bytes up to the next block or its fields show it."""
-        if at + 32 > place or not self.likely.match(self.data, at):
-            self.file.leave_out(at, place)
-            return
-        block, length, whole = self.data[at:place], self.number(at + 4), place - at
-        size = struct.pack(self.order + "I", whole)
-        captured, original = self.number(at + 20), self.number(at + 24)
-        is_packet = self.number(at) == ENHANCED and 0 < captured <= original
-        if whole % 4 == 0 and (length == whole or block[-4:] == size):
-            self.file.note(at, f"a block with two lengths, read as one of {whole} bytes")
-            self.take(at, place, block[:4] + size + block[8:-4] + size, True)
-        elif is_packet and length % 4 == 0 and 32 + padded(captured) <= length < whole:
-            self.file.note(at, f"a block with two lengths, read as one of {length} bytes")
-            size = struct.pack(self.order + "I", length)
-            self.take(at, at + length, block[: length - 4] + size, True)
-            self.file.leave_out(at + length, place)
-        else:
-            self.file.leave_out(at, place)
+    def is_right(self, data, place, length):
+        """Whether capkit takes a packet as it is."""
+        if length < 32 or self.is_lost:
+            return False
+        face, high, low, captured = struct.unpack_from(self.order + "IIII", data, place + 8)
+        if 32 + padded(captured) > length or face >= len(self.faces):
+            return False
+        least, greatest, second = self.faces[face]
+        self.time = (high << 32 | low) / second
+        return least <= high << 32 | low <= greatest
 
-    def take(self, at, end, block, is_mended=False):
+    def take(self, at, end, block, was):
         """Keeps a block, as it is or put right, or leaves it out where capkit doesn't read it."""
-        if self.is_section(at):
-            self.order = self.order_at(at)
-            self.interfaces = 0
-        kind = self.number(0, block)
+        kind = struct.unpack_from(self.order + "I", block)[0]
         shape = {SECTION: self.section, INTERFACE: self.interface, OBSOLETE: self.obsolete,
                  SIMPLE: self.simple, ENHANCED: self.enhanced}.get(kind)
-        right = shape(at, block) if shape else block
-        if right is not None and len(right) > LONGEST_BLOCK:
-            self.file.leave_out(at, end, f" (a block of type {kind})")
-        elif right is None:
-            self.file.leave_out(at, end)
+        right, why = shape(at, block) if shape else (block, "")
+        if not right:
+            self.out.leave_out(at, end, f" ({why})")
+            return
+        self.out.packets += kind in (OBSOLETE, SIMPLE, ENHANCED)
+        if right is was:
+            self.out.keep(at, end)
         else:
-            self.file.keep(at, end, right if is_mended or right is not block else None)
+            self.out.note(at, why or "a block with a damaged length, put right")
+            self.out.put(right)
 
     def section(self, at, block):
+        self.faces, self.is_torn, self.is_lost = [], False, False
         if len(block) < 28:
-            return None
-        right = struct.pack(self.order + "I", BYTE_ORDER)
-        version = struct.unpack_from(self.order + "HH", block, 12)
-        if block[8:12] == right and version in ((1, 0), (1, 2)):
-            return block
-        self.file.note(at, "a section header that is put right")
-        return block[:8] + right + struct.pack(self.order + "HH", 1, 0) + block[16:]
+            return b"", "a section header without its fields"
+        magic, *version = struct.unpack_from(self.order + "IHH", block, 8)
+        if magic == BYTE_ORDER and version in ([1, 0], [1, 2]):
+            return block, ""
+        right = struct.pack(self.order + "IHH", BYTE_ORDER, 1, 0)
+        return block[:8] + right + block[16:], "a section header, put right"
 
     def interface(self, at, block):
         if len(block) < 20:
-            return None
-        if self.interfaces == MOST_INTERFACES:
-            raise Refused(f"offset {at}: more than {MOST_INTERFACES} interfaces, which capkit doesn't read")
-        self.interfaces += 1
-        return block
+            self.is_torn = True
+            return b"", "an interface without its fields"
+        if self.is_torn and not self.is_next(at):
+            self.is_lost = True
+            return b"", "an interface whose number isn't known"
+        if len(self.faces) == MOST_INTERFACES:
+            return b"", "an interface after 256"
+        found, options, is_right = self.options(block)
+        exponent = found.get(9, b"\x06")[0]
+        second = 10**exponent if exponent < 128 else 2 ** (exponent - 128)
+        offset = int.from_bytes(found.get(14, b""), "little" if self.order == "<" else "big", signed=True)
+        greatest = -(-(self.out.most - offset * 10**9) * second // 10**9) - 1
+        self.faces.append((max(0, -offset * second), greatest, second))
+        if is_right:
+            return block, ""
+        return self.block(INTERFACE, block[8:16] + options), "an interface, written without its options"
+
+    def options(self, block):
+        """The options of an interface that capkit reads, those of its time as they are written, and
+        whether capkit takes them all."""
+        options, place, found = b"", 16, {}
+        while place + 4 <= len(block) - 4:
+            code, length = struct.unpack_from(self.order + "HH", block, place)
+            value = block[place + 4 : place + 4 + length]
+            if not code:
+                break
+            if place + 4 + length > len(block) - 4:
+                return found, options, False
+            if code in (2, 9, 14) and code not in found:
+                is_resolution = code == 9 and length == 1 and (value[0] <= 12 or 128 <= value[0] <= 160)
+                if is_resolution or code == 14 and length == 8:
+                    options += block[place : place + 4] + value + bytes(-length % 4)
+                elif code != 2 or length > 255:
+                    return found, options, False
+                found[code] = value
+            place += 4 + padded(length)
+        return found, options, True
+
+    def is_next(self, at):
+        """Whether the packet after these interfaces, which come after damage, has a number of theirs:
+        then none of the section's was lost."""
+        count = len(self.faces)
+        while end := self.step(at, False):
+            kind, _, face = self.numbers("III", at)
+            if kind in (ENHANCED, SIMPLE) or end > self.source.size - 12:
+                return kind == ENHANCED and len(self.faces) <= face < count
+            count, at = count + (kind == INTERFACE), end
+        return False
 
     def obsolete(self, at, block):
         """An obsolete packet block as an enhanced one: its interface has half the bits."""
         if len(block) < 32:
-            return None
+            return b"", "an obsolete block without its fields"
         number = struct.unpack_from(self.order + "H", block, 8)[0]
-        head = struct.pack(self.order + "III", ENHANCED, len(block), number)
-        return self.enhanced(at, head + block[12:])
+        right, why = self.enhanced(at, struct.pack(self.order + "III", ENHANCED, len(block), number) + block[12:])
+        return right, why or "an obsolete block, written as an enhanced one"
 
     def simple(self, _at, block):
-        return block if len(block) >= 16 and self.interfaces else None
+        is_right = len(block) >= 16 and self.faces and not self.is_lost
+        return (block, "") if is_right else (b"", "a packet whose interface isn't known")
 
     def enhanced(self, at, block):
-        if len(block) < 32 or not self.interfaces:
-            return None
-        number, captured, original = (self.number(place, block) for place in (8, 20, 24))
-        if not captured and not original:
-            return None
-        if number >= self.interfaces:
-            if self.interfaces > 1:
-                return None
-            self.file.note(at, f"a packet of interface {number}, written as one of the only interface")
-            block = block[:8] + struct.pack(self.order + "I", 0) + block[12:]
-        if 32 + padded(captured) <= len(block):
-            return block
-        if 32 + padded(original) != len(block):
-            return None
-        self.file.note(at, f"a captured length of {captured}, written as {original}")
-        return block[:20] + struct.pack(self.order + "I", original) + block[24:]
+        if len(block) < 32:
+            return b"", "a block without its fields"
+        face, high, low, captured, original = struct.unpack_from(self.order + "IIIII", block, 8)
+        why = ""
+        if self.is_lost or face >= len(self.faces):
+            if self.is_lost or self.is_torn or len(self.faces) != 1:
+                return b"", "a packet whose interface isn't known"
+            why, face = f"a packet of interface {face}, written as one of the only interface", 0
+        if 32 + padded(captured) > len(block):
+            if 32 + padded(original) != len(block):
+                return b"", "a captured length that doesn't fit"
+            why, captured = f"a captured length of {captured}, written as {original}", original
+        if not self.faces[face][0] <= high << 32 | low <= self.faces[face][1]:
+            low = max(0, self.faces[face][0])
+            why, high, low = "a time out of range, written as 0", low >> 32, low & 0xFFFFFFFF
+        if not why:
+            return block, ""
+        fields = struct.pack(self.order + "IIIII", face, high, low, captured, original)
+        return block[:8] + fields + block[28:], why
 
-    def plain(self, at):
-        """A block that capkit reads in place of one that it refuses: a packet at time 0, or an
-        interface with no options but its times; nothing for other blocks."""
-        block = self.data[at : self.end_of(at)]
-        if self.number(0, block) == ENHANCED and self.number(12, block):
-            return block[:12] + bytes(8) + block[20:]
-        if self.number(0, block) != INTERFACE:
-            return b""
-        options, place = b"", 16
-        while place + 4 <= len(block) - 4:
-            code, length = struct.unpack_from(self.order + "HH", block, place)
-            value = block[place + 4 : place + 4 + padded(length)]
-            is_time = code == 9 and length == 1 and value[0] <= 12 or code == 14 and length == 8
-            if not code or place + 4 + padded(length) > len(block) - 4:
-                break
-            options += block[place : place + 4] + value if is_time else b""
-            place += 4 + padded(length)
-        size = struct.pack(self.order + "I", 20 + len(options))
-        return block[:4] + size + block[8:16] + options + size
+    def settle(self, at, place):
+        """Keeps the block at a fault if one of its lengths leads to the chain that was found."""
+        whole = place - at
+        if 12 <= whole <= LONGEST_BLOCK and whole % 4 == 0:
+            block, size = self.source.get(at, whole), struct.pack(self.order + "I", whole)
+            known = struct.unpack_from(self.order + "I", block)[0] in (1, 2, 3, 4, 5, 6, 10, SECTION)
+            if known and size in (block[4:8], block[-4:]):
+                self.take(at, place, block[:4] + size + block[8:-4] + size, None)
+                return place
+        self.is_torn = True
+        return at
 
 
 def padded(length):
     return (length + 3) // 4 * 4
 
 
-def reader_at(file, at):
-    """A reader for the capture that begins at a place, and where its records or blocks begin."""
-    data, magic = file.data, file.data[at : at + 4]
-    if magic in FORMS and at + 24 <= file.size:
-        order, units = FORMS[magic]
-        major, minor, _, _, _, link = struct.unpack_from(order + "HHIIII", data, at + 4)
-        reader = Records(file, order, units, link & 0xFFFF)
-        is_right = (major, minor) == (2, 4) and link <= 0xFFFF
-        if is_right or at == 0:
-            if at == 0 and not is_right:
-                file.note(0, f"version {major}.{minor} and a link type field of {link:#x}, written as "
-                             f"2.4 and {link & 0xFFFF}")
-            return reader, at + 24
-    if magic == b"\x0a\x0d\x0d\x0a":
-        for order in "<>":
-            reader = Blocks(file, order)
-            is_magic = data[at + 8 : at + 12] == struct.pack(order + "I", BYTE_ORDER)
-            if is_magic and (at == 0 or reader.end_of(at)) or reader.end_of(at) and at == 0:
-                return reader, at
-    return None
+def order_of(magic):
+    return next((it for it in "<>" if struct.pack(it + "I", BYTE_ORDER) == magic), None)
 
 
-def next_start(file, at, end):
-    """The next place before an end where another capture begins, with a row after it."""
-    for found in STARTS.finditer(file.data, at, end):
-        reader = reader_at(file, found.start())
-        if isinstance(reader and reader[0], Blocks):
-            return found.start()
-        if reader and (reader[1] == file.size or reader[0].is_row(reader[1], None)):
-            return found.start()
-    return None
+def order_of_section(source, at):
+    """The byte order of a section header: by its magic, else by its lengths."""
+    for order in "<>":
+        size = int.from_bytes(source.get(at + 4, 4), "little" if order == "<" else "big")
+        if 28 <= size <= LONGEST_BLOCK and source.get(at + size - 4, 4) == struct.pack(order + "I", size):
+            return order
+    return order_of(source.get(at + 8, 4))
 
 
-def guessed_reader(file):
-    """A reader for a file without a file header that is known: the one that finds a row first."""
-    readers = [Records(file, *form, ETHERNET) for form in FORMS.values()]
-    readers += [Blocks(file, order) for order in "<>"]
-    places = [24 if isinstance(it, Records) and it.is_row(24, None) else it.next_row(0) for it in readers]
-    place, reader = min(zip(places, readers), key=lambda it: it[0])
-    start = next_start(file, 0, place)
-    if start is not None:
-        file.leave_out(0, start)
-        return reader_at(file, start)
-    if place == file.size:
-        raise Refused("no capture is found in it")
-    if isinstance(reader, Records):
-        link = struct.unpack_from(reader.order + "I", file.data, 20)[0] if place == 24 else ETHERNET
-        link = link if link <= 0xFFFF else ETHERNET
-        reader = Records(file, reader.order, reader.units, link)
-        file.note(0, f"no file header that is known: read as pcap of link type {link}")
-        file.leave_out(24, place)
-        return reader, place
-    size = struct.pack(reader.order + "I", 28)
-    version = struct.pack(reader.order + "IHH", BYTE_ORDER, 1, 0)
-    reader.header = struct.pack(reader.order + "I", SECTION) + size + version + b"\xff" * 8 + size
-    file.note(0, "no section header that is known")
-    file.leave_out(0, place)
-    return reader, place
+def header_at(source, at):
+    """Whether a file header or a section header is at a place."""
+    magic = source.get(at, 24)
+    if magic[:4] in FORMS and len(magic) == 24:
+        major, minor, _, _, _, link = struct.unpack(FORMS[magic[:4]][0] + "HHIIII", magic[4:])
+        return (major, minor) == (2, 4) and link <= 0xFFFF
+    return magic[:4] == SECTION_TYPE and order_of(magic[8:12]) is not None
 
 
-def salvage(file):
-    """Finds what is kept of the file."""
-    at = 0
-    while at < file.size:
-        reader, first = reader_at(file, at) or guessed_reader(file)
-        if at:
-            file.note(at, "another capture begins")
-        file.pieces.append(Piece(reader.header, reader))
-        at = reader.walk(first)
+def capture_at(source, out, at):
+    """The reader of the capture whose header is at a place, and where its records or blocks begin."""
+    header = source.get(at, 24)
+    if header[:4] == SECTION_TYPE:
+        return Blocks(source, out, order_of_section(source, at) or "<"), at
+    if header[:4] not in FORMS or len(header) < 24:
+        return None
+    order, units = FORMS[header[:4]]
+    major, minor, _, _, snap, link = struct.unpack(order + "HHIIII", header[4:])
+    if at == 0 and ((major, minor) != (2, 4) or link > 0xFFFF):
+        out.note(0, f"version {major}.{minor} and a link type field of {link:#x}, written as 2.4 and {link & 0xFFFF}")
+    return Records(source, out, order, units, link & 0xFFFF, snap), at + 24
 
 
-def run(*words):
-    return subprocess.run(["capkit", *words], capture_output=True, text=True, errors="replace")
+def find(source, out, readers, begin, passes, row):
+    """The next chain or header that counts, from a place on: its place, reader, and where that reads."""
+    time = next((it.time for it in readers if it.time is not None), None)
+    while begin < source.size:
+        end = min(begin + ZONE, source.size)
+        source.load(begin, ZONE + AHEAD)
+        chains = [it.first(begin, end, passes, row) for it in readers]
+        blocks = [it.reader for it in chains if it and isinstance(it.reader, Blocks)]
+        chains = [it for it in chains if it and (it.reader in blocks or not blocks)]
+        best = min(chains, key=lambda it: (it.start, -it.bounds[-1]), default=None)
+        stop = best.start if best else end
+        source.load(begin, ZONE)
+        found = []
+        for magic in (*FORMS, SECTION_TYPE):
+            place = source.data.find(magic, begin - source.base, stop - source.base + 3)
+            while place >= 0:
+                found.append(place + source.base)
+                place = source.data.find(magic, place + 1, stop - source.base + 3)
+        for place in sorted(found):
+            if header_at(source, place):
+                reader, first = capture_at(source, out, place)
+                reader.time = time
+                is_section = first == place
+                chain = reader.chain(first + reader.numbers("II", first)[1] if is_section else first)
+                is_cut = chain.end == "cut" and len(chain.bounds) > row
+                if (is_cut or reader.counts(chain, row)) and (chain.end == "open" or chain.bounds[-1] > passes):
+                    reader.time = None
+                    return place, reader, first
+        if best:
+            return best.start, best.reader, best.start
+        begin = end
+    return source.size, None, source.size
 
 
-def join(file, names, out, form):
-    """Has capkit read all pieces and write them; what it refuses is left out."""
-    if len(names) > MOST_FILES:
-        parts = [names[at : at + MOST_FILES] for at in range(0, len(names), MOST_FILES)]
-        for part in parts:
-            join(file, part, part[0] + ".joined", "pcapng")
-        names = [part[0] + ".joined" for part in parts]
-    while True:
-        ran = run("merge", "-a", "-F", form, "-w", out, *names)
-        found = re.fullmatch(r"capkit: .*?(\d+)\.piece: offset (\d+): (.*)\n", ran.stderr)
-        if ran.returncode == 0:
-            return
-        if not found or found[3] in ("link types differ", "no memory", "read failed"):
-            raise Refused(ran.stderr.strip())
-        piece = file.pieces[int(found[1])]
-        piece.drop(int(found[2]), file, found[3])
-        piece.write(next(it for it in names if it.endswith(f"{os.sep}{found[1]}.piece")), file.data)
+def salvage(source, out, row):
+    """Reads as capkit does up to a fault, finds where to go on, and so on."""
+    reader, at = capture_at(source, out, 0) or (None, 0)
+    if reader:
+        reader.begin(0)
+    guessed = [Records(source, out, it, None) for it in "<>"] + [Blocks(source, out, it) for it in "<>"]
+    seen, tried = {}, -1
+    while at < source.size:
+        end = at = reader.read(at) if reader else at
+        if at == source.size:
+            break
+        seen.update({(type(reader), reader.order): reader} if reader else {})
+        begin, passes = reader.doubted(at) if reader else (0, 0)
+        place, other, first = find(source, out, seen.values() if seen else guessed, max(begin, tried + 1), passes, row)
+        end = reader.settle(at, place) if reader else 0
+        if not reader and isinstance(other, Records) and first == place == 24:
+            link = int.from_bytes(source.get(20, 4), "little" if other.order == "<" else "big")
+            other.link, end = (link if link <= 0xFFFF else ETHERNET), 24
+        out.leave_out(end, place)
+        if other and other is not reader:
+            other.begin(place)
+            if reader:
+                out.note(place, "another capture begins")
+        reader, at, tried = other, first, place
 
 
-def write(file, out, form):
-    """Writes what is kept, and returns how many packets this is."""
-    with tempfile.TemporaryDirectory() as folder:
-        names = []
-        for number, piece in enumerate(file.pieces):
-            names.append(os.path.join(folder, f"{number}.piece"))
-            piece.write(names[-1], file.data)
-        join(file, names, out, form)
-    found = re.search(r"^Packets: (\d+)$", run("infos", out).stdout, re.MULTILINE)
-    return found[1] if found else "?"
+def opened(name):
+    """The file; a copy of what is no plain file, since capkit reads it before this does."""
+    held = sys.stdin.buffer if name == "-" else open(name, "rb")
+    if stat.S_ISREG(os.fstat(held.fileno()).st_mode):
+        return held
+    copy = tempfile.TemporaryFile()
+    shutil.copyfileobj(held, copy, 1 << 20)
+    copy.flush()
+    return copy
+
+
+def without_text_mode(held):
+    """A copy of a file in which each line feed came after a carriage return, without those."""
+    start = os.pread(held.fileno(), 1 << 20, 0)
+    lines = start.count(b"\n")
+    if lines < 3 or lines != start.count(b"\r\n"):
+        return None
+    copy, rest, at = tempfile.TemporaryFile(), b"", 0
+    while part := os.pread(held.fileno(), 1 << 20, at):
+        at += len(part)
+        part = (rest + part).replace(b"\r\n", b"\n")
+        rest = part[-1:] if part.endswith(b"\r") else b""
+        copy.write(part[: len(part) - len(rest)])
+    copy.write(rest)
+    copy.flush()
+    return copy
+
+
+def capkit(held, *words):
+    """Runs capkit; the word IN is the file."""
+    number = held.fileno()
+    os.lseek(number, 0, os.SEEK_SET)
+    words = [f"/dev/fd/{number}" if it == "IN" else it for it in words]
+    done = subprocess.run(["capkit", *words], capture_output="-" not in words, pass_fds=[number])
+    return done.returncode, done.stdout or b"", (done.stderr or b"").decode(errors="replace").strip()
+
+
+def fault_of(status, _, said):
+    """The place at which capkit ended, -1 where it named none."""
+    found = re.search(r"offset (\d+): ", said)
+    return int(found[1]) if status and found else -1 if status else sys.maxsize
+
+
+def work(given, path):
+    """Writes OUT by a path; returns how many packets, places, and bytes left out of how many."""
+    held = opened(given.IN)
+    size = os.fstat(held.fileno()).st_size
+    if not size:
+        raise Refused("a file of 0 bytes")
+    status, report, said = capkit(held, "infos", "IN")
+    if status == 0:
+        status, _, said = capkit(held, "edit", "-F", given.form, "IN", path)
+        if status == 0:
+            return int(re.search(rb"(?m)^Packets: (\d+)$", report)[1]), 0, 0, size
+        # A time that pcapng has and pcap hasn't is put right like damage.
+        if path == given.OUT or not said.endswith("time out of range"):
+            raise Refused(re.sub(r"^capkit: (/dev/fd/\d+: )?", "", said))
+    source, text = Source(held, given.IN), without_text_mode(held)
+    out = Output(source, given.form, path)
+    if text and fault_of(*capkit(text, "infos", "IN")) > fault_of(status, report, said):
+        out.note(0, "text mode is undone: places are those of the file as it was")
+        source.held, source.size = text, os.fstat(text.fileno()).st_size
+    try:
+        salvage(source, out, max(given.row, 1))
+        if not out.packets:
+            raise Refused("no capture is found in it")
+        out.flush()
+        out.end(out.piece)
+        out.end(out.final)
+    except BrokenPipeError:
+        out.buffer.clear()
+        for process in (out.piece, out.final):
+            out.end(process)
+        raise Refused("the output was closed") from None
+    finally:
+        for process in (out.piece, out.final):
+            if process and process.poll() is None:
+                process.kill()
+    return out.packets, max(out.places, 1), out.left_out, source.size
 
 
 def main():
@@ -605,27 +869,33 @@ def main():
     parser.add_argument("IN")
     parser.add_argument("OUT")
     given = parser.parse_args()
+    for number in (signal.SIGTERM, signal.SIGHUP):
+        signal.signal(number, lambda *_: sys.exit(1))
     if shutil.which("capkit") is None:
         sys.exit("salvage.py: capkit isn't in PATH")
+    part = path = given.OUT
     try:
-        if os.path.exists(given.OUT) and os.path.samefile(given.IN, given.OUT):
+        there = os.stat(1 if given.OUT == "-" else given.OUT) if given.OUT == "-" or os.path.exists(given.OUT) else None
+        read = os.stat(0 if given.IN == "-" else given.IN)
+        if there and os.path.samestat(there, read) and stat.S_ISREG(read.st_mode):
             parser.error("IN and OUT are one file")
-        with open(given.IN, "rb") as held:
-            if not os.fstat(held.fileno()).st_size:
-                raise Refused("a file of 0 bytes")
-            with mmap.mmap(held.fileno(), 0, access=mmap.ACCESS_READ) as data:
-                file = File(data, max(given.row, 1))
-                salvage(file)
-                count = write(file, given.OUT, given.form)
+        if not there or stat.S_ISREG(there.st_mode) and given.OUT != "-":
+            path = os.path.realpath(given.OUT)
+            part = f"{path}.{os.getpid()}.part"
+        packets, places, left_out, size = work(given, part)
+        if part != path:
+            os.replace(part, path)
     except (OSError, Refused) as error:
         name, reason = getattr(error, "filename", None), getattr(error, "strerror", None)
         sys.exit(f"salvage.py: {name or given.IN}: {reason or error}")
-    gaps = [(begin, f"{end - begin} bytes left out{why}") for begin, end, why in file.gaps]
-    for at, text in sorted(file.notes + gaps):
-        print(f"{given.IN}: offset {at}: {text}")
-    left_out = sum(end - begin for begin, end, _ in file.gaps)
-    print(f"{given.OUT}: {count} packets; {left_out} of {file.size} bytes left out")
-    sys.exit(1 if file.notes or gaps else 0)
+    finally:
+        if part != path and os.path.exists(part):
+            os.remove(part)
+    if places > NOTES:
+        print(f"{given.IN}: {places - NOTES} more places", file=sys.stderr)
+    damage = "1 place" if places == 1 else f"{places} places"
+    print(f"{given.OUT}: {packets} packets, {damage} of damage, {left_out} of {size} bytes left out", file=sys.stderr)
+    sys.exit(1 if places else 0)
 
 
 if __name__ == "__main__":

@@ -47,6 +47,11 @@ for name in day.pcap two-sections.pcapng comments.pcapng damaged.pcap; do
             >/dev/null 2>out/valgrind.txt || test $? != 99 || { cat out/valgrind.txt; bad=1; }
     fi
 done
+# A stream is read through a buffer to the same packets.
+for name in day.pcap nanoseconds.pcap two-sections.pcapng comments.pcapng; do
+    test "$(out/stream <"../samples/$name" | wc -l)" = "$(out/filter tcp "../samples/$name" | sed -n 's/.* of \([0-9]*\) packets match/\1/p')" ||
+        { echo "stream: $name"; bad=1; }
+done
 # What an expression means; and a refused one.
 meaning='((tcp src or dst port 80) or (tcp src or dst port 443)) and (src or dst host 10.0.0.1)'
 for text in 'tcp port 80 or 443 and host 10.0.0.1' "$meaning"; do

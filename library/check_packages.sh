@@ -52,6 +52,14 @@ check_python() {
     "$packages/venv/bin/pip" -q --disable-pip-version-check install --no-index out/python/capkit-*.whl
     (cd "$packages" && CAPKIT_SAMPLES=$samples venv/bin/python -I -W error -m unittest discover -q -s "$library/python/tests") ||
         wrong 'Python: tests'
+    # The source package alone, and a folder without a library.
+    tar -C "$packages" -xzf out/python/capkit-"$version".tar.gz
+    test -e "$packages/capkit-$version/libcapkit.so.0" || wrong 'Python: the source package has no library'
+    rm "$packages/capkit-$version/libcapkit.so.0"
+    "$python" -m pip -q wheel --no-index --no-deps --no-build-isolation -w "$packages" "$packages/capkit-$version" \
+        >"$packages/python.txt" 2>&1 || grep -q 'there is no libcapkit.so.0: `make`' "$packages/python.txt" ||
+        wrong 'Python: no word of what is missing'
+    rm -rf "$packages/capkit-$version"
     if have mypy; then
         mypy --strict --no-error-summary python/src/capkit || wrong 'Python: types'
     fi
@@ -97,8 +105,8 @@ check_go() {
         { cat "$packages/go.txt"; wrong 'Go: tests'; }
     tar -C "$packages" -xzf out/go/capkit-"$version".tar.gz
     mkdir -p "$packages/go"
-    printf 'module user\n\ngo 1.18\n\nrequire capkit v%s\n\nreplace capkit => %s\n' "$version" "$packages/capkit@v$version" \
-        >"$packages/go/go.mod"
+    printf 'module user\n\ngo 1.18\n\nrequire example.com/capkit v%s\n\nreplace example.com/capkit => %s\n' \
+        "$version" "$packages/capkit@v$version" >"$packages/go/go.mod"
     for example in filter keep; do
         mkdir "$packages/go/$example"
         cp "go/examples/$example/main.go" "$packages/go/$example/"

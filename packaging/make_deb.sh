@@ -42,7 +42,7 @@ mkdir "$work/debian"
 needs=$(cd "$work" && dpkg-shlibdeps -O "$tree/usr/bin/capkit" | sed -n 's/^shlibs:Depends=//p')
 
 # What a user copies to read a damaged capture, or to work on many machines.
-install -D -m 644 -t "$documents/examples" "$root/examples/salvage.py"
+install -D -m 644 -t "$documents/examples" "$root/examples/salvage.py" "$root/examples/any.sh"
 install -D -m 644 -t "$documents/examples/scale" "$root/examples/scale/filter.sbatch" "$root/examples/scale/filter.py"
 
 # The manual pages and completions.
@@ -68,7 +68,7 @@ for file in lesson show draw fields library listing markup page pictures runs si
     install -D -m 644 -t "$documents/teach" "$root/teach/$file.py"
 done
 install -m 644 "$root/teach/page.css" "$root/teach/page.js" "$documents/teach/"
-install -D -m 644 -t "$documents/docs" "$root/docs/lesson.png"
+install -D -m 644 -t "$documents/docs" "$root/docs/lesson.png" "$root/docs/lesson.html"
 # shellcheck disable=SC2046  # the pages have names without spaces
 for page in README.md $(cd "$root" && echo docs/*.md) docs/inside/FORMATS.md docs/inside/MACHINE.md; do
     install -D -m 644 "$root/$page" "$documents/$page"
@@ -92,6 +92,7 @@ Architecture: $architecture
 Maintainer: $name <$email>
 Installed-Size: $(du -sk --apparent-size "$tree/usr" | cut -f 1)
 Depends: $needs
+Suggests: python3-capkit
 Section: net
 Priority: optional
 Description: workbench for saved packet captures

@@ -1,6 +1,7 @@
 #!/bin/sh
-# Makes the Debian packages of the library: libcapkit0 (the shared library) and libcapkit-dev (the header, the static
-# library, capkit.pc, the manual page and the examples).
+# Makes the Debian packages of the library: libcapkit0 (the shared library), libcapkit-dev (the header, the static
+# library, capkit.pc, the manual page and the examples) and python3-capkit (the package for Python, which the lessons
+# of the package capkit need).
 #
 # usage: packaging/make_library_deb.sh
 #
@@ -18,15 +19,16 @@ root=$(CDPATH='' cd -- "$(dirname -- "$0")/.." && pwd -P)
 triplet=$(dpkg-architecture -qDEB_HOST_MULTIARCH)
 libraries=usr/lib/$triplet
 make -s -C "$root/library" install DESTDIR="$work/all" PREFIX=/usr LIBDIR="/$libraries"
-shared=$work/libcapkit0 dev=$work/libcapkit-dev
-for tree in "$shared" "$dev"; do
+shared=$work/libcapkit0 dev=$work/libcapkit-dev python=$work/python3-capkit
+for tree in "$shared" "$dev" "$python"; do
     documents=$tree/usr/share/doc/${tree##*/}
-    mkdir -p "$tree/DEBIAN" "$tree/$libraries" "$documents"
+    mkdir -p "$tree/DEBIAN" "$documents"
     install -m 644 "$root/packaging/copyright" "$documents/copyright"
     write_changelog "$documents/changelog.Debian.gz"
     gzip -9nc "$root/CHANGELOG.md" >"$documents/changelog.gz"
 done
 
+mkdir -p "$shared/$libraries"
 mv "$work/all/$libraries/libcapkit.so.$release" "$work/all/$libraries/libcapkit.so.0" "$shared/$libraries/"
 strip --strip-unneeded --remove-section=.comment --remove-section=.note "$shared/$libraries/libcapkit.so.$release"
 printf 'libcapkit 0 libcapkit0 (>= %s)\n' "$release" >"$shared/DEBIAN/shlibs"
@@ -47,14 +49,34 @@ install -D -m 644 -t "$documents/examples" "$root"/library/examples/*
 sed 's|](../library/examples/|](examples/|g' "$root/docs/LIBRARY.md" >"$documents/LIBRARY.md"
 drop_dead_links "$documents/LIBRARY.md"
 
-pack() { # TREE SECTION DEPENDS TEXT
+modules=$python/usr/lib/python3/dist-packages/capkit
+install -D -m 644 -t "$modules" "$root"/library/python/src/capkit/*.py "$root/library/python/src/capkit/py.typed"
+install -D -m 644 -t "$python/usr/share/doc/python3-capkit/examples" "$root"/library/python/examples/*
+install -m 644 "$root/library/python/README.md" "$python/usr/share/doc/python3-capkit/"
+drop_dead_links "$python/usr/share/doc/python3-capkit/README.md"
+# Python keeps compiled modules beside these.
+cat >"$python/DEBIAN/postinst" <<'END'
+#!/bin/sh
+set -e
+if [ "$1" = configure ] && command -v py3compile >/dev/null; then py3compile -p python3-capkit; fi
+END
+cat >"$python/DEBIAN/prerm" <<'END'
+#!/bin/sh
+set -e
+if command -v py3clean >/dev/null; then py3clean -p python3-capkit; fi
+END
+chmod 755 "$python/DEBIAN/postinst" "$python/DEBIAN/prerm"
+
+pack() { # TREE SECTION DEPENDS TEXT [ARCHITECTURE]
+    multi='Multi-Arch: same'
+    if [ "${5:-}" ]; then architecture=$5 multi='Multi-Arch: foreign'; fi
     package=$root/out/${1##*/}_${version}_$architecture.deb
     write_sums "$1"
     cat >"$1/DEBIAN/control" <<END
 Package: ${1##*/}
 Version: $version
 Architecture: $architecture
-Multi-Arch: same
+$multi
 Section: $2
 Priority: optional
 Maintainer: $name <$email>
@@ -70,3 +92,4 @@ END
 mkdir -p "$root/out"
 pack "$shared" libs "$needs" 'filter expressions and captures in memory (shared library)'
 pack "$dev" libdevel "libcapkit0 (= $version)" 'filter expressions and captures in memory (development files)'
+pack "$python" python "python3 (>= 3.9), libcapkit0 (>= $release)" 'filter expressions and captures (package for Python 3)' all

@@ -69,6 +69,8 @@ def paper(tab):
     found = [f"cut off: {name}" for name in tab.value(CUT_OFF)]
     if tab.value("getComputedStyle(document.querySelector('.control')).display") != "none":
         found.append("a control is printed")
+    if tab.value("getComputedStyle(document.querySelector('.packets')).display") != "none":
+        found.append("more than the chosen packet is printed")
     pages = tab.call("Page.printToPDF")["data"]
     tab.media("")
     return found if len(pages) > 10_000 else [*found, "no pages"]

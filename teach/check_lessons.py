@@ -182,7 +182,7 @@ def check_policy(name, tab):
 
 def clicked(tab, place):
     """Clicks a packet of the list."""
-    tab.click(f"#packet-{place}")
+    tab.click(f"#packet-{place + 1}")
     CHECK.equal("chosen", tab.value("chosen"), place)
 
 
@@ -238,7 +238,7 @@ def check_keys(tab):
         tab.key(key, code)
         CHECK.equal(f"day: {key}", tab.value("chosen"), expected)
     active = tab.value("document.getElementById(list.getAttribute('aria-activedescendant')).id")
-    CHECK.equal("day: active", active, "packet-33")
+    CHECK.equal("day: active", active, "packet-34")
 
 
 def differing(tab):
@@ -257,7 +257,7 @@ def show(tab, choice):
 
 
 LISTED = """[...document.querySelectorAll("[role=option]:not([hidden])")].map((option) =>
-  Number(option.id.slice(7)))"""
+  Number(option.id.slice(7)) - 1)"""
 STEPS = "Number(document.querySelector('.reason').textContent.match(/([0-9]+) steps?[.]$/)[1])"
 
 
@@ -389,7 +389,7 @@ CLICKS = """(async () => {
   for (let place = 0; place < count; place += Math.ceil(count / 25)) {
     await picture();
     const start = performance.now();
-    document.getElementById("packet-" + place).click();
+    document.getElementById("packet-" + (place + 1)).click();
     await picture();
     times.push(performance.now() - start);
   }
@@ -467,6 +467,61 @@ def check_forms(tab, folder):
         CHECK.equal(f"{name}: on paper", check_access.paper(tab), [])
 
 
+MEMORY = "ip[2:2] - ((ip[0] & 0xf) << 2) > tcp[12] >> 2"
+# How many cells of the rows that run reach out of their strip, or out of what can be scrolled to.
+CUT_OFF = """[...document.querySelectorAll(".one-program:not([hidden]) [role=row].on-way > *")].filter((cell) => {
+  const [strip, moved] = [cell.closest(".strip"), cell.closest(".moved")];
+  const { right, width } = cell.getBoundingClientRect();
+  return right > strip.getBoundingClientRect().right + 1 || cell.scrollWidth > width + 1
+    || right - moved.getBoundingClientRect().left + moved.scrollLeft > moved.scrollWidth + 1;
+}).map((cell) => cell.textContent)"""
+SHIFT = """(async () => {
+  let sum = 0;
+  const add = (list) => { for (const it of list.getEntries()) if (!it.hadRecentInput) sum += it.value; };
+  new PerformanceObserver(add).observe({ type: "layout-shift", buffered: true });
+  for (let y = 0; y < document.documentElement.scrollHeight; y += 300) {
+    scrollTo(0, y);
+    await new Promise((f) => requestAnimationFrame(() => setTimeout(f, 30)));
+  }
+  return sum;
+})()"""
+
+
+def check_widths(tab, folder):
+    """At each width all columns can be reached, and nothing moves while one scrolls."""
+    day = SAMPLES / "day.pcap"
+    lesson(folder, "memory", MEMORY, day)
+    lesson(folder, "memory-two", "--beside", MEMORY, FIRST, day)
+    for name in ("day", "two", "memory", "memory-two"):
+        for width in (375, 800, 1100, 1280, 1400):
+            tab.size(width, 812)
+            tab.open(pathlib.Path(folder, name + ".html"))
+            clicked(tab, 6)
+            CHECK.equal(f"{name}, {width} pixels: cut off", tab.value(CUT_OFF), [])
+            wide = tab.value("document.documentElement.scrollWidth")
+            CHECK.equal(f"{name}, {width} pixels: as wide as its window", wide, width)
+            shift = tab.value(SHIFT)
+            CHECK.true(f"{name}, {width} pixels: moves by {shift}", shift < 0.1)
+    tab.size(1400, 1000)
+
+
+def check_steps(tab, folder):
+    """The first packet is chosen, or the one of the address; n and p go through its program."""
+    tab.open(pathlib.Path(folder, "day.html"))
+    CHECK.equal("steps: chosen at first", tab.value("chosen"), 0)
+    tab.value("location.hash = '#packet-7'")
+    tab.wait("chosen === 6")
+    here = "[...document.querySelectorAll('.here')].map((row) => row.children[0].textContent)"
+    told = "document.getElementById('step').textContent"
+    for key, code, step in (("n", 78, "1"), ("n", 78, "2"), ("n", 78, "3"), ("p", 80, "2")):
+        tab.key(key, code)
+        CHECK.equal(f"steps: {key}", tab.value(here), [step])
+    CHECK.true(tab.value(told), tab.value(told).startswith("Step 2. (001) jeq #0x800"))
+    clicked(tab, 8)
+    CHECK.equal("steps: another packet", tab.value(here), [])
+    tab.wait("location.hash === '#packet-9'")
+
+
 def screenshot(tab, folder, path):
     """The picture of docs/TEACHING.md."""
     tab.size(1300, 1420)
@@ -482,6 +537,7 @@ def screenshot(tab, folder, path):
 PARTS = [
     check_whole, check_first_lesson, check_second_lesson, check_third_lesson, check_two,
     check_hostile, check_bad_captures, check_listing, check_large, check_too_large, check_forms,
+    check_widths, check_steps,
 ]  # fmt: skip
 
 

@@ -86,6 +86,11 @@ PROTOCOL_NAMES = {1: "ICMP", 2: "IGMP", 6: "TCP", 17: "UDP", 47: "GRE", 50: "ESP
 OPERATION_NAMES = {1: "a request", 2: "a reply"}
 
 
+# Fields whose numbers are read as such, and those of which one reads the bits.
+COUNTED = ("port", "length", "limit", "to live", "window", "type", "code")
+OF_BITS = ("EtherType", "flags", "checksum", "fragment offset", "header length", "address")
+
+
 def value_text(field, number):
     """A number that a field is compared with, as readers of that field write it."""
     field = field or ""
@@ -98,4 +103,15 @@ def value_text(field, number):
         name = {0x40: "4", 0x60: "6"}.get(number)
     if name:
         return name
-    return str(number) if field.endswith("port") or number < 10 else f"{number:#x}"
+    if number >= 10 and field.endswith(OF_BITS) and "byte" not in field:
+        return f"{number:#x}"
+    if number < 10 or field.endswith(COUNTED):
+        return str(number)
+    return f"{number} ({number:#x})"
+
+
+def network_text(number, mask):
+    """An IPv4 network, if the bits of a mask are the first ones of an address; else None."""
+    length = bin(mask).count("1")
+    is_first = mask == (1 << 32) - (1 << (32 - length))
+    return f"{value_text('address', number)}/{length}" if is_first else None

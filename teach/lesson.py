@@ -103,7 +103,7 @@ def packets_of(name, most):
     try:
         for packet in library.capkit.packets(source):
             if len(packets) == most:
-                notes.append(f"The page has the first {most} packets; the capture has more.")
+                notes.append(f"The page has the first {markup.counted(most)}; the capture has more.")
                 break
             packets.append(packet)
     except library.capkit.CaptureError as error:
@@ -119,7 +119,8 @@ def make(arguments):
     try:
         packets, notes, fault = packets_of(arguments.capture, arguments.packets)
     except OSError as error:
-        raise Refused(f"{arguments.capture}: {error.strerror}") from error
+        report(f"{arguments.capture}: {error.strerror}")
+        return 1
     name = pathlib.PurePath(shown_name(arguments.capture)).name
     text, told = page.page_of(found, name, packets, notes)
     sys.stdout.buffer.write(text)

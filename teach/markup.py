@@ -27,6 +27,11 @@ def visible_lines(text):
     return "".join(c if c in "\n\t" else visible(c) for c in text)
 
 
+def counted(count):
+    """A number of packets, in words."""
+    return f"{count} packet" if count == 1 else f"{count} packets"
+
+
 def escaped(text):
     return html.escape(visible_lines(text))
 
@@ -118,7 +123,7 @@ def program_markup(side, number, name, is_first):
     columns = ["step", "index", "instruction", "in words", "A before", "X before", "goes"]
     columns += ["memory before"] if has_memory else []
     heads = "".join(cell("columnheader", column) for column in columns)
-    told = f"{len(glosses)} instructions, for {side.links[number]}"
+    told = f"{len(glosses)} instruction{'s' * (len(glosses) != 1)}, for {side.links[number]}"
     kind = "program with-memory" if has_memory else "program"
     table = (
         f'<div role="table" class="{kind}" aria-label="{html.escape(name)}">'
@@ -138,7 +143,8 @@ def flow_markup(program, name):
     if len(program.instructions) > MOST_DRAWN:
         return element("p", "It has too many instructions to draw its ways.")
     picture = pictures.flow_strips(program, f"The ways through {name}, as in the table beside it")
-    key = element("p", "Solid lines on the right: yes. Dashed lines on the left: no.", class_="key")
+    told = "Solid lines, on the right or right below, are yes; dashed ones, on the left or below, no."
+    key = element("p", told, class_="key")
     return element("figure", key + region(picture, f"the ways through {name}", "picture"))
 
 
@@ -159,14 +165,14 @@ CHOICES = [("all", "all"), ("+", "those that match"), ("-", "those that don't ma
 DIFFER = ("differ", "those on which the filters differ")
 
 
-def packets_markup(sides, count, differ):
+def packets_markup(sides, count, differ, is_whole):
     """The list of packets, which the script fills, and the packet that is chosen."""
     choices = CHOICES + ([DIFFER] if len(sides) > 1 else [])
     options = "".join(f'<option value="{value}">{text}</option>' for value, text in choices)
-    told = f"<p>The filters differ on {differ} of {count} packets.</p>" if len(sides) > 1 else ""
+    told = f"<p>The filters differ on {differ} of {counted(count)}.</p>" if len(sides) > 1 else ""
     letters = ["Filter A: ", "Filter B: "] if len(sides) > 1 else [""]
     reasons = "".join(f"<p>{letter}<span class=\"reason\"></span></p>" for letter in letters)
-    none = "" if count else "<p>The capture has no packets.</p>"
+    none = "<p>The capture has no packets.</p>" if is_whole and not count else ""
     hidden = "" if count else " hidden"
     return f"""<section class="packets" aria-labelledby="packets">
 <h2 id="packets">Packets</h2>{told}{none}
@@ -176,8 +182,9 @@ def packets_markup(sides, count, differ):
 </section>
 <section class="packet" aria-labelledby="packet"{hidden}>
 <h2 id="packet">The packet</h2>
-<p id="line">None is chosen. Click on one, or press the arrow keys in the list.</p>
-<div class="reasons" aria-live="polite" hidden>{reasons}</div>
+<p id="line"></p>
+<div class="reasons" aria-live="polite">{reasons}</div>
+<p id="step" class="key" aria-live="polite">The keys n and p go through the program step by step.</p>
 <dl id="about"></dl>
 <div id="bytes" class="moved" tabindex="0" role="region" aria-label="the bytes of the packet"></div>
 </section>"""

@@ -43,12 +43,24 @@ function marked(verdicts) {
 
 const models = new Map();
 
+// The option of a packet; packets are counted from 1 in their names, as in what is shown.
+function optionOf(place) {
+  return document.getElementById("packet-" + (place + 1));
+}
+
+function packetsText(number) {
+  return number === 1 ? "1 packet" : number + " packets";
+}
+
 function option(place) {
   const verdicts = lesson.sides.map((side) => side.verdicts[place]).join("");
   if (!models.has(verdicts)) models.set(verdicts, marked(verdicts));
   const item = models.get(verdicts).cloneNode(true);
-  item.id = "packet-" + place;
-  item.append(String(place + 1).padStart(String(count).length) + "  " + lesson.lines[place]);
+  item.id = "packet-" + (place + 1);
+  // The date and the parts of a second, which a narrow page leaves out.
+  const [, date, time, parts, rest] = /^(\S+ )?([0-9:]+)?(\.[0-9]+)?([^]*)$/.exec(lesson.lines[place]);
+  item.append(String(place + 1).padStart(String(count).length) + "  ", made("span", date, "date"), time || "",
+    made("span", parts, "date"), rest);
   if (differing.has(place)) item.classList.add("differs");
   return item;
 }
@@ -64,11 +76,11 @@ function fillList() {
 }
 
 function tellShown(shown) {
-  document.getElementById("shown").textContent = shown + " of " + count + " packets";
+  document.getElementById("shown").textContent = shown + " of " + packetsText(count);
 }
 
 function isShown(place) {
-  return !document.getElementById("packet-" + place).hidden;
+  return !optionOf(place).hidden;
 }
 
 function choose(show) {
@@ -76,9 +88,11 @@ function choose(show) {
   for (let place = 0; place < count; place++) {
     const wanted = show === "all" || (show === "differ" ? differing.has(place)
       : lesson.sides.some((side) => side.verdicts[place] === show));
-    document.getElementById("packet-" + place).hidden = !wanted;
+    optionOf(place).hidden = !wanted;
     if (wanted) shown++;
   }
+  if (chosen >= 0 && isShown(chosen)) list.setAttribute("aria-activedescendant", optionOf(chosen).id);
+  else list.removeAttribute("aria-activedescendant");
   tellShown(shown);
 }
 
@@ -346,27 +360,66 @@ function showParts(section, side) {
   });
 }
 
-// ---- a packet is chosen
+// ---- a packet is chosen, and its programs are gone through
 
-function select(place) {
-  if (chosen >= 0) document.getElementById("packet-" + chosen).setAttribute("aria-selected", "false");
+let addressing = 0;
+
+function select(place, isMoved = true) {
+  if (chosen >= 0) optionOf(chosen).setAttribute("aria-selected", "false");
   chosen = place;
-  const item = document.getElementById("packet-" + place);
+  const item = optionOf(place);
   item.setAttribute("aria-selected", "true");
   list.setAttribute("aria-activedescendant", item.id);
-  item.scrollIntoView({ block: "nearest" });
+  if (isMoved) {
+    item.scrollIntoView({ block: "nearest" });
+    // Not at once: a browser counts these, and a key that is held down chooses many packets.
+    clearTimeout(addressing);
+    addressing = setTimeout(() => history.replaceState(null, "", "#" + item.id), 300);
+  }
   document.getElementById("packet").textContent = "Packet " + (place + 1);
   showAbout(place);
   const runs = lesson.sides.map((side, number) => runOf(number));
   showBytes(place, runs);
   const filters = document.querySelectorAll(".filter");
   const reasons = document.querySelectorAll(".reason");
-  document.querySelector(".reasons").hidden = false;
   document.querySelectorAll(".run").forEach((section, number) => {
     showReason(reasons[number], lesson.sides[number], runs[number]);
     showWay(section, number, runs[number]);
     showParts(filters[number], lesson.sides[number]);
   });
+  leaveSteps();
+  stepsOf = runs.map((run, number) => (run ? [...shownWays[number].rows] : []));
+}
+
+// The rows of each program that run, in their order, and at which step they are shown.
+let stepsOf = [];
+let step = -1;
+
+function leaveSteps() {
+  document.querySelectorAll(".here").forEach((row) => row.classList.remove("here"));
+  step = -1;
+}
+
+function go(steps) {
+  const last = Math.max(...stepsOf.map((rows) => rows.length)) - 1;
+  if (last < 0) return;
+  const next = Math.max(0, Math.min(last, step + steps));
+  leaveSteps();
+  step = next;
+  const told = stepsOf.filter((rows) => next < rows.length).map((rows) => {
+    const row = rows[next];
+    const [, index, insn, said, a, x] = [...row.children].map((cell) => cell.textContent);
+    row.classList.add("here");
+    row.scrollIntoView({ block: "nearest" });
+    return index + " " + insn + ": " + said + ". Before it A is " + a + " and X is " + x + ".";
+  });
+  document.getElementById("step").textContent = "Step " + (next + 1) + ". " + told.join(" ");
+}
+
+// The packet that the address names, from 0; -1 where it names none.
+function named() {
+  const found = /^#packet-([0-9]+)$/.exec(location.hash);
+  return found && found[1] >= 1 && found[1] <= count ? found[1] - 1 : -1;
 }
 
 lesson.sides.forEach((side) => {
@@ -374,9 +427,18 @@ lesson.sides.forEach((side) => {
 });
 fillList();
 document.querySelectorAll(".one-program").forEach(partsOf);
+// Shown at once when all is in its place, so that nothing moves.
+document.querySelector("main").hidden = false;
+if (named() >= 0) select(named());
+else if (count) select(0, false);
 list.addEventListener("keydown", pressed);
 list.addEventListener("click", (event) => {
   const item = event.target.closest("[role=option]");
-  if (item) select(Number(item.id.slice(7)));
+  if (item) select(Number(item.id.slice(7)) - 1);
 });
+document.addEventListener("keydown", (event) => {
+  const isKey = (event.key === "n" || event.key === "p") && event.target.localName !== "select";
+  if (isKey && chosen >= 0 && !event.ctrlKey && !event.altKey && !event.metaKey) go(event.key === "n" ? 1 : -1);
+});
+addEventListener("hashchange", () => { if (named() >= 0 && named() !== chosen) select(named()); });
 document.getElementById("show").addEventListener("change", (event) => choose(event.target.value));

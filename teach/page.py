@@ -11,7 +11,9 @@ import pathlib
 
 import runs
 from fields import ETHERNET_LINK
-from markup import escaped, element, filter_markup, packets_markup, programs_markup, visible_lines
+from markup import (
+    counted, element, escaped, filter_markup, packets_markup, programs_markup, visible_lines,
+)  # fmt: skip
 
 HERE = pathlib.Path(__file__).resolve().parent
 MOST_BYTES = 20 << 20
@@ -31,10 +33,12 @@ def text_of_bytes(data):
 
 def fault_note(error, count):
     """Why a capture ends before its end, for students."""
+    if error.offset == 0:
+        return f"The file has no packets: it is wrong from its first byte on ({error.reason})."
+    before = f"The {counted(count)} before it {'is' if count == 1 else 'are'} here."
     return (
         f"The capture is damaged: at byte {error.offset} of the file it is wrong"
-        f" ({error.reason}), so nothing is read from there on."
-        f" The {count} packets before it are here."
+        f" ({error.reason}), so nothing is read from there on. {before}"
     )
 
 
@@ -144,13 +148,13 @@ def document(sides, capture, packets, taken, notes, data):
 <body>
 <a class="skip" href="#packets">To the packets</a>
 <header><h1>A lesson on {escaped(capture)}</h1>
-<p>{len(packets)} packets. {ABOUT}</p>
+<p>{counted(len(packets))}. {ABOUT}</p>
 {f'<ul class="notes">{told}</ul>' if told else ""}
 <noscript><p>The script in this page shows the packets; this browser doesn't run it.</p></noscript>
 </header>
-<main>
+<main hidden>
 <div class="filters">{filters}</div>
-{packets_markup(sides, len(packets), len(taken.differ))}
+{packets_markup(sides, len(packets), len(taken.differ), not notes)}
 <div class="runs">{programs}</div>
 </main>
 <script type="application/json" id="lesson">{data}</script>

@@ -212,9 +212,21 @@ def reason_of(program, glosses, trace, answer, packet):
         return f"{start}: {end}."
     place = trace.places[step]
     insn, target = program.instructions[place], trace.places[step + 1]
-    went = went_of(insn, place, target)
-    a, gloss = value_text(glosses[place].field, trace.accumulators[step]), glosses[place]
-    return f"{start}. The last test is ({place:03}): {gloss.text} {went}, A is {a}. {end}."
+    answer_to = f"{glosses[place].text} {went_of(insn, place, target)}"
+    if insn.jt != insn.jf:
+        answer_to += f", {value_told(program, glosses[place], trace, step)}"
+    return f"{start}. The last test is ({place:03}): {answer_to}. {end}."
+
+
+def value_told(program, gloss, trace, step):
+    """The number that a test was on, as the packet has it: before bits were masked out."""
+    code, a = program.instructions[trace.places[step]].code, trace.accumulators[step]
+    if code & 8:
+        return f"A is {value_text(gloss.field, a)} and X is {trace.indexes[step]}"
+    if gloss.is_masked and step and program.instructions[trace.places[step - 1]].code == 0x54:
+        a = trace.accumulators[step - 1]
+    is_of_bits = code & 0xF0 == 0x40 or gloss.text.startswith("are the bits")
+    return f"{'the number' if is_of_bits else 'it'} is {value_text(gloss.field, a)}"
 
 
 def sign_of(insn, place, target):

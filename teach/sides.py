@@ -8,6 +8,8 @@ from fields import LINKS
 # A larger tree is told and not drawn, and its parts aren't asked one by one.
 MOST_NODES = 300
 MOST_PARTS = 60
+# capkit.h's CAPKIT_LINK_TYPE.
+NOT_FILTERED = 15
 
 
 class Side:
@@ -34,7 +36,7 @@ class Side:
         try:
             program = self.fixed or library.compiled(self.title, link_type)
         except library.capkit.CompileError as error:
-            if error.status == library.native.LINK_TYPE:
+            if error.status == NOT_FILTERED:
                 return None
             raise
         self.programs.append(program)

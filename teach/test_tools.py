@@ -35,13 +35,13 @@ class Tools(unittest.TestCase):
             cwd=self.folder, check=False, timeout=60, **more,
         )  # fmt: skip
 
-    def refused(self, tool, *arguments, given=b"", told):
-        """A message on standard error, no traceback, nothing written, status 2."""
+    def refused(self, tool, *arguments, given=b"", told, status=2):
+        """A message on standard error, no traceback, nothing written, a status."""
         done = self.run_tool(tool, *arguments, given=given)
         said = done.stderr.decode()
         self.assertIn(told, said)
         self.assertNotIn("Traceback", said)
-        self.assertEqual((done.returncode, done.stdout), (2, b""), said)
+        self.assertEqual((done.returncode, done.stdout), (status, b""), said)
         return said
 
 
@@ -158,12 +158,19 @@ class Captures(Tools):
     def test_no_capture(self):
         (self.folder / "text").write_text("this is no capture file at all")
         page = self.page("tcp", "text", status=1, told="text: offset 0: not a capture file")
-        self.assertIn("The 0 packets before it are here", page)
-        self.assertIn("The capture has no packets.", page)
+        self.assertIn("it is wrong from its first byte on (not a capture file).", page)
 
     def test_missing(self):
-        self.refused("lesson.py", "tcp", "none.pcap", told="none.pcap: No such file or directory")
-        self.refused("lesson.py", "tcp", ".", told="Is a directory")
+        told = "none.pcap: No such file or directory"
+        self.refused("lesson.py", "tcp", "none.pcap", told=told, status=1)
+        self.refused("lesson.py", "tcp", ".", told="Is a directory", status=1)
+
+    def test_page_to_look_at(self):
+        """docs/lesson.html is the page that its first line of TEACHING.md makes."""
+        kept = SAMPLES.parent / "docs" / "lesson.html"
+        if not kept.exists():
+            self.skipTest("there is no docs/")
+        self.assertEqual(self.page("tcp port 80", str(SAMPLES / "day.pcap")), kept.read_text())
 
     def test_nothing_in_it(self):
         (self.folder / "zero").write_bytes(b"")

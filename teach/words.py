@@ -7,7 +7,9 @@ answer on a page rests on them.
 """
 from typing import NamedTuple, Optional
 
-from fields import HEADER_FIELDS, LINKS, PORT_FIELDS, TRANSPORT_FIELDS, value_text
+from fields import (
+    HEADER_FIELDS, LINKS, PART, PORT_FIELDS, TRANSPORT_FIELDS, network_text, value_text,
+)  # fmt: skip
 
 CLASS, LOAD, LOAD_X, STORE, STORE_X, COMPUTE, JUMP, RETURN = 7, 0, 1, 2, 3, 4, 5, 6
 SIZES = {0: 4, 8: 2, 16: 1}
@@ -29,6 +31,10 @@ class Known(NamedTuple):
     """What A is, where it is one field."""
     is_header: bool
     """Whether X is the length of the IPv4 header."""
+    subject: Optional[str] = None
+    """What A was loaded from, where all ways loaded the same."""
+    mask: Optional[int] = None
+    """The bits that were kept of it."""
 
 
 def joined(one, other):
@@ -40,6 +46,7 @@ def joined(one, other):
         one.transports | other.transports,
         one.field if one.field == other.field else None,
         one.is_header and other.is_header,
+        *((one.subject, one.mask) if one[4:] == other[4:] else (None, None)),
     )
 
 
@@ -102,10 +109,30 @@ def load_text(known, link, code, k):
     return f"the {field} ({where})" if field else where
 
 
+def subject_of(known, link, code, k):
+    """What a load into A reads, as a test on it calls it; None of a word of memory."""
+    mode, size = code & 0xE0, SIZES.get(code & 0x18, 4)
+    if mode in (0x00, 0x60):
+        return None
+    if mode == 0x80:
+        return "the length"
+    field = load_field(known, link, code, k)
+    if field:
+        return f"the {field}"
+    base = "X + " if mode == 0x40 else ""
+    if size == 1:
+        return f"the number in byte {base}{k}"
+    return f"the number in bytes {base}{k} to {base}{k + size - 1}"
+
+
+def field_of(known):
+    """The field that a test is on, whose bits may be masked."""
+    return known.field or (known.subject or "").replace("the ", "", 1)
+
+
 def test_text(known, code, k):
     """The question that a test asks."""
-    operator = code & 0xF0
-    subject = f"the {known.field}" if known.field else "A"
+    operator, subject = code & 0xF0, known.subject or "A"
     if code & 8:
         return {
             0x10: f"is {subject} X?", 0x20: f"is {subject} above X?",
@@ -116,7 +143,16 @@ def test_text(known, code, k):
             return "is it a later fragment?"
         bits = "the bit" if k & (k - 1) == 0 else "one of the bits"
         return f"is {bits} {k:#x} set in {subject}?"
-    value = value_text(known.field, k)
+    value = value_text(field_of(known), k)
+    if known.mask is not None and known.field is None:
+        is_address = subject.endswith("address") and not PART.search(subject)
+        network = network_text(k, known.mask) if is_address and operator == 0x10 else None
+        if network:
+            return f"is {subject.replace('address', 'network')} {network}?"
+        how = {0x10: "", 0x20: "above ", 0x30: "at least "}[operator]
+        return f"are the bits {known.mask:#x} of {subject} {how}{k:#x}?"
+    if known.field == "version":
+        subject = "the version"
     return {0x10: f"is {subject} {value}?", 0x20: f"is {subject} above {value}?",
             0x30: f"is {subject} at least {value}?"}[operator]  # fmt: skip
 
@@ -176,20 +212,26 @@ def after(known, link, insn):
     code, _, _, k = insn
     kind = code & CLASS
     if kind == LOAD:
-        return known._replace(field=load_field(known, link, code, k))
+        subject, field = subject_of(known, link, code, k), load_field(known, link, code, k)
+        return known._replace(field=field, subject=subject, mask=None)
     if kind == LOAD_X or code == 7:
         return known._replace(is_header=code == 0xB1 and k == link.header)
     if kind == COMPUTE:
         is_version = code == 0x54 and k == 0xF0 and known.field == "version and header length"
-        return known._replace(field="version" if is_version else None)
-    return known._replace(field=None) if code == 0x87 else known
+        is_mask = code == 0x54 and known.mask is None
+        return known._replace(
+            field="version" if is_version else None,
+            subject=known.subject if is_mask else None, mask=k if is_mask else None,
+        )  # fmt: skip
+    return known._replace(field=None, subject=None, mask=None) if code == 0x87 else known
 
 
 class Gloss(NamedTuple):
-    """An instruction in words, and the field that A is before it, or None."""
+    """An instruction in words, the field that A is before it, or None, and whether it is masked."""
 
     text: str
     field: Optional[str]
+    is_masked: bool
 
 
 def glosses_of(instructions, link_type):
@@ -201,7 +243,8 @@ def glosses_of(instructions, link_type):
     for place, insn in enumerate(instructions):
         # What no way leads to is read as if anything could be there.
         known = states[place] or states[0]
-        glosses.append(Gloss(text_of(known, link, insn), known.field))
+        is_masked = known.mask is not None and known.field is None
+        glosses.append(Gloss(text_of(known, link, insn), field_of(known), is_masked))
         for target, then in ways_of(known, link, insn, place):
             if target < len(states):
                 states[target] = joined(states[target], then)

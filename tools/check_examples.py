@@ -20,8 +20,8 @@ import tempfile
 
 from built import ROOT, built_program
 
-PAGES = ["README.md", "docs/RECIPES.md", "docs/SCALE.md", "docs/TEACHING.md"]
-OTHER_PROGRAMS = ["tcpdump", "editcap", "mergecap", "capinfos", "parallel", "dot", "python3", "xxd"]
+PAGES = ["README.md", "docs/RECIPES.md", "docs/SCALE.md", "docs/TEACHING.md", "docs/TESTERS.md"]
+OTHER_PROGRAMS = ["git", "tcpdump", "editcap", "mergecap", "capinfos", "parallel", "dot", "python3", "xxd"]
 MARK = "==== next example ===="
 # The folders that the set-up copies, and where a package has them.
 FOLDERS = ["samples", "bench", "examples", "teach"]

@@ -27,6 +27,7 @@ SAMPLES = ROOT / "samples"
 WAITING = "(cat day.pcap; sleep 3)"
 FIRST = "(read -t 1 -r line && echo 1)"
 TWICE = "capkit: usage: name used twice\n"
+CLOSED = ["", "<&-", ">&-", "2>&-", "<&- >&-", "<&- 2>&-", ">&- 2>&-", "<&- >&- 2>&-"]
 
 CASES = [
     # What an output held before goes, unless an expression or a listing is refused.
@@ -85,6 +86,18 @@ CASES = [
     ("echo text > $'a\\nb'; capkit infos $'a\\nb'", 1, "capkit: a\\x0ab: offset 0: not a capture file\n", {}),
     ("cp day.pcap $'a\\eb'; capkit infos $'a\\eb' | head -n 1 > out", 0, "", {"out": b"File: a\x1bb\n"}),
     ("capkit print $'-\\e' 2> out; s=$?; grep -q $'\\e' out || exit $s", 2, "", {}),
+    ("capkit infos $'a\\u202eb'", 1, "capkit: a\\u{202e}b: cannot open\n", {}),
+    # Standard streams that are closed, each combination: no file gets the number of one, so that no message goes into a
+    # capture, and a refused expression keeps what the output held.
+    *[(f"capkit edit -F pcap damaged.pcap whole 2> message; printf keep > kept; "
+       f"capkit edit -F pcap damaged.pcap out {closed}; s=$?; "
+       f"capkit print -w kept day.pcap 'prot 80' {closed}; cmp out whole; test $? = 0 && exit $s", 1,
+       "" if "2>&-" in closed else "capkit: damaged.pcap: offset 2631: too long\ncapkit: expression: unknown word at 1\n",
+       {"kept": b"keep"})
+      for closed in CLOSED],
+    # A stream that is closed stays so: what is written to it fails, and what is read of it too.
+    ("capkit infos day.pcap >&-", 1, "capkit: -: write failed\n", {}),
+    ("capkit infos - <&-", 1, "capkit: -: offset 0: read failed\n", {}),
 ]
 
 SLOW = "(cat day.pcap; sleep 3; tail -c +25 day.pcap) |"

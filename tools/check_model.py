@@ -3,15 +3,14 @@
 
 usage: check_model.py [CRATE..]
 
-1. MODEL.md names each definition that a public function's contract cites: in backquotes, outside of fenced blocks. With
-   crates, those of these crates alone. A function is public where other crates can name it, or C.
-   The folders specs/ and specs/inside/ have what meaning.py says, and MODEL.md's table of lines what it counts.
+1. Each definition that a public function's contract cites has a comment. With crates, those of these crates. A function is public
+   if other crates can name it, or C.
+   The folders specs/ and specs/inside/ have the definitions that meaning.py states, and CONTRACTS.md's table of lines its counts.
 2. A contract in a fenced block of a page, and a clause in backquotes, stands in src/ as it is shown; `..` stands for
    what is left out.
-3. The definition of `Name.field` has this field; `path::name` is an item, in PROVED's tables a public one; the clauses
-   that PROVED's rows name are those of the row's functions; files exist; and any other name in backquotes is a word of
+3. The definition of `Name.field` has this field; `path::name` is an item, in CONTRACTS' tables a public one; the clauses
+   that CONTRACTS' rows name are those of the row's functions; files exist; and any other name in backquotes is a word of
    some source, edit or script. Words in capitals, as NAME, stand for others.
-4. Each promise of README's table is one of PROVED's, in the same words.
 
 The status is 1 where something is listed.
 """
@@ -31,33 +30,32 @@ FIELD = re.compile(r"^\s*(?:pub )?(?:ghost )?(\w+)\s*:(?!:)", re.MULTILINE)
 FOREIGN = {"setsid", "taskset"}
 
 
-def missing_definitions(sources, crates):
-    """Yields the definitions that MODEL.md leaves out."""
-    model = re.sub(r"^```.*?^```", "", (INSIDE / "MODEL.md").read_text(), flags=re.MULTILINE | re.DOTALL)
-    named = {word for quoted in re.findall(r"`([^`]+)`", model) for word in re.findall(r"[A-Za-z_]\w*", quoted)}
-    missing = {}
+def uncommented_definitions(sources, crates):
+    """Yields the definitions without a comment that public contracts cite."""
+    lines, found = {}, {}
     for key in sorted(sources.public_paths()):
         item = sources.items[key]
         if item.kind == "fn" and (not crates or key[0] in crates):
             for use in sorted(use[:3] for use in item.uses() if sources.items[use[:3]].path.suffix == ".antt"):
-                if use[2] not in named:
-                    where = f"{item.path.relative_to(ROOT)}:{item.line}"
-                    missing.setdefault(use, f"{where}: {key[2]} cites {use[2]}, which MODEL.md leaves out")
-    yield from missing.values()
+                spec = sources.items[use]
+                text = lines.setdefault(spec.path, spec.path.read_text().split("\n"))
+                if not text[spec.line - 1].startswith("--") and not text[spec.line - 2].startswith("--"):
+                    found[use] = f"{spec.path.relative_to(ROOT)}:{spec.line}: {use[2]}, which {key[2]} cites, has no comment"
+    yield from found.values()
 
 
 def misplaced_definitions(sources):
-    """Yields the definitions of specs/ that no promise rests on, those of specs/inside/ that one does, and what MODEL.md
+    """Yields the definitions of specs/ that no promise rests on, those of specs/inside/ that one does, and what CONTRACTS.md
     counts otherwise."""
     meaning = Meaning(sources)
     for spec, name, is_believed in meaning.misplaced():
         what = "must be believed" if is_believed else "only helps proofs"
         yield f"{spec.path.relative_to(ROOT)}: {name} {what}"
-    model = (INSIDE / "MODEL.md").read_text()
+    model = (INSIDE / "CONTRACTS.md").read_text()
     for name, *shown in re.findall(r"^\| `?([\w: ]+)`? \| ([\d,]+) \| ([\d,]+) \|$", model, re.MULTILINE):
         count, lines, *_ = figures(sources, meaning.closure_of(TOGETHER.get(name, [name])))
         if shown != [f"{count:,}", f"{lines:,}"]:
-            yield f"docs/inside/MODEL.md: {name} rests on {count:,} definitions of {lines:,} lines"
+            yield f"docs/inside/CONTRACTS.md: {name} rests on {count:,} definitions of {lines:,} lines"
 
 
 def plain(text):
@@ -131,13 +129,13 @@ def ends(path):
 
 def stale_names(names, page):
     """Yields what a page names and the sources don't have."""
-    crates, functions = [], []
-    is_fenced = False
+    crates, is_fenced, is_table = [], False, False
     for number, line in enumerate((INSIDE / page).read_text().split("\n"), 1):
         if line.startswith("#"):
             crates = re.findall(r"(?:cap|flt)\w+", line)
         is_fenced ^= line.startswith("```")
-        is_row = page == "PROVED.md" and line.startswith("| ")
+        is_table = line.startswith("| promise | function") or is_table and line.startswith("|")
+        is_row = is_table and line.startswith("| ")
         for fault in [] if is_fenced else line_faults(names, line, is_row):
             yield f"docs/inside/{page}:{number}: {fault}"
         for fault in row_faults(names, line, crates) if is_row else []:
@@ -186,31 +184,12 @@ def row_faults(names, line, crates):
             yield f"no clause {word} of {', '.join(sorted(item.key[2] for item in functions)) or 'a function'}"
 
 
-def promises(page):
-    """The first cells of the tables of promises of a page, with the texts of its links alone, by their lines."""
-    cells, is_table = {}, False
-    for number, line in enumerate(page.read_text().split("\n"), 1):
-        is_table = line.startswith("| promise |") or is_table and line.startswith("|")
-        if is_table:
-            cell = re.sub(r"\[(?:[^]]*/)?([^]]*)\]\([^)]*\)", r"\1", line.split(" | ")[0].strip("| "))
-            cells[cell] = number
-    return cells
-
-
-def unlike_promises():
-    """Yields the promises of README that PROVED hasn't, or has in other words."""
-    proved = promises(INSIDE / "PROVED.md")
-    for promise, number in promises(ROOT / "README.md").items():
-        if promise not in proved:
-            yield f"README.md:{number}: docs/inside/PROVED.md has no row {promise[:60]}"
-
-
 def main():
     """Prints each fault."""
     sources = Sources()
     names = Names(Sources(left_out=()))
-    faults = [*sources.unknown, *missing_definitions(sources, sys.argv[1:]), *misplaced_definitions(sources)]
-    faults += [*shown_contracts(sources), *unlike_promises()]
+    faults = [*sources.unknown, *uncommented_definitions(sources, sys.argv[1:]), *misplaced_definitions(sources)]
+    faults += shown_contracts(sources)
     faults += [fault for page in sorted(INSIDE.glob("*.md")) for fault in stale_names(names, page.name)]
     print(*faults, sep="\n", end="\n" if faults else "")
     print(f"{len(faults)} faults")

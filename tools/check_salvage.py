@@ -1,82 +1,87 @@
 #!/usr/bin/env python3
-"""Damages captures at random, and compares what salvage.py, tcpdump and editcap read of them.
+"""Damages captures, and counts what salvage.py, capkit, tcpdump and editcap read of them.
 
-usage: check_salvage.py [--capkit PROGRAM] [--runs N] [--packets N] [--jobs N] [--seed N] [--first N]
-                        [--pcapfix] [--show] [--keep FOLDER]
+usage: check_salvage.py [--capkit PROGRAM] [--runs N] [--seed N] [--first N] [--kind NAME] [--jobs N]
+                        [--old SCRIPT] [--pcapfix] [--keep FOLDER]
 
-A capture of PACKETS packets (10,000) is damaged RUNS times (100), in pcap of all four forms and
-pcapng in both byte orders in turn: cut short, a range cut out, bytes changed (half of them in
-headers), a range overwritten, files joined. What each program writes is compared with the packets
-of the capture:
+RUNS (300) damaged captures of 20 to 3,000 packets, in pcap of all four forms and pcapng in both byte
+orders, of each kind of damage in turn; then each sample whole, and its first 0 to 200 bytes. What a
+program writes is compared with the packets of the capture, by time, original length and bytes (where
+the damage is of times, by the last two):
 
-  whole    packets that are equal in time, lengths and bytes
-  changed  packets at the place of one whose bytes were damaged, with its time, lengths or bytes
-  false    all others
-  missed   undamaged packets that weren't read
+  true     packets of the capture, each once, also  again    the same packet once more
+           with another time, if its own bytes were damaged
+  changed  packets that share times, lengths or bytes with one whose own bytes were damaged
+  false    all others                               missed   undamaged packets that weren't read
 
-The status is 1 if salvage.py wrote a false packet, fewer whole ones than tcpdump or editcap, fewer
-whole and changed ones together, or changed its input. Such files are kept with --keep. With
---pcapfix that program, which puts captures right in its own way, is shown beside them.
+The status is 1 where salvage.py wrote a false packet, fewer true ones than capkit, tcpdump or editcap,
+another text than `capkit edit` of what that reads to its end, took over 10 seconds of processor time, changed its input,
+ended with another status than 0 or 1, or with a traceback. Such files are kept with --keep. --old is
+another salvage script to compare with.
 """
 import argparse
-import bisect
 import collections
 import multiprocessing
 import os
 import pathlib
 import random
+import re
 import shutil
+import signal
 import struct
 import subprocess
 import sys
 import tempfile
+import time
+import traceback
 
 ROOT = pathlib.Path(__file__).resolve().parent.parent
 sys.path.append(str(ROOT / "bench"))
 from built import built_program
 import make_capture
 
-PROGRAMS = ["salvage.py", "tcpdump", "editcap"]
-FORMS = ["pcap little", "pcap big", "nsecpcap little", "nsecpcap big", "pcapng little", "pcapng big"]
+FORMS = ["pcap <", "pcap >", "nsecpcap <", "nsecpcap >", "pcapng <", "pcapng >"]
+PEERS = ["capkit", "tcpdump", "editcap"]
+SCRIPT = "salvage.py"
 
 
 class Capture:
-    """A capture: its bytes, and where its packets are."""
+    """A capture: its bytes, and where its packets are. Of pcapng the packets have two interfaces, one
+    with microseconds and one with nanoseconds."""
 
-    def __init__(self, packets, form):
-        kind, order = form.split()
-        order = "<" if order == "little" else ">"
+    def __init__(self, packets, form, snap=262144):
+        self.form, (self.kind, self.order) = form, form.split()
         self.data, self.units = bytearray(), []
-        if kind == "pcapng":
-            self.data += block(order, 0x0A0D0D0A, struct.pack(order + "IHHq", 0x1A2B3C4D, 1, 0, -1))
-            options = struct.pack(order + "HHB3xHH", 9, 1, 9, 0, 0)
-            self.data += block(order, 1, struct.pack(order + "HHI", 1, 0, 262144) + options)
+        if self.kind == "pcapng":
+            self.data += self.block(0x0A0D0D0A, struct.pack(self.order + "IHHq", 0x1A2B3C4D, 1, 0, -1))
+            for exponent in (6, 9):
+                options = struct.pack(self.order + "HHB3xHH", 9, 1, exponent, 0, 0)
+                self.data += self.block(1, struct.pack(self.order + "HHI", 1, 0, snap) + options)
         else:
-            magic = 0xA1B2C3D4 if kind == "pcap" else 0xA1B23C4D
-            self.data += struct.pack(order + "IHHIIII", magic, 2, 4, 0, 0, 262144, 1)
+            magic = 0xA1B2C3D4 if self.kind == "pcap" else 0xA1B23C4D
+            self.data += struct.pack(self.order + "IHHIIII", magic, 2, 4, 0, 0, snap, 1)
         self.first = len(self.data)
-        for number, (time, original, data) in enumerate(packets):
-            begin = len(self.data)
-            if kind == "pcapng":
-                fields = struct.pack(order + "IIIII", 0, time >> 32, time & 0xFFFFFFFF, len(data), original)
-                self.data += block(order, 6, fields + data + b"\0" * (-len(data) % 4))
+        for number, (when, original, data) in enumerate(packets):
+            begin, is_exact = len(self.data), self.kind == "nsecpcap" or self.kind == "pcapng" and number % 2
+            when = when if is_exact else when // 1000 * 1000
+            if self.kind == "pcapng":
+                ticks = when if is_exact else when // 1000
+                fields = (number % 2, ticks >> 32, ticks & 0xFFFFFFFF, len(data), original)
+                self.data += self.block(6, struct.pack(self.order + "IIIII", *fields) + data + bytes(-len(data) % 4))
             else:
-                part = time % 10**9 if kind == "nsecpcap" else time % 10**9 // 1000
-                self.data += struct.pack(order + "IIII", time // 10**9, part, len(data), original) + data
-                time = time // 10**9 * 10**9 + (part if kind == "nsecpcap" else part * 1000)
-            self.units.append((begin, len(self.data), (time, original, data)))
+                part = when % 10**9 // (1 if is_exact else 1000)
+                self.data += struct.pack(self.order + "IIII", when // 10**9, part, len(data), original) + data
+            self.units.append((begin, len(self.data), (when, original, data)))
 
-    def packets(self, ranges):
-        """The packets in turn, each with whether a byte of it, or of what is before all, is in one
-        of the ranges."""
-        is_all = any(begin < self.first for begin, _ in ranges)
-        for begin, end, packet in self.units:
-            yield packet, is_all or any(low < end and begin < high for low, high in ranges)
+    def block(self, kind, body):
+        size = 12 + len(body)
+        return struct.pack(self.order + "II", kind, size) + body + struct.pack(self.order + "I", size)
 
-
-def block(order, kind, body):
-    size = 12 + len(body)
-    return struct.pack(order + "II", kind, size) + body + struct.pack(order + "I", size)
+    def packets(self, ranges=()):
+        """The packets, each with whether a byte of it, or of what is before all, is in a range."""
+        is_all = any(begin < self.first for begin, end in ranges)
+        return [(packet, is_all or any(low < end and begin < high for low, high in ranges))
+                for begin, end, packet in self.units]
 
 
 def packets_of(path):
@@ -90,210 +95,465 @@ def packets_of(path):
     return packets
 
 
-# ---- damages: each returns the damaged bytes, and the packets with whether they are damaged
+# ---- captures
 
-def cut(chance, capture):
-    size = chance.randrange(4, len(capture.data))
-    return capture.data[:size], list(capture.packets([(size, len(capture.data))]))
-
-
-def cut_out(chance, capture):
-    begin = chance.randrange(len(capture.data))
-    end = min(begin + chance.randrange(1, 3000), len(capture.data))
-    return capture.data[:begin] + capture.data[end:], list(capture.packets([(begin, end)]))
+def plain(chance, pool):
+    begin = chance.randrange(len(pool) - 3000)
+    return pool[begin : begin + chance.choice((20, 100, 500, 1000, 3000))]
 
 
-def change(chance, capture):
-    data, ranges = bytearray(capture.data), []
+def snapped(chance, pool):
+    return [(when, original, data[:96]) for when, original, data in plain(chance, pool)]
+
+
+def jumping(chance, pool):
+    """A clock that is set: some times, each time, or once from 1970."""
+    packets, shift, odds = plain(chance, pool), -pool[0][0], chance.choice((0.01, 0.3, 1))
+    found = []
+    for when, *rest in packets:
+        shift = chance.randrange(-10**18, 10**18) if chance.random() < odds else shift
+        found.append((max(0, when + shift), *rest))
+    return found
+
+
+def merged(chance, pool):
+    """Captures of other years, in turn."""
+    packets, years = plain(chance, pool), [chance.randrange(10**9, 17 * 10**8) for _ in range(5)]
+    return [(when % 10**15 + years[chance.randrange(5)] * 10**9, *rest) for when, *rest in packets]
+
+
+def texts(chance, pool):
+    """Packets with lines of text."""
+    lines = [b"GET / HTTP/1.1\r\n", b"Host: a.example\r\n", b"\r\n", b"one line\n", bytes(40), b"{}\n"]
+    return [(when, original + len(text), data + text) for when, original, data in plain(chance, pool)
+            for text in [b"".join(chance.choices(lines, k=chance.randrange(8)))]]
+
+
+def capture(chance, forms=FORMS, makers=(plain, plain, plain, snapped, jumping, merged, texts)):
+    return Capture(chance.choice(makers)(chance, pool), chance.choice(forms))
+
+
+# ---- damages: each returns the bytes and the packets, with whether they are damaged
+
+def replaced(one, begin, end, what):
+    return one.data[:begin] + what + one.data[end:], one.packets([(begin, max(end, begin + 1))])
+
+
+def place(chance, one, size=0):
+    """A place in a capture, for some in its packets' headers."""
+    if chance.random() < 0.3:
+        return chance.choice(one.units)[0] + chance.randrange(16)
+    return chance.randrange(len(one.data))
+
+
+def fractions(chance):
+    """Fractions of a second or more: the first ten, each n-th, all, nanoseconds as microseconds, or any."""
+    one, n, kind = capture(chance, FORMS[:2]), chance.randrange(1, 12), chance.randrange(5)
+    for number, (begin, _, (when, _, _)) in enumerate(one.units):
+        part = when % 10**9 // 1000
+        if kind == 3:
+            part = when % 10**9 // 1000 * 1000 + number % 1000
+        elif (number < 10, number % n == 0, True, False, chance.random() < n / 12)[kind]:
+            part += chance.choice((10**6, 4 * 10**6, 10**9))
+        struct.pack_into(one.order + "I", one.data, begin + 4, part)
+    return one.data, one.packets()
+
+
+def clocks(chance):
+    one = capture(chance, makers=[jumping])
+    return one.data, one.packets()
+
+
+def clocks_and_hole(chance):
+    return overwritten(chance, capture(chance, makers=[jumping]))
+
+
+def merges(chance):
+    one = capture(chance, makers=[merged])
+    return one.data, one.packets()
+
+
+def merges_and_hole(chance):
+    return overwritten(chance, capture(chance, makers=[merged]))
+
+
+def to_crlf(chance):
+    one = capture(chance)
+    packets = [(packet, b"\n" in one.data[begin:end]) for begin, end, packet in one.units]
+    return one.data.replace(b"\n", b"\r\n"), packets
+
+
+def to_lf(chance):
+    one = capture(chance)
+    return one.data.replace(b"\r\n", b"\n"), one.packets([it.span() for it in re.finditer(b"\r\n", one.data)])
+
+
+def zeros_at_end(chance):
+    one = capture(chance)
+    size = chance.randrange(1, len(one.data))
+    end = chance.choice((size, len(one.data)))
+    zeros = bytes(chance.choice((16, 1)) * chance.randrange(1, 5000))
+    return one.data[:end] + zeros, one.packets([(end, len(one.data))])
+
+
+def zero_page(chance):
+    one, size = capture(chance), chance.choice((512, 4096, 16384))
+    begin = chance.randrange(len(one.data)) // size * size
+    end = min(begin + size, len(one.data))
+    return replaced(one, begin, end, bytes(end - begin))
+
+
+def random_page(chance):
+    one, size = capture(chance), chance.choice((512, 4096, 16384))
+    begin = chance.randrange(len(one.data)) // size * size
+    end = min(begin + size, len(one.data))
+    return replaced(one, begin, end, chance.randbytes(end - begin))
+
+
+def page_twice(chance):
+    one, size = capture(chance), chance.choice((512, 4096, 16384))
+    begin = chance.randrange(len(one.data)) // size * size
+    end = min(begin + size, len(one.data))
+    return one.data[:end] + one.data[begin:], one.packets([(begin, begin + 1), (end, end + 1)])
+
+
+def page_missing(chance):
+    one, size = capture(chance), chance.choice((512, 4096, 16384))
+    begin = chance.randrange(len(one.data)) // size * size
+    return replaced(one, begin, min(begin + size, len(one.data)), b"")
+
+
+def two_writers(chance):
+    form = [chance.choice(FORMS[:4])]
+    ones, size, data = [capture(chance, form), capture(chance, form)], chance.choice((4096, 65536)), b""
+    for begin in range(0, max(len(it.data) for it in ones), size):
+        data += b"".join(it.data[begin : begin + size] for it in ones)
+    cuts = [[(at, at + 1) for at in range(size, len(it.data), size)] for it in ones]
+    cuts = [[(at - 1, end) for at, end in them] for them in cuts]
+    return data, [it for one, them in zip(ones, cuts) for it in one.packets(them)]
+
+
+def bit_flips(chance):
+    one, ranges = capture(chance), []
+    for _ in range(chance.randrange(1, 21)):
+        at = place(chance, one)
+        one.data[at] ^= 1 << chance.randrange(8)
+        ranges.append((at, at + 1))
+    return one.data, one.packets(ranges)
+
+
+def bytes_changed(chance):
+    one, ranges = capture(chance), []
     for _ in range(chance.randrange(1, 9)):
-        place = chance.randrange(len(data))
-        if chance.random() < 0.5:
-            place = chance.choice(capture.units)[0] + chance.randrange(16)
-        data[place] ^= chance.randrange(1, 256)
-        ranges.append((place, place + 1))
-    return data, list(capture.packets(ranges))
+        at = place(chance, one)
+        one.data[at] ^= chance.randrange(1, 256)
+        ranges.append((at, at + 1))
+    return one.data, one.packets(ranges)
 
 
-def overwrite(chance, capture):
-    data = bytearray(capture.data)
-    begin = chance.randrange(len(data))
-    end = min(begin + chance.randrange(1, 5000), len(data))
-    kind = chance.randrange(3)
-    data[begin:end] = chance.randbytes(end - begin) if kind == 2 else bytes([255 * kind]) * (end - begin)
-    return data, list(capture.packets([(begin, end)]))
+def truncated(chance):
+    one = capture(chance)
+    size = chance.randrange(4, len(one.data))
+    return one.data[:size], one.packets([(size, len(one.data))])
 
 
-def join(chance, capture, other):
-    first, packets = cut(chance, capture) if chance.random() < 0.5 else (capture.data, list(capture.packets([])))
-    return first + other.data, packets + list(other.packets([]))
+def length_broken(chance):
+    """One of the length fields of one to three packets."""
+    one, ranges = capture(chance), []
+    for _ in range(chance.randrange(1, 4)):
+        begin, end, _ = chance.choice(one.units)
+        at = begin + chance.choice((8, 12)) if one.kind != "pcapng" else chance.choice((begin + 4, end - 4, begin + 20))
+        right = struct.unpack_from(one.order + "I", one.data, at)[0]
+        wrong = chance.choice((0, right + 1, right - 1, right + 4, right * 2, right // 2, 65535, 2**32 - 1, chance.randrange(2**18)))
+        struct.pack_into(one.order + "I", one.data, at, max(0, wrong))
+        ranges.append((at, at + 4))
+    return one.data, one.packets(ranges)
 
 
-def damaged(number, given):
-    """The damaged file of a run, its packets, and what was done."""
-    chance = random.Random(f"{given.seed} {number}")
-    form = FORMS[number % len(FORMS)]
-    capture = captures[form]
-    kind = chance.choice([cut, cut_out, change, overwrite, join])
-    more = [captures[chance.choice(FORMS)]] if kind is join else []
-    data, packets = kind(chance, capture, *more)
-    return bytes(data), packets, form, kind.__name__
+def concatenated(chance):
+    data, packets = b"", []
+    for _ in range(chance.randrange(2, 4)):
+        one = capture(chance)
+        size = len(one.data) if chance.random() < 0.5 else chance.randrange(24, len(one.data))
+        data, packets = data + one.data[:size], packets + one.packets([(size, len(one.data))] if size < len(one.data) else [])
+    return data, packets
+
+
+def cut_out(chance):
+    one = capture(chance)
+    begin = place(chance, one)
+    return replaced(one, begin, min(begin + chance.randrange(1, 3000), len(one.data)), b"")
+
+
+def overwritten(chance, one=None):
+    one = one or capture(chance)
+    begin = place(chance, one)
+    end = min(begin + chance.randrange(1, 5000), len(one.data))
+    what = chance.choice((bytes(end - begin), b"\xff" * (end - begin), chance.randbytes(end - begin)))
+    return replaced(one, begin, end, what)
+
+
+def start_gone(chance):
+    """The first bytes overwritten, missing, or after others."""
+    one, size = capture(chance), chance.randrange(1, 2000)
+    size = min(size, len(one.data))
+    new = chance.choice((b"", bytes(size), chance.randbytes(size), one.data[:size]))
+    before = b"SSH-2.0-OpenSSH\r\n" if new == one.data[:size] else b""
+    return before + new + one.data[size:], one.packets([] if before else [(0, size)])
+
+
+def carried(chance):
+    """A capture that packets carry, of up to a day before them; damage stands right before one of those."""
+    form = chance.choice(FORMS)
+    before, (inner, after) = plain(chance, pool), (plain(chance, pool) for _ in range(2))
+    ago = chance.randrange(2, 80_000) * 10**9 + inner[-1][0] - before[-1][0]
+    text = bytes(Capture([(when - ago, *rest) for when, *rest in inner[:300]], chance.choice((form, *FORMS))).data)
+    parts = [bytes(54) + text[at : at + 1400] for at in range(0, len(text), 1400)]
+    begin = len(before)
+    packets = [*before, *[(before[-1][0] + number, len(it), it) for number, it in enumerate(parts)], *after]
+    one = Capture([(max(when, before[-1][0]) if number >= begin else when, *rest)
+                   for number, (when, *rest) in enumerate(packets)], form)
+    place = one.units[begin + chance.randrange(len(parts))][0]
+    low, high = max(one.first, place - chance.randrange(100)), place + chance.randrange(1, 90)
+    return replaced(one, low, high, chance.randbytes(high - low))
+
+
+KINDS = [fractions, clocks, clocks_and_hole, merges, merges_and_hole, to_crlf, to_lf, zeros_at_end, zero_page, random_page,
+         page_twice, page_missing, two_writers, bit_flips, bytes_changed, truncated, length_broken, concatenated,
+         cut_out, overwritten, start_gone, carried]
 
 
 # ---- comparison
 
-def is_like(packet, other):
-    """Whether a packet has the time, the lengths or the bytes of another."""
-    if packet[0] == other[0] or packet[2] == other[2] and packet[2]:
-        return True
-    return packet[1] == other[1] and len(packet[2]) == len(other[2])
+def marks(packet):
+    when, original, data = packet
+    size = len(data)
+    yield "time", when
+    yield "lengths", when // 10**9, size, original
+    if size:
+        yield "data", data
+        yield "front", size, original, data[:12]
+        yield "back", size, original, data[-12:]
+    if size >= 24:
+        yield "begins", data[:24]
+        yield "ends", data[-24:]
 
 
-def counts(read, packets):
-    """How many of the packets that were read are whole, changed and false, and how many undamaged
-    ones are missed."""
-    places = collections.defaultdict(list)
-    for place, (packet, _) in enumerate(packets):
-        places[packet].append(place)
-    whole = changed = false = 0
-    missed = sum(not is_damaged for _, is_damaged in packets)
-    before, others = -1, []
-
-    def settle(end):
-        nonlocal changed, false
-        between = (packet for packet, is_damaged in packets[before + 1 : end] if is_damaged)
-        for packet in others:
-            if any(is_like(packet, it) for it in between):
-                changed += 1
-            else:
-                false += 1
-        others.clear()
-
+def counts(read, packets, is_timed):
+    """How many of the packets that were read are true, again, changed and false; how many are missed."""
+    key = (lambda it: it) if is_timed else (lambda it: it[1:])
+    left = collections.Counter(key(packet) for packet, _ in packets)
+    known = set(left)
+    like = {mark for packet, is_damaged in packets if is_damaged for mark in marks(packet)}
+    damaged = collections.defaultdict(list)
+    for packet, is_damaged in packets:
+        damaged[packet[1:]] += [key(packet)] * is_damaged
+    found = collections.Counter()
     for packet in read:
-        found = places.get(packet, [])
-        at = bisect.bisect_right(found, before)
-        if at == len(found):
-            others.append(packet)
-            continue
-        settle(found[at])
-        before, whole = found[at], whole + 1
-        missed -= not packets[before][1]
-    settle(len(packets))
-    return whole, changed, false, missed
+        it = key(packet)
+        if left[it] > 0:
+            left[it] -= 1
+            found["true"] += 1
+        elif packet[1:] in damaged and any(left[other] > 0 for other in damaged[packet[1:]]):
+            left[next(other for other in damaged[packet[1:]] if left[other] > 0)] -= 1
+            found["true"] += 1
+        elif it in known:
+            found["again"] += 1
+        else:
+            found["changed" if any(mark in like for mark in marks(packet)) else "false"] += 1
+    whole = collections.Counter(key(packet) for packet, is_damaged in packets if not is_damaged)
+    found["missed"] = sum(min(count, left[it]) for it, count in whole.items())
+    return found
 
 
-def commands(capkit):
-    """The words that call each program, with IN and OUT for the files, and a PATH with capkit."""
-    salvage = [sys.executable, str(ROOT / "examples" / "salvage.py"), "-F", "nsecpcap", "IN", "OUT"]
-    tcpdump = ["tcpdump", "-r", "IN", "--nano", "-w", "OUT"]
-    if os.geteuid() == 0:
-        tcpdump += ["-Z", "root"]
-    path = f"{capkit.parent}:{os.environ['PATH']}"
-    pcapfix = ["sh", "-c", 'cd "${2%/*}" && pcapfix -k -o fixed "$1"; test -e fixed || cp "$1" fixed; '
-               'editcap -F nsecpcap fixed "$2"', "sh", "IN", "OUT"]
-    return dict(zip(PROGRAMS, [salvage, tcpdump, ["editcap", "-F", "nsecpcap", "IN", "OUT"], pcapfix])), path
+def commands(given):
+    root = ["-Z", "root"] if os.geteuid() == 0 else []
+    fix = ('cd "${2%/*}" && pcapfix -k -o fixed "$1"; test -e fixed || cp "$1" fixed; editcap -F nsecpcap fixed "$2"; '
+           'rm -f fixed')
+    lines = {SCRIPT: [sys.executable, str(ROOT / "examples" / SCRIPT), "-F", "nsecpcap", "IN", "OUT"],
+             "capkit": ["capkit", "edit", "-F", "nsecpcap", "IN", "OUT"],
+             "tcpdump": ["tcpdump", "-r", "IN", "--nano", "-w", "OUT", *root],
+             "editcap": ["editcap", "-F", "nsecpcap", "IN", "OUT"]}
+    if given.old:
+        lines["old"] = [sys.executable, given.old, "-F", "nsecpcap", "IN", "OUT"]
+    if given.pcapfix:
+        lines["pcapfix"] = ["sh", "-c", fix, "sh", "IN", "OUT"]
+    return lines
 
 
-def run_all(source, folder, capkit):
-    """Runs the programs on a file: what each wrote, and what salvage.py said."""
-    lines, path = commands(pathlib.Path(capkit).resolve())
-    read, said = {}, ""
-    for name, words in lines.items():
-        out = folder / f"{name}.out"
-        words = [str({"IN": source, "OUT": out}.get(word, word)) for word in words]
-        done = subprocess.run(words, capture_output=True, env={**os.environ, "PATH": path})
-        read[name] = packets_of(out)
-        if name == "salvage.py":
-            said = (done.stdout + done.stderr).decode(errors="replace")
-    return read, said
+def call(words, source, out, seconds):
+    """Runs a program on a file: its status, what it said, and of a script of Python the processor time that
+    it took; that is run in a copy of this process, which begins at once."""
+    words = [str({"IN": source, "OUT": out}.get(word, word)) for word in words]
+    log, took = source.parent / "log", 0
+    with open(log, "wb") as said:
+        if words[0] == sys.executable:
+            child = os.fork()
+            if not child:
+                run_script(words[1:], said, seconds)
+            _, ended, used = os.wait4(child, 0)
+            status, took = os.waitstatus_to_exitcode(ended), used.ru_utime + used.ru_stime
+        else:
+            status = subprocess.run(words, stdout=said, stderr=said).returncode
+    return status, log.read_text(errors="replace"), took
 
 
-def faults_of(results):
-    """What salvage.py did worse than it should, by the counts of all programs."""
-    own, others = results["salvage.py"], [results[name] for name in ("tcpdump", "editcap")]
-    faults = ["a false packet"] * (own[2] > 0)
-    faults += ["fewer whole packets"] * any(own[0] < it[0] for it in others)
-    return faults + ["fewer packets"] * any(own[0] + own[1] < it[0] + it[1] for it in others)
+def run_script(words, said, seconds):
+    """Runs a script in a child process, which is killed where it takes too long."""
+    signal.signal(signal.SIGALRM, signal.SIG_DFL)
+    signal.alarm(seconds)
+    os.dup2(said.fileno(), 1)
+    os.dup2(said.fileno(), 2)
+    sys.argv, sys.stdout, sys.stderr = words, open(1, "w", closefd=False), open(2, "w", closefd=False)
+    status = 0
+    try:
+        exec(scripts[words[0]], {"__name__": "__main__", "__doc__": "no text"})
+    except SystemExit as done:
+        status = done.code if isinstance(done.code, int) or done.code is None else 1
+        print(done.code if isinstance(done.code, str) else "", file=sys.stderr)
+    except BaseException:
+        traceback.print_exc()
+        status = 99
+    sys.stdout.flush()
+    sys.stderr.flush()
+    os._exit(status or 0)
 
 
-def try_one(number, given):
-    """Runs the programs on one damaged file, and returns what was done and what came of it."""
-    data, packets, form, kind = damaged(number, given)
+def try_file(data, packets, is_timed, given):
+    """Runs the programs on one file: their counts, and what salvage.py did wrong."""
+    faults, results = [], {}
     with tempfile.TemporaryDirectory() as temporary:
         source = pathlib.Path(temporary) / "damaged"
         source.write_bytes(data)
-        read, said = run_all(source, source.parent, given.capkit)
-        results = {name: counts(them, packets) for name, them in read.items()}
-        faults = faults_of(results)
-        faults += ["its input changed"] * (source.read_bytes() != data)
-        faults += ["a traceback"] * ("Traceback" in said)
-        if faults and given.keep:
-            shutil.copy(source, pathlib.Path(given.keep) / f"{number}.{kind}")
-    missed = results["salvage.py"][3]
-    if given.show and missed:
-        print(f"run {number}, {kind}, {form}: {missed} missed\n{said}", flush=True)
-    of_damaged = sum(is_damaged for _, is_damaged in packets)
-    return number, kind, form, len(packets), of_damaged, results, faults
+        for name, words in commands(given).items():
+            out = source.parent / f"{name}.out"
+            status, said, took = call(words, source, out, 120)
+            results[name] = counts(packets_of(out), packets, is_timed)
+            if name == SCRIPT:
+                faults += [f"status {status}: {said}"] * (status not in (0, 1) or "Traceback" in said)
+                faults += ["its input changed"] * (source.read_bytes() != data)
+                faults += [f"{took:.0f} seconds"] * (took > 10)
+                was = status
+                last = said.strip().splitlines()[-1:]
+            if name == "capkit":
+                is_sound = status == 0
+        own, edited = (source.parent / f"{name}.out" for name in (SCRIPT, "capkit"))
+        if is_sound:
+            is_same = own.exists() and own.read_bytes() == edited.read_bytes() and was == 0
+            faults += ["a sound file changed"] * (not is_same)
+            if is_same:
+                results[SCRIPT]["false"] = 0
+        elif was == 0:
+            faults += ["status 0 of a damaged file"]
+        faults += [f"a false packet: {last}"] * (results[SCRIPT]["false"] > 0)
+        # editcap takes what is no capture for one of a format with a loose header.
+        read = [name for name in PEERS if results[name]["false"] <= results[name]["true"]]
+        short = [name for name in read if results[SCRIPT]["true"] < results[name]["true"]]
+        faults += [f"fewer true packets than {short}"] * bool(short)
+    return results, faults
 
 
-def made_packets(count, folder):
-    """The packets of a made-up capture, with nanoseconds of their own."""
-    path = folder / "made.pcap"
-    make_capture.write_capture(str(path), count)
-    packets = packets_of(path)
-    fix = lambda time: time // 10**9 * 10**9 + time % 10**9 * 1000
-    return [(fix(time) + number % 1000, original, data) for number, (time, original, data) in enumerate(packets)]
+def try_one(number, given):
+    chance = random.Random(f"{given.seed} {number}")
+    kinds = [it for it in KINDS if given.kind in (None, it.__name__)]
+    kind = kinds[number % len(kinds)]
+    data, packets = kind(chance)
+    results, faults = try_file(bytes(data), packets, kind is not fractions, given)
+    keep(faults, given, f"{number}.{kind.__name__}", data)
+    return number, kind.__name__, len(packets), sum(it for _, it in packets), results, faults
 
 
-def report(done):
+def keep(faults, given, name, data):
+    if faults and given.keep:
+        (pathlib.Path(given.keep) / name).write_bytes(data)
+
+
+def try_sample(name, given):
+    """A sample whole in each format, as capkit's edit writes it, and its first 0 to 200 bytes."""
+    data, faults = (ROOT / "samples" / name).read_bytes(), []
+    with tempfile.TemporaryDirectory() as temporary:
+        source, own, edited = (pathlib.Path(temporary) / it for it in ("in", "own", "edited"))
+        for size in [*range(min(201, len(data))), len(data)]:
+            source.write_bytes(data[:size])
+            forms = ["pcap", "nsecpcap", "pcapng"] if size == len(data) else ["nsecpcap"]
+            for form in forms:
+                own.unlink(missing_ok=True)
+                status, said, took = call([sys.executable, str(ROOT / "examples" / SCRIPT), "-F", form, "IN", "OUT"], source, own, 120)
+                edit = call(["capkit", "edit", "-F", form, "IN", "OUT"], source, edited, 120)[0]
+                whole = edited.read_bytes() if edited.exists() else b""
+                text = own.read_bytes() if own.exists() else b""
+                is_right = status in (0, 1) and "Traceback" not in said and took < 10
+                if edit == 0:
+                    is_right &= status == 0 and text == whole
+                elif size < len(data):
+                    is_right &= status == 1 and text == whole or not whole
+                if not is_right:
+                    faults.append(f"{size} bytes, {form}: status {status}, {said.strip()[-200:]}")
+                    keep(faults, given, f"{name}.{size}", data[:size])
+    return name, faults
+
+
+def report(done, names):
     """Prints the sums of all runs of a kind of damage."""
     sums = collections.defaultdict(collections.Counter)
-    for _, kind, _, of_packets, of_damaged, results, _ in done:
+    for _, kind, of_packets, of_damaged, results, _ in done:
         for key in (kind, "all"):
             sums[key].update(runs=1, packets=of_packets, damaged=of_damaged)
-            for name, (whole, changed, false, missed) in results.items():
-                sums[key].update({(name, "whole"): whole, (name, "changed"): changed, (name, "false"): false})
-                sums[key].update({(name, "missed"): missed})
-    print(f"{'damage':10} {'runs':>5} {'packets':>9} {'damaged':>8}  " + "  ".join(
-        f"{name + ': whole':>18} {'changed':>7} {'false':>6} {'missed':>8}" for name in PROGRAMS))
-    for key in [*(it for it in sums if it != "all"), "all"]:
+            for name, found in results.items():
+                sums[key].update({(name, what): count for what, count in found.items()})
+    print(f"{'damage':16} {'runs':>5} {'packets':>8} {'damaged':>8}" + "".join(f" | {name + ': true':>16} false" for name in names)
+          + f" | {SCRIPT}: again changed missed")
+    for key in [*sorted(it for it in sums if it != "all"), "all"]:
         of = sums[key]
-        print(f"{key:10} {of['runs']:5} {of['packets']:9} {of['damaged']:8}  " + "  ".join(
-            f"{of[name, 'whole']:18} {of[name, 'changed']:7} {of[name, 'false']:6} {of[name, 'missed']:8}"
-            for name in PROGRAMS))
+        print(f"{key:16} {of['runs']:5} {of['packets']:8} {of['damaged']:8}"
+              + "".join(f" | {of[name, 'true']:16} {of[name, 'false']:5}" for name in names)
+              + f" | {of[SCRIPT, 'again']:17} {of[SCRIPT, 'changed']:7} {of[SCRIPT, 'missed']:6}")
 
 
 def main():
     parser = argparse.ArgumentParser(description=__doc__.split("\n")[0])
     parser.add_argument("--capkit", default=None)
-    parser.add_argument("--runs", type=int, default=100)
-    parser.add_argument("--packets", type=int, default=10_000)
-    parser.add_argument("--jobs", type=int, default=len(os.sched_getaffinity(0)))
+    parser.add_argument("--runs", type=int, default=300)
+    parser.add_argument("--jobs", type=int, default=1)
     parser.add_argument("--seed", type=int, default=1)
     parser.add_argument("--first", type=int, default=0, help="the number of the first run")
+    parser.add_argument("--kind", default=None, help="one kind of damage alone")
+    parser.add_argument("--old", default=None)
     parser.add_argument("--pcapfix", action="store_true")
     parser.add_argument("--keep", default=None)
-    parser.add_argument("--show", action="store_true", help="runs in which undamaged packets are missed")
+    parser.add_argument("--no-samples", action="store_true")
     given = parser.parse_args()
-    given.capkit = given.capkit or str(built_program())
-    PROGRAMS.extend(["pcapfix"] * given.pcapfix)
-    missing = [name for name in PROGRAMS[1:] if shutil.which(name) is None]
+    program = pathlib.Path(given.capkit or built_program()).resolve()
+    os.environ["PATH"] = f"{program.parent}:{os.environ['PATH']}"
+    missing = [it for it in ["tcpdump", "editcap", *["pcapfix"] * given.pcapfix] if shutil.which(it) is None]
     if missing:
         sys.exit(f"not installed: {', '.join(missing)}")
     with tempfile.TemporaryDirectory() as temporary:
-        packets = made_packets(given.packets, pathlib.Path(temporary))
-    captures.update({form: Capture(packets, form) for form in FORMS})
-    numbers = range(given.first, given.first + given.runs)
-    with multiprocessing.Pool(given.jobs) as pool:
-        done = pool.starmap(try_one, [(number, given) for number in numbers], chunksize=1)
-    report(done)
+        path = pathlib.Path(temporary) / "made.pcap"
+        make_capture.write_capture(str(path), 12_000)
+        pool.extend((when // 10**9 * 10**9 + when % 10**9 * 1000 + number % 1000, original, data)
+                    for number, (when, original, data) in enumerate(packets_of(path)))
+    for path in (str(ROOT / "examples" / SCRIPT), given.old):
+        scripts.update({path: compile(pathlib.Path(path).read_text(), path, "exec")} if path else {})
+    begin = time.monotonic()
+    with multiprocessing.Pool(given.jobs) as workers:
+        done = workers.starmap(try_one, [(it, given) for it in range(given.first, given.first + given.runs)], chunksize=1)
+        samples = [] if given.no_samples else sorted(it.name for it in (ROOT / "samples").glob("*.pcap*"))
+        of_samples = workers.starmap(try_sample, [(it, given) for it in samples], chunksize=1)
+    if done:
+        report(done, commands(given))
     wrong = [it for it in done if it[-1]]
-    for number, kind, form, _, _, results, faults in wrong:
-        print(f"run {number}, {kind}, {form}: {', '.join(faults)}: {results}")
-    print(f"{len(done)} runs, {len(wrong)} not as they should be")
-    sys.exit(1 if wrong else 0)
+    for number, kind, _, _, results, faults in wrong:
+        print(f"run {number}, {kind}: {'; '.join(faults)}: { {name: dict(it) for name, it in results.items()} }")
+    bad = [it for it in of_samples if it[1]]
+    for name, faults in bad:
+        print(f"{name}: {len(faults)} faults: {'; '.join(faults[:3])}")
+    print(f"seed {given.seed}: {len(done)} runs, {len(wrong)} not as they should be; {len(samples)} samples and their first 0 to 200 "
+          f"bytes, {len(bad)} not; {time.monotonic() - begin:.0f} seconds")
+    sys.exit(1 if wrong or bad else 0)
 
 
-captures = {}
+pool, scripts = [], {}
 
 if __name__ == "__main__":
     main()

@@ -4,9 +4,10 @@ definitions that have the name of another one, or a participle for a name.
 
 usage: check_words.py [FILE..]
 
-Without files it reads the pages (but the glossary), and of the crates' src/ and specs/ the comments and the identifiers.
-Code between backticks and in fenced blocks of pages, and texts between double quotes in code, are left out. Words are
-found in capitals too, and where a line ends between two of them. The status is 1 if a word is found.
+Without files it reads the pages (but the glossary), the comments of the C header, and of the crates' src/ and specs/ the
+comments and the identifiers; of the program's own crates the texts between double quotes too, as its help and its messages.
+Code between backticks, in fenced blocks and in indented lines of pages is left out. Words are found in capitals too, and if a
+line ends between two of them. The status is 1 if a word is found.
 """
 import bisect
 import collections
@@ -17,7 +18,9 @@ import sys
 
 ROOT = pathlib.Path(__file__).resolve().parent.parent
 PAGES = ["*.md", "docs/**/*.md", "library/*.md", "library/*/*.md", "samples/*.md", "teach/*.md", "packaging/pages/*"]
-CODE = ["crates/*/src/**/*.rt", "crates/*/specs/**/*.antt"]
+CODE = ["library/include/*.h", "crates/*/src/**/*.rt", "crates/*/specs/**/*.antt"]
+# The crates whose texts a user of the program reads.
+PROGRAM = {"capkit", "capkit_args", "cap_command"}
 COMMENTS = {".rt": re.compile(r"(?:^|\s)//[/!]?\s(.*)"), ".antt": re.compile(r"(?:^|\s)--\s(.*)")}
 # Code between backticks, which may go on in the next line.
 QUOTED = re.compile(r"`(?:[^`\n]|\n(?!\n))*`")
@@ -45,6 +48,20 @@ WORDS = [
     (r"\bbehind\b", "after, past, following"),
     (r"\bso many\b", "the number's name"),
     (r"\b(come|comes|came) to\b", "is, becomes, reaches"),
+    (r"\b(?:is|are|was|were|be) told\b|\btells?\b", "reports, shows, states; the reader learns"),
+    (r"\bleaves?\b(?! (?:out|off|alone|a network)\b| (?:it|them|the \w+) unchanged)", "doesn't change, keeps; contains afterwards; omits"),
+    (r"(?<!place )(?<!places )(?<!point )(?<!know )(?<!shows )(?<!stands )(?<!tokens )\bwhere (?:an?|the|it|that|there|no|its|nothing|memory|all|none|this|one|they)\b", "if, when, unless"),
+    (r"(?:^|[.;:|] )Of (?!course\b)\w+", "the subject first; on, for, among"),
+    (r"(?<!left )(?<!leave )(?<!stand )(?<!stands )(?<!is )\balone\b", "only, before what it limits"),
+    (r"\balso (?:where|that|of|those|one|by|from|under|if|at|after|in|when|as)\b", "even if, including, too"),
+    (r"(?<!here )\b(?:is|are|was|were) no (?!longer\b|more\b)\w+", "isn't a, aren't"),
+    (r"\b(?:is|are|was|were) to (?!the\b|an?\b)\w+", "must, should, will"),
+    (r"(?<!many )\b(?:unit|test|run|file|block|bytes?|instructions?|ns|two|four|one|\d[\d,.]*) an? (?:call|packet|side|second|row|thousand|subject|type)\b"
+     r"|\bof (?:a )?processors?\b", "per packet; CPU minutes"),
+    (r"\b(?:anew|dear(?:er|est)?|mended|needless|alike|nevertheless|beside|but for|some \d[\d,]*)\b",
+     "again, expensive, fixed, unnecessary, the same, next to, except, about"),
+    (r"\b(?:is|are|was|were|reads?|looks?|written|printed|refused|reported|named|ends?|left) so\b(?! that| far| long| many)", "like this"),
+    (r"\b(?:that|which|what|they) (?:is|are|was|were) there\b(?! for)|\bis there\b(?! for)", "exists, present"),
 ]
 WORDS = [(re.compile(word.replace(" ", r"\s").replace("$", r"(?=\n\n|\n?\Z)"), re.IGNORECASE), better) for word, better in WORDS]
 # Words that no identifier has among those that it joins.
@@ -90,8 +107,23 @@ def identifiers(path):
         yield number, re.sub(r'"[^"]*"', "", line).partition(mark)[0]
 
 
+def of_header(text):
+    """The text of a C header's comments, each in its lines; the lines between them are empty."""
+    texts = re.split(r"/\*(.*?)\*/", text, flags=re.DOTALL)
+    lines = "".join(it if number % 2 else "\n" * it.count("\n") for number, it in enumerate(texts)).splitlines()
+    return "\n".join(line.strip().lstrip("*").strip() for line in lines)
+
+
+def printed(path):
+    """The texts between double quotes of a file of code, line by line."""
+    lines = path.read_text().splitlines()
+    return "\n".join(". ".join(re.findall(r'"((?:[^"\\]|\\.)*)"', line.partition("// ")[0])) for line in lines)
+
+
 def readable(path):
     """The text of a file's comments, or of a page, without code: line by line, blanks at their ends left out."""
+    if path.suffix == ".h":
+        return QUOTED.sub(lambda found: "`" + "\n" * found[0].count("\n"), of_header(path.read_text()))
     comment, is_fenced, lines = COMMENTS.get(path.suffix), False, []
     for line in path.read_text().splitlines():
         if comment:
@@ -99,17 +131,19 @@ def readable(path):
             line = found.group(1) if found else ""
         elif line.lstrip().startswith("```"):
             is_fenced = not is_fenced
-        lines.append("" if is_fenced else line.strip())
+        is_code = is_fenced or path.suffix == ".md" and line.startswith("    ")
+        lines.append("" if is_code else line.strip())
     return QUOTED.sub(lambda found: "`" + "\n" * found[0].count("\n"), "\n".join(lines))
 
 
 def phrases(path):
     """Yields the words of the list that a file has, each with its line and what is to be there."""
-    text = readable(path)
-    starts = [0, *(found.end() for found in re.finditer("\n", text))]
-    for word, better in WORDS:
-        for found in word.finditer(text):
-            yield bisect.bisect(starts, found.start()), " ".join(found[0].split()), better
+    is_printed = path.suffix == ".rt" and PROGRAM.intersection(path.parts)
+    for text in [readable(path), *[printed(path)] * bool(is_printed)]:
+        starts = [0, *(found.end() for found in re.finditer("\n", text))]
+        for word, better in WORDS:
+            for found in word.finditer(text):
+                yield bisect.bisect(starts, found.start()), " ".join(found[0].split()), better
 
 
 def names(path):
@@ -123,7 +157,7 @@ def names(path):
 
 def main():
     files = [pathlib.Path(name).resolve() for name in sys.argv[1:]]
-    files = files or [path for pattern in PAGES + CODE for path in sorted(ROOT.glob(pattern)) if path.name != "GLOSSARY.md"]
+    files = files or [path for pattern in PAGES + CODE for path in sorted(ROOT.glob(pattern))]
     found = [
         f"{path.relative_to(ROOT)}:{number}: {word}: {better}"
         for path in files for number, word, better in itertools.chain(sorted(phrases(path)), names(path))

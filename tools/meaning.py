@@ -47,6 +47,8 @@ CHOICES = {
 # The equations, by their first words, that a command with something to prepare never reaches.
 PREPARED = ["IsPolicy None", "IsWhyRefused None"]
 COMMANDS = {"edit": [], "print": PREPARED, "merge": [], "infos": [], "compile": PREPARED}
+# Single steps of the machine, which only flt_trace calls.
+STEPS = {"flt_bpf::execute", "flt_bpf::advance"}
 # Crates whose public functions are for other crates here.
 BETWEEN = {
     "capkit_args", "cap_inputs", "cap_process", "flt_emit", "flt_lay", "flt_short",
@@ -182,7 +184,8 @@ def is_contract(item):
 
 
 def is_promise(path):
-    return path.split("::")[0] not in BETWEEN or "::law" in path or path in PROMISED
+    is_between = path.split("::")[0] in BETWEEN or path in STEPS
+    return not is_between or "::law" in path or path in PROMISED
 
 
 def code_lines(item, pieces):
@@ -262,7 +265,7 @@ def text_of(meaning, name, roots, found):
 
 
 def library_lines(sources, found):
-    """What a closure names of std and other crates, by their modules. Signs are explained in docs/inside/MODEL.md."""
+    """What a closure names of std and other crates, by their modules. Signs are explained in docs/inside/CONTRACTS.md."""
     names = collections.defaultdict(set)
     for key, pieces in found.items():
         item = sources.items[key]

@@ -1,13 +1,13 @@
 #!/usr/bin/env python3
-"""Lists the functions of a crate whose proofs took longest, in seconds, the dearest first.
+"""Lists the functions of a crate whose proofs cost most: the megabytes that they wrote, and the seconds that they took.
 
 usage: proof_times.py CRATE [COUNT]
 
-It goes by when the last check wrote which file of the crate's out/incremental. So that check is to
-be one from nothing, by one job: remove that folder, and run `rt check --jobs 1` in the crate's.
-Over kept work a proof shows a part of what it costs. After a function's seconds come those of its
-parts: Lts is the model of its steps, Tie and Proof are where goals are searched for, Kinds is
-mostly what is loaded. The first function that needs a library pays for loading it.
+It goes by what the last check wrote into the crate's out/incremental, and when. So that check is to be
+one from nothing, by one job: remove that folder, and run `rt check --jobs 1` in the crate's. What is
+written is the same each time; seconds depend on what else runs. After a function come the megabytes of
+its parts: Lts is the model of its steps, Tie and Proof are where goals are searched for, Kinds is mostly
+what is loaded. The first function that needs a library pays for loading it.
 """
 import collections
 import pathlib
@@ -31,20 +31,21 @@ def place_of(file):
 
 def main():
     folder = ROOT / "crates" / sys.argv[1] / "out" / "incremental"
-    files = sorted((it.stat().st_mtime, it.name) for it in folder.rglob("*.oantt"))
+    files = sorted((it.stat().st_mtime, it.stat().st_size / 1e6, it.name) for it in folder.rglob("*.oantt"))
     if not files:
         sys.exit(f"{folder} has no work of a check")
-    parts = collections.defaultdict(collections.Counter)
+    parts, seconds = collections.defaultdict(collections.Counter), collections.Counter()
     before = files[0][0]
-    for written, name in files:
+    for written, size, name in files:
         function, part = place_of(name)
-        parts[function][part] += written - before
+        parts[function][part] += size
+        seconds[function] += written - before
         before = written
     dearest = sorted(parts, key=lambda it: -parts[it].total())
     for function in dearest[: int(sys.argv[2]) if len(sys.argv) > 2 else 25]:
-        most = (f"{part} {seconds:.1f}" for part, seconds in parts[function].most_common(4))
-        print(f"{parts[function].total():6.1f}  {function}  ({', '.join(most)})")
-    print(f"{before - files[0][0]:6.1f}  in all")
+        most = (f"{part} {size:.1f}" for part, size in parts[function].most_common(4))
+        print(f"{parts[function].total():6.1f} MB {seconds[function]:6.1f} s  {function}  ({', '.join(most)})")
+    print(f"{sum(it.total() for it in parts.values()):6.1f} MB {before - files[0][0]:6.1f} s  in all")
 
 
 main()

@@ -1,7 +1,8 @@
 #!/bin/bash
 # Runs filter.sbatch by Slurm and filter.py by dask.distributed over sixteen files, on this machine alone, and compares
 # what they write with what one run writes. Then one of the files is empty, and one is damaged in its middle: both have
-# to write all packets but these, and to report the two files with status 1. Of a refused expression both have to tell.
+# to write all packets but these, and to report the two files with status 1. Of a refused expression both have to tell. An
+# output that is an input is refused, an old part isn't joined, and a scheduler that isn't there is one message.
 #
 # usage: tools/try_scale.sh [PROGRAM]
 #
@@ -151,6 +152,39 @@ try_engine() { # COMMAND NAME
     printf '%s: sixteen files, the same bytes as one run; with an empty and a damaged one, all other packets\n' "$2"
 }
 
+# Runs one task of filter.sbatch without Slurm.
+task() { # NUMBER EXPRESSION FILE..
+    SLURM_ARRAY_TASK_ID=$1 bash "$root/examples/scale/filter.sbatch" "${@:2}"
+}
+
+# An old .match goes, also if there is nothing to put in its place; no output is an input, and no two outputs are one.
+try_outputs_of_tasks() {
+    cp whole/part-*.pcap .
+    ends_with 0 task 1 tcp part-*.pcap
+    test -s part-02.match
+    mv part-02.pcap moved
+    ends_with 1 task 0 udp part-02.pcap
+    test ! -e part-02.match
+    mv moved part-02.pcap
+    ends_with 0 task 0 udp part-02.pcap
+    ends_with 2 task 0 udp part-02.pcap part-02.match
+    cp part-02.pcap part-02
+    ends_with 2 task 0 udp part-02.pcap part-02
+    test -z "$(find . -name '*.part')"
+    printf 'filter.sbatch: no output is an input or an old one\n'
+}
+
+# A second run over all captures of the folder would read its own output.
+try_outputs_of_dask() {
+    cp part-01.pcap before
+    ends_with 2 "$python" "$root/examples/scale/filter.py" "$scheduler" part-01.pcap tcp part-*.pcap
+    cmp part-01.pcap before
+    ends_with 1 timeout 60 "$python" "$root/examples/scale/filter.py" tcp://127.0.0.1:1 none.pcap tcp part-*.pcap
+    test "$(cat reported)" = 'filter.py: tcp://127.0.0.1:1: no scheduler answers'
+    test -z "$(find . -name '*.part')"
+    printf 'filter.py: no output is an input; a scheduler that is not there is one message\n'
+}
+
 mkdir "$work/bin" "$work/run"
 ln -s "$program" "$work/bin/capkit"
 export PATH=$work/bin:$PATH
@@ -172,5 +206,7 @@ capkit edit all.pcap - 401-500 851-900 | capkit print -w without.pcap --format p
 
 start_slurm
 try_engine by_slurm "$(sinfo --version)"
+try_outputs_of_tasks
 start_dask
 try_engine by_dask "dask.distributed $("$python" -c 'import distributed; print(distributed.__version__)')"
+try_outputs_of_dask

@@ -7,8 +7,11 @@ SCHEDULER is an address, as tcp://127.0.0.1:8786. All workers see the files, and
 PATH. Each file is filtered by a process of its own; the results are joined in the order of the
 files. What capkit reports goes to standard error, and the status is the greatest of its statuses.
 At 1 a file has a fault: OUT has its packets before the fault, and those of all other files. At 2
-the expression is refused, and OUT isn't written; nor is it where no file could be read.
+the expression is refused, or OUT is one of the files, as in a second run over *.pcap. OUT is written
+under a name of its own and renamed, so that it is the whole result or what it was before; it isn't
+written if no file could be read, or if no scheduler answers within ten seconds.
 """
+import logging
 import os
 import subprocess
 import sys
@@ -48,18 +51,39 @@ def join(out, parts):
     return max(worst, ran.returncode)
 
 
+def refuse(text, status):
+    """Reports why nothing is written, and returns the status."""
+    print(f"filter.py: {text}", file=sys.stderr)
+    return status
+
+
+def connected(scheduler):
+    """A client of the scheduler; None if none answers."""
+    logging.getLogger("distributed").setLevel(logging.CRITICAL)
+    try:
+        return distributed.Client(scheduler, timeout=10)
+    except (OSError, ValueError):
+        return None
+
+
 def main(scheduler, out, expression, *files):
     files = [os.path.abspath(file) for file in files]
-    with tempfile.TemporaryDirectory(dir=os.getcwd()) as folder:
+    if any(os.path.realpath(file) == os.path.realpath(out) for file in files):
+        return refuse(f"{out}: the output is an input too", 2)
+    client = connected(scheduler)
+    if client is None:
+        return refuse(f"{scheduler}: no scheduler answers", 1)
+    with client, tempfile.TemporaryDirectory(dir=os.getcwd()) as folder:
         parts = [f"{folder}/{number}.pcap" for number in range(len(files))]
-        with distributed.Client(scheduler) as client:
-            ends = client.map(keep, [expression] * len(files), files, parts, pure=False)
-            ends = client.gather(ends)
+        ends = client.map(keep, [expression] * len(files), files, parts, pure=False)
+        ends = client.gather(ends)
         sys.stderr.writelines(reported for _, reported in ends)
         statuses = [status for status, _ in ends]
         parts = [part for part, status in zip(parts, statuses) if is_part(part, status)]
         if parts:
-            statuses.append(join(out, parts))
+            joined = f"{out}.{os.getpid()}.part"
+            statuses.append(join(joined, parts))
+            os.replace(joined, out)
     return max(statuses)
 
 

@@ -1,8 +1,8 @@
 // Package capkit compiles filter expressions of packets, and reads and writes pcap and pcapng
 // captures, by the proved library libcapkit, which pkg-config finds.
 //
-// An Expression is checked once, and compiled for each link type that its packets have. A Capture is
-// a mapped file, a Reader gives the packets of bytes, and a Writer writes packets. Different values
+// An Expression is checked once, and compiled for each link type that its packets have. A Reader gives
+// the packets of a file or of any io.Reader, and a Writer writes packets. Different values
 // may be used by different goroutines at once, and so may one Filter.
 package capkit
 
@@ -29,6 +29,9 @@ func start(bytes []byte) unsafe.Pointer {
 
 // text is what a number is called.
 func text(number uint32) string {
+	if number == uint32(ErrLinkTypesDiffer) {
+		return "link types differ" // which no call returns
+	}
 	var buffer [64]C.char
 	C.capkit_text(C.uint32_t(number), &buffer[0], C.size_t(len(buffer)))
 	return C.GoString(&buffer[0])

@@ -7,18 +7,32 @@ import (
 	"io"
 	"os"
 	"path/filepath"
-	"reflect"
 	"strings"
 	"testing"
+	"testing/iotest"
 	"time"
 
-	"capkit"
+	"example.com/capkit"
 )
 
 func packet(data []byte) capkit.Packet {
 	return capkit.Packet{Time: time.Unix(1700000000, 123456789).UTC(), LinkType: capkit.LinkEthernet,
-		Data: data, OriginalLength: uint32(len(data)), SnapLength: 262144}
+		Data: data, SnapLength: 262144}
 }
+
+// plain is what a packet has in fields that a program sets.
+func plain(packets []capkit.Packet) string {
+	text := ""
+	for _, it := range packets {
+		if it.OriginalLength == 0 {
+			it.OriginalLength = uint32(len(it.Data))
+		}
+		text += fmt.Sprintln(it.Time, it.LinkType, it.Data, it.OriginalLength, it.Comment, it.InterfaceName, it.SnapLength)
+	}
+	return text
+}
+
+func of(capture []byte) *capkit.Reader { return capkit.NewReader(bytes.NewReader(capture)) }
 
 func written(t *testing.T, format capkit.Format, packets ...capkit.Packet) []byte {
 	t.Helper()
@@ -50,15 +64,15 @@ func TestWhatIsWrittenReadsBack(t *testing.T) {
 	named.Comment, named.InterfaceName = "look here", "eth0"
 	raw.LinkType, raw.OriginalLength, raw.SnapLength = capkit.LinkRaw, 1500, 20
 	packets := []capkit.Packet{packet(arp()), named, raw, empty, named}
-	got, err := read(capkit.NewReader(written(t, capkit.Pcapng, packets...)))
-	if err != io.EOF || !reflect.DeepEqual(got, packets) {
+	got, err := read(of(written(t, capkit.Pcapng, packets...)))
+	if err != io.EOF || plain(got) != plain(packets) {
 		t.Errorf("pcapng: %v, %v", got, err)
 	}
-	got, err = read(capkit.NewReader(written(t, capkit.PcapNanoseconds, packet(arp()), empty)))
-	if err != io.EOF || !reflect.DeepEqual(got, []capkit.Packet{packet(arp()), empty}) {
+	got, err = read(of(written(t, capkit.PcapNanoseconds, packet(arp()), empty)))
+	if err != io.EOF || plain(got) != plain([]capkit.Packet{packet(arp()), empty}) {
 		t.Errorf("pcap with nanoseconds: %v, %v", got, err)
 	}
-	got, _ = read(capkit.NewReader(written(t, capkit.Pcap, packet(arp()))))
+	got, _ = read(of(written(t, capkit.Pcap, packet(arp()))))
 	if got[0].Time != time.Unix(1700000000, 123456000).UTC() {
 		t.Errorf("pcap: %v", got[0].Time)
 	}
@@ -67,7 +81,7 @@ func TestWhatIsWrittenReadsBack(t *testing.T) {
 func TestCapturesWithoutPackets(t *testing.T) {
 	for format, length := range map[capkit.Format]int{capkit.Pcapng: 28, capkit.Pcap: 24} {
 		capture := written(t, format)
-		if packets, err := read(capkit.NewReader(capture)); len(capture) != length || packets != nil || err != io.EOF {
+		if packets, err := read(of(capture)); len(capture) != length || packets != nil || err != io.EOF {
 			t.Error(format, len(capture), packets, err)
 		}
 	}
@@ -81,10 +95,10 @@ func TestRefusedPacketsLeaveTheCapture(t *testing.T) {
 	writer := capkit.NewWriter(&out, capkit.Pcapng)
 	for _, it := range []struct {
 		packet capkit.Packet
-		check  capkit.Check
-	}{{early, capkit.TimeOutOfRange}, {late, capkit.TimeOutOfRange}, {long, capkit.BadOption}, {large, capkit.TooLong}} {
-		var refused *capkit.Refused
-		if err := writer.Write(it.packet); !errors.As(err, &refused) || refused.Check != it.check {
+		check  capkit.Code
+	}{{early, capkit.ErrTimeOutOfRange}, {late, capkit.ErrTimeOutOfRange}, {long, capkit.ErrBadOption}, {large, capkit.ErrUnitTooLong}} {
+		var refused *capkit.WriteError
+		if err := writer.Write(it.packet); !errors.As(err, &refused) || !errors.Is(err, it.check) {
 			t.Errorf("%v, not %v", err, it.check)
 		}
 	}
@@ -117,10 +131,10 @@ func TestAfterAFailedWriteEveryCallFails(t *testing.T) {
 }
 
 func TestFaultsStay(t *testing.T) {
-	reader := capkit.NewReader([]byte("some text"))
+	reader := of([]byte("some text"))
 	for i := 0; i < 2; i++ {
-		var fault *capkit.Fault
-		if _, err := reader.Next(); !errors.As(err, &fault) || fault.Check != capkit.NotACaptureFile {
+		var fault *capkit.CaptureError
+		if _, err := reader.Next(); !errors.As(err, &fault) || !errors.Is(err, capkit.ErrNotACaptureFile) {
 			t.Error(err)
 		}
 	}
@@ -128,20 +142,28 @@ func TestFaultsStay(t *testing.T) {
 
 func TestOpen(t *testing.T) {
 	name := filepath.Join(t.TempDir(), "day.pcapng")
-	if err := os.WriteFile(name, written(t, capkit.Pcapng, packet(arp())), 0o666); err != nil {
+	if err := os.WriteFile(name, written(t, capkit.Pcapng, packet(arp()), packet(arp())), 0o666); err != nil {
 		t.Fatal(err)
 	}
-	capture, err := capkit.Open(name)
+	reader, err := capkit.Open(name)
 	if err != nil {
 		t.Fatal(err)
 	}
-	if packets, err := read(capture.Reader()); len(packets) != 1 || err != io.EOF {
-		t.Error(packets, err)
+	first, err := reader.Next()
+	if err != nil {
+		t.Fatal(err)
 	}
 	for i := 0; i < 2; i++ {
-		if err := capture.Close(); err != nil {
+		if err := reader.Close(); err != nil {
 			t.Error(err)
 		}
+	}
+	// Its bytes are there after Close, and can be changed.
+	if first.Data[0] = 1; !bytes.Equal(first.Data[1:], arp()[1:]) {
+		t.Error(first)
+	}
+	if _, err := reader.Next(); !errors.Is(err, os.ErrClosed) {
+		t.Error(err)
 	}
 	if _, err := capkit.Open("missing.pcap"); !errors.Is(err, os.ErrNotExist) {
 		t.Error(err)
@@ -149,7 +171,70 @@ func TestOpen(t *testing.T) {
 	if _, err := capkit.Open("/"); err == nil {
 		t.Error("a folder was opened")
 	}
-	if empty, err := capkit.Open("/dev/null"); err != nil || len(empty.Bytes) != 0 {
+}
+
+func TestFilteredAsMatchesSays(t *testing.T) {
+	raw, udp := packet(append([]byte{0x45}, make([]byte, 19)...)), packet(make([]byte, 60))
+	raw.LinkType = capkit.LinkRaw
+	capture := written(t, capkit.Pcapng, packet(arp()), raw, udp, packet(arp()), raw)
+	for text, want := range map[string]int{"arp": 2, "ip": 2, "": 5, "len > 41": 3} {
+		expression, err := capkit.NewExpression(text)
+		if err != nil {
+			t.Fatal(err)
+		}
+		// In pieces of one byte.
+		reader := capkit.NewReader(iotest.OneByteReader(bytes.NewReader(capture)))
+		reader.SetFilter(expression)
+		if packets, err := read(reader); len(packets) != want || err != io.EOF {
+			t.Error(text, len(packets), err)
+		}
+	}
+}
+
+func TestALivePipeGivesEachPacketAsItComes(t *testing.T) {
+	source, end, err := os.Pipe()
+	if err != nil {
+		t.Fatal(err)
+	}
+	capture, first := written(t, capkit.Pcapng, packet(arp()), packet(arp())), len(written(t, capkit.Pcapng, packet(arp())))
+	reader := capkit.NewReader(source)
+	end.Write(capture[:first+20])
+	begin := time.Now()
+	if _, err := reader.Next(); err != nil || time.Since(begin) > time.Second/5 {
+		t.Error(err, time.Since(begin))
+	}
+	end.Write(capture[first+20 : len(capture)-1])
+	end.Close()
+	if _, err := reader.Next(); !errors.Is(err, capkit.ErrTruncated) {
+		t.Error(err)
+	}
+}
+
+func TestZeroValues(t *testing.T) {
+	var filter capkit.Filter
+	var expression capkit.Expression
+	var writer capkit.Writer
+	var reader capkit.Reader
+	if filter.Matches(arp(), 42) || filter.String() != "0\n" || len(filter.Trace(arp(), 42)) != 1 {
+		t.Error("a filter without a program")
+	}
+	if matches, err := expression.Matches(packet(arp())); !matches || err != nil {
+		t.Error(matches, err)
+	}
+	if _, err := reader.Next(); !errors.Is(err, os.ErrInvalid) {
+		t.Error(err)
+	}
+	if err := writer.Write(packet(arp())); !errors.Is(err, os.ErrInvalid) {
+		t.Error(err)
+	}
+	if err := capkit.NewWriter(io.Discard, 9).Write(packet(arp())); !errors.Is(err, os.ErrInvalid) {
+		t.Error(err)
+	}
+	closed := capkit.NewWriter(io.Discard, capkit.Pcapng)
+	if err := closed.Close(); err != nil {
+		t.Error(err)
+	}
+	if err := closed.Write(packet(arp())); !errors.Is(err, os.ErrClosed) {
 		t.Error(err)
 	}
 }

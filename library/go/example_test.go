@@ -9,7 +9,7 @@ import (
 	"strings"
 	"time"
 
-	"capkit"
+	"example.com/capkit"
 )
 
 // arp is an Ethernet packet of ARP.
@@ -22,8 +22,7 @@ func capture() []byte {
 	var out bytes.Buffer
 	writer := capkit.NewWriter(&out, capkit.Pcapng)
 	for _, data := range [][]byte{arp(), make([]byte, 60)} {
-		packet := capkit.Packet{Time: time.Unix(1700000000, 0), LinkType: capkit.LinkEthernet, Data: data,
-			OriginalLength: uint32(len(data)), SnapLength: 262144}
+		packet := capkit.Packet{Time: time.Unix(1700000000, 0), LinkType: capkit.LinkEthernet, Data: data}
 		if err := writer.Write(packet); err != nil {
 			log.Fatal(err)
 		}
@@ -114,7 +113,8 @@ func ExampleReader() {
 	if err != nil {
 		log.Fatal(err)
 	}
-	reader := capkit.NewReader(capture())
+	reader := capkit.NewReader(bytes.NewReader(capture()))
+	reader.SetFilter(expression)
 	for {
 		packet, err := reader.Next()
 		if err == io.EOF {
@@ -122,20 +122,15 @@ func ExampleReader() {
 		} else if err != nil {
 			log.Fatal(err)
 		}
-		matches, err := expression.Matches(packet)
-		if err != nil {
-			log.Fatal(err)
-		}
-		fmt.Println(packet.Time, len(packet.Data), matches)
+		fmt.Println(packet.Time, len(packet.Data))
 	}
 	// Output:
-	// 2023-11-14 22:13:20 +0000 UTC 42 true
-	// 2023-11-14 22:13:20 +0000 UTC 60 false
+	// 2023-11-14 22:13:20 +0000 UTC 42
 }
 
 func ExampleReader_fault() {
 	whole := capture()
-	reader := capkit.NewReader(whole[:len(whole)-1])
+	reader := capkit.NewReader(bytes.NewReader(whole[:len(whole)-1]))
 	for {
 		packet, err := reader.Next()
 		if err != nil {
@@ -152,7 +147,7 @@ func ExampleReader_fault() {
 func ExampleWriter() {
 	var out bytes.Buffer
 	writer := capkit.NewWriter(&out, capkit.PcapNanoseconds)
-	packet := capkit.Packet{Time: time.Unix(1700000000, 1), LinkType: capkit.LinkEthernet, Data: arp(), OriginalLength: 42}
+	packet := capkit.Packet{Time: time.Unix(1700000000, 1), LinkType: capkit.LinkEthernet, Data: arp()}
 	fmt.Println(writer.Write(packet))
 	packet.LinkType = capkit.LinkRaw
 	fmt.Println(writer.Write(packet))

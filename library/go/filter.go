@@ -36,13 +36,13 @@ func bound(source []byte) (C.size_t, error) {
 	return number, nil
 }
 
-func compileError(status C.uint32_t, number C.size_t) error {
+func compileError(status C.enum_capkit_status, number C.size_t) error {
 	place := 0
 	switch status {
 	case C.CAPKIT_UNKNOWN_CHARACTER, C.CAPKIT_UNKNOWN_WORD, C.CAPKIT_NUMBER_TOO_LARGE, C.CAPKIT_NOT_UTF8:
 		place = int(number)
 	}
-	return &CompileError{uint32(status), place}
+	return &CompileError{Code(status), place}
 }
 
 // Compile compiles an expression for packets of a link type. Its error is a *CompileError.
@@ -99,24 +99,34 @@ func FromInstructions(instructions []Instruction) (*Filter, error) {
 	var index C.size_t
 	rule := C.capkit_check(&insns[0], C.size_t(len(instructions)), &index)
 	if rule != C.CAPKIT_VALID {
-		return nil, &ProgramError{uint32(rule), int(index)}
+		return nil, &ProgramError{Code(rule), int(index)}
 	}
 	return &Filter{insns[:len(instructions)]}, nil
+}
+
+// program is where the instructions begin, and how many there are. A Filter that was neither compiled
+// nor checked has none, and rejects every packet.
+func (f *Filter) program() (*C.struct_capkit_insn, C.size_t) {
+	if len(f.insns) == 0 {
+		return &C.struct_capkit_insn{code: 6}, 1
+	}
+	return &f.insns[0], C.size_t(len(f.insns))
 }
 
 // Run is what the program returns on a packet, given the bytes that were captured of it and how many
 // it had on the wire; 0 rejects it.
 func (f *Filter) Run(data []byte, originalLength uint32) uint32 {
-	return uint32(C.capkit_matches(&f.insns[0], C.size_t(len(f.insns)), (*C.uint8_t)(start(data)),
-		C.size_t(len(data)), C.uint32_t(originalLength)))
+	insns, count := f.program()
+	return uint32(C.capkit_matches(insns, count, (*C.uint8_t)(start(data)), C.size_t(len(data)),
+		C.uint32_t(originalLength)))
 }
 
 // Trace is what a run on a packet is before each instruction that it meets; see Run.
 func (f *Filter) Trace(data []byte, originalLength uint32) []Step {
-	found := make([]C.struct_capkit_step, len(f.insns))
-	count := C.capkit_trace(&f.insns[0], C.size_t(len(f.insns)), (*C.uint8_t)(start(data)),
-		C.size_t(len(data)), C.uint32_t(originalLength), &found[0], C.size_t(len(found)))
-	steps := make([]Step, count)
+	insns, count := f.program()
+	found := make([]C.struct_capkit_step, count)
+	steps := make([]Step, C.capkit_trace(insns, count, (*C.uint8_t)(start(data)), C.size_t(len(data)),
+		C.uint32_t(originalLength), &found[0], count))
 	for i := range steps {
 		steps[i] = Step{Index: int(found[i].index), A: uint32(found[i].a), X: uint32(found[i].x)}
 		for word, number := range found[i].memory {
@@ -147,10 +157,18 @@ func (f *Filter) Instructions() []Instruction {
 	return instructions
 }
 
-// IsPortable is whether libpcap and a Linux socket give the same answers, as far as
-// capkit_is_portable can say.
+// RunsOn is where else the program gives the same answers, as far as capkit_portability can say: on
+// libpcap, and on a Linux socket.
+func (f *Filter) RunsOn() (libpcap, linux bool) {
+	insns, count := f.program()
+	bits := C.capkit_portability(insns, count)
+	return bits&C.CAPKIT_ON_LIBPCAP != 0, bits&C.CAPKIT_ON_LINUX != 0
+}
+
+// IsPortable is whether libpcap and a Linux socket give the same answers.
 func (f *Filter) IsPortable() bool {
-	return C.capkit_is_portable(&f.insns[0], C.size_t(len(f.insns))) != 0
+	libpcap, linux := f.RunsOn()
+	return libpcap && linux
 }
 
 // String is the program as capkit compile and tcpdump -ddd print it.
@@ -175,7 +193,7 @@ func NewExpression(text string) (*Expression, error) {
 	if _, err := bound([]byte(text)); err != nil {
 		return nil, err
 	}
-	return &Expression{text, map[uint16]*Filter{}}, nil
+	return &Expression{text: text}, nil
 }
 
 // Filter is the expression's filter for a link type. Its error is a *CompileError.
@@ -185,6 +203,9 @@ func (e *Expression) Filter(linkType uint16) (*Filter, error) {
 	}
 	made, err := Compile(e.text, linkType)
 	if err == nil {
+		if e.filters == nil {
+			e.filters = map[uint16]*Filter{}
+		}
 		e.filters[linkType] = made
 	}
 	return made, err
@@ -193,5 +214,5 @@ func (e *Expression) Filter(linkType uint16) (*Filter, error) {
 // Matches is whether a packet matches; an error where no expression is compiled for its link type.
 func (e *Expression) Matches(packet Packet) (bool, error) {
 	filter, err := e.Filter(packet.LinkType)
-	return err == nil && filter.Matches(packet.Data, packet.OriginalLength), err
+	return err == nil && filter.Matches(packet.Data, packet.original()), err
 }

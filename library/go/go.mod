@@ -1,3 +1,3 @@
-module capkit
+module example.com/capkit
 
 go 1.18

@@ -12,99 +12,24 @@ import (
 	"unsafe"
 )
 
-// Packet is a packet of a capture. What a Reader gives shares its bytes with the capture, and is not
-// to be used once that is closed.
+// Packet is a packet of a capture. Its bytes are its own.
 type Packet struct {
 	Time           time.Time // in nanoseconds, from 1970 on
 	LinkType       uint16
 	Data           []byte // the bytes that were captured
-	OriginalLength uint32 // how many it had on the wire
+	OriginalLength uint32 // how many it had on the wire; 0 of a packet that wasn't read is as many as Data has
 	Comment        string // its first one
 	InterfaceName  string
 	SnapLength     uint32 // the most bytes captured of a packet of its interface; 0 is no limit
+	isRead         bool
 }
 
-// Capture is the bytes of a file: mapped into memory, so that it may be larger than that, or where
-// that can't be done, as of a pipe, read to its end.
-type Capture struct {
-	Bytes    []byte
-	isMapped bool
-}
-
-// Open opens a capture. The file is not to be changed while it is open: where it becomes shorter, the
-// process ends by SIGBUS.
-func Open(name string) (*Capture, error) {
-	file, err := os.Open(name)
-	if err != nil {
-		return nil, err
+// original is how many bytes the packet had on the wire.
+func (p *Packet) original() uint32 {
+	if p.OriginalLength == 0 && !p.isRead {
+		return uint32(len(p.Data))
 	}
-	defer file.Close()
-	status, err := file.Stat()
-	if err != nil {
-		return nil, err
-	}
-	if !status.Mode().IsRegular() || status.Size() == 0 {
-		bytes, err := io.ReadAll(file)
-		if err != nil {
-			return nil, err
-		}
-		return &Capture{bytes, false}, nil
-	}
-	bytes, err := syscall.Mmap(int(file.Fd()), 0, int(status.Size()), syscall.PROT_READ, syscall.MAP_PRIVATE)
-	if err != nil {
-		return nil, &os.PathError{Op: "mmap", Path: name, Err: err}
-	}
-	return &Capture{bytes, true}, nil
-}
-
-// Reader gives the packets of the capture, from the first one.
-func (c *Capture) Reader() *Reader {
-	return NewReader(c.Bytes)
-}
-
-// Close gives the memory back. No packet of the capture is to be used afterwards.
-func (c *Capture) Close() error {
-	bytes := c.Bytes
-	c.Bytes = nil
-	if !c.isMapped || bytes == nil {
-		return nil
-	}
-	return syscall.Munmap(bytes)
-}
-
-// Reader gives the packets of a capture in memory, pcap or pcapng, one after another.
-type Reader struct {
-	capture []byte
-	reader  C.struct_capkit_reader
-	table   [C.CAPKIT_MOST_INTERFACES]C.struct_capkit_interface
-}
-
-// NewReader reads a capture from its first packet on.
-func NewReader(capture []byte) *Reader {
-	return &Reader{capture: capture}
-}
-
-// Next is the next packet, or io.EOF at the clean end, or a *Fault, which ends the capture: every call
-// after it has the same.
-func (r *Reader) Next() (Packet, error) {
-	var found C.struct_capkit_packet
-	for {
-		switch result := C.capkit_next(&r.reader, &r.table[0], C.CAPKIT_MOST_INTERFACES,
-			(*C.uint8_t)(start(r.capture)), C.size_t(len(r.capture)), &found); result {
-		case C.CAPKIT_PACKET:
-			return r.packet(&found), nil
-		case C.CAPKIT_NO_PACKET:
-		case C.CAPKIT_END:
-			return Packet{}, io.EOF
-		default:
-			return Packet{}, &Fault{r.Offset(), Check(result)}
-		}
-	}
-}
-
-// Offset is how far the capture was read, in bytes.
-func (r *Reader) Offset() int {
-	return int(r.reader.offset)
+	return p.OriginalLength
 }
 
 // Line is what capkit print prints of a packet, or with the link header capkit print -e, without its
@@ -115,38 +40,171 @@ func (p *Packet) Line(withLink bool) string {
 	if withLink {
 		flag = 1
 	}
-	C.capkit_line(C.uint16_t(p.LinkType), C.uint64_t(p.Time.UnixNano()), C.uint32_t(p.OriginalLength),
+	C.capkit_line(C.uint16_t(p.LinkType), C.uint64_t(p.Time.UnixNano()), C.uint32_t(p.original()),
 		(*C.uint8_t)(start(p.Data)), C.size_t(len(p.Data)), flag, &buffer[0], C.size_t(len(buffer)))
 	return strings.TrimSuffix(C.GoString(&buffer[0]), "\n")
 }
 
-func (r *Reader) packet(found *C.struct_capkit_packet) Packet {
-	end := found.at + C.size_t(found.captured)
+// piece is how many bytes are read at once; what fits into a processor's cache is filtered faster.
+const piece = 1 << 18
+
+// Reader gives the packets of a capture, pcap or pcapng, one after another, each as soon as its bytes
+// have come. It takes the memory of some units, however long the capture is.
+type Reader struct {
+	source     io.Reader
+	file       *os.File // that Open opened
+	err        error
+	isWhole    bool // whether the source has ended
+	expression *Expression
+	filter     *Filter
+	linkType   uint16 // for which the filter is
+	base       int64  // where the buffer begins in the capture
+	size       int    // how many bytes of the buffer were read
+	buffer     []byte
+	reader     C.struct_capkit_reader
+	found      C.struct_capkit_packet
+	table      [C.CAPKIT_MOST_INTERFACES]C.struct_capkit_interface
+}
+
+// NewReader reads a capture from its first packet on.
+func NewReader(source io.Reader) *Reader {
+	return &Reader{source: source, buffer: make([]byte, C.CAPKIT_MOST_UNIT+piece)}
+}
+
+// Open opens a capture, of any size.
+func Open(name string) (*Reader, error) {
+	file, err := os.Open(name)
+	if err != nil {
+		return nil, err
+	}
+	if status, err := file.Stat(); err == nil && status.IsDir() {
+		file.Close()
+		return nil, &os.PathError{Op: "read", Path: name, Err: syscall.EISDIR}
+	}
+	reader := NewReader(file)
+	reader.file = file
+	return reader, nil
+}
+
+// Close closes the file that Open opened. After it Next has os.ErrClosed.
+func (r *Reader) Close() error {
+	if r.err == os.ErrClosed {
+		return nil
+	}
+	r.err = os.ErrClosed
+	if r.file == nil {
+		return nil
+	}
+	return r.file.Close()
+}
+
+// SetFilter has Next give the packets alone that match, from the next one on; nil is all.
+func (r *Reader) SetFilter(expression *Expression) {
+	r.expression, r.filter = expression, nil
+}
+
+// Next is the next packet, or io.EOF at the clean end, or a *CaptureError, which ends the capture, or
+// what the source failed by: every call after it has the same. With a filter it is a *CompileError if no
+// expression is compiled for the packet's link type.
+func (r *Reader) Next() (Packet, error) {
+	for r.err == nil {
+		if r.source == nil {
+			r.err = os.ErrInvalid
+			break
+		}
+		switch result := r.next(); result {
+		case C.CAPKIT_PACKET:
+			return r.packet(), nil
+		case C.CAPKIT_ANOTHER_LINK_TYPE:
+			packet := r.packet()
+			if r.filter, r.err = r.expression.Filter(packet.LinkType); r.err != nil {
+				break
+			}
+			if r.linkType = packet.LinkType; r.filter.Matches(packet.Data, packet.OriginalLength) {
+				return packet, nil
+			}
+		default:
+			rest := r.size - int(r.reader.offset)
+			isShort := result == C.CAPKIT_END || result == C.CAPKIT_TRUNCATED ||
+				result == C.CAPKIT_NOT_A_CAPTURE_FILE && rest < 4
+			if isShort && !r.isWhole {
+				r.err = r.fill(rest)
+			} else if result == C.CAPKIT_END {
+				r.err = io.EOF
+			} else {
+				r.err = &CaptureError{Code(result), r.Offset()}
+			}
+		}
+	}
+	return Packet{}, r.err
+}
+
+// next is the result of the library's call.
+func (r *Reader) next() uint32 {
+	bytes, size := (*C.uint8_t)(start(r.buffer)), C.size_t(r.size)
+	if r.expression == nil {
+		return uint32(C.capkit_next(&r.reader, &r.table[0], C.CAPKIT_MOST_INTERFACES, bytes, size, &r.found))
+	}
+	if r.filter == nil {
+		if r.filter, r.err = r.expression.Filter(LinkEthernet); r.err != nil {
+			return C.CAPKIT_END
+		}
+		r.linkType = LinkEthernet
+	}
+	insns, count := r.filter.program()
+	return uint32(C.capkit_next_match(&r.reader, &r.table[0], C.CAPKIT_MOST_INTERFACES, bytes, size,
+		insns, count, C.uint16_t(r.linkType), &r.found))
+}
+
+// fill moves what is left to the front of the buffer, and reads on behind it.
+func (r *Reader) fill(rest int) error {
+	copy(r.buffer, r.buffer[r.reader.offset:r.size])
+	r.base += int64(r.reader.offset)
+	r.reader.offset, r.size = 0, rest
+	count, err := r.source.Read(r.buffer[rest : rest+piece])
+	r.size += count
+	if err == io.EOF {
+		r.isWhole = true
+		return nil
+	}
+	return err
+}
+
+// Offset is how far the capture was read, in bytes.
+func (r *Reader) Offset() int64 {
+	return r.base + int64(r.reader.offset)
+}
+
+func (r *Reader) packet() Packet {
+	found := &r.found
+	data := make([]byte, found.captured)
+	copy(data, r.buffer[found.at:])
 	return Packet{
 		Time:           time.Unix(0, int64(found.time)).UTC(),
 		LinkType:       uint16(found.link_type),
-		Data:           r.capture[found.at:end:end],
+		Data:           data,
 		OriginalLength: uint32(found.original),
-		Comment:        r.comment(found),
-		InterfaceName:  r.name(found),
+		Comment:        r.comment(),
+		InterfaceName:  r.name(),
 		SnapLength:     uint32(found.snap),
+		isRead:         true,
 	}
 }
 
-func (r *Reader) name(found *C.struct_capkit_packet) string {
-	if found._interface >= r.reader.interfaces {
+func (r *Reader) name() string {
+	if r.found._interface >= r.reader.interfaces {
 		return ""
 	}
-	it := &r.table[found._interface]
+	it := &r.table[r.found._interface]
 	return C.GoStringN(&it.name[0], C.int(it.name_length))
 }
 
-func (r *Reader) comment(found *C.struct_capkit_packet) string {
-	if found.options_length == 0 {
+func (r *Reader) comment() string {
+	if r.found.options_length == 0 {
 		return ""
 	}
-	buffer := make([]byte, found.options_length)
-	length := C.capkit_comment(&r.reader, (*C.uint8_t)(start(r.capture)), C.size_t(len(r.capture)),
-		found, (*C.char)(unsafe.Pointer(&buffer[0])), C.size_t(len(buffer)))
+	buffer := make([]byte, r.found.options_length)
+	length := C.capkit_comment(&r.reader, (*C.uint8_t)(start(r.buffer)), C.size_t(r.size),
+		&r.found, (*C.char)(unsafe.Pointer(&buffer[0])), C.size_t(len(buffer)))
 	return string(buffer[:length])
 }

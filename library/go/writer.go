@@ -5,6 +5,7 @@ import "C"
 
 import (
 	"io"
+	"os"
 	"time"
 )
 
@@ -39,15 +40,21 @@ type Writer struct {
 // NewWriter writes nothing yet: the file's header is written with the first packet. Each packet is one
 // call of out.Write, so an out that is a file is best a bufio.Writer.
 func NewWriter(out io.Writer, format Format) *Writer {
-	return &Writer{out: out, format: format, linkType: LinkEthernet,
-		interfaces: map[interfaceKey]C.uint32_t{}, buffer: make([]byte, 4096)}
+	w := &Writer{out: out, format: format, linkType: LinkEthernet}
+	if format < Pcapng || format > PcapNanoseconds {
+		w.failure = os.ErrInvalid
+	}
+	return w
 }
 
-// Write appends a packet. Its error is a *Refused, and nothing of the packet was written, or that of
-// the output, which every later call has too. A pcap file has packets of one link type.
+// Write appends a packet. Its error is a *WriteError, and nothing of the packet was written; or that of
+// the output, which every later call has too; or os.ErrClosed. A pcap file has packets of one link type.
 func (w *Writer) Write(packet Packet) error {
+	if w.failure != nil {
+		return w.failure
+	}
 	if packet.Time.Before(time.Unix(0, 0)) || packet.Time.After(time.Unix(0, 1<<63-1)) {
-		return &Refused{TimeOutOfRange}
+		return &WriteError{ErrTimeOutOfRange}
 	}
 	encode := w.block
 	if w.format != Pcapng {
@@ -62,11 +69,21 @@ func (w *Writer) Write(packet Packet) error {
 
 // Close writes the file's header where there was no packet. It neither flushes nor closes the output.
 func (w *Writer) Close() error {
-	return w.put(w.linkType, nil)
+	if w.failure == os.ErrClosed {
+		return nil
+	}
+	if err := w.put(w.linkType, nil); err != nil {
+		return err
+	}
+	w.failure = os.ErrClosed
+	return nil
 }
 
 // put writes a unit, after the file's header where that wasn't written yet.
 func (w *Writer) put(linkType uint16, unit []byte) error {
+	if w.out == nil {
+		w.failure = os.ErrInvalid
+	}
 	if w.failure != nil {
 		return w.failure
 	}
@@ -94,7 +111,7 @@ func (w *Writer) made(call func(buffer *C.uint8_t, room C.size_t, length *C.size
 		case C.CAPKIT_NO_ROOM_IN_BUFFER:
 			w.buffer = make([]byte, length)
 		default:
-			return nil, &Refused{Check(written)}
+			return nil, &WriteError{Code(written)}
 		}
 	}
 }
@@ -117,11 +134,11 @@ func (w *Writer) header(linkType uint16) ([]byte, error) {
 
 func (w *Writer) record(packet Packet) ([]byte, error) {
 	if w.hasHeader && packet.LinkType != w.linkType {
-		return nil, &Refused{LinkTypesDiffer}
+		return nil, &WriteError{ErrLinkTypesDiffer}
 	}
 	return w.made(func(buffer *C.uint8_t, room C.size_t, length *C.size_t) C.uint32_t {
 		return C.capkit_write_record(w.nanoseconds(), C.uint64_t(packet.Time.UnixNano()),
-			C.uint32_t(packet.OriginalLength), (*C.uint8_t)(start(packet.Data)), C.size_t(len(packet.Data)),
+			C.uint32_t(packet.original()), (*C.uint8_t)(start(packet.Data)), C.size_t(len(packet.Data)),
 			buffer, room, length)
 	})
 }
@@ -135,7 +152,7 @@ func (w *Writer) block(packet Packet) ([]byte, error) {
 	}
 	comment := []byte(packet.Comment)
 	block, err := w.made(func(buffer *C.uint8_t, room C.size_t, length *C.size_t) C.uint32_t {
-		return C.capkit_write_packet(number, C.uint64_t(packet.Time.UnixNano()), C.uint32_t(packet.OriginalLength),
+		return C.capkit_write_packet(number, C.uint64_t(packet.Time.UnixNano()), C.uint32_t(packet.original()),
 			(*C.uint8_t)(start(packet.Data)), C.size_t(len(packet.Data)), (*C.char)(start(comment)),
 			C.size_t(len(comment)), buffer, room, length)
 	})
@@ -145,6 +162,9 @@ func (w *Writer) block(packet Packet) ([]byte, error) {
 	described, err := w.described(key)
 	if err != nil {
 		return nil, err
+	}
+	if w.interfaces == nil {
+		w.interfaces = map[interfaceKey]C.uint32_t{}
 	}
 	w.interfaces[key] = number
 	return append(described, block...), nil

@@ -1,18 +1,25 @@
-"""Puts the built libcapkit into the wheel. What else is known of the package is in pyproject.toml.
+"""Puts libcapkit into the wheel. What else is known of the package is in pyproject.toml.
 
-CAPKIT_LIBRARY names the shared library, else it is ../out/libcapkit.so.0, which `make` builds.
+The library is the one that CAPKIT_LIBRARY names, else that beside this file, as in a source package, or that
+which `make` in library/ builds.
 """
 import os
 import pathlib
 import re
 import shutil
+import sys
 
 from setuptools import Distribution, setup
 from setuptools.command.build_py import build_py
-from wheel.bdist_wheel import bdist_wheel
+
+try:
+    from setuptools.command.bdist_wheel import bdist_wheel
+except ImportError:
+    from wheel.bdist_wheel import bdist_wheel
 
 HERE = pathlib.Path(__file__).resolve().parent
-LIBRARY = os.environ.get("CAPKIT_LIBRARY", HERE.parent / "out" / "libcapkit.so.0")
+NAME = "libcapkit.so.0"
+PLACES = [os.environ.get("CAPKIT_LIBRARY", ""), HERE / NAME, HERE.parent / "out" / NAME]
 VERSION = re.search('__version__ = "(.*)"', (HERE / "src/capkit/__init__.py").read_text())[1]
 
 
@@ -21,8 +28,11 @@ class BuildWithLibrary(build_py):
 
     def run(self):
         super().run()
+        library = next((place for place in PLACES if os.path.isfile(place)), None)
+        if library is None:
+            sys.exit(f"capkit: there is no {NAME}: `make` in the folder library/ builds it")
         if not self.editable_mode:
-            shutil.copy(LIBRARY, pathlib.Path(self.build_lib, "capkit", "libcapkit.so.0"))
+            shutil.copy(library, pathlib.Path(self.build_lib, "capkit", NAME))
 
 
 class PlatformDistribution(Distribution):

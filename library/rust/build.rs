@@ -1,32 +1,23 @@
-//! Asks pkg-config where libcapkit is.
-//!
-//! `PKG_CONFIG` names the program, else `pkg-config`; where `CAPKIT_STATIC` is set the static library
-//! is linked.
+//! Asks pkg-config where libcapkit is; `PKG_CONFIG` names the program. If `CAPKIT_STATIC` is set, the static
+//! library is linked.
 use std::{env, process};
 
-const LEAST_VERSION: &str = "0.1.0";
-
 fn main() {
-    for name in [
-        "PKG_CONFIG",
-        "PKG_CONFIG_PATH",
-        "PKG_CONFIG_LIBDIR",
-        "CAPKIT_STATIC",
-    ] {
+    for name in ["PKG_CONFIG", "PKG_CONFIG_PATH", "PKG_CONFIG_LIBDIR", "CAPKIT_STATIC"] {
         println!("cargo:rerun-if-env-changed={name}");
     }
-    let flags = flags().unwrap_or_else(|why| {
-        eprintln!(
-            "{why}\nlibcapkit isn't found; PKG_CONFIG_PATH names the folder of its capkit.pc"
-        );
-        process::exit(1)
-    });
-    let kind = if env::var_os("CAPKIT_STATIC").is_some() {
-        "static="
-    } else {
-        ""
+    let program = env::var("PKG_CONFIG").unwrap_or_else(|_| "pkg-config".into());
+    let asked = process::Command::new(&program)
+        .env("PKG_CONFIG_ALLOW_SYSTEM_LIBS", "1")
+        .args(["--libs", "capkit >= 0.1.0"])
+        .output();
+    let flags = match asked {
+        Ok(output) if output.status.success() => output.stdout,
+        Ok(output) => fail(&String::from_utf8_lossy(&output.stderr)),
+        Err(error) => fail(&format!("{program}: {error}")),
     };
-    for flag in flags.split_whitespace() {
+    let kind = env::var_os("CAPKIT_STATIC").map_or("", |_| "static=");
+    for flag in String::from_utf8_lossy(&flags).split_whitespace() {
         if let Some(folder) = flag.strip_prefix("-L") {
             println!("cargo:rustc-link-search=native={folder}");
         } else if let Some(library) = flag.strip_prefix("-l") {
@@ -35,18 +26,7 @@ fn main() {
     }
 }
 
-/// What a linker has to be given, or why it isn't known.
-fn flags() -> Result<String, String> {
-    let program = env::var("PKG_CONFIG").unwrap_or_else(|_| "pkg-config".into());
-    let wanted = format!("capkit >= {LEAST_VERSION}");
-    let output = process::Command::new(&program)
-        .env("PKG_CONFIG_ALLOW_SYSTEM_LIBS", "1")
-        .args(["--libs", &wanted])
-        .output()
-        .map_err(|error| format!("{program}: {error}"))?;
-    if output.status.success() {
-        Ok(String::from_utf8_lossy(&output.stdout).into_owned())
-    } else {
-        Err(String::from_utf8_lossy(&output.stderr).into_owned())
-    }
+fn fail(why: &str) -> ! {
+    eprintln!("{why}\nlibcapkit isn't found; PKG_CONFIG_PATH names the folder of its capkit.pc");
+    process::exit(1)
 }

@@ -45,7 +45,7 @@ static int compile_theirs(const char *text)
         chosen = n;                                                                                \
     }
 
-PASS(run, capkit_run(own, number, p->bytes, p->captured, p->original, &steps))
+PASS(run, capkit_run_unchecked(own, number, p->bytes, p->captured, p->original, &steps))
 PASS(filter_own, bpf_filter((struct bpf_insn *)own, p->bytes, p->original, p->captured))
 PASS(filter_theirs, bpf_filter(theirs.bf_insns, p->bytes, p->original, p->captured))
 
@@ -90,7 +90,7 @@ static void table(int rounds, FILE *expressions)
     static char text[1 << 17];
     double sum[2] = {0, 0}, worst[2] = {0, 0}, best[5];
     int k, count = 0;
-    printf("compile us: capkit, libpcap, ratio | instructions | run ns a packet: capkit_run, "
+    printf("compile us: capkit, libpcap, ratio | instructions | run ns a packet: capkit_run_unchecked, "
            "bpf_filter, ratio; bpf_filter on libpcap's\n");
     while (fgets(text, sizeof text, expressions)) {
         text[strcspn(text, "\n")] = 0;
@@ -113,7 +113,7 @@ static void table(int rounds, FILE *expressions)
         count++;
     }
     printf(
-        "of %d expressions: compile %.2f of pcap_compile's time, at most %.2f; capkit_run %.2f of "
+        "of %d expressions: compile %.2f of pcap_compile's time, at most %.2f; capkit_run_unchecked %.2f of "
         "bpf_filter's, at most %.2f (%zu packets, %d rounds)\n",
         count, exp(sum[0] / count), worst[0], exp(sum[1] / count), worst[1], sets[0].count, rounds);
 }

@@ -190,7 +190,7 @@ static void captures(const char *name, size_t rounds)
         theirs = pcap_fopen_offline_with_tstamp_precision(again, PCAP_TSTAMP_PRECISION_NANO, why);
         if (!theirs && again)
             fclose(again);
-        while ((found = capkit_next(&reader, table, 256, capture, size, &p)) == 0 ||
+        while ((found = capkit_next_unit(&reader, table, 256, capture, size, &p)) == 0 ||
                found == CAPKIT_NO_PACKET) {
             if (reader.offset > size)
                 wrong++;
@@ -241,7 +241,7 @@ static void cuts(const char *name)
         struct capkit_packet p;
         size_t seen = 0;
         uint32_t found;
-        while ((found = capkit_next(&reader, table, 256, capture, cut, &p)) == 0 ||
+        while ((found = capkit_next_unit(&reader, table, 256, capture, cut, &p)) == 0 ||
                found == CAPKIT_NO_PACKET) {
             seen += found == 0;
             wrong += reader.offset > cut || (found == 0 && p.at + p.captured > reader.offset);
@@ -266,7 +266,7 @@ static void nothing(void)
     wrong += capkit_check(NULL, 0, &index) != CAPKIT_EMPTY;
     wrong += capkit_run(&accept, 1, NULL, 0, 0, &steps) != 7 || steps != 1;
     wrong += capkit_run_any(NULL, 0, NULL, 0, 0, &any) != 0 || any != 0;
-    wrong += capkit_next(&reader, NULL, 0, NULL, 0, &p) != CAPKIT_NOT_A_CAPTURE_FILE;
+    wrong += capkit_next_unit(&reader, NULL, 0, NULL, 0, &p) != CAPKIT_NOT_A_CAPTURE_FILE;
     wrong += capkit_comment(&reader, NULL, 0, &p, NULL, 0) != 0;
     wrong += capkit_write_section(NULL, 0, &number) != CAPKIT_NO_ROOM_IN_BUFFER;
     wrong += capkit_matches(&accept, 1, NULL, 0, 0) != 7;

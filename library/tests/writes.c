@@ -261,7 +261,7 @@ static void read_packet(const struct unit *u, const struct unit *described, size
     struct capkit_packet p;
     char comment[1000];
     uint32_t found;
-    while ((found = capkit_next(reader, interfaces, CAPKIT_MOST_INTERFACES, file, end, &p)) ==
+    while ((found = capkit_next_unit(reader, interfaces, CAPKIT_MOST_INTERFACES, file, end, &p)) ==
            CAPKIT_NO_PACKET)
         ;
     packets++;
@@ -329,10 +329,10 @@ static void random_file(void)
     for (i = 0; i < count; i++)
         read_packet(&units[i], &described[form == RECORD ? 0 : units[i].interface], end, &reader,
                     theirs);
-    while (capkit_next(&reader, interface, 8, file, end, &p) == CAPKIT_NO_PACKET)
+    while (capkit_next_unit(&reader, interface, 8, file, end, &p) == CAPKIT_NO_PACKET)
         ;
     wrong +=
-        capkit_next(&reader, interface, 8, file, end, &p) != CAPKIT_END || reader.offset != end;
+        capkit_next_unit(&reader, interface, 8, file, end, &p) != CAPKIT_END || reader.offset != end;
     if (theirs)
         pcap_close(theirs);
     else

@@ -7,7 +7,7 @@ use crate::sweeps;
 use capkit::{Line, Usage, command_of};
 use std::alloc::{AllocError, Global};
 
-/// Where a pcap file header has its link type.
+/// The place where a pcap file header has its link type.
 const LINK_OFFSET: usize = 20;
 
 /// The link type of raw IP, as LINKTYPE_RAW.
@@ -24,7 +24,7 @@ const PRINT_BY_LISTING: [&str; 8] = [
     "print", "-w", "out", "--format", "pcap", "--code", "listing", "in",
 ];
 
-/// What main reports of words that are no line, and its status.
+/// What main reports of words that aren't a line, and its status.
 fn refusal_of(alloc: Global, usage: &Usage) -> Result<(String, u8), AllocError> {
     match usage {
         Usage::Refused(error) => {
@@ -48,7 +48,7 @@ fn words_of(alloc: Global, first: &[&str], more: &[String]) -> Result<Vec<String
     Ok(words)
 }
 
-/// The line of these words, which are to be accepted.
+/// The line of these words, which must be accepted.
 fn accepted(alloc: Global, first: &[&str], more: &[String]) -> Result<Line, Difference> {
     let words = words_of(alloc, first, more)?;
     match command_of(alloc, words) {
@@ -67,7 +67,7 @@ fn listing_of(
     run_line(alloc, &line, case, for_listing(case))
 }
 
-/// Runs the line by whole pieces and by one byte a call.
+/// Runs the line by whole pieces and by one byte per call.
 fn check_runs(alloc: Global, case: &Case<'_>, line: &Line) -> Result<(), Difference> {
     for piece in [WHOLE, 1] {
         let outcome = run_line(alloc, line, case, sound(case, piece))?;
@@ -158,7 +158,7 @@ fn link_name(case: &Case<'_>) -> &'static str {
     }
 }
 
-/// Runs the line of these words, and compares what it leaves with what the case states.
+/// Runs the line of these words, and compares its result with what the case states.
 fn check_by(
     alloc: Global,
     case: &Case<'_>,
@@ -182,7 +182,7 @@ fn check_by_listing(alloc: Global, case: &mut Case<'_>) -> Result<(), Difference
     check_by(alloc, case, (&PRINT_BY_LISTING, &[]))
 }
 
-/// Why the case's words are no line.
+/// Why the case's words aren't a line.
 fn usage_of(alloc: Global, case: &Case<'_>) -> Result<Usage, Difference> {
     let words = words_of(alloc, &[], &case.words)?;
     match command_of(alloc, words) {
@@ -201,7 +201,7 @@ fn check_usage(alloc: Global, case: &Case<'_>) -> Result<(), Difference> {
     Err(Difference::Report(text))
 }
 
-/// Runs the case. An error is what came in place of what it states.
+/// Runs the case. An error is what came instead of what it states.
 pub fn check(alloc: Global, case: &mut Case<'_>) -> Result<(), Difference> {
     match &case.kind {
         Kind::Run => check_words(alloc, case),

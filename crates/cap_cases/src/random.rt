@@ -12,9 +12,9 @@ use crate::random::properties::compare_round;
 use crate::random::run::{Fuzzer, NAMES};
 use std::test::Fail;
 
-/// Runs the rounds, and tells how often each property was looked at. Whether nothing differed.
+/// Runs the rounds, and shows how often each property was looked at. Whether nothing differed.
 ///
-/// Each round has the seed after that of the one before it, so that a round is run again alone by
+/// Each round has the seed after that of the one before it, so that one round is run again by
 /// its own seed.
 pub fn run_rounds(rt: &HostRuntime, seed: u64, rounds: u64) -> Result<bool, Fail> {
     rt.println(format_args!("seed {seed}, {rounds} rounds"))?;

@@ -24,7 +24,7 @@ const EXPANSION: usize = 200;
 /// How many bytes of messages are taken.
 const MESSAGES: usize = 1_000;
 
-/// An allocator that counts what is asked of it, and fails where it is told to.
+/// An allocator that counts what is asked of it, and fails if a test asks it to.
 type Memory = Trial<Global>;
 
 /// The names of a run's inputs and of its output.
@@ -36,7 +36,7 @@ type Inputs<'d, 'm> = Vec<TrialInput<'d>, &'m Memory>;
 /// A job over memory.
 type TrialJob<'d, 'm> = Job<TrialInput<'d>, TrialOutput<'d>, TrialOutput<'d>, &'m Memory>;
 
-/// What a run leaves: its status, if it reached its end, and its devices.
+/// The result of a run: its status, if it reached its end, and its devices.
 type Left<'d> = (Option<u8>, TrialOutput<'d>, TrialOutput<'d>);
 
 /// What devices over memory do.
@@ -75,7 +75,8 @@ fn listing_room(case: &Case<'_>) -> usize {
         .min(LISTING)
 }
 
-/// Devices that move a given number of bytes a call, with room for so much output, and don't fail.
+/// Devices that move a given number of bytes per call, with room for so much output, and don't
+/// fail.
 pub fn roomy(piece: usize, output: usize) -> Devices {
     Devices {
         piece,
@@ -88,7 +89,7 @@ pub fn roomy(piece: usize, output: usize) -> Devices {
     }
 }
 
-/// Devices that move `piece` bytes a call, take all that the case states, and don't fail.
+/// Devices that move `piece` bytes per call, take all that the case states, and don't fail.
 pub fn sound(case: &Case<'_>, piece: usize) -> Devices {
     roomy(piece, case.written.len().saturating_add(SPARE))
 }
@@ -98,10 +99,10 @@ pub fn for_listing(case: &Case<'_>) -> Devices {
     roomy(WHOLE, listing_room(case))
 }
 
-/// What a run leaves.
+/// The result of a run.
 #[derive(Drop)]
 pub struct Outcome {
-    /// None where the job was closed before its end.
+    /// None if the job was closed before its end.
     pub status: Option<u8>,
     pub written: Vec<u8>,
     pub messages: Vec<u8>,
@@ -109,7 +110,7 @@ pub struct Outcome {
     pub allocations: u64,
 }
 
-/// What is after a text at the start of bytes, if it is there.
+/// What is after a text at the start of bytes, if it is present.
 fn following<'b>(bytes: &'b [u8], text: &str) -> Option<&'b [u8]> {
     match bytes.split_at_checked(text.len()) {
         Some((front, rest)) if front == text.as_bytes() => Some(rest),
@@ -286,7 +287,7 @@ fn step_on<'d>(mut job: TrialJob<'d, '_>, steps: u64) -> Left<'d> {
     (status, out, err)
 }
 
-/// Runs the command for `steps` steps, or to its end. None where it may not be run.
+/// Runs the command for `steps` steps, or to its end. None if it may not be run.
 fn run_for<'d, 'm>(
     memory: &'m Memory,
     command: Command<&'m Memory>,

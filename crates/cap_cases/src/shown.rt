@@ -1,4 +1,4 @@
-//! What came in place of what a case states, as text.
+//! What came instead of what a case states, as text.
 
 use crate::runs::Outcome;
 use std::alloc::{AllocError, Global};
@@ -7,7 +7,7 @@ use std::str;
 /// How many bytes of an output are shown.
 const SHOWN: usize = 400;
 
-/// What came in place of what a case states.
+/// What came instead of what a case states.
 #[derive(Drop)]
 pub enum Difference {
     /// This is wrong.
@@ -50,7 +50,7 @@ fn end_of(outcome: &Outcome) -> &'static str {
     }
 }
 
-/// What a run leaves: its status, its messages and its first bytes in hexadecimal digits.
+/// The result of a run: its status, its messages and its first bytes in hexadecimal digits.
 fn outcome_text(alloc: Global, outcome: &Outcome) -> Result<String, AllocError> {
     let written = outcome.written.as_slice();
     let (end, size, count) = (end_of(outcome), written.len(), outcome.allocations);

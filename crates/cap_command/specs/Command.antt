@@ -61,7 +61,7 @@ most_window = 1_000_000
 abbrev pub is_window : ℕ → Bool
 is_window n = nat_le least_window n && nat_le n most_window
 
--- ranges, times, the bytes that are kept, a shift and a window keep their bounds, where there are
+-- ranges, times, the bytes that are kept, a shift and a window keep their bounds, if there are
 -- some
 abbrev pub is_proper_edit : {Z : Type 0} → Edit Z → Bool
 is_proper_edit edit =
@@ -74,7 +74,7 @@ is_proper_edit edit =
 abbrev pub has_at_most_one_filter : {X : Type 0} → List ℕ → Option X → Bool
 has_at_most_one_filter words code = nat_eq (length words) 0 || is_none code
 
--- where the packets themselves are written there are no lines, to which link headers or bytes could
+-- if the packets themselves are written there are no lines, to which link headers or bytes could
 -- be added
 abbrev pub has_at_most_one_output : {X : Type 0} → (link bytes : Bool) → Option X → Bool
 has_at_most_one_output link bytes write = is_none write || not (link || bytes)
@@ -94,6 +94,6 @@ is_proper command.Infos inputs = is_input_count inputs
 is_proper (command.Print print) inputs = nat_eq inputs 1 && is_proper_print print
 is_proper (command.Compile compile) inputs = nat_eq inputs 0
 
--- the bytes of a listing, where there is one
+-- the bytes of a listing, if there is one
 abbrev pub listing_of : {Z : Type 0} → Print Z → Option (List ℕ)
 listing_of print = option_map (λ text. text.items) print.code

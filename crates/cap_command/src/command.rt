@@ -46,21 +46,21 @@ pub enum Command<A: Allocator = Global> {
 pub struct Edit<A: Allocator = Global> {
     /// The first and the last number of each range; packets are counted from 1.
     pub ranges: Vec<(u64, u64), A>,
-    /// Whether the named packets alone are kept; else they are deleted.
+    /// Whether only the named packets are kept; else they are deleted.
     pub keep: bool,
-    /// Where there is one, the first time that is kept, since 1970-01-01 00:00:00 UTC.
+    /// The first time that is kept, if any, since 1970-01-01 00:00:00 UTC.
     pub start: Option<u64>,
-    /// Where there is one, the first time that is no longer kept, since 1970-01-01 00:00:00 UTC.
+    /// The first time that is no longer kept, if any, since 1970-01-01 00:00:00 UTC.
     pub stop: Option<u64>,
     /// How many captured bytes are removed at the start of a packet.
     pub chop_start: u32,
     /// How many captured bytes are then removed at its end.
     pub chop_end: u32,
-    /// How many captured bytes a packet then keeps at most, 1 or more; all where there is none.
+    /// The most captured bytes that a packet then keeps, 1 or more; all if there is none.
     pub snap: Option<u32>,
     /// What is done to times.
     pub shift: Shift,
-    /// Where there is one, a packet is left out that is a duplicate within this number of selected
+    /// If there is one, a packet is left out that is a duplicate within this number of selected
     /// packets in a row, itself among them: `LEAST_WINDOW` to `MOST_WINDOW`.
     pub window: Option<u32>,
     /// The format that is written.
@@ -89,19 +89,19 @@ pub struct Merge {
 /// Prints a line for each packet that matches, or writes these packets (tcpdump(1) with `-r`).
 #[derive(Drop)]
 pub struct Print<A: Allocator = Global> {
-    /// The filter expression (pcap-filter(7)); empty beside a listing. Else all packets match an
+    /// The filter expression (pcap-filter(7)); empty with a listing. Else all packets match an
     /// empty one.
     pub expr: String<A>,
-    /// The bytes of a listing, where there is one: then the packets match that its program accepts
+    /// The bytes of a listing, if there is one: then the packets match that its program accepts
     /// (returns non-zero for).
     pub code: Option<Vec<u8, A>>,
-    /// Where there is one, the job ends after this many packets that match, 1 or more.
+    /// If there is one, the job ends after this many packets that match, 1 or more.
     pub count: Option<u64>,
     /// Whether a line has the link header too.
     pub link: bool,
     /// Whether the captured bytes after the link header follow each line.
     pub bytes: bool,
-    /// The format in which the packets are written, whole, in place of lines.
+    /// The format in which the packets are written, whole, instead of lines.
     pub write: Option<Format>,
 }
 
@@ -110,7 +110,7 @@ pub struct Print<A: Allocator = Global> {
 pub struct Compile<A: Allocator = Global> {
     /// The filter expression.
     pub expr: String<A>,
-    /// The link on which the program is to be run.
+    /// The link on which the program runs.
     pub link: Link,
 }
 
@@ -118,10 +118,10 @@ impl<A: Allocator> Command<A> {
     /// Whether the command may be run on `inputs` inputs.
     ///
     /// - An edit has one input, at most `MOST_RANGES` ranges, each from 1 on, in order and below
-    ///   2^63, and where it has them, times and a span below 2^63 nanoseconds, a `snap` of at least
+    ///   2^63, and if it has them, times and a span below 2^63 nanoseconds, a `snap` of at least
     ///   1 byte, and a window of `LEAST_WINDOW` to `MOST_WINDOW` packets.
     /// - A merge and a report have 1 to `MOST_INPUTS` inputs.
-    /// - A print has one input, no listing beside words, a count, if any, of at least 1, and a
+    /// - A print has one input, no listing with words, a count, if any, of at least 1, and a
     ///   format only where neither link headers nor bytes are asked for.
     /// - A compilation has no input.
     pub fn is_proper(&self, inputs: usize) -> bool

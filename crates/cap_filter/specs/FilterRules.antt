@@ -24,23 +24,23 @@ pub data Rule : Type 0 where
   by_reading : (e : Expression) → Rule
   by_answer : (prog : List Insn) → Rule
 
--- a packet passes where an expression matches; one that is rejected doesn't
+-- a packet passes if an expression matches; one that is rejected doesn't
 abbrev pub decision_of : MatchResult → Decision
 decision_of Yes = Keep
 decision_of No = Skip
 decision_of Rejected = Skip
 
--- what an expression decides on a link; where no link has the link type, that is refused
+-- what an expression decides on a link; if no link has the link type, that is refused
 abbrev pub read_on : Expression → Option Link → Captured → Decision
 read_on e None p = Refuse LinkTypeNotFiltered
 read_on e (Some link) p = decision_of (holds e link p.bytes p.orig)
 
--- all packets pass the empty expression, also of link types that expressions aren't read on
+-- all packets pass the empty expression, even with link types that expressions aren't read on
 abbrev pub expression_decides : Expression → Captured → Decision
 expression_decides empty p = Keep
 expression_decides (truth a) p = read_on (truth a) (link_of p.link) p
 
--- a packet passes where a program accepts it
+-- a packet passes if a program accepts it
 abbrev pub answering : Progress → Decision
 answering (Answered answer count) = keep_if (not (answer == 0))
 answering _ = Skip
@@ -52,14 +52,14 @@ rule_decides (by_answer prog) p = answering (machine prog p.bytes p.orig (length
 
 -- ---- what is asked for
 
--- the rule that words are, or a listing where there is one
+-- the rule that words are, or a listing if there is one
 abbrev pub IsRule : List ℕ → Option (List ℕ) → Rule → Type 0
 IsRule words None (by_reading e) = IsExpression words e
 IsRule words None (by_answer prog) = ⊥
 IsRule words (Some text) (by_reading e) = ⊥
 IsRule words (Some text) (by_answer prog) = IsListing text prog × IsValid prog
 
--- why words, or a listing where there is one, are refused; memory may be lacking for any
+-- why words, or a listing if there is one, are refused; memory may be lacking for any
 abbrev pub IsWhy : List ℕ → Option (List ℕ) → Refusal → Type 0
 IsWhy words None (refusal.Expression fault) = IsTextFault words fault
 IsWhy words None (refusal.Listing fault) = ⊥

@@ -19,7 +19,7 @@ rule_of filter.All = by_reading empty
 rule_of (filter.Expression compiled) = by_reading compiled.tree
 rule_of (filter.Listing program) = by_answer program.insns
 
--- the programs of a filter: of an expression one for each link, in their order; the listing's; or
+-- the programs of a filter: for an expression one for each link, in their order; the listing's; or
 -- none
 abbrev pub programs_of : {Z : Type 0} → Filter Z → List Content
 programs_of filter.All = []

@@ -15,7 +15,7 @@ pub record CompiledView : Type 0 where
   pub programs : List Content
 
 -- a valid program for an expression on a link: it has at most as many instructions as the
--- expression's bound, and accepts a packet exactly where the expression matches
+-- expression's bound, and accepts a packet exactly if the expression matches
 pub record IsMade (program : Content) (e : Expression) (link : Link) : Type 0 where
   pub valid : IsValid program.insns
   pub right : IsProgramOf program.insns e link

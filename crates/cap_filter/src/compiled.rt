@@ -35,7 +35,7 @@ impl<A: Allocator> Model for Compiled<A> {
     ghost invariant = { λ c. HasPrograms c.tree.expr c.programs.items };
 }
 
-/// The index, from 0, of the link with this link type; `None` where none of the links has it.
+/// The index, from 0, of the link with this link type; `None` if none of the links has it.
 fn place_of_link_type(links: &[Link], number: u16) -> Option<usize>
     ensures { result ≡ position (λ link. link_type link == number) links.now }
 {
@@ -70,7 +70,7 @@ fn make_programs<A: Allocator + Copy + Drop>(
     Ok(programs)
 }
 
-/// Runs the program at this index on a packet, and returns its answer, 0 where it doesn't accept
+/// Runs the program at this index on a packet, and returns its answer, 0 if it doesn't accept
 /// the packet, and how many instructions the run met. The caller drops that count: the program has
 /// added it to its own.
 fn run_at<A: Allocator>(

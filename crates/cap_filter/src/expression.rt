@@ -7,7 +7,7 @@ use flt_lang::{Checked, Expr, check, parse, resolve};
 use flt_words::{ExprFault, lex};
 use std::alloc::Allocator;
 
-/// The tree of a text as it is written, where the qualifiers that it leaves out aren't filled in
+/// The tree of a text as it is written, with omitted qualifiers not filled in
 /// yet. An error is the first fault of its tokens, their nesting or the grammar, or out of memory
 /// (`ExprFault::Memory`).
 fn read_tree<A: Allocator + Copy + Drop>(alloc: A, text: &str) -> Result<Expr<A>, ExprFault>

@@ -17,9 +17,9 @@ use std::alloc::{AllocError, Allocator};
 pub enum Filter<A: Allocator> {
     /// The expression is empty, and all packets pass.
     All,
-    /// A packet passes where the expression matches.
+    /// A packet passes if the expression matches.
     Expression(Compiled<A>),
-    /// A packet passes where the program accepts it.
+    /// A packet passes if the program accepts it.
     Listing(Program<A>),
 }
 
@@ -55,7 +55,7 @@ impl<A: Allocator> Filter<A> {
     }
 }
 
-/// The filter of a checked tree, with its programs; of the empty tree all packets pass. An error
+/// The filter of a checked tree, with its programs; all packets pass the empty tree. An error
 /// means that memory ran out.
 fn filter_of_tree<A: Allocator + Copy + Drop>(
     alloc: A,

@@ -8,12 +8,12 @@ use flt_words::ExprFault;
 /// Why an expression or a listing is refused, before any input is read.
 #[derive(Clone, Copy, Debug, PartialEq, Eq)]
 pub enum Refusal {
-    /// The words are no expression, or there was no memory for it.
+    /// The words aren't an expression, or there was no memory for it.
     Expression(ExprFault),
-    /// The text is no listing, or there was no memory for it.
+    /// The text isn't a listing, or there was no memory for it.
     Listing(ListingFault),
-    /// The listing's instructions are no valid program: the first rule that they break, and the
-    /// index of the instruction that breaks it, from 0, or 0 where the rule is on the whole.
+    /// The listing's instructions aren't a valid program: the first rule that they break, and the
+    /// index of the instruction that breaks it, from 0, or 0 if the rule is on the whole.
     Program(CheckFault, usize),
 }
 

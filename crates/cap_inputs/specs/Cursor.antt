@@ -1,5 +1,5 @@
--- Where the inputs of a job keep what is next: the cursor of inputs in turn, and of a merge the
--- inputs that are to be read on, with the queue of those whose packets wait.
+-- What the inputs of a job keep of what is next: the cursor of inputs in turn, and of a merge the
+-- inputs that must be read on, with the queue of those whose packets wait.
 use Rattle.cap_inputs.specs.declared.inputs.Schedule.{Schedule}
 use Rattle.cap_inputs.specs.declared.inputs.Schedule.TheVariants.{Turn, Merge}
 use Rattle.cap_io.specs.Sequence.{PacketOrder, InTurn, ByTime}

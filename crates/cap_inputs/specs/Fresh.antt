@@ -18,6 +18,6 @@ fresh_view o =
 abbrev pub nothing_done : FreshInput → InputPast
 nothing_done o = record { text = o.text; done = []; packets = [] }
 
--- the inputs of a job as it begins, and the order in which their packets are to come
+-- the inputs of a job as it begins, and the order in which their packets will come
 abbrev pub fresh_inputs : PacketOrder → List FreshInput → InputsView
 fresh_inputs order os = record { order = order; cursors = map fresh_view os }

@@ -121,7 +121,7 @@ pub record IsInput (cursors : List InputView) (i : ℕ) (h : InputView) : Type 0
   pub place : length front ≡ i
   pub splits : cursors ≡ front ++ h ∷ back
 
--- whether a read found a packet: not at the clean end, nor where it failed
+-- whether a read found a packet: not at the clean end, nor if it failed
 abbrev pub is_packet_found : Result Bool Fault → Bool
 is_packet_found (Ok b) = b
 is_packet_found (Err fault) = false
@@ -136,12 +136,12 @@ abbrev pub is_clean_end : Result Bool Fault → Bool
 is_clean_end (Ok false) = true
 is_clean_end result = false
 
--- the inputs with another cursor in place of this one
+-- the inputs with another cursor instead of this one
 abbrev pub with_cursor : InputsView → ℕ → InputView → InputsView
 with_cursor inputs i h = record { order = inputs.order; cursors = slice_set inputs.cursors i h }
 
 -- The input with index i was read on, and no other changed: its source advanced, and a packet that
--- was found waits. On a device that tells its bytes.
+-- was found waits. On a device whose bytes contracts know.
 pub record ReadsInput (old : InputsView) (i : ℕ) (r : Result Bool Fault)
     (new : InputsView) : Type 0 where
   pub cursor : InputView
@@ -151,7 +151,7 @@ pub record ReadsInput (old : InputsView) (i : ℕ) (r : Result Bool Fault)
   pub steps : Steps cursor.source.phase cursor.source r source
   pub is : new ≡ with_cursor old i (input_after cursor r source)
 
--- The input with index i was read on, and no other changed, on any device, whether it tells its
+-- The input with index i was read on, and no other changed, on any device, whether it shows its
 -- bytes or not: counts, the phase, and that the section's interfaces are few.
 pub record ReadSteps (old : InputsView) (i : ℕ) (r : Result Bool Fault)
     (new : InputsView) : Type 0 where
@@ -192,7 +192,7 @@ key_of h = max h.greatest (packet_time h.source.packet)
 
 -- ---- what is next
 
--- whether an input is to be read on before any packet is decided by time: it isn't at its clean
+-- whether an input must be read on before any packet is decided by time: it isn't at its clean
 -- end, and no packet of it waits
 abbrev pub is_unready : InputView → Bool
 is_unready h = is_open h.source.phase && not h.waiting
@@ -204,9 +204,9 @@ has_least_key cursors h =
     && list_all
     (λ (other : InputView). not other.waiting || nat_le (key_of h) (key_of other)) cursors
 
--- The place of the input that is next, or how many inputs there are where all are at their clean
--- ends: in turn, the first that isn't at its clean end; by time, the first that is to be read on,
--- or where none is, the first whose packet has the least key.
+-- The place of the input that is next, or how many inputs there are if all are at their clean
+-- ends: in turn, the first that isn't at its clean end; by time, the first that must be read on,
+-- or if none is, the first whose packet has the least key.
 abbrev pub place_next : PacketOrder → List InputView → ℕ
 place_next InTurn cursors = ended_count cursors
 place_next ByTime cursors =
@@ -214,7 +214,7 @@ place_next ByTime cursors =
     then position_or_len is_unready cursors
     else position_or_len (has_least_key cursors) cursors
 
--- the input that is next is read on, or its packet that waits is decided; where there is none, all
+-- the input that is next is read on, or its packet that waits is decided; if there is none, all
 -- are at their clean ends
 abbrev pub next_at : ℕ → Option InputView → Next
 next_at place None = next.Finish
@@ -236,7 +236,7 @@ pub record MarksDecided (old : InputsView) (i : ℕ) (new : InputsView) : Type 0
   pub among : IsInput old.cursors i cursor
   pub is : new ≡ with_cursor old i (input_after_decided cursor)
 
--- where the current unit of an input begins, or the next one where no packet is current; 0 where
+-- the beginning of an input's current unit, or of the next one if no packet is current; 0 if
 -- there is no such input
 abbrev pub offset_at : List InputView → ℕ → ℕ
 offset_at cursors i =

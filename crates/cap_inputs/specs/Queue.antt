@@ -2,7 +2,7 @@
 use Rattle.std.specs.Prelude.{ℕ, List}
 use Rattle.cap_inputs.specs.declared.queue.Waiting.{Waiting}
 
--- what a contract sees of a queue: the entries of inputs that wait, in no order that is told, and
+-- what a contract sees of a queue: the entries of inputs that wait, in no stated order, and
 -- for how many it has room
 pub record Queue : Type 0 where
   pub waiting : List Waiting

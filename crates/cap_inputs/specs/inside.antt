@@ -1,4 +1,4 @@
--- What no promise rests on: it helps the crate's own functions and proofs, and those of crates beside it.
+-- What no promise rests on: it helps the crate's own functions and proofs, and those of other crates here.
 pub mod Cursor
 pub mod Fresh
 pub mod Inputs

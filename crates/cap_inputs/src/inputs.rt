@@ -27,7 +27,7 @@ pub struct InputCursor<I: Input, A: Allocator> {
     waiting: bool,
     /// The greatest time of the packets that are decided, in nanoseconds; 0 of none.
     greatest: u64,
-    /// The time of the current packet, in nanoseconds; 0 where there is none.
+    /// The time of the current packet, in nanoseconds; 0 if there is none.
     time: u64,
 }
 
@@ -52,7 +52,7 @@ pub enum Schedule {
     Turn(usize),
     /// The packets come by time, of each input the greatest up to and with its current packet.
     /// Before one is decided, the inputs with indexes from the first number on and below the second
-    /// are to be read on.
+    /// must be read on.
     Merge(usize, usize),
 }
 
@@ -67,7 +67,7 @@ pub enum Next {
     Finish,
 }
 
-/// The time of a source's current packet, in nanoseconds; 0 where there is none.
+/// The time of a source's current packet, in nanoseconds; 0 if there is none.
 fn current_time<I: Input, A: Allocator>(source: &Source<I, A>) -> u64
     ensures { result ≡ packet_time source.now.packet }
 {
@@ -76,6 +76,7 @@ fn current_time<I: Input, A: Allocator>(source: &Source<I, A>) -> u64
 
 impl<I: Input, A: Allocator> InputCursor<I, A> {
     ghost use Rattle.cap_inputs.specs.Inputs.{InputView, input_after, is_packet_found};
+    ghost use Rattle.std.specs.Prelude.{IsTrue, true};
     ghost use Rattle.cap_inputs.specs.Inputs.{input_after_decided};
     ghost use Rattle.cap_io.specs.Source.{SourceView, Advances, SectionFits, Reading, Steps};
     ghost use Rattle.cap_io.specs.Source.{phase_after};
@@ -115,7 +116,7 @@ impl<I: Input, A: Allocator> InputCursor<I, A> {
         result
     }
 
-    /// The current packet, decided or not; `None` where there is none.
+    /// The current packet, decided or not; `None` if there is none.
     pub fn packet(&self) -> Option<Packet<'_>>
         ensures packet { option_map captured result ≡ self.now.source.packet }
         ensures short { IfSome result (λ packet. length packet.bytes.now ≤ most_in_unit) }
@@ -125,7 +126,7 @@ impl<I: Input, A: Allocator> InputCursor<I, A> {
     }
 
     /// Notes that the current packet is decided: it waits no longer, and `greatest` is its time
-    /// where that is greater.
+    /// if that is greater.
     fn mark_decided(&mut self)
         ensures following { self.new ≡ input_after_decided self.old }
         ensures reading { self.old.waiting ≡ true → self.old.source.phase ≡ Reading }
@@ -134,14 +135,16 @@ impl<I: Input, A: Allocator> InputCursor<I, A> {
         self.waiting = false;
     }
 
-    /// Whether the next packet is at hand, so that no read is made for it; `false` where that can't
-    /// be told.
-    // No clause: see `Source::has_next_at_hand`.
-    fn has_next_at_hand(&self) -> bool {
+    /// Whether the next packet is at hand, so that no read is made for it; `false` if that isn't
+    /// known.
+    // No more of its answer is stated: see `Source::has_next_at_hand`.
+    fn has_next_at_hand(&self) -> bool
+        ensures comes { IsTrue I.tells → result ≡ true → 12 ≤ length self.now.source.unread }
+    {
         self.source.has_next_at_hand()
     }
 
-    /// The first link type that the units read so far declare; `None` where none does.
+    /// The first link type that the units read so far declare; `None` if none does.
     fn first_link(&self) -> Option<u16>
         ensures { result ≡ first_link_of self.now.source.declared }
     {
@@ -163,8 +166,8 @@ impl<I: Input, A: Allocator> InputCursor<I, A> {
         self.source.kind()
     }
 
-    /// Where the current unit begins, in bytes from the start of the file, and 0 before anything is
-    /// read; after a fault, where the unit that has it begins; at the clean end, the number of
+    /// The beginning of the current unit, in bytes from the start of the file, and 0 before anything is
+    /// read; after a fault, the beginning of its unit; at the clean end, the number of
     /// bytes.
     pub fn offset(&self) -> u64
         ensures { result ≡ self.now.source.offset }
@@ -191,7 +194,7 @@ pub struct Inputs<I: Input, A: Allocator> {
     /// The inputs, by their indexes.
     cursors: Vec<InputCursor<I, A>, A>,
     schedule: Schedule,
-    /// Of a merge the inputs whose packets wait, with their keys; else empty.
+    /// For a merge the inputs whose packets wait, with their keys; else empty.
     queue: Queue<A>,
 }
 
@@ -210,6 +213,7 @@ impl<I: Input, A: Allocator> Model for Inputs<I, A> {
 
 impl<I: Input, A: Allocator> Inputs<I, A> {
     ghost use Rattle.cap_inputs.specs.Fresh.{fresh_inputs};
+    ghost use Rattle.std.specs.List.{slice_get};
     ghost use Rattle.cap_inputs.specs.Inputs.{offset_at};
     ghost use Rattle.cap_inputs.specs.Inputs.{InputsView, IsInput, MarksDecided};
     ghost use Rattle.cap_inputs.specs.inside.Inputs.{IsNext};
@@ -218,7 +222,7 @@ impl<I: Input, A: Allocator> Inputs<I, A> {
     ghost use Rattle.cap_inputs.specs.inside.Inputs.{is_in_turn};
 
     /// The inputs of a job, of which nothing is read: merged by time, or one after another. `None`
-    /// where there is no memory.
+    /// if there is no memory.
     pub fn new(alloc: A, inputs: Vec<I, A>, merges: bool) -> Option<Self>
     where
         I: Drop,
@@ -260,7 +264,7 @@ impl<I: Input, A: Allocator> Inputs<I, A> {
         self.cursors.len()
     }
 
-    /// The offset of the input with this index, as `InputCursor::offset` has it; 0 where there is
+    /// The offset of the input with this index, as `InputCursor::offset` has it; 0 if there is
     /// no such input.
     pub fn offset(&self, input: usize) -> u64
         ensures { result ≡ offset_at self.now.cursors input }
@@ -301,16 +305,19 @@ impl<I: Input, A: Allocator> Inputs<I, A> {
     }
 
     /// Whether the next packet of an input is at hand, so that no read is made for it; `false`
-    /// where that can't be told, or there is no such input.
-    // No clause: see `Source::has_next_at_hand`.
-    pub fn has_next_at_hand(&self, input: usize) -> bool {
+    /// if that isn't known, or there is no such input.
+    // No more of its answer is stated: see `Source::has_next_at_hand`.
+    pub fn has_next_at_hand(&self, input: usize) -> bool
+        ensures comes { IsTrue I.tells → result ≡ true → IfSome
+            (slice_get self.now.cursors input) (λ cursor. 12 ≤ length cursor.source.unread) }
+    {
         match self.cursors.get(input) {
             Some(cursor) => cursor.has_next_at_hand(),
             None => false,
         }
     }
 
-    /// The first link type that the inputs declare so far, in their order; `None` where none does.
+    /// The first link type that the inputs declare so far, in their order; `None` if none does.
     pub fn first_link(&self) -> Option<u16>
         ensures { result ≡ first_declared_link self.now.cursors }
     {
@@ -339,7 +346,7 @@ impl<I: Input, A: Allocator> Inputs<I, A> {
     }
 }
 
-/// The first link type that some inputs declare, in their order; `None` where none does.
+/// The first link type that some inputs declare, in their order; `None` if none does.
 // From the last to the first, as `first_declared_link` is built: an earlier input's replaces it.
 fn first_link_in<I: Input, A: Allocator>(cursors: &[InputCursor<I, A>]) -> Option<u16>
     ensures { result ≡ first_declared_link cursors.now }
@@ -355,7 +362,7 @@ fn first_link_in<I: Input, A: Allocator>(cursors: &[InputCursor<I, A>]) -> Optio
 }
 
 /// What is next of inputs in turn: the input whose turn it is is read on, or its packet that waits
-/// is decided; where all had their turn, the job finishes.
+/// is decided; if all had their turn, the job finishes.
 fn next_in_turn<I: Input, A: Allocator>(cursors: &[InputCursor<I, A>], turn: usize) -> Next
     ensures { IsAtCursor cursors.now turn result }
 {
@@ -371,8 +378,8 @@ fn next_in_turn<I: Input, A: Allocator>(cursors: &[InputCursor<I, A>], turn: usi
     }
 }
 
-/// An empty queue with room for `count` inputs, where they are merged; else with room for none,
-/// since inputs in turn need no queue. `None` where there is no memory.
+/// An empty queue with room for `count` inputs, if they are merged; else with room for none,
+/// since inputs in turn need no queue. `None` if there is no memory.
 fn queue_for<A: Allocator>(alloc: A, merges: bool, count: usize) -> Option<Queue<A>>
 where
     A: Drop,
@@ -382,9 +389,9 @@ where
     Queue::new(alloc, room).ok()
 }
 
-/// Updates queue and schedule after the input of an entry was read on. Of a merge the entry is
-/// queued where the read found a packet, and with a packet or without the schedule goes on to the
-/// next input; in turn it is the next input's turn where this one is at its clean end. Where the
+/// Updates queue and schedule after the input of an entry was read on. For a merge the entry is
+/// queued if the read found a packet, and with a packet or without the schedule goes on to the
+/// next input; in turn it is the next input's turn if this one is at its clean end. If the
 /// read failed, nothing changes: the same read is next.
 fn update_after_read<A: Allocator>(
     queue: &mut Queue<A>,
@@ -417,8 +424,8 @@ fn update_after_read<A: Allocator>(
     }
 }
 
-/// Updates queue and schedule after the packet of an input was decided. Of a merge that input is
-/// the first one of the queue: it is taken out, and it alone is to be read on. In turn nothing
+/// Updates queue and schedule after the packet of an input was decided. For a merge that input is
+/// the first one of the queue: it is taken out, and only it must be read on. In turn nothing
 /// changes.
 fn update_after_decision<A: Allocator>(queue: &mut Queue<A>, schedule: &mut Schedule, input: usize)
     requires { input < 2 ^ 64 - 1 }
@@ -434,7 +441,7 @@ fn update_after_decision<A: Allocator>(queue: &mut Queue<A>, schedule: &mut Sche
 }
 
 /// What is next of a merge: the inputs from `next` on and below `last` are read on; then the packet
-/// of the first input in the queue is decided; where none waits, the job finishes.
+/// of the first input in the queue is decided; if none waits, the job finishes.
 fn next_by_time<I: Input, A: Allocator>(
     cursors: &[InputCursor<I, A>],
     queue: &Queue<A>,
@@ -453,7 +460,7 @@ fn next_by_time<I: Input, A: Allocator>(
     }
 }
 
-/// The inputs over these devices, of which nothing is read; `None` where there is no memory.
+/// The inputs over these devices, of which nothing is read; `None` if there is no memory.
 fn cursors_of<I, A>(alloc: A, inputs: Vec<I, A>) -> Option<Vec<InputCursor<I, A>, A>>
 where
     I: Input + Drop,
@@ -470,7 +477,7 @@ where
     Some(cursors)
 }
 
-/// The schedule before anything is read: in turn from the first input on; of a merge all inputs are
+/// The schedule before anything is read: in turn from the first input on; in a merge all inputs are
 /// read on first.
 fn first_schedule<I: Input, A: Allocator>(cursors: &[InputCursor<I, A>], merges: bool) -> Schedule
     ensures { result ≡ first_schedule (order_of merges) (length cursors.now) }

@@ -63,7 +63,7 @@ impl<A: Allocator> Queue<A> {
         self.heap.push(Reverse(entry)).unwrap();
     }
 
-    /// The entry that comes first, which stays in the queue; `None` where none waits.
+    /// The entry that comes first, which stays in the queue; `None` if none waits.
     pub fn peek(&self) -> Option<Waiting>
         ensures { MatchOption result (self.now.waiting
             ≡ []) (λ w. IsFirstWaiting w self.now.waiting) }
@@ -74,7 +74,7 @@ impl<A: Allocator> Queue<A> {
         Some(*first)
     }
 
-    /// Takes out the entry that comes first, and returns it; `None` where none waits.
+    /// Takes out the entry that comes first, and returns it; `None` if none waits.
     pub fn take(&mut self) -> Option<Waiting>
         ensures waiting { MatchOption result (self.old.waiting ≡ [])
             (λ w. IsPermutation self.old.waiting (w ∷ self.new.waiting)) }

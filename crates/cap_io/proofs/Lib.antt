@@ -18,3 +18,4 @@ pub mod Backs
 pub mod PcapBack
 pub mod PcapngBack
 pub mod CapturesCame
+pub mod Merging

@@ -130,7 +130,7 @@ pub record Items : Type 0 where
   pub declared : Declared
   pub ending : Ending
 
--- how a text ends where no unit follows: by a fault at this offset, or cleanly
+-- how a text ends if no unit follows: by a fault at this offset, or cleanly
 abbrev pub ending_by : Option Fault → ℕ → Ending
 ending_by None offset = End
 ending_by (Some fault) offset = FaultAt fault offset
@@ -151,7 +151,7 @@ items_with (NoUnit why) declared offset following = no_items declared why offset
 items_with (Whole size packets after) declared offset following =
     after_packets (placed_at offset packets) (following size after)
 
--- the items of a text from a place on; the number is fuel, which isn't used up where it is greater
+-- the items of a text from a place on; the number is fuel, which isn't used up if it is greater
 -- than the length of the text, since a unit has a byte at least
 unfoldable pub items_within : ℕ → Declared → ℕ → List ℕ → Items
 items_within zero declared offset text = no_items declared None offset
@@ -174,7 +174,7 @@ abbrev pub kind_by : Resolution → Kind
 kind_by Microseconds = Pcap
 kind_by Nanoseconds = NsecPcap
 
--- what the capture is; None where no unit was read
+-- what the capture is; None if no unit was read
 abbrev pub kind_of : Declared → Option Kind
 kind_of Nothing = None
 kind_of (PcapFile head) = Some (kind_by head.resolution)

@@ -1,4 +1,4 @@
--- Laws of the definitions: each text is cut in one way, which tells its items; and what a sink does
+-- Laws of the definitions: each text is cut in one way, which shows its items; and what a sink does
 -- with one more packet, by what it keeps, is what all packets so far decide.
 use Rattle.std.specs.Prelude.{◌≡◌, ℕ, List, [], ◌∷◌, ◌++◌, length, Ok, Option}
 use Rattle.cap_octet.specs.Packet.{Captured}
@@ -15,14 +15,14 @@ pub record Cut (text : List ℕ) : Type 0 where
   pub declared : Declared
   pub cut : IsCut text done rest packets declared
 
--- two cuts are the same: of equal parts
+-- two cuts are the same: for equal parts
 pub record IsSameCut {text : List ℕ} (one other : Cut text) : Type 0 where
   pub done : one.done ≡ other.done
   pub rest : one.rest ≡ other.rest
   pub packets : one.packets ≡ other.packets
   pub declared : one.declared ≡ other.declared
 
--- The items are the packets of the units, and the end is told by what the rest begins with.
+-- The items are the packets of the units, and the end is reported by what the rest begins with.
 pub record TellsItems (text done rest : List ℕ) (packets : List Placed)
     (declared : Declared) : Type 0 where
   pub why : Option Fault
@@ -38,7 +38,7 @@ EachHasCut = (text : List ℕ) → Cut text
 abbrev pub EachHasOneCut : Type 0
 EachHasOneCut = (text : List ℕ) (one other : Cut text) → IsSameCut one other
 
--- the items of a text are those that its cut tells
+-- the items of a text are those that its cut shows
 abbrev pub CutTellsItems : Type 0
 CutTellsItems = (text : List ℕ) (c : Cut text) → TellsItems text c.done c.rest c.packets c.declared
 

@@ -8,4 +8,5 @@ pub mod Sink
 pub mod RoundTrip
 pub mod Position
 pub mod Laws
+pub mod Merging
 pub mod inside

@@ -1,4 +1,4 @@
--- Where a source is in the text that its device gives.
+-- The place where a source is in the text that its device gives.
 use Rattle.std.specs.Prelude.{◌≡◌, ℕ, ◌+◌, ◌<◌, ◌≤◌, Bool, true, false, List, [], ◌∷◌, ◌++◌, length, None, Some}
 use Rattle.cap_octet.specs.Device.{HasGiven}
 use Rattle.cap_octet.specs.Packet.{Captured}
@@ -7,7 +7,7 @@ use Rattle.cap_io.specs.Capture.{Declared, Nothing, IsUnit, Placed, AreUnits, It
 use Rattle.cap_io.specs.Reading.{FitUnits, TakesMemory, decisive_length}
 use Rattle.cap_io.specs.Source.{SourceView, Reading, Ended, Failed}
 
--- the bytes that were read and aren't decided yet: those of the current unit, where its packet
+-- the bytes that were read and aren't decided yet: those of the current unit, if its packet
 -- waits, else none
 abbrev pub pending : Bool → List ℕ → List ℕ
 pending true block = block
@@ -45,7 +45,7 @@ pub record IsAt (text done : List ℕ) (packets : List Placed) (waiting : Bool)
   pub fit : FitUnits s.room Nothing done s.declared
   pub held : length s.block ≤ s.room
 
--- These items are those of the whole units at the start of a text, ended by a fault where the next
+-- These items are those of the whole units at the start of a text, ended by a fault at the place where the next
 -- unit would begin.
 pub record IsCutShort (text : List ℕ) (fault : Fault) (items : Items) : Type 0 where
   pub done : List ℕ
@@ -59,7 +59,7 @@ abbrev pub given_in_all : SourceView → ℕ
 given_in_all s = s.given + length s.unread
 
 -- A read failed after these whole units of a text, of which `rest` is left: the device had given
--- as many bytes as it was sure to, and fewer than decide what is there.
+-- as many bytes as it was sure to, and fewer than decide what is present.
 pub record ReadFailsAt (old new : SourceView) (text done rest : List ℕ)
     (declared : Declared) : Type 0 where
   pub failed : old.failures < new.failures

@@ -22,29 +22,29 @@ use Rattle.cap_io.specs.Capture.{Declared, Nothing, PcapFile, PcapngFile, IsUnit
 abbrev pub most_in_unit : ℕ
 most_in_unit = most_block
 
--- how often the device failed in a call: only a failed read tells that it did
+-- how often the device failed in a call: only a failed read shows that it did
 abbrev pub read_failures : {X : Type 0} → Result X Fault → ℕ
 read_failures (Err ReadFailed) = 1
 read_failures result = 0
 
--- how many bytes are taken at most of a text that begins so: no more than its unit, or where none
+-- how many bytes are taken at most of a text that begins so: no more than its unit, or if none
 -- begins, than the longest unit
 abbrev pub most_taken : Front → ℕ
 most_taken (Whole size packets declared) = size
 most_taken (NoUnit why) = most_in_unit
 
--- the length of a unit, as its header states it: none where that isn't whole, or fails a check
+-- the length of a unit, as its header states it: none if that isn't whole, or fails a check
 abbrev pub length_by_header : (header : ℕ) → List ℕ → List (Bool × Fault) → (size : ℕ) → Option ℕ
 length_by_header header text checks size =
     if nat_le header (length text) && is_none (first_failing checks) then Some size else None
 
--- the length of a block, as its first 12 bytes state it: none where they aren't all there, or fail
+-- the length of a block, as its first 12 bytes state it: none if they aren't all there, or fail
 -- a check
 abbrev pub block_length : Option Section → List ℕ → Option ℕ
 block_length before text =
     length_by_header 12 text (frame_checks (order_before before) text) (block_size before text)
 
--- the length of the next unit, as its header states it: none where that isn't whole or fails a
+-- the length of the next unit, as its header states it: none if that isn't whole or fails a
 -- check, and none of the file header of pcap, which states no length
 abbrev pub stated_length : Declared → List ℕ → Option ℕ
 stated_length Nothing text = if is_pcapng text then block_length None text else None
@@ -53,7 +53,7 @@ stated_length (PcapFile head) text =
 stated_length (PcapngFile first section) text = block_length (Some section) text
 
 -- How many bytes are a unit's header: the first 12 of a block, those in front of a record's data,
--- all of the file header of pcap. Where a file begins with no header, its first four bytes tell
+-- all of the file header of pcap. If a file begins with no header, its first four bytes show
 -- that.
 abbrev pub unit_header_length : Declared → List ℕ → ℕ
 unit_header_length Nothing text =
@@ -71,7 +71,7 @@ pub record IsTaken (declared : Declared) (unread unread' : List ℕ) (fault : Fa
   pub count : ℕ
   pub within : count ≤ most_taken (front_of declared unread)
   -- A failed read is reported only of a unit that was not complete: fewer bytes came than decide
-  -- what is there. Memory may run out after a whole unit.
+  -- what is present. Memory may run out after a whole unit.
   pub unfinished : fault ≡ ReadFailed → count < decisive_length declared unread
   pub there : count ≤ length unread
   pub rest : unread' ≡ drop count unread
@@ -94,7 +94,7 @@ abbrev pub held_length : (before after : Declared) → ℕ → ℕ
 held_length Nothing (PcapFile head) size = 0
 held_length before after size = size
 
--- These bytes are whole units, and a buffer of this size has room for each of them, but for the
+-- These bytes are whole units, and a buffer of this size has room for each of them, except the
 -- file header of pcap, which it doesn't hold.
 pub data FitUnits (room : ℕ) : Declared → List ℕ → Declared → Type 0 where
   no_unit_fits : {d : Declared} → FitUnits room d [] d
@@ -113,7 +113,7 @@ declared_by (state.Pcap head) interfaces = PcapFile head
 declared_by (state.Pcapng order first) interfaces =
     PcapngFile first (record { order = order; interfaces = interfaces })
 
--- the packet that lies at these spans of a unit; None where its interface isn't declared
+-- the packet that lies at these spans of a unit; None if its interface isn't declared
 abbrev pub packet_in_unit : Declared → PacketSpans → List ℕ → Option Captured
 packet_in_unit Nothing spans block = None
 packet_in_unit (PcapFile head) spans block = Some (record {

@@ -17,7 +17,7 @@ pub record InRange (p : Captured) : Type 0 where
   pub orig : p.orig < 2 ^ 32
   pub comment : length p.comment ≤ 65535
 
--- what a pcap form tells of each packet beside its link type, time, original length and bytes: the
+-- what a pcap form shows of each packet next to its link type, time, original length and bytes: the
 -- snap length of the file header, no name, and no comment
 pub record IsPlain (p : Captured) : Type 0 where
   pub snap : p.snap ≡ most_captured

@@ -1,4 +1,4 @@
--- The packets of a job in the job's order, from what its inputs hold, and where the order ends.
+-- The packets of a job in the job's order, from what its inputs hold, and the end of the order.
 use Rattle.std.specs.Prelude.{ℕ, ◌+◌, ◌&&◌, ◌||◌, Bool, true, false, if◌then◌else◌, nat_lt, nat_eq, max, List, [], ◌∷◌, ◌++◌, length, map, Option}
 use Rattle.cap_octet.specs.declared.fault.Fault.{Fault}
 use Rattle.cap_io.specs.declared.source.Kind.{Kind}
@@ -7,7 +7,7 @@ use Rattle.cap_io.specs.Capture.{Placed, Items, Ending, End, FaultAt, kind_of, i
 -- ---- what comes
 
 -- a packet of an input; or an input, which is of this kind and has this size, was read to its
--- clean end, which is an event in turn alone
+-- clean end, which is an event only in turn
 pub data Event : Type 0 where
   Packet : (input : ℕ) → (p : Placed) → Event
   InputEnd : (input : ℕ) → (kind : Option Kind) → (size : ℕ) → Event
@@ -47,7 +47,7 @@ whole_input text = record { greatest = 0; items = items text; size = length text
 abbrev pub packet_events : ℕ → List Placed → List Event
 packet_events input ps = map (Packet input) ps
 
--- an input's packets; and where it ends cleanly, its end and what comes of the inputs after it;
+-- an input's packets; and if it ends cleanly, its end and what comes of the inputs after it;
 -- else the order ends by its fault
 abbrev pub input_sequence : ℕ → InputItems → Ending → Sequence → Sequence
 input_sequence input r End more =
@@ -66,19 +66,19 @@ sequence_in_turn input (r ∷ rs) =
 -- ---- by time
 
 -- A packet of an input, the greatest time in its own input up to and with it, and how the order
--- ends after it: by a fault where it is the last of an input that ends by one, else `Complete`.
+-- ends after it: by a fault if it is the last of an input that ends by one, else `Complete`.
 pub record Entry : Type 0 where
   pub key : ℕ
   pub input : ℕ
   pub p : Placed
   pub end : SequenceEnd
 
--- how the order ends where this input ends so
+-- how the order ends if this input ends like this
 abbrev pub end_of : ℕ → Ending → SequenceEnd
 end_of input End = Complete
 end_of input (FaultAt fault offset) = FaultIn input fault offset
 
--- how the order ends after a packet that is followed by these in its input: `Complete` where there
+-- how the order ends after a packet that is followed by these in its input: `Complete` if there
 -- is one of these
 abbrev pub end_after : ℕ → Ending → List Placed → SequenceEnd
 end_after input ending [] = end_of input ending
@@ -134,13 +134,13 @@ abbrev pub first_end : SequenceEnd → SequenceEnd → SequenceEnd
 first_end Complete later = later
 first_end (FaultIn input fault offset) later = FaultIn input fault offset
 
--- the fault of the first input that ends by one and has no packet; `Complete` where there is none
+-- the fault of the first input that ends by one and has no packet; `Complete` if there is none
 abbrev pub fault_without_packets : ℕ → List InputItems → SequenceEnd
 fault_without_packets input [] = Complete
 fault_without_packets input (r ∷ rs) =
     first_end (end_after input r.items.ending r.items.packets) (fault_without_packets (input + 1) rs)
 
--- Where an input has no packet and ends by a fault, no packet of any input comes; else all packets
+-- If an input has no packet and ends by a fault, no packet of any input comes; else all packets
 -- in the order, up to the first that is the last of an input that ends by a fault.
 abbrev pub sequence_by_time : List InputItems → Sequence
 sequence_by_time rs =

@@ -45,7 +45,7 @@ pub record HasPackets (before : List ℕ) (sink : SinkView) (packets : List Capt
   pub written : sink.written ≡ before ++ text sink.format packets
   pub put : HasPut sink packets
 
--- why a packet isn't written; None where no check fails
+-- why a packet isn't written; None if no check fails
 abbrev pub refusal_in : SinkView → Captured → Option Fault
 refusal_in sink p = first_failing (checks_in sink.format sink.state sink.interfaces p)
 
@@ -54,13 +54,13 @@ abbrev pub added_in : SinkView → Captured → List ℕ
 added_in sink p =
     file_start_in sink.format sink.state p.link ++ appended_packet sink.format sink.interfaces p
 
--- how often the device failed in a call: only a failed write tells that it did
+-- how often the device failed in a call: only a failed write shows that it did
 abbrev pub write_failures : {X : Type 0} → Result X Fault → ℕ
 write_failures (Err WriteFailed) = 1
 write_failures result = 0
 
--- What a put returns: a refusal where there is one. Else the packet is added; or there was no
--- memory, where it takes some; or the device failed.
+-- What a put returns: a refusal if there is one. Else the packet is added; or there was no
+-- memory, if it takes some; or the device failed.
 abbrev pub IsPutAnswer : Option Fault → Bool → Result (Unit {0}) Fault → Type 0
 IsPutAnswer None takes (Ok done) = Unit {0}
 IsPutAnswer None takes (Err fault) = (fault ≡ WriteFailed) ⊎ ((fault ≡ NoMemory) × (takes ≡ true))
@@ -68,7 +68,7 @@ IsPutAnswer (Some refusal) takes (Ok done) = ⊥
 IsPutAnswer (Some refusal) takes (Err fault) = fault ≡ refusal
 
 -- The interfaces that are left of those before a packet and those after it: it is numbered before
--- its bytes are written, so where the device fails they are those after it.
+-- its bytes are written, so if the device fails they are those after it.
 abbrev pub interfaces_after_put : Result (Unit {0}) Fault → (before following : List Interface)
     → List Interface
 interfaces_after_put (Ok done) before following = following
@@ -87,7 +87,7 @@ pub record AddsPacket (old : SinkView) (p : Captured) (r : Result (Unit {0}) Fau
   pub room : new.room ≡ old.room
   pub filled : r ≡ Err WriteFailed → old.room ≤ length new.written
 
--- what is written where a call ends by a fault: nothing where there was no memory, else a
+-- what is written if a call ends by a fault: nothing if there was no memory, else a
 -- beginning, not the whole, or nothing
 abbrev pub BreaksOff : Fault → List ℕ → List ℕ → List ℕ → Type 0
 BreaksOff NoMemory bytes written written' = written' ≡ written
@@ -100,7 +100,7 @@ WritesPacket refusal bytes written (Ok done) written' = written' ≡ written ++ 
 WritesPacket (Some refusal) bytes written (Err fault) written' = written' ≡ written
 WritesPacket None bytes written (Err fault) written' = BreaksOff fault bytes written written'
 
--- What a put does to a sink that has not failed: it adds the packet, and where the put fails, the
+-- What a put does to a sink that has not failed: it adds the packet, and if the put fails, the
 -- sink has failed from then on.
 pub record PutsNext (old : SinkView) (p : Captured) (r : Result (Unit {0}) Fault)
     (new : SinkView) : Type 0 where
@@ -114,7 +114,7 @@ abbrev pub PutsPacket : SinkState → SinkView → Captured → Result (Unit {0}
 PutsPacket (Broken fault) old p r new = (r ≡ Err fault) × (new ≡ old)
 PutsPacket state old p r new = PutsNext old p r new
 
--- what a put to a sink in this state writes; nothing where the sink has failed
+-- what a put to a sink in this state writes; nothing if the sink has failed
 abbrev pub PutWrites : SinkState → SinkView → Captured → Result (Unit {0}) Fault → SinkView → Type 0
 PutWrites (Broken fault) old p r new = new ≡ old
 PutWrites state old p r new =
@@ -133,19 +133,19 @@ pub record FinishesEmpty (old : SinkView) (link : ℕ) (r : Result (Unit {0}) Fa
   pub room : new.room ≡ old.room
   pub filled : r ≡ Err WriteFailed → old.room ≤ length new.written
 
--- the link type of a file header where nothing was put: 1 where none is declared
+-- the link type of a file header if nothing was put: 1 if none is declared
 abbrev pub link_or_ethernet : Option ℕ → ℕ
 link_or_ethernet first = unwrap_or first LINKTYPE_ETHERNET
 
--- What a finish does to a sink in this state, whatever the device: where nothing was put it writes
+-- What a finish does to a sink in this state, whatever the device: if nothing was put it writes
 -- the header, else nothing. A sink that failed returns its fault again, and stays.
 abbrev pub Finishes : SinkState → SinkView → Option ℕ → Result (Unit {0}) Fault → SinkView → Type 0
 Finishes Empty old first r new = FinishesEmpty old (link_or_ethernet first) r new
 Finishes (Started link) old first r new = (r ≡ Ok tt) × (new ≡ old)
 Finishes (Broken fault) old first r new = (r ≡ Err fault) × (new ≡ old)
 
--- what a finish writes: the file header or section header where nothing was put, or a beginning of
--- it, not the whole, where the device failed; else nothing
+-- what a finish writes: the file header or section header if nothing was put, or a beginning of
+-- it, not the whole, if the device failed; else nothing
 abbrev pub FinishWrites : SinkState → SinkView → Option ℕ → Result (Unit {0}) Fault → SinkView
     → Type 0
 FinishWrites Empty old first r new =

@@ -24,10 +24,10 @@ pub record SourceView : Type 0 where
   pub phase : Phase
   -- what the units that were read declare
   pub declared : Declared
-  -- the current packet, and the bytes of its unit, none where no packet is current
+  -- the current packet, and the bytes of its unit, none if no packet is current
   pub packet : Option Captured
   pub block : List ℕ
-  -- where the current unit begins, else where the next one does
+  -- the beginning of the current unit, else of the next one
   pub offset : ℕ
   -- the bytes that the device has left, and counts of the bytes that it gave and of its failures
   pub unread : List ℕ
@@ -59,12 +59,12 @@ phase_at stage.Ended = Ended
 phase_at (stage.Failed fault) = Failed fault
 phase_at other = Reading
 
--- the bytes of the current unit, at the start of the buffer; none where no packet is current
+-- the bytes of the current unit, at the start of the buffer; none if no packet is current
 abbrev pub block_at : Stage → PacketSpans → List ℕ → List ℕ
 block_at stage.Current spans buffer = take spans.size buffer
 block_at other spans buffer = []
 
--- the current packet; None where none is current
+-- the current packet; None if none is current
 abbrev pub packet_at : Stage → PacketSpans → Declared → List ℕ → Option Captured
 packet_at stage.Current spans declared buffer =
     packet_in_unit declared spans (take spans.size buffer)
@@ -85,14 +85,14 @@ view_of device stage r offset = record {
   room = length r.buffer.items;
 }
 
--- The source leaves the current unit and skips these bytes, which are whole units without packets,
+-- The source ends the current unit and skips these bytes, which are whole units without packets,
 -- to `rest`.
 pub record SkipsUnits (old new : SourceView) (rest : List ℕ) : Type 0 where
   pub passed : List ℕ
   pub splits : old.unread ≡ passed ++ rest
   pub units : AreUnits old.declared (old.offset + length old.block) passed [] new.declared
   pub offset : new.offset ≡ old.offset + length old.block + length passed
-  -- the buffer, which never has less room than before, has room for each of them, but for the file
+  -- the buffer, which never has less room than before, has room for each of them, except the file
   -- header of pcap
   pub room : old.room ≤ new.room
   pub fit : FitUnits new.room old.declared passed new.declared
@@ -138,7 +138,7 @@ Finds old (Ok true) new = FindsPacket old new
 Finds old (Ok false) new = FindsEnd old new
 Finds old (Err fault) new = FindsFault old new fault
 
--- What an `advance` does from this phase, on a device that tells its bytes. A source at its end or
+-- What an `advance` does from this phase, on a device whose bytes contracts know. A source at its end or
 -- after a fault returns that again, and stays.
 abbrev pub Advances : Phase → SourceView → Result Bool Fault → SourceView → Type 0
 Advances Reading old r new = Finds old r new
@@ -161,10 +161,10 @@ SectionFits (PcapngFile first section) = FitSection section.interfaces
 SectionFits declared = Unit {0}
 
 -- what an `advance` of a source that has neither ended nor failed does on any device, whether it
--- tells its bytes or not: counts, and the size of what is held
+-- shows its bytes or not: counts, and the size of what is held
 pub record KeepsBounds (old : SourceView) (r : Result Bool Fault) (new : SourceView) : Type 0 where
   pub given : old.given ≤ new.given
-  -- a failed read is told exactly where the device failed in this call
+  -- a failed read is reported exactly if the device failed in this call
   pub failures : new.failures ≡ old.failures + read_failures r
   -- a device that failed had given as many bytes as it was sure to
   pub sure : new.sure ≡ old.sure
@@ -177,7 +177,7 @@ pub record KeepsBounds (old : SourceView) (r : Result Bool Fault) (new : SourceV
   pub bounded : r ≡ Ok true → new.given < 2 ^ 63
   -- there is a current packet
   pub packet : r ≡ Ok true → is_some new.packet ≡ true
-  -- All bytes that the device gave are skipped or current, but for those of a broken unit: at most
+  -- All bytes that the device gave are skipped or current, except those of a broken unit: at most
   -- one unit's bytes.
   pub counted : OnOk r (new.given + end_offset old ≡ old.given + end_offset new)
   pub broken : OnErr r

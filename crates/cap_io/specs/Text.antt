@@ -27,7 +27,7 @@ pub record Interface : Type 0 where
 abbrev pub interface_of : Captured → Interface
 interface_of p = record { link = p.link; snap = p.snap; name = p.name }
 
--- whether two interfaces are one: of equal link type, snap length and name
+-- whether two interfaces are one: for equal link type, snap length and name
 abbrev pub is_same : Interface → Interface → Bool
 is_same i j = i.link == j.link && (i.snap == j.snap && pointwise nat_eq i.name j.name)
 
@@ -39,7 +39,7 @@ is_among interfaces i = list_any (is_same i) interfaces
 abbrev pub new_among : List Interface → Interface → List Interface
 new_among interfaces i = if is_among interfaces i then [] else i ∷ []
 
--- how many interfaces come before this one, or how many there are where it is new
+-- how many interfaces come before this one, or how many there are if it is new
 abbrev pub number_among : List Interface → Interface → ℕ
 number_among interfaces i = position_or_len (is_same i) interfaces
 
@@ -86,13 +86,13 @@ abbrev pub has_room : List Interface → Captured → Bool
 has_room interfaces p =
     nat_le (length (interfaces ++ new_among interfaces (interface_of p))) most_output_interfaces
 
--- the checks of a packet that is to be put, in order
+-- the checks of a packet that must be put, in order
 abbrev pub checks_in : Format → SinkState → List Interface → Captured → List (Bool × Fault)
 checks_in Pcapng state interfaces p =
     pcapng.block_fit_checks p ++ (has_room interfaces p, TooManyOutputInterfaces) ∷ []
 checks_in format state interfaces p = (has_link state p, LinkTypesDiffer) ∷ pcap.record_fit_checks p
 
--- whether a packet takes memory: in pcapng, where its interface is new
+-- whether a packet takes memory: in pcapng, if its interface is new
 abbrev pub takes_memory_in : Format → List Interface → Captured → Bool
 takes_memory_in Pcapng interfaces p = not (is_among interfaces (interface_of p))
 takes_memory_in format interfaces p = false
@@ -102,7 +102,7 @@ abbrev pub file_start_in : Format → SinkState → ℕ → List ℕ
 file_start_in format Empty link = file_start format link
 file_start_in format state link = []
 
--- the bytes of a packet itself: in pcapng its interface is described in front of it where that is
+-- the bytes of a packet itself: in pcapng its interface is described in front of it if that is
 -- new, and the interface's number is how many come before it
 abbrev pub appended_packet : Format → List Interface → Captured → List ℕ
 appended_packet Pcap interfaces p = record_text Microseconds p
@@ -123,7 +123,7 @@ state_after (p ∷ ps) = Started p.link
 abbrev pub kept_interfaces : Format → List Captured → List Interface
 kept_interfaces format packets = fold (interfaces_after_packet format) [] packets
 
--- why a packet that comes after these isn't written; None where no check fails
+-- why a packet that comes after these isn't written; None if no check fails
 abbrev pub refusal_of : Format → List Captured → Captured → Option Fault
 refusal_of format earlier p =
     first_failing (checks_in format (state_after earlier) (kept_interfaces format earlier) p)
@@ -144,7 +144,7 @@ packets_text format earlier [] = []
 packets_text format earlier (p ∷ ps) =
     added_text format earlier p ++ packets_text format (earlier ++ p ∷ []) ps
 
--- the text of a file with these packets; of none it is empty, without the header that a finish
+-- the text of a file with these packets; for none it is empty, without the header that a finish
 -- writes then
 abbrev pub text : Format → List Captured → List ℕ
 text format packets = packets_text format [] packets

@@ -11,7 +11,7 @@ use cap_pcap::Head;
 use cap_pcapng::{Options, PacketSpans, Table};
 use std::alloc::Allocator;
 
-/// What the units that were read declare of those after them, beside the interfaces of a section.
+/// What the units that were read declare of those after them, next to the interfaces of a section.
 #[derive(Clone, Copy)]
 pub enum FileState {
     /// No unit was read.
@@ -24,7 +24,7 @@ pub enum FileState {
 }
 
 impl FileState {
-    /// The byte order of the current section; `None` where there is none, as in pcap.
+    /// The byte order of the current section; `None` if there is none, as in pcap.
     pub(crate) fn order(self) -> Option<Order>
         ensures { result ≡ known_order self }
     {
@@ -34,7 +34,7 @@ impl FileState {
         }
     }
 
-    /// The first link type that the units declare; `None` where none does.
+    /// The first link type that the units declare; `None` if none does.
     pub(crate) fn first_link(self) -> Option<u16>
         ensures { result ≡ known_first_link self }
     {
@@ -46,7 +46,7 @@ impl FileState {
     }
 
     /// The packet that lies at these spans of the unit at the start of a buffer, lent from there.
-    /// `None` where no unit was read or the table hasn't the packet's interface; neither is so of a
+    /// `None` if no unit was read or the table hasn't the packet's interface; neither is true of a
     /// source with a current packet.
     #[inline(always)]
     pub(crate) fn packet<'a, A: Allocator>(
@@ -94,7 +94,7 @@ impl FileState {
 pub(crate) enum NextUnit {
     /// A unit of this size, without a packet.
     Other(usize),
-    /// A packet; the reader's `spans` are where it lies.
+    /// A packet; the reader's `spans` are its place.
     Packet,
     /// The clean end.
     End,

@@ -1,9 +1,10 @@
 //! Laws of the definitions: each is the contract of a function that does nothing.
 ghost use Rattle.cap_io.specs.Laws.{EachHasCut, EachHasOneCut, CutTellsItems};
 ghost use Rattle.cap_io.specs.Laws.{EachPutGoesByPackets, PutExtendsText};
+ghost use Rattle.cap_io.specs.Merging.{MergesSort};
 ghost use Rattle.cap_io.specs.RoundTrip.{ItemsBack};
 
-/// Each text is cut into units in exactly one way, and the cut tells the text's items: its packets
+/// Each text is cut into units in exactly one way, and the cut shows the text's items: its packets
 /// and how it ends.
 pub fn one_cut()
     ensures some { EachHasCut }
@@ -21,4 +22,11 @@ pub fn items_back()
 pub fn put_extends_text()
     ensures by_packets { EachPutGoesByPackets }
     ensures text { PutExtendsText }
+{}
+
+/// A merge has all packets of its inputs, each once, sorted by the greatest time in their own input
+/// up to and with them, then by their input and their place there; up to and with the last packet of
+/// the first input that ends by a fault.
+pub fn merges_sort()
+    ensures { MergesSort }
 {}

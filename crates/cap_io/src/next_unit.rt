@@ -15,8 +15,8 @@ use std::alloc::Allocator;
 /// How many bytes the file header of pcap has.
 const FILE_HEADER_LENGTH: usize = 24;
 
-/// Reads the first four bytes of a file, which tell its format; `NotACaptureFile` where it has
-/// fewer, `ReadFailed` where the device failed.
+/// Reads the first four bytes of a file, which show its format; `NotACaptureFile` if it has
+/// fewer, `ReadFailed` if the device failed.
 fn read_first_bytes<I: Input>(input: &mut I) -> Result<[u8; 4], Fault>
     ensures moves { Moves I.Input input.old input.new 0 (λ _. 4) 4 result }
     ensures ok { IfOk result (λ first. IsTrue I.tells → I.unread input.old
@@ -39,20 +39,20 @@ fn read_first_bytes<I: Input>(input: &mut I) -> Result<[u8; 4], Fault>
 #[derive(Drop)]
 pub(crate) struct UnitReader<I: Input, A: Allocator> {
     pub(crate) input: I,
-    /// What the units so far declare, beside the interfaces of a section.
+    /// What the units so far declare, next to the interfaces of a section.
     pub(crate) file: FileState,
     /// The current unit is at its start, but the file header of pcap isn't held; the bytes after
     /// the unit are of no use.
     pub(crate) buffer: Vec<u8, A>,
     /// The interfaces of the current section.
     pub(crate) table: Table<A>,
-    /// Where the packet of the current unit lies, where it has one.
+    /// The place where the packet of the current unit lies, if it has one.
     pub(crate) spans: PacketSpans,
 }
 
 impl<I: Input, A: Allocator> UnitReader<I, A> {
     /// Reads the first unit of a file: a section header, or the file header of pcap. A fault is
-    /// that of the first check that it fails, as `NotACaptureFile` where the file begins with
+    /// that of the first check that it fails, as `NotACaptureFile` if the file begins with
     /// neither; `Truncated`, `ReadFailed` or `NoMemory`.
     fn read_first_unit(&mut self) -> Result<NextUnit, Fault>
         requires unknown { self.old.file ≡ state.Unknown }
@@ -70,7 +70,7 @@ impl<I: Input, A: Allocator> UnitReader<I, A> {
     }
 
     /// Reads the next unit, or finds the clean end. A unit with a packet is then at the start of
-    /// the buffer. A fault leaves what is known of the file unchanged.
+    /// the buffer. A fault doesn't change what is known of the file unchanged.
     pub(crate) fn next_unit(&mut self) -> Result<NextUnit, Fault>
         requires { IsConsistent self.old.file self.old.table }
         ensures { ReadsUnit I.Input self.old [] result self.new }

@@ -101,7 +101,7 @@ impl<A: Allocator> OutputInterfaces<A> {
     }
 
     /// Gives a packet's interface its number. A new one is put last, and only this call says that
-    /// it is new; the caller knows by `has_room` that it fits. `NoMemory` where an allocation for
+    /// it is new; the caller knows by `has_room` that it fits. `NoMemory` if an allocation for
     /// it fails.
     pub fn give_number(&mut self, packet: &Packet<'_>) -> Result<InterfaceNumber, Fault>
         requires { length (self.old ++ new_among self.old (interface_of (captured packet.now))) ≤

@@ -1,5 +1,5 @@
 //! The units of a pcap file, read from a device.
-ghost use Rattle.std.specs.Prelude.{◌≡◌, ℕ, ◌+◌, ◌^◌, ◌<◌, ◌≤◌, ◌++◌, false, IsTrue, IfOk, IfErr};
+ghost use Rattle.std.specs.Prelude.{◌≡◌, ℕ, ◌+◌, ◌^◌, ◌<◌, ◌≤◌, ◌++◌, false, true, IsTrue, IfOk, IfErr};
 ghost use Rattle.std.specs.Prelude.{List, [], length, IfSome, IsNone};
 ghost use Rattle.cap_pcapng.specs.Frame.{is_section};
 ghost use Rattle.cap_io.specs.Capture.{Nothing};
@@ -12,18 +12,18 @@ use crate::file_state::NextUnit;
 use crate::next_unit::UnitReader;
 use crate::unit::{copy_unit, make_room, read_front, read_rest};
 use cap_octet::{Fault, Input, u32_at};
-use cap_pcap::{Head, RecordHead, read_file_header, read_magic, read_record_header};
+use cap_pcap::{Head, RecordHead, read_head, read_magic, read_record};
 use cap_pcapng::{PacketSpans, Span};
 use std::alloc::Allocator;
 
 /// How many bytes of a record are in front of its data.
 const RECORD_HEADER_LENGTH: usize = 16;
 
-/// Where a record has its captured length.
+/// The place where a record has its captured length.
 const CAPTURED_LENGTH_OFFSET: usize = 8;
 
 /// Reads the file header of pcap, whose first four bytes came already: `NotACaptureFile` where
-/// these are no magic number, before more is read; else `Truncated` or `ReadFailed` where it
+/// these aren't a magic number, before more is read; else `Truncated` or `ReadFailed` if it
 /// doesn't all come, or the first check that it fails.
 pub(crate) fn read_header<I: Input>(input: &mut I, first: &[u8; 4]) -> Result<Head, Fault>
     requires { is_section first.now ≡ false }
@@ -39,12 +39,12 @@ pub(crate) fn read_header<I: Input>(input: &mut I, first: &[u8; 4]) -> Result<He
     }
     let mut bytes = [0; 24];
     read_rest(input, first, &mut bytes, 24)?;
-    read_file_header(&bytes)
+    read_head(&bytes)
 }
 
 /// The fast way of `next_record`: copies the next record to the start of the buffer and returns its
 /// header, if the device has all of it at hand, the buffer has room for it, and it fails no check.
-/// `None` if not, or where the device doesn't pass the record: the device has given nothing, the
+/// `None` if not, or if the device doesn't pass the record: the device has given nothing, the
 /// buffer may have changed.
 #[inline(always)]
 pub(crate) fn take_record<I: Input>(
@@ -59,7 +59,7 @@ pub(crate) fn take_record<I: Input>(
 {
     let hand = input.at_hand();
     let front = hand.first_chunk::<RECORD_HEADER_LENGTH>()?;
-    let Ok(found) = read_record_header(head, front) else {
+    let Ok(found) = read_record(head, front) else {
         return None;
     };
     let size = RECORD_HEADER_LENGTH + found.captured as usize;
@@ -71,15 +71,17 @@ pub(crate) fn take_record<I: Input>(
 }
 
 /// Whether the next record is wholly among these bytes, by its captured length.
-// No clause: see `Source::has_next_at_hand`.
-pub(crate) fn holds_record(head: &Head, bytes: &[u8]) -> bool {
+// No more of its answer is stated: see `Source::has_next_at_hand`.
+pub(crate) fn holds_record(head: &Head, bytes: &[u8]) -> bool
+    ensures { result ≡ true → 12 ≤ length bytes.now }
+{
     if bytes.len() < RECORD_HEADER_LENGTH {
         return false;
     }
     u32_at(head.order, bytes, CAPTURED_LENGTH_OFFSET) as usize <= bytes.len() - RECORD_HEADER_LENGTH
 }
 
-/// Where the packet of a record with this header lies: after the header, without options.
+/// The place where the packet of a record with this header lies: after the header, without options.
 #[inline(always)]
 pub(crate) fn record_spans(found: &RecordHead) -> PacketSpans
     requires { found.now.captured ≤ most_captured }
@@ -107,7 +109,7 @@ impl<I: Input, A: Allocator> UnitReader<I, A> {
         if !read_front(&mut self.input, &mut front)? {
             return Ok(NextUnit::End);
         }
-        let found = read_record_header(head, &front)?;
+        let found = read_record(head, &front)?;
         let size = RECORD_HEADER_LENGTH + found.captured as usize;
         make_room(&mut self.buffer, size)?;
         read_rest(&mut self.input, &front, self.buffer.as_mut_slice(), size)?;

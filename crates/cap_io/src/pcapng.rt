@@ -1,5 +1,5 @@
 //! The blocks of a pcapng file, read from a device.
-ghost use Rattle.std.specs.Prelude.{◌≡◌, ℕ, ◌+◌, ◌^◌, ◌<◌, ◌≤◌, ◌++◌, ◌∷◌, ◌⊎◌, IfOk, IfErr};
+ghost use Rattle.std.specs.Prelude.{◌≡◌, ℕ, ◌+◌, ◌^◌, ◌<◌, ◌≤◌, ◌++◌, ◌∷◌, ◌⊎◌, IfOk, IfErr, true};
 ghost use Rattle.std.specs.Prelude.{IsTrue, OnErr, [], is_some, length};
 ghost use Rattle.cap_pcapng.specs.Interface.{FitSection};
 ghost use Rattle.cap_pcapng.specs.Effect.{Enters, section_of};
@@ -11,7 +11,7 @@ use crate::file_state::{FileState, NextUnit};
 use crate::next_unit::UnitReader;
 use crate::unit::{make_room, read_front, read_rest};
 use cap_octet::{Fault, Input, Order};
-use cap_pcapng::{BlockEffect, BlockType, Frame, PacketSpans, Table, block_effect, read_frame};
+use cap_pcapng::{BlockEffect, BlockType, Frame, PacketSpans, Table, block_effect, frame};
 use std::alloc::Allocator;
 
 /// How many bytes of a block are read first: the 8 in front of its body, and 4 of that, which in a
@@ -19,7 +19,7 @@ use std::alloc::Allocator;
 pub(crate) const BLOCK_FRONT: usize = 12;
 
 /// Makes the checks of a whole block of this frame, updates the table to the interfaces that its
-/// section has after it, and returns where its packet lies; `None` where it has none. The fault is
+/// section has after it, and returns the place of its packet; `None` if it has none. The fault is
 /// that of the first check that fails, or `NoMemory` for an interface, and leaves the table
 /// unchanged.
 fn apply_block<A: Allocator>(
@@ -50,7 +50,7 @@ fn apply_block<A: Allocator>(
 }
 
 /// The first link type that an interface of the file declared, up to and with a block: the one that
-/// was known before it, else that of the first interface of the table after it. `None` where no
+/// was known before it, else that of the first interface of the table after it. `None` if no
 /// interface was declared.
 fn first_link_type<A: Allocator>(first: Option<u16>, table: &Table<A>) -> Option<u16>
     ensures { (order : Order) → result ≡ first_link_after first (section_of order table.now) }
@@ -62,13 +62,15 @@ fn first_link_type<A: Allocator>(first: Option<u16>, table: &Table<A>) -> Option
 }
 
 /// Whether the next block with a packet, and all blocks before it, are wholly among these bytes.
-/// `false` also where a block among them fails a check of its frame.
-// No clause: see `Source::has_next_at_hand`.
-pub(crate) fn holds_packet(order: Order, bytes: &[u8]) -> bool {
+/// `false` even if a block among them fails a check of its frame.
+// No more of its answer is stated: see `Source::has_next_at_hand`.
+pub(crate) fn holds_packet(order: Order, bytes: &[u8]) -> bool
+    ensures { result ≡ true → 12 ≤ length bytes.now }
+{
     let mut order = order;
     let mut rest = bytes;
     while let Some(front) = rest.first_chunk::<BLOCK_FRONT>() {
-        let Ok(frame) = read_frame(Some(order), front) else {
+        let Ok(frame) = frame(Some(order), front) else {
             return false;
         };
         let size = frame.length as usize;
@@ -94,7 +96,7 @@ impl<I: Input, A: Allocator> UnitReader<I, A> {
         requires bounded { I.given self.old.input < 2 ^ 63 }
         ensures { ReadsUnit I.Input self.old front.now result self.new }
     {
-        let found = read_frame(self.file.order(), front)?;
+        let found = frame(self.file.order(), front)?;
         let size = found.length as usize;
         make_room(&mut self.buffer, size)?;
         read_rest(&mut self.input, front, self.buffer.as_mut_slice(), size)?;

@@ -70,8 +70,8 @@ impl<O: Output, A: Allocator> Sink<O, A> {
     ghost use Rattle.cap_io.specs.Sink.{AddsPacket, PutsPacket, PutWrites, WritesPacket, Finishes};
     ghost use Rattle.cap_io.specs.Sink.{FinishWrites, added_in, refusal_in};
 
-    /// Appends a packet, after the file header or section header where it is the first, and in
-    /// pcapng after the description of its interface where that is new.
+    /// Appends a packet, after the file header or section header if it is the first, and in
+    /// pcapng after the description of its interface if that is new.
     ///
     /// On an error it returns the first of these that applies, and nothing of the packet is
     /// written, except a part of it on `WriteFailed`. Every later `put` and `finish` returns the
@@ -96,8 +96,8 @@ impl<O: Output, A: Allocator> Sink<O, A> {
         result
     }
 
-    /// Writes the file header or section header where nothing was put, with the link type `first`,
-    /// or that of Ethernet where there is none. It takes no memory, and nothing but `release` and
+    /// Writes the file header or section header if nothing was put, with the link type `first`,
+    /// or that of Ethernet if there is none. It takes no memory, and nothing but `release` and
     /// `into_output` is of use after it.
     ///
     /// `WriteFailed`: the device failed in this call, after a beginning of the header. After an

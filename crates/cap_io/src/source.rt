@@ -34,12 +34,12 @@ pub(crate) enum Stage {
 }
 
 /// Reads the packets of a capture from a device, through one buffer for the current unit, and
-/// beside it for pcapng the table of a section's interfaces.
+/// next to it for pcapng the table of a section's interfaces.
 #[derive(Drop)]
 pub struct Source<I: Input, A: Allocator> {
     reader: UnitReader<I, A>,
     stage: Stage,
-    /// Where the current unit begins, else where the next one does, in bytes from the file's start.
+    /// The beginning of the current unit, else of the next one, in bytes from the file's start.
     offset: u64,
 }
 
@@ -56,6 +56,7 @@ impl<I: Input, A: Allocator> Model for Source<I, A> {
 
 impl<I: Input, A: Allocator> Source<I, A> {
     ghost use Rattle.std.specs.Prelude.{◌≡◌, ◌+◌, ◌≤◌, IsTrue, OnOk, OnErr, IfErr, [], false};
+    ghost use Rattle.std.specs.Prelude.{true};
     ghost use Rattle.std.specs.Prelude.{length};
     ghost use Rattle.std.specs.Option.{IfSome, option_map};
     ghost use Rattle.cap_octet.specs.Packet.{captured};
@@ -91,7 +92,7 @@ impl<I: Input, A: Allocator> Source<I, A> {
 
     /// Reads on to the next packet, which `head` lends; `false` at the clean end, then and ever
     /// after. A fault is that of the first check which the unit at `offset` fails; `ReadFailed`
-    /// where the device failed in this call; `NoMemory` where the buffer or the table of interfaces
+    /// if the device failed in this call; `NoMemory` if the buffer or the table of interfaces
     /// could not grow. After a fault it returns that again, and reads nothing.
     pub fn advance(&mut self) -> Result<bool, Fault>
         ensures packets { IsTrue I.tells → Advances self.old.phase self.old result self.new }
@@ -113,9 +114,12 @@ impl<I: Input, A: Allocator> Source<I, A> {
     }
 
     /// Whether the device has all bytes up to the end of the next packet at hand, so that `advance`
-    /// makes it read nothing. `false` where they don't show that, as before the first unit.
-    // No clause: a job only asks whether to release its output before a read that may wait.
-    pub fn has_next_at_hand(&self) -> bool {
+    /// makes it read nothing. `false` if they don't show that, as before the first unit.
+    // The clause states no more than that something comes: a job only asks whether to release its
+    // output before a read that may wait.
+    pub fn has_next_at_hand(&self) -> bool
+        ensures comes { IsTrue I.tells → result ≡ true → 12 ≤ length self.now.unread }
+    {
         let hand = self.reader.input.at_hand();
         match &self.reader.file {
             FileState::Unknown => false,
@@ -139,7 +143,7 @@ impl<I: Input, A: Allocator> Source<I, A> {
             .packet(&reader.spans, &reader.buffer, &reader.table)
     }
 
-    /// The time of the current packet, in nanoseconds since 1970-01-01 00:00:00 UTC; `None` where
+    /// The time of the current packet, in nanoseconds since 1970-01-01 00:00:00 UTC; `None` if
     /// there is none. It costs less than `head`, whose packet isn't made.
     pub fn time(&self) -> Option<u64>
         ensures { result ≡ option_map (λ p. p.time) self.now.packet }
@@ -150,8 +154,8 @@ impl<I: Input, A: Allocator> Source<I, A> {
         }
     }
 
-    /// Where the current unit begins, in bytes from the start of the file, and 0 before the first
-    /// `advance`; after a fault, where the unit that has it begins; at a clean end, the number of
+    /// The beginning of the current unit, in bytes from the start of the file, and 0 before the first
+    /// `advance`; after a fault, if the unit that has it begins; at a clean end, the number of
     /// bytes.
     pub fn offset(&self) -> u64
         ensures { result ≡ self.now.offset }
@@ -173,7 +177,7 @@ impl<I: Input, A: Allocator> Source<I, A> {
         }
     }
 
-    /// The first link type that the units read so far declare; `None` where none does.
+    /// The first link type that the units read so far declare; `None` if none does.
     pub fn first_link(&self) -> Option<u16>
         ensures { result ≡ first_link_of self.now.declared }
     {
@@ -194,7 +198,7 @@ impl<I: Input, A: Allocator> Source<I, A> {
         input
     }
 
-    /// Leaves the current unit, if there is one, and reads on to the next packet; `false` at the
+    /// Ends the current unit, if there is one, and reads on to the next packet; `false` at the
     /// clean end, and faults as in `advance`.
     // Inlined with `take_next`, so that a record at hand is taken without a call; all else is out
     // of line.
@@ -253,7 +257,7 @@ impl<I: Input, A: Allocator> Source<I, A> {
         }
     }
 
-    /// Leaves the current unit, if there is one: `offset` is then where the next one begins.
+    /// Ends the current unit, if there is one: `offset` is then the beginning of the next one.
     fn leave_unit(&mut self)
         requires { self.old.phase ≡ Reading }
         ensures { self.new ≡ past_unit self.old }
@@ -264,7 +268,7 @@ impl<I: Input, A: Allocator> Source<I, A> {
         self.stage = Stage::Between;
     }
 
-    /// Reads one unit, and tells which it was: one with a packet becomes the current one, another
+    /// Reads one unit, and shows which it was: one with a packet becomes the current one, another
     /// is skipped, and at the clean end the source ends. After a fault no unit is current;
     /// `advance` notes the fault.
     fn read_unit(&mut self) -> Result<NextUnit, Fault>

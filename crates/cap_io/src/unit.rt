@@ -12,8 +12,8 @@ use std::alloc::Allocator;
 /// follows the unit. Each buffer that was grown has room for as many.
 const SHORT_UNIT: usize = 256;
 
-/// Fills `front` with the first bytes of a unit that follows others; `false` where the file ends
-/// before them. `Truncated` where it ends among them, `ReadFailed` where the device failed.
+/// Fills `front` with the first bytes of a unit that follows others; `false` if the file ends
+/// before them. `Truncated` if it ends among them, `ReadFailed` if the device failed.
 #[inline(always)]
 pub(crate) fn read_front<I: Input>(input: &mut I, front: &mut [u8]) -> Result<bool, Fault>
     requires { 0 < length front.old }
@@ -55,8 +55,8 @@ pub(crate) fn make_room<A: Allocator>(buffer: &mut Vec<u8, A>, size: usize) -> R
 }
 
 /// Puts a unit of `size` bytes at the start of the buffer: its first bytes, which were read before
-/// (`front`), and then those that are left of it, which are read. `Truncated` where the file ends
-/// inside the unit, `ReadFailed` where the device failed.
+/// (`front`), and then those that are left of it, which are read. `Truncated` if the file ends
+/// inside the unit, `ReadFailed` if the device failed.
 #[inline(always)]
 pub(crate) fn read_rest<I: Input>(
     input: &mut I,

@@ -12,7 +12,7 @@ ghost use Rattle.cap_io.specs.declared.sink.SinkState.TheVariants as state;
 use crate::numbering::{InterfaceNumber, OutputInterfaces};
 use crate::sink::SinkState;
 use cap_octet::{DeviceFault, Fault, Format, Output, Packet, write_parts};
-use cap_pcap::{file_header, record_header};
+use cap_pcap::{head_bytes, record_bytes};
 use cap_pcapng::{section_bytes, write_interface, write_packet};
 use std::alloc::Allocator;
 
@@ -34,7 +34,7 @@ pub(crate) fn check_packet<A: Allocator>(
                     return Err(Fault::LinkTypesDiffer);
                 }
             }
-            cap_pcap::check_record_fits(format, packet)
+            cap_pcap::fits(format, packet)
         }
         Format::Pcapng => {
             cap_pcapng::check_block_fits(packet)?;
@@ -55,12 +55,12 @@ fn begin_file<O: Output>(output: &mut O, format: Format, link: u16) -> Result<()
         output.new }
 {
     match format {
-        Format::Pcap | Format::NsecPcap => write_parts(output, &[&file_header(format, link)]),
+        Format::Pcap | Format::NsecPcap => write_parts(output, &[&head_bytes(format, link)]),
         Format::Pcapng => write_parts(output, &[&section_bytes()]),
     }
 }
 
-/// Writes what a file begins with (`begin_file`) where nothing was put yet; else nothing.
+/// Writes what a file begins with (`begin_file`) if nothing was put yet; else nothing.
 #[inline(always)]
 pub(crate) fn write_file_start<O: Output>(
     output: &mut O,
@@ -77,7 +77,7 @@ pub(crate) fn write_file_start<O: Output>(
     }
 }
 
-/// Writes a packet as a record of a pcap format; where it is the first one, after the file header.
+/// Writes a packet as a record of a pcap format; if it is the first one, after the file header.
 pub(crate) fn write_record<O: Output>(
     output: &mut O,
     format: Format,
@@ -90,11 +90,11 @@ pub(crate) fn write_record<O: Output>(
         ++ record_text (resolution_of format) (captured packet.now)) result output.new }
 {
     write_file_start(output, format, state, packet.link)?;
-    write_parts(output, &[&record_header(format, packet), packet.bytes])
+    write_parts(output, &[&record_bytes(format, packet), packet.bytes])
 }
 
-/// Writes a packet as a block of a pcapng file: where it is the first one, after the section
-/// header, and where its interface is new, after the description of that.
+/// Writes a packet as a block of a pcapng file: if it is the first one, after the section
+/// header, and if its interface is new, after the description of that.
 pub(crate) fn write_block<O: Output>(
     output: &mut O,
     state: SinkState,

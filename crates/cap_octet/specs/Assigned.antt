@@ -41,7 +41,7 @@ IPPROTO_UDP = 17
 abbrev pub IPPROTO_ICMPV6 : ℕ
 IPPROTO_ICMPV6 = 58
 
--- where a link header has the EtherType, and how many bytes it has
+-- the place of the EtherType in a link header, and the length of that header
 
 abbrev pub ETHERNET_TYPE_OFFSET : ℕ
 ETHERNET_TYPE_OFFSET = 12

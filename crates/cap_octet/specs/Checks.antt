@@ -1,8 +1,8 @@
--- Checks are tables: each row is a test and the fault that is reported where the test is not met.
+-- Checks are tables: each row is a test and the fault that is reported if the test is not met.
 use Rattle.std.specs.Prelude.{Bool, List, [], ◌∷◌, Option, Some, None, Result, Ok, Err, if◌then◌else◌}
 use Rattle.cap_octet.specs.declared.fault.Fault.{Fault}
 
--- the fault of the first row that is not met; None where all are
+-- the fault of the first row that is not met; None if all are
 abbrev pub first_failing : List (Bool × Fault) → Option Fault
 first_failing [] = None
 first_failing (row ∷ rows) = if row.0 then first_failing rows else Some row.1

@@ -13,7 +13,7 @@ abbrev pub failures_of : {X E : Type 0} → Result X E → ℕ
 failures_of (Ok value) = 0
 failures_of (Err fault) = 1
 
--- What holds where a device failed: it had given as many bytes in all as it was sure to. Of one that
+-- What holds if a device failed: it had given as many bytes in all as it was sure to. For one that
 -- never fails (None) it can't hold.
 abbrev pub HasGiven : Option ℕ → ℕ → Type 0
 HasGiven None given = ⊥
@@ -30,12 +30,12 @@ pub record TakesSome (unread buf : List ℕ) (n : ℕ) (unread' buf' : List ℕ)
   pub taken : Takes unread buf n unread' buf'
   pub at_end : n ≡ 0 → 0 < length buf → unread ≡ []
 
--- one read; where it failed nothing moved
+-- one read; if it failed nothing moved
 abbrev pub Reads : List ℕ → List ℕ → Result ℕ DeviceFault → List ℕ → List ℕ → Type 0
 Reads unread buf (Ok n) unread' buf' = TakesSome unread buf n unread' buf'
 Reads unread buf (Err fault) unread' buf' = (unread' ≡ unread) × (buf' ≡ buf)
 
--- `count` unread bytes are taken, as by a read, where the call returned true; none where it
+-- `count` unread bytes are taken, as by a read, if the call returned true; none if it
 -- returned false
 abbrev pub Passes : List ℕ → ℕ → Bool → List ℕ → Type 0
 Passes unread count true unread' = (count ≤ length unread) × (unread' ≡ drop count unread)
@@ -46,7 +46,7 @@ pub record TakesFull (unread buf : List ℕ) (n : ℕ) (unread' buf' : List ℕ)
   pub taken : Takes unread buf n unread' buf'
   pub full : n ≡ min (length buf) (length unread)
 
--- Where the device failed, it had given the first k bytes, fewer than the buffer has room for. They
+-- If the device failed, it had given the first k bytes, fewer than the buffer has room for. They
 -- are at its start, and are counted.
 pub record TakesFront (unread buf : List ℕ) (given : ℕ) (unread' buf' : List ℕ)
     (given' : ℕ) : Type 0 where
@@ -55,7 +55,7 @@ pub record TakesFront (unread buf : List ℕ) (given : ℕ) (unread' buf' : List
   pub counted : given' ≡ given + k
   pub taken : Takes unread buf k unread' buf'
 
--- reads until the buffer is full or the end is met; where the device failed, the bytes that came
+-- reads until the buffer is full or the end is met; if the device failed, the bytes that came
 -- before are at the start of the buffer
 abbrev pub Fills : (unread buf : List ℕ) (given : ℕ) → Result ℕ DeviceFault
     → (unread' buf' : List ℕ) (given' : ℕ) → Type 0
@@ -77,7 +77,7 @@ WritesAll written buf (Err stopped) written' = written' ≡ written ++ take stop
 abbrev pub Stops : List ℕ → List ℕ → List ℕ → Type 0
 Stops written bytes written' = (n : ℕ) × (n < length bytes) × (written' ≡ written ++ take n bytes)
 
--- all bytes are appended to what was written; or a prefix of them, not the whole, where the device
+-- all bytes are appended to what was written; or a prefix of them, not the whole, if the device
 -- failed
 abbrev pub AppendsOrStops : {E : Type 0} → Result (Unit {0}) E → List ℕ → List ℕ → List ℕ → Type 0
 AppendsOrStops (Ok done) written bytes written' = written' ≡ written ++ bytes

@@ -1,5 +1,5 @@
--- The days are counted in two ways: one by one, where a date is printed, and by jiff's day numbers,
--- where one is read.
+-- The days are counted in two ways: one by one, if a date is printed, and by jiff's day numbers,
+-- if one is read.
 use Rattle.std.specs.Prelude.{◌≡◌, ℕ, ◌≤◌, Some}
 use Rattle.cap_octet.specs.Calendar.{ymd, day_from_epoch}
 use Rattle.cap_octet.specs.Timestamp.{day_number}

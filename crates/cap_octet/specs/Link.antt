@@ -27,7 +27,7 @@ network_offset Cooked = LINUX_SLL_HEADER_LENGTH
 abbrev pub longest_header : ℕ
 longest_header = 16
 
--- where a link's header has the EtherType of the network header; raw IP has none
+-- the place where a link's header has the EtherType of the network header; raw IP has none
 abbrev pub type_offset : Link → Option ℕ
 type_offset Ether = Some ETHERNET_TYPE_OFFSET
 type_offset Raw = None

@@ -14,7 +14,7 @@ use Rattle.cap_octet.specs.declared.network.NetworkKind.TheVariants.{Ipv4, Ipv6,
 abbrev pub link_header_length : ℕ → ℕ
 link_header_length n = option_map_or network_offset (link_of n) 0
 
--- the network header that an EtherType tells
+-- the network header that an EtherType shows
 abbrev pub header_by_ethertype : ℕ → NetworkHeader
 header_by_ethertype type =
     if type == ETHERTYPE_IPV4 then Known Ipv4
@@ -23,7 +23,7 @@ header_by_ethertype type =
     else if type == ETHERTYPE_RARP then Known Rarp
     else OtherType type
 
--- the network header that a version of IP tells
+-- the network header that a version of IP shows
 abbrev pub header_by_version : ℕ → NetworkHeader
 header_by_version version =
     if version == 4 then Known Ipv4 else if version == 6 then Known Ipv6 else OtherVersion version

@@ -1,4 +1,4 @@
--- A packet by its values, without the places in memory where they lie.
+-- A packet by its values, without their places in memory.
 use Rattle.std.specs.Prelude.{ℕ, List}
 use Rattle.cap_octet.specs.declared.packet.Packet.{Packet}
 
@@ -12,7 +12,7 @@ pub record Captured : Type 0 where
   pub time : ℕ
   pub orig : ℕ
   pub bytes : List ℕ
-  -- empty where there is none
+  -- empty if there is none
   pub comment : List ℕ
 
 -- the values of a packet

@@ -21,8 +21,8 @@ duration_of_parts seconds fraction =
     option_and_then
     (λ s. option_and_then (λ f. time_below_end (s * NANOS_PER_SECOND + f)) fraction) seconds
 
--- the nanoseconds of digits alone (where there is no point: None), or of digits, a point at this
--- place and 1 to 9 digits; None of every other text, and where they aren't below 2^63
+-- the nanoseconds of only digits (if there is no point: None), or of digits, a point at this
+-- place and 1 to 9 digits; None of every other text, and if they aren't below 2^63
 abbrev pub duration_at : List ℕ → Option ℕ → Option ℕ
 duration_at text None = duration_of_parts (decimal_value text) (Some 0)
 duration_at text (Some point) =

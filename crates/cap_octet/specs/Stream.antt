@@ -8,7 +8,7 @@ use Rattle.std.specs.declared.io.ErrorKind.{ErrorKind}
 use Rattle.std.specs.declared.io.ErrorKind.TheVariants.{WriteZero}
 use Rattle.cap_octet.specs.declared.device.DeviceFault.{DeviceFault}
 
--- The device returns what the reader did, where `given` bytes were given before. Where it fails
+-- The device returns what the reader did, after `given` bytes were given. If it fails
 -- though the reader did not, the read would have reached 2^63 bytes in all.
 abbrev pub HandsOver : ℕ → Result ℕ Error → Result ℕ DeviceFault → Type 0
 HandsOver given (Ok n) (Ok count) = count ≡ n
@@ -17,7 +17,7 @@ HandsOver given (Err e) (Ok count) = ⊥
 HandsOver given (Err e) (Err fault) = Unit {0}
 
 -- The reader was read once in this call; or not at all, and the device's buffer is filled with the
--- first bytes that the reader's own held. So where the device fails the reader was read.
+-- first bytes that the reader's own held. So if the device fails the reader was read.
 abbrev pub ReadsOnce : (held : List ℕ) (calls : ℕ) → Result ℕ DeviceFault → (buf' : List ℕ)
     (calls' : ℕ) → Type 0
 ReadsOnce held calls (Ok n) buf' calls' =
@@ -44,7 +44,7 @@ IsPassed held remaining count true remaining' =
     (count ≤ length held) × Consumes remaining remaining' (take count held)
 IsPassed held remaining count false remaining' = remaining' ≡ remaining
 
--- The device returns what the writer did. Where it fails though the writer did not, the writer took
+-- The device returns what the writer did. If it fails though the writer did not, the writer took
 -- nothing of some bytes.
 abbrev pub TakesOver : List ℕ → Result ℕ Error → Result ℕ DeviceFault → Type 0
 TakesOver buf (Ok n) (Ok count) = count ≡ n
@@ -53,7 +53,7 @@ TakesOver buf (Err e) (Ok count) = ⊥
 TakesOver buf (Err e) (Err fault) = Unit {0}
 
 -- Why the writer failed last: as its own error says, or since it took nothing of some bytes; None
--- where it hasn't failed yet. A write that succeeds leaves what was known.
+-- if it hasn't failed yet. A write that succeeds doesn't change what was known.
 abbrev pub cause_after : Option ErrorKind → Result ℕ Error → Result ℕ DeviceFault → Option ErrorKind
 cause_after cause answer (Ok count) = cause
 cause_after cause (Ok n) (Err fault) = Some WriteZero

@@ -46,8 +46,8 @@ time_of_parts day clock fraction =
     (λ c. option_and_then
     (λ f. time_below_end ((d * 86400 + c) * NANOS_PER_SECOND + f)) fraction) clock) day
 
--- the number that `count` digits from place `at` write, or fewer where the text ends before; None
--- where one is no digit, or there is none
+-- the number that `count` digits from place `at` write, or fewer if the text ends before; None
+-- if one isn't a digit, or there is none
 abbrev pub number_at : List ℕ → ℕ → ℕ → Option ℕ
 number_at text at count = decimal_value (take count (drop at text))
 
@@ -67,7 +67,7 @@ is_date_time text =
     && ((slice_index text 16 == 58) && (slice_index text (length text - 1) == 90))))))
 
 -- the nanoseconds since 1970-01-01 of a text whose marks are in their places; None where what
--- stands between the marks is no date, time of day and fraction, or they aren't below 2^63
+-- stands between the marks isn't a date, time of day and fraction, or they aren't below 2^63
 unfoldable pub date_time_value : List ℕ → Option ℕ
 date_time_value text =
     time_of_parts (day_of_parts (number_at text 0 4) (number_at text 5 2) (number_at text 8 2))

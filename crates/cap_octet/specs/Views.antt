@@ -21,7 +21,7 @@ fresh_input device i =
       sure = device.sure i;
     }
 
--- an output's bytes, where it tells them, and how often it failed
+-- an output's bytes, if it shows them, and how often it failed
 pub record OutputView : Type 0 where
   pub written : List ℕ
   pub failures : ℕ
@@ -34,8 +34,8 @@ output_view written failures = record { written = written; failures = failures }
 abbrev pub device_view : {O : Type 0} → output.Ghosts O → O → OutputView
 device_view device o = output_view (device.written o) (device.failures o)
 
--- an output that a call is to write to, with how many bytes in all it takes at least before it
--- fails, and whether it tells its bytes
+-- an output that a call must write to, with how many bytes in all it takes at least before it
+-- fails, and whether it shows its bytes
 pub record FreshOutput : Type 0 where
   pub view : OutputView
   pub room : ℕ

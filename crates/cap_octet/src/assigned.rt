@@ -34,13 +34,13 @@ pub const IPPROTO_UDP: u8 = 17;
 /// The protocol number of ICMPv6.
 pub const IPPROTO_ICMPV6: u8 = 58;
 
-/// Where an Ethernet header has its EtherType.
+/// The place where an Ethernet header has its EtherType.
 pub const ETHERNET_TYPE_OFFSET: usize = 12;
 
 /// Bytes in an Ethernet header: two addresses and an EtherType.
 pub const ETHERNET_HEADER_LENGTH: usize = 14;
 
-/// Where the header of a Linux cooked capture has its EtherType.
+/// The place where the header of a Linux cooked capture has its EtherType.
 pub const LINUX_SLL_TYPE_OFFSET: usize = 14;
 
 /// Bytes in the header of a Linux cooked capture.

@@ -1,12 +1,13 @@
 //! std's buffered readers and writers, with a count of the reads or writes that are made of them.
-//! The lines of `read` and `write` are all that is to be believed of the count: they alone count,
-//! and each makes its call.
+//! The lines of `read`, `write` and `flush` are all that must be believed of the counts: only they
+//! count, and each makes its call.
 ghost use Rattle.std.specs.Prelude.{◌≡◌, ◌+◌, [], OnOk, Some, length};
 ghost use Rattle.std.specs.Io.{ReadsAtMost, WritesAtMost};
 ghost use Rattle.std.specs.Io.Buffered.{reader_buffer, reader_remaining};
 ghost use Rattle.std.specs.Io.Buffered.{writer_buffer, writer_contents};
 ghost use Rattle.std.specs.Io.BufRead.{DropsConsumable};
 ghost use Rattle.std.specs.Io.KnownBytes.{Keeps, ReadConsumes, WriteAppends};
+ghost use Rattle.cap_octet.specs.Device.{failures_of};
 
 use crate::count::ContractCount;
 use std::io::{BufRead, BufReader, BufWriter, Read, Result, Write};
@@ -51,7 +52,7 @@ impl<R: Read> CountingReader<R> {
     }
 
     /// Takes `count` bytes of what its buffer holds, without a read. No clause states what is left
-    /// where the buffer holds fewer.
+    /// if the buffer holds fewer.
     #[inline(always)]
     pub(crate) fn consume(&mut self, count: usize)
         ensures bytes { DropsConsumable (reader_remaining R.remaining self.old.reader)
@@ -63,26 +64,29 @@ impl<R: Read> CountingReader<R> {
     }
 }
 
-/// A writer, and how often it was written to.
+/// A writer, how often it was written to, and how often it couldn't be flushed.
 #[derive(Drop)]
 pub(crate) struct CountingWriter<W: Write + Drop> {
     writer: BufWriter<W>,
     calls: ContractCount,
+    failed_flushes: ContractCount,
 }
 
 impl<W: Write + Drop> CountingWriter<W> {
-    /// A writer with a count of 0.
+    /// A writer with counts of 0.
     pub(crate) fn new(writer: BufWriter<W>) -> Self
         ensures writer { result.writer ≡ writer }
         ensures calls { result.calls.count ≡ 0 }
+        ensures failed_flushes { result.failed_flushes.count ≡ 0 }
     {
         CountingWriter {
             writer,
             calls: ContractCount::new(),
+            failed_flushes: ContractCount::new(),
         }
     }
 
-    /// The writer without its count; what its buffer holds stays there.
+    /// The writer without its counts; what its buffer holds stays there.
     pub(crate) fn into_inner(self) -> BufWriter<W>
         ensures { result ≡ self.writer }
     {
@@ -96,19 +100,27 @@ impl<W: Write + Drop> CountingWriter<W> {
         ensures bytes { WriteAppends (writer_contents W.contents self.old.writer)
             (writer_contents W.contents self.new.writer) result buf.now }
         ensures asked { self.new.calls.count ≡ self.old.calls.count + 1 }
+        ensures failed_flushes { self.new.failed_flushes.count ≡ self.old.failed_flushes.count }
     {
         self.calls.add_one();
         self.writer.write(buf)
     }
 
-    /// Writes out what its buffer holds; that isn't counted as a write to the writer.
+    /// Writes out what its buffer holds; that isn't counted as a write to the writer. It is counted
+    /// if it fails.
     pub(crate) fn flush(&mut self) -> Result<()>
         ensures bytes { Keeps (writer_contents W.contents self.old.writer)
             (writer_contents W.contents self.new.writer) }
         ensures empty { OnOk result (writer_buffer self.new.writer ≡ []) }
         ensures calls { self.new.calls.count ≡ self.old.calls.count }
+        ensures failed { self.new.failed_flushes.count
+            ≡ self.old.failed_flushes.count + failures_of result }
     {
-        self.writer.flush()
+        let flushed = self.writer.flush();
+        if flushed.is_err() {
+            self.failed_flushes.add_one();
+        }
+        flushed
     }
 
     /// Whether its buffer has room for `count` bytes and one more; std's `BufWriter` then copies

@@ -59,7 +59,7 @@ fn day_bytes(day: CalendarDay) -> [u8; 10]
     ]
 }
 
-/// The time of day as `hh:mm:ss`. The seconds count from any midnight, also that of an earlier day.
+/// The time of day as `hh:mm:ss`. The seconds count from any midnight, even that of an earlier day.
 fn clock_bytes(seconds: u64) -> [u8; 8]
     ensures { result ≡ clock_text seconds }
 {

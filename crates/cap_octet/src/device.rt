@@ -23,23 +23,23 @@ pub trait Input {
     /// Whether contracts know the bytes that come.
     ghost tells: { Bool };
 
-    /// The bytes that reads will give from here on. It means something only where the device
+    /// The bytes that reads will give from here on. It means something only if the device
     /// `tells`.
     ghost unread: { Self → List ℕ };
 
     /// How many bytes it has given.
     ghost given: { Self → ℕ };
 
-    /// How often it failed. Contracts alone see this, and it has no greatest value.
+    /// How often it failed. Only contracts see this, and it has no greatest value.
     ghost failures: { Self → ℕ };
 
-    /// How many bytes in all it gives at least before it fails; `None` where it never fails. No
-    /// call changes that. Where a device doesn't give this it may fail at once.
+    /// How many bytes in all it gives at least before it fails; `None` if it never fails. No
+    /// call changes that. If a device doesn't give this it may fail at once.
     ghost sure: { Self → Option ℕ } = { λ _. Some 0 };
 
     /// Reads into the start of the buffer and returns how many bytes came. 0 for a buffer that
     /// isn't empty means the end. An error is a failure of the device in this call: it gave
-    /// nothing, and where it `tells`, it left the buffer unchanged.
+    /// nothing, and if it `tells`, the buffer is unchanged.
     fn read(&mut self, buf: &mut [u8]) -> Result<usize, DeviceFault>
         ensures within { IfOk result (λ n. n ≤ length buf.old) }
         ensures counted { given self.new ≡ given self.old + count_of result }
@@ -49,7 +49,7 @@ pub trait Input {
         ensures exact { IsTrue tells
             → Reads (unread self.old) buf.old result (unread self.new) buf.new };
 
-    /// Bytes that it has already, which the next reads give. Where a device doesn't give this it
+    /// Bytes that it has already, which the next reads give. If a device doesn't give this it
     /// shows none.
     fn at_hand(&self) -> &[u8]
         ensures exact { IsTrue tells → StartsWith (unread self.now) result.now }
@@ -58,7 +58,7 @@ pub trait Input {
     }
 
     /// Moves past the next `count` bytes, of those that `at_hand` shows, as a read of them would,
-    /// and returns `true`; or takes none, and returns `false`. Where a device doesn't give this it
+    /// and returns `true`; or takes none, and returns `false`. If a device doesn't give this it
     /// takes none.
     fn pass(&mut self, count: usize) -> bool
         ensures counted { given self.new ≡ given self.old + (if result then count else 0) }
@@ -81,13 +81,13 @@ pub trait Output {
     /// Whether contracts know the bytes that were taken.
     ghost tells: { Bool };
 
-    /// The bytes that were written, in order. It means something only where the device `tells`.
+    /// The bytes that were written, in order. It means something only if the device `tells`.
     ghost written: { Self → List ℕ };
 
-    /// How often it failed. Contracts alone see this, and it has no greatest value.
+    /// How often it failed. Only contracts see this, and it has no greatest value.
     ghost failures: { Self → ℕ };
 
-    /// How many bytes in all it takes at least before it fails. No call changes that. Where a
+    /// How many bytes in all it takes at least before it fails. No call changes that. If a
     /// device doesn't give this it is none.
     ghost room: { Self → ℕ } = { λ _. 0 };
 
@@ -102,14 +102,14 @@ pub trait Output {
             result (written self.new) };
 
     /// Whether somebody may be waiting for what it takes, as at the other end of a pipe, so that it
-    /// is to be released before a read that may wait. Where a device doesn't give this nobody is.
-    /// No clause: it only tells when to call `release`.
+    /// must be released before a read that may wait. If a device doesn't give this nobody is.
+    /// No clause: it only shows when to call `release`.
     fn is_awaited(&self) -> bool {
         false
     }
 
     /// Passes on what it holds back, and returns whether it could; a device whose bytes contracts
-    /// know always can. Where a device doesn't give this it holds nothing back.
+    /// know always can. If a device doesn't give this it holds nothing back.
     fn release(&mut self) -> bool
         ensures written { written self.new ≡ written self.old }
         ensures failures { failures self.new ≡ failures self.old }
@@ -120,14 +120,14 @@ pub trait Output {
     }
 
     /// A device that failed had taken as many bytes as it has room for. `Prim.search rules` proves
-    /// it where the room is none.
+    /// it if the room is none.
     ghost filled: { (s : Self) → 0 < failures s → room s ≤ length (written s) };
 }
 
 /// Fills the buffer from its start and returns how many bytes came: fewer than it has room for only
 /// at the end. An error is a failure of the device in this call, after fewer bytes than the buffer
 /// has room for; these are at its start.
-// The first read mostly fills it. Where this is inlined, no loop is left then, and the size of a
+// The first read mostly fills it. If this is inlined, no loop is left then, and the size of a
 // fixed buffer is known.
 #[inline(always)]
 pub fn read_full<I: Input>(input: &mut I, buf: &mut [u8]) -> Result<usize, DeviceFault>
@@ -192,7 +192,7 @@ fn read_repeatedly<I: Input>(input: &mut I, buf: &mut [u8]) -> Result<usize, Dev
 
 /// Writes all of the bytes. An error is a failure of the device in this call, and reports how many
 /// bytes, fewer than all, were written before the failure.
-// The first write mostly takes all. Where this is inlined, no loop is left then.
+// The first write mostly takes all. If this is inlined, no loop is left then.
 #[inline(always)]
 pub fn write_all<O: Output>(output: &mut O, buf: &[u8]) -> Result<(), Stopped>
     ensures front { IfErr result (λ stopped. stopped.written < length buf.now) }

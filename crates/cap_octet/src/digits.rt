@@ -4,7 +4,7 @@ ghost use Rattle.std.specs.Char.{digit_value};
 ghost use Rattle.std.specs.Str.Parse.{digits_value};
 ghost use Rattle.cap_octet.specs.Digits.{are_digits, in_u64, decimal_value};
 
-/// Whether a byte is the digit of a radix in ASCII; of a letter both cases count.
+/// Whether a byte is the digit of a radix in ASCII; for a letter both cases count.
 fn is_digit(radix: u32, byte: u8) -> bool
     requires low { 2 ≤ radix }
     requires high { radix ≤ 16 }
@@ -13,7 +13,7 @@ fn is_digit(radix: u32, byte: u8) -> bool
     (byte as char).is_digit(radix)
 }
 
-/// Whether all bytes are digits of a radix in ASCII; of a letter both cases count. `true` of none.
+/// Whether all bytes are digits of a radix in ASCII; for a letter both cases count. `true` for none.
 pub fn are_digits(radix: u32, text: &[u8]) -> bool
     requires low { 2 ≤ radix }
     requires high { radix ≤ 16 }
@@ -53,7 +53,7 @@ pub fn digits_number(radix: u32, digits: &[u8]) -> Option<u64>
     Some(number)
 }
 
-/// The number that a text of decimal digits alone, one or more, writes; `None` for every other text
+/// The number that a text of only decimal digits, one or more, writes; `None` for every other text
 /// and from 2^64 on.
 pub fn decimal_value(text: &[u8]) -> Option<u64>
     ensures { result ≡ in_u64 (decimal_value text.now) }

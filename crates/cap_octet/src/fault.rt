@@ -8,7 +8,7 @@ use std::fmt;
 /// The faults, in the order of their numbers, 1 to 21.
 #[derive(Clone, Copy, Debug, PartialEq, Eq)]
 pub enum Fault {
-    /// 1: the file has fewer than four bytes, or the first four are no magic number, or a block of
+    /// 1: the file has fewer than four bytes, or the first four aren't a magic number, or a block of
     /// another type is in front of the first section header.
     NotACaptureFile,
     /// 2: the file ends inside a file header, a record or a block, and has at least four bytes.
@@ -28,7 +28,7 @@ pub enum Fault {
     /// 9: a body is shorter than its type or its captured length asks for.
     BadBody,
     /// 10: a part of a second is a second or more; a time isn't from 0 to 2^63 - 1 nanoseconds, or
-    /// not below 2^32 seconds where a pcap file is written.
+    /// not below 2^32 seconds if a pcap file is written.
     TimeOutOfRange,
     /// 11: a section describes over 256 interfaces.
     TooManyInterfaces,

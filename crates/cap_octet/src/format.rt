@@ -29,7 +29,7 @@ impl Format {
         }
     }
 
-    /// The format that command lines call by this name; `None` where none has it.
+    /// The format that command lines call by this name; `None` if none has it.
     #[tactic(auto, unfolding(crate::specs::Format::all_formats))]
     pub fn of_name(name: &str) -> Option<Format>
         ensures { result ≡ format_of_name name.now }

@@ -64,7 +64,7 @@ impl Link {
         }
     }
 
-    /// Where its header has the EtherType of the network header. Raw IP has none: packets begin
+    /// The place in its header of the EtherType of the network header. Raw IP has none: packets begin
     /// with a version of IP.
     #[inline]
     pub fn type_offset(self) -> Option<usize>
@@ -91,7 +91,7 @@ impl Link {
         }
     }
 
-    /// The link that command lines call by this name; `None` where none has it.
+    /// The link that command lines call by this name; `None` if none has it.
     #[tactic(auto, unfolding(crate::specs::Link::all_links))]
     pub fn of_name(name: &str) -> Option<Link>
         ensures { result ≡ link_of_name name.now }

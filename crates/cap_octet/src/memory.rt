@@ -1,4 +1,4 @@
-//! Devices over memory, which tell their bytes. The first clauses of a method are those of its
+//! Devices over memory, which show their bytes. The first clauses of a method are those of its
 //! trait with this device's ghost members put in (`tells`, `failures` and so on).
 ghost use Rattle.std.specs.Prelude.{◌≡◌, ℕ, ◌+◌, ◌≤◌, ◌<◌, ◌^◌, IsTrue, List, [], length, take};
 ghost use Rattle.std.specs.Prelude.{if◌then◌else◌};
@@ -98,7 +98,7 @@ impl Input for MemInput<'_> {
     ghost unfailed = { Prim.search rules };
 }
 
-/// Writes into a slice that it was lent, and fails only where that is full.
+/// Writes into a slice that it was lent, and fails only if that is full.
 #[derive(Drop)]
 pub struct MemOutput<'a> {
     bytes: &'a mut [u8],
@@ -141,7 +141,7 @@ impl Output for MemOutput<'_> {
     /// All bytes of the slice.
     ghost room = { λ s. length s.bytes.now };
 
-    /// Takes as many of the bytes as the slice has room for. Fails only where it is full.
+    /// Takes as many of the bytes as the slice has room for. Fails only if it is full.
     fn write(&mut self, buf: &[u8]) -> Result<usize, DeviceFault>
         ensures within { IfOk result (λ n. n ≤ length buf.now) }
         ensures some { IfOk result (λ n. 0 < length buf.now → 0 < n) }

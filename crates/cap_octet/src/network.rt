@@ -45,7 +45,7 @@ pub fn link_header_length(link: u16) -> usize
     }
 }
 
-/// The network header that an EtherType tells: `OtherType` of one that isn't known.
+/// The network header that an EtherType shows: `OtherType` of one that isn't known.
 #[inline]
 fn header_by_ethertype(ethertype: u16) -> NetworkHeader
     ensures { result ≡ header_by_ethertype ethertype }
@@ -59,7 +59,7 @@ fn header_by_ethertype(ethertype: u16) -> NetworkHeader
     }
 }
 
-/// The network header that a version of IP tells: `OtherVersion` of neither 4 nor 6.
+/// The network header that a version of IP shows: `OtherVersion` of neither 4 nor 6.
 #[inline]
 fn header_by_version(version: u8) -> NetworkHeader
     ensures { result ≡ header_by_version version }
@@ -72,7 +72,7 @@ fn header_by_version(version: u8) -> NetworkHeader
 }
 
 /// The network header of a packet whose link header has the EtherType at this place, big-endian;
-/// `None` is raw IP, where the version of IP is the packet's first four bits. `Short` where these
+/// `None` is raw IP, if the version of IP is the packet's first four bits. `Short` if these
 /// bytes aren't captured.
 #[inline]
 fn header_after(type_offset: Option<usize>, bytes: &[u8]) -> NetworkHeader

@@ -27,7 +27,7 @@ pub fn time_below_end(nanos: u64) -> Option<u64>
 }
 
 /// The nanoseconds of whole seconds and a fraction in nanoseconds. `None` where either is `None`,
-/// which is no number, and from 2^63 nanoseconds on.
+/// which isn't a number, and from 2^63 nanoseconds on.
 fn duration_of_parts(seconds: Option<u64>, fraction: Option<u64>) -> Option<u64>
     ensures { result ≡ duration_of_parts seconds fraction }
 {
@@ -35,7 +35,7 @@ fn duration_of_parts(seconds: Option<u64>, fraction: Option<u64>) -> Option<u64>
     time_below_end(nanos.checked_add(fraction?)?)
 }
 
-/// The index of the first `.` (byte 46) in a text; `None` where it has none.
+/// The index of the first `.` (byte 46) in a text; `None` if it has none.
 fn find_point(text: &[u8]) -> Option<usize>
     ensures value { result ≡ position (λ b. b == 46) text.now }
     ensures bound { IfSome result (λ point. point < length text.now) }
@@ -48,7 +48,7 @@ fn find_point(text: &[u8]) -> Option<usize>
 ///
 /// `None` for every other text, and from 2^63 nanoseconds on. There may be leading zeros; a digit
 /// stands on each side of the point.
-pub fn read_duration(text: &str) -> Option<u64>
+pub fn span_of(text: &str) -> Option<u64>
     ensures { result ≡ duration_value text.now }
 {
     let bytes = text.as_bytes();

@@ -84,7 +84,7 @@ impl<R: Read> Input for StdInput<R> {
 
     ghost failures = { λ s. s.failures.count };
 
-    /// Fills this buffer from the reader's own, where that holds as many bytes; else makes one read
+    /// Fills this buffer from the reader's own, if that holds as many bytes; else makes one read
     /// of the reader into this buffer and returns what that returned. A read that would reach 2^63
     /// bytes in all is a failure.
     // Mostly the reader's buffer holds them. Then no room is made for std's errors, which are
@@ -162,7 +162,7 @@ pub struct StdOutput<W: Write + Drop> {
     writer: CountingWriter<W>,
     /// Whether somebody may be waiting for what is written.
     is_awaited: bool,
-    /// Why it failed last; `None` where it never did.
+    /// Why it failed last; `None` if it never did.
     cause: Option<ErrorKind>,
     failures: ContractCount,
 }
@@ -198,7 +198,7 @@ impl<W: Write + Drop> StdOutput<W> {
         output
     }
 
-    /// The writer, as to flush it, and why it failed last; `None` where it never did.
+    /// The writer, as to flush it, and why it failed last; `None` if it never did.
     pub fn into_inner(self) -> (BufWriter<W>, Option<ErrorKind>)
         ensures writer { result.0 ≡ self.writer.writer }
         ensures cause { result.1 ≡ self.cause }
@@ -214,7 +214,7 @@ impl<W: Write + Drop> StdOutput<W> {
 
     /// Makes one write of the writer with these bytes and returns what that returned; but a write
     /// that takes nothing of some bytes is a failure. The cause of a failure is kept.
-    // Inlined where the buffer has room; elsewhere `write_out_of_line` is called.
+    // Inlined if the buffer has room; elsewhere `write_out_of_line` is called.
     #[inline(always)]
     fn write_once(&mut self, buf: &[u8]) -> Result<usize, DeviceFault>
         ensures within { IfOk result (λ n. n ≤ length buf.now) }
@@ -235,7 +235,7 @@ impl<W: Write + Drop> StdOutput<W> {
         Err(DeviceFault)
     }
 
-    /// `write_once`, out of line: for where the writer's buffer has no room, so that the system may
+    /// `write_once`, out of line: for a writer's buffer without room, so that the system may
     /// be called.
     // Apart from the inlined `write_once` in `write`, for which the compiler then sees that no call
     // of the system and no error can come.
@@ -263,7 +263,7 @@ impl<W: Write + Drop> Output for StdOutput<W> {
 
     /// Makes one write of the writer with these bytes and returns what that returned; but a write
     /// that takes nothing of some bytes is a failure.
-    // Both branches call `write_once`: inlined here where the writer's buffer has room, else out of
+    // Both branches call `write_once`: inlined here if the writer's buffer has room, else out of
     // line.
     #[inline(always)]
     fn write(&mut self, buf: &[u8]) -> Result<usize, DeviceFault>
@@ -294,8 +294,8 @@ impl<W: Write + Drop> Output for StdOutput<W> {
         self.is_awaited
     }
 
-    /// Writes out what the writer's buffer holds, and returns whether it could. What couldn't be
-    /// written stays there, and the cause is kept.
+    /// Writes out what the writer's buffer holds, and returns whether it could: `false` only if
+    /// the writer failed in this call. What couldn't be written stays there, and the cause is kept.
     fn release(&mut self) -> bool
         ensures written { ◌≡◌ {A = List ℕ} [] [] }
         ensures failures { self.new.failures.count ≡ self.old.failures.count }
@@ -306,6 +306,8 @@ impl<W: Write + Drop> Output for StdOutput<W> {
         ensures empty { result ≡ true → writer_buffer self.new.writer.writer ≡ [] }
         ensures cause { result ≡ true → self.new.cause ≡ self.old.cause }
         ensures told { result ≡ false → is_some self.new.cause ≡ true }
+        ensures failed { self.new.writer.failed_flushes.count
+            ≡ self.old.writer.failed_flushes.count + (if result then 0 else 1) }
     {
         match self.writer.flush() {
             Ok(()) => true,

@@ -7,7 +7,7 @@ ghost use Rattle.cap_octet.specs.Timestamp.{date_time_value, time_value};
 
 use crate::date::{NANOS_PER_SECOND, SECONDS_PER_DAY};
 use crate::digits::decimal_value;
-use crate::seconds::{fraction_nanoseconds, read_duration, time_below_end};
+use crate::seconds::{fraction_nanoseconds, span_of, time_below_end};
 use jiff_core::civil;
 use jiff_core::civil::Date;
 
@@ -34,7 +34,7 @@ fn day_number(year: u64, month: u64, day: u64) -> Option<u64>
     Some((date.days_since_min() - EPOCH) as u64)
 }
 
-/// How many days after 1970-01-01 a day comes. `None` where its year, month or day is no number
+/// How many days after 1970-01-01 a day comes. `None` if its year, month or day isn't a number
 /// (`None`), the calendar has no such day, or its year isn't from 1970 to 9999.
 fn day_of_parts(year: Option<u64>, month: Option<u64>, day: Option<u64>) -> Option<u64>
     ensures { result ≡ day_of_parts year month day }
@@ -42,7 +42,7 @@ fn day_of_parts(year: Option<u64>, month: Option<u64>, day: Option<u64>) -> Opti
     day_number(year?, month?, day?)
 }
 
-/// The seconds since midnight of a time of day; `None` where there is no such time, as of a leap
+/// The seconds since midnight of a time of day; `None` if there is no such time, as of a leap
 /// second (23:59:60).
 fn second_of_day(hour: u64, minute: u64, second: u64) -> Option<u64>
     ensures { result ≡ second_of_day hour minute second }
@@ -54,7 +54,7 @@ fn second_of_day(hour: u64, minute: u64, second: u64) -> Option<u64>
     }
 }
 
-/// The seconds since midnight of a time of day. `None` where hour, minute or second is no number
+/// The seconds since midnight of a time of day. `None` if hour, minute or second isn't a number
 /// (`None`), or there is no such time.
 fn clock_of_parts(hour: Option<u64>, minute: Option<u64>, second: Option<u64>) -> Option<u64>
     ensures { result ≡ clock_of_parts hour minute second }
@@ -63,7 +63,7 @@ fn clock_of_parts(hour: Option<u64>, minute: Option<u64>, second: Option<u64>) -
 }
 
 /// The nanoseconds since 1970-01-01 of a day's number (days since then), seconds since midnight and
-/// a fraction in nanoseconds. `None` where one of the three is, and from 2^63 nanoseconds on.
+/// a fraction in nanoseconds. `None` if one of the three is, and from 2^63 nanoseconds on.
 fn time_of_parts(day: Option<u64>, clock: Option<u64>, fraction: Option<u64>) -> Option<u64>
     ensures { result ≡ time_of_parts day clock fraction }
 {
@@ -73,8 +73,8 @@ fn time_of_parts(day: Option<u64>, clock: Option<u64>, fraction: Option<u64>) ->
     time_below_end(nanos.checked_add(fraction)?)
 }
 
-/// The number that `count` decimal digits from place `at` write, 9 at most; `None` where one of
-/// these bytes is no digit, or `count` is 0.
+/// The number that `count` decimal digits from place `at` write, 9 at most; `None` if one of
+/// these bytes isn't a digit, or `count` is 0.
 fn number_at(text: &[u8], at: usize, count: usize) -> Option<u64>
     requires there { at + count ≤ length text.now }
     requires upper_bound { count ≤ 9 }
@@ -118,7 +118,7 @@ fn is_date_time(text: &[u8]) -> bool
 }
 
 /// The nanoseconds since 1970-01-01 00:00:00 UTC of a text whose marks are in their places
-/// (`is_date_time`); `None` where what stands between them is no date, time of day and fraction,
+/// (`is_date_time`); `None` if what stands between them isn't a date, time of day and fraction,
 /// and from 2^63 nanoseconds on.
 fn date_time_value(text: &[u8]) -> Option<u64>
     requires { 20 ≤ length text.now }
@@ -136,16 +136,16 @@ fn date_time_value(text: &[u8]) -> Option<u64>
 /// The time of a timestamp, in nanoseconds since 1970-01-01 00:00:00 UTC.
 ///
 /// A timestamp is `YYYY-MM-DDThh:mm:ss`, with a point and 1 to 9 digits after it or without, then
-/// `Z` (a `date-time` of RFC 3339 in UTC); or a number of seconds as [`read_duration`] reads it.
+/// `Z` (a `date-time` of RFC 3339 in UTC); or a number of seconds as [`span_of`] reads it.
 /// `None` for every other text, for a day that the calendar hasn't, for leap seconds, before 1970,
 /// and from 2^63 nanoseconds on.
 #[tactic(auto, unfolding(crate::specs::Timestamp::time_value))]
-pub fn read_timestamp(text: &str) -> Option<u64>
+pub fn time_of(text: &str) -> Option<u64>
     ensures { result ≡ time_value text.now }
 {
     let bytes = text.as_bytes();
     if is_date_time(bytes) {
         return date_time_value(bytes);
     }
-    read_duration(text)
+    span_of(text)
 }

@@ -1,4 +1,4 @@
-//! Devices for tests, over memory: they move a few bytes a call and fail where a test says, and the
+//! Devices for tests, over memory: they move a few bytes per call and fail when a test asks, and the
 //! input counts its reads. The first clauses of a method are those of its trait with this device's
 //! ghost members put in (`tells`, `failures` and so on).
 ghost use Rattle.std.specs.Prelude.{◌≡◌, ℕ, ◌+◌, ◌-◌, ◌≤◌, ◌<◌, ◌^◌, IsTrue, List, [], length};
@@ -70,10 +70,10 @@ impl Input for TrialInput<'_> {
 
     ghost failures = { λ s. s.failures.count };
 
-    /// Sure of no byte where a read is to fail, which may be the first; else it never fails.
+    /// Sure of no byte if a read must fail, which may be the first; else it never fails.
     ghost sure = { λ s. option_map {U = ℕ} (λ _. 0) s.fails_at };
 
-    /// Gives at most `piece` bytes; fails where `reads` becomes `fails_at`, and there alone.
+    /// Gives at most `piece` bytes; fails only when `reads` becomes `fails_at`.
     fn read(&mut self, buf: &mut [u8]) -> Result<usize, DeviceFault>
         ensures within { IfOk result (λ n. n ≤ length buf.old) }
         ensures counted { ⟦<MemInput<'static> as Input>⟧.given self.new.inner
@@ -101,7 +101,7 @@ impl Input for TrialInput<'_> {
         self.inner.read(&mut buf[..most])
     }
 
-    /// What one read gives; nothing where some read is to fail, so that reads are made and counted.
+    /// What one read gives; nothing if some read must fail, so that reads are made and counted.
     fn at_hand(&self) -> &[u8]
         ensures exact { IsTrue true
             → StartsWith (⟦<MemInput<'static> as Input>⟧.unread self.now.inner) result.now }
@@ -116,7 +116,7 @@ impl Input for TrialInput<'_> {
         &hand[..hand.len().min(self.piece)]
     }
 
-    /// Takes `count` bytes where one read gives as many and no read is to fail; else none, and
+    /// Takes `count` bytes if one read gives as many and no read must fail; else none, and
     /// returns `false`.
     fn pass(&mut self, count: usize) -> bool
         ensures counted { ⟦<MemInput<'static> as Input>⟧.given self.new.inner
@@ -145,7 +145,7 @@ impl Input for TrialInput<'_> {
     ghost unfailed = { Prim.search rules };
 }
 
-/// Writes into a slice that it was lent, at most `piece` bytes a write, and fails only where that
+/// Writes into a slice that it was lent, at most `piece` bytes per write, and fails only if that
 /// is full.
 #[derive(Drop)]
 pub struct TrialOutput<'a> {
@@ -187,7 +187,7 @@ impl Output for TrialOutput<'_> {
 
     ghost room = { λ s. ⟦<MemOutput<'static> as Output>⟧.room s.inner };
 
-    /// Takes at most `piece` bytes, and fails only where the slice is full.
+    /// Takes at most `piece` bytes, and fails only if the slice is full.
     fn write(&mut self, buf: &[u8]) -> Result<usize, DeviceFault>
         ensures within { IfOk result (λ n. n ≤ length buf.now) }
         ensures some { IfOk result (λ n. 0 < length buf.now → 0 < n) }

@@ -18,7 +18,7 @@ IsPcap Pcap = Unit {0}
 IsPcap NsecPcap = Unit {0}
 IsPcap Pcapng = ⊥
 
--- the parts of a second that a format writes; of pcapng, for which it isn't asked, any
+-- the parts of a second that a format writes; any for pcapng, for which it isn't asked
 abbrev pub resolution_of : Format → Resolution
 resolution_of Pcap = Microseconds
 resolution_of NsecPcap = Nanoseconds
@@ -40,7 +40,7 @@ record_header resolution p =
     ++ little_bytes 4 (p.time % NANOS_PER_SECOND / nanoseconds_of_part resolution)
     ++ little_bytes 4 (length p.bytes) ++ little_bytes 4 p.orig
 
--- the checks of a packet that is to be written, in order: how many captured bytes, and which second
+-- the checks of a packet before it is written, in order: how many captured bytes, and which second
 abbrev pub record_fit_checks : Captured → List (Bool × Fault)
 record_fit_checks p =
     (nat_le (length p.bytes) most_captured, TooLong)

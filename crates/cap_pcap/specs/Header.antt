@@ -17,7 +17,7 @@ magic Microseconds = 0xa1b2c3d4
 magic Nanoseconds = 0xa1b23c4d
 
 -- the byte order in which the first four bytes read as a magic number, and the resolution that this
--- number tells; None where they read as one in neither order
+-- number shows; None if they read as one in neither order
 abbrev pub form_in : List ℕ → Option (Order × Resolution)
 form_in text =
     if u32_in Little text 0 == magic Microseconds then Some (Little, Microseconds)
@@ -26,7 +26,7 @@ form_in text =
     else (if u32_in Big text 0 == magic Nanoseconds then Some (Big, Nanoseconds)
     else None)))
 
--- byte order and resolution of a file; of one without a magic number any, since the first check
+-- byte order and resolution of a file; any without a magic number, since the first check
 -- fails then
 abbrev pub form_of : List ℕ → Order × Resolution
 form_of text = unwrap_or (form_in text) (Little, Microseconds)
@@ -41,7 +41,7 @@ header_checks text =
     ∷ (nat_lt (u32_in order text 20) 65536, BadLinkTypeField)
     ∷ []
 
--- why a text doesn't begin with a file header: the first check that fails; None where it does
+-- why a text doesn't begin with a file header: the first check that fails; None if it does
 abbrev pub header_fault : List ℕ → Option Fault
 header_fault text = first_failing (header_checks text)
 

@@ -50,7 +50,7 @@ record_checks head text =
     ++ (nat_le (record_size head text) (length text), Truncated)
     ∷ []
 
--- why a text doesn't begin with a record: the first check that fails; None where it does
+-- why a text doesn't begin with a record: the first check that fails; None if it does
 abbrev pub record_fault : Head → List ℕ → Option Fault
 record_fault head text = first_failing (record_checks head text)
 

@@ -98,7 +98,7 @@ impl Resolution {
 }
 
 /// The byte order and the resolution that the first four bytes of a savefile, its magic number,
-/// tell; `None` where they are no magic number in either order. The caller knows four bytes to be
+/// show; `None` if they aren't a magic number in either order. The caller knows four bytes to be
 /// there.
 pub fn read_magic(bytes: &[u8]) -> Option<(Order, Resolution)>
     requires { 4 ≤ length bytes.now }
@@ -119,7 +119,7 @@ pub fn read_magic(bytes: &[u8]) -> Option<(Order, Resolution)>
 /// Reads a file header, or reports the first check that it fails: no magic number
 /// (`NotACaptureFile`), another version than 2.4 (`BadVersion`), a link type field above 65,535
 /// (`BadLinkTypeField`).
-pub fn read_file_header(bytes: &[u8; 24]) -> Result<Head, Fault>
+pub fn read_head(bytes: &[u8; 24]) -> Result<Head, Fault>
     ensures { result ≡ checked (header_fault bytes.now) (header_in bytes.now) }
 {
     let Some((order, resolution)) = read_magic(bytes) else {
@@ -143,7 +143,7 @@ pub fn read_file_header(bytes: &[u8; 24]) -> Result<Head, Fault>
 /// Reads the header before a record's data, or reports the first check that its fields fail: more
 /// than 262,144 captured bytes (`TooLong`), a part of a second that is a second or more
 /// (`TimeOutOfRange`).
-pub fn read_record_header(head: &Head, bytes: &[u8; 16]) -> Result<RecordHead, Fault>
+pub fn read_record(head: &Head, bytes: &[u8; 16]) -> Result<RecordHead, Fault>
     ensures answer { result
         ≡ checked (first_failing (field_checks head.now bytes.now))
         (record_header_in head.now bytes.now) }
@@ -178,7 +178,7 @@ fn read_unusual_header(head: &Head, bytes: &[u8; 16]) -> Result<RecordHead, Faul
 }
 
 /// Reads a record's header in the byte order and the resolution of its file, or reports the first
-/// check that its fields fail: what `read_record_header` does, without its split by files.
+/// check that its fields fail: what `read_record` does, without its split by files.
 // Inlined, so that for the usual file both are constants.
 #[inline(always)]
 fn read_header_fields(head: &Head, bytes: &[u8; 16]) -> Result<RecordHead, Fault>

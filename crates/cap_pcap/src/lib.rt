@@ -6,5 +6,5 @@
 mod header;
 mod write;
 
-pub use header::{Head, RecordHead, Resolution, read_file_header, read_magic, read_record_header};
-pub use write::{check_record_fits, file_header, record_header};
+pub use header::{Head, RecordHead, Resolution, read_head, read_magic, read_record};
+pub use write::{fits, head_bytes, record_bytes};

@@ -27,7 +27,7 @@ fn resolution_of(format: Format) -> Resolution
 /// Checks that a record can hold a packet, or returns the first check that fails: more than 262,144
 /// captured bytes (`TooLong`), a time of 2^32 seconds or more (`TimeOutOfRange`). The format isn't
 /// pcapng; both pcap formats hold the same packets, so that the body doesn't ask which.
-pub fn check_record_fits(_format: Format, packet: &Packet<'_>) -> Result<(), Fault>
+pub fn fits(_format: Format, packet: &Packet<'_>) -> Result<(), Fault>
     requires { IsPcap _format }
     ensures { result ≡ checked (first_failing (record_fit_checks (captured packet.now))) tt }
 {
@@ -42,7 +42,7 @@ pub fn check_record_fits(_format: Format, packet: &Packet<'_>) -> Result<(), Fau
 
 /// The file header of a pcap format, version 2.4, with the link type of the packets and 262,144 as
 /// the snap length, which no record exceeds. The format isn't pcapng.
-pub fn file_header(format: Format, link: u16) -> [u8; 24]
+pub fn head_bytes(format: Format, link: u16) -> [u8; 24]
     requires { IsPcap format }
     ensures { result ≡ file_header (resolution_of format) link }
 {
@@ -57,9 +57,9 @@ pub fn file_header(format: Format, link: u16) -> [u8; 24]
 }
 
 /// The header of a packet's record, in front of its data; the time is cut to the parts of a second
-/// that the format has. The format isn't pcapng, and the caller knows by `check_record_fits` that
+/// that the format has. The format isn't pcapng, and the caller knows by `fits` that
 /// it holds the packet.
-pub fn record_header(format: Format, packet: &Packet<'_>) -> [u8; 16]
+pub fn record_bytes(format: Format, packet: &Packet<'_>) -> [u8; 16]
     requires form { IsPcap format }
     requires fits { first_failing (record_fit_checks (captured packet.now)) ≡ None }
     ensures { result ≡ record_header (resolution_of format) (captured packet.now) }

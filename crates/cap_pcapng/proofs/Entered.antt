@@ -88,6 +88,7 @@ enhanced_found order interfaces i number ticks captured orig time size optional 
         following = omega (arith, left, optional_is);
         options = omega (arith, left, optional_is);
         time = small;
+        lies = (refl, refl, ap₂ (λ (a b : ℕ). record { start = a; length = b }) (omega (arith, left, optional_is, room)) (omega (arith, left, optional_is)));
       },
     )
 
@@ -115,6 +116,7 @@ simple_found interfaces i orig size rest known upper_bound = (
     following = lit≤ tt;
     options = omega arith;
     time = omega arith;
+    lies = (refl, refl, refl);
   },
 )
 

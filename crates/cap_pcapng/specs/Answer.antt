@@ -1,4 +1,4 @@
--- What a reader returns: a value where all checks pass, else the fault of the first that fails.
+-- What a reader returns: a value if all checks pass, else the fault of the first that fails.
 use Rattle.std.specs.Prelude.{◌≡◌, Bool, List, Some, None, Result, Ok, Err}
 use Rattle.cap_octet.specs.Checks.{first_failing}
 use Rattle.cap_octet.specs.declared.fault.Fault.{Fault}

@@ -55,7 +55,7 @@ size_checks frame text =
 
 -- ---- a packet's data
 
--- the captured length of a simple packet, in an interface of this snap length; 0 is no limit
+-- the captured length of a simple packet, in an interface of this snap length; 0 means no limit
 abbrev pub simple_captured : (orig snap : ℕ) → ℕ
 simple_captured orig snap = if snap == 0 then orig else min orig snap
 
@@ -103,7 +103,7 @@ parts_of (a.Enhanced b) = EnhancedParts b.interface b.ticks b.captured b.orig b.
 parts_of (a.Simple b) = SimpleParts b.orig b.rest.now
 parts_of a.Skipped = SkippedParts
 
--- where the block is an interface description, its interface is the one that its options describe
+-- if the block is an interface description, its interface is the one that its options describe
 abbrev pub IsDescribedIfAny : Block → Type 0
 IsDescribedIfAny (a.Interface b) = IsDescribed b
 IsDescribedIfAny block = Unit {0}
@@ -116,7 +116,7 @@ option_checks (InterfaceParts link snap order options) = list_checks [] (options
 option_checks parts = []
 
 -- The first check that the block fails which a text begins with, after those of its frame; None
--- where it fails none. Those that need the interfaces before it are in `Unit`: one of them, of how
+-- if it fails none. Those that need the interfaces before it are in `Unit`: one of them, of how
 -- many there are, comes before those of options.
 abbrev pub block_fault : Frame → List ℕ → Option Fault
 block_fault frame text =

@@ -1,14 +1,15 @@
 -- What a block does among the interfaces of its section: what it brings there, and its packet.
-use Rattle.std.specs.Prelude.{◌≡◌, ℕ, ◌+◌, ◌^◌, ◌<◌, ◌≤◌, ◌⊎◌, Bool, false, List, [], ◌∷◌, ◌++◌, take, drop, Option, None, Some, true, is_some}
+use Rattle.std.specs.Prelude.{◌≡◌, ℕ, ◌+◌, ◌-◌, length, ◌^◌, ◌<◌, ◌≤◌, ◌⊎◌, Bool, false, List, [], ◌∷◌, ◌++◌, take, drop, Option, None, Some, true, is_some}
 use Rattle.std.specs.List.{slice_get}
 use Rattle.std.specs.Option.{option_map}
 use Rattle.cap_octet.specs.Checks.{first_failing}
 use Rattle.cap_octet.specs.Packet.{Captured}
 use Rattle.cap_octet.specs.declared.fault.Fault.{Fault}
 use Rattle.cap_octet.specs.declared.number.Order.{Order}
-use Rattle.cap_pcapng.specs.Block.{Parts, InterfaceParts, block_checks, parts_in}
+use Rattle.cap_pcapng.specs.Block.{Parts, InterfaceParts, EnhancedParts, SimpleParts, block_checks, parts_in}
 use Rattle.cap_pcapng.specs.Comment.{comment_in}
 use Rattle.cap_pcapng.specs.Interface.{Described, description_of}
+use Rattle.cap_pcapng.specs.Padding.{padded_length}
 use Rattle.cap_pcapng.specs.Unit.{Section, checks_among, packet_by, packet_of, section_by}
 use Rattle.cap_pcapng.specs.declared.frames.Frame.{Frame}
 use Rattle.cap_pcapng.specs.declared.effect.BlockEffect.{BlockEffect}
@@ -30,7 +31,7 @@ abbrev pub section_of : Order → List Described → Section
 section_of order interfaces = record { order = order; interfaces = interfaces }
 
 -- the packet with these data and options, in this byte order, and the interface, time and original
--- length that its spans tell; None where that interface isn't among these
+-- length that its spans show; None if that interface isn't among these
 abbrev pub held_packet : Order → List Described → PacketSpans → (bytes options : List ℕ)
     → Option Captured
 held_packet order interfaces spans bytes options =
@@ -46,20 +47,36 @@ pub record PacketStands (order : Order) (interfaces : List Described) (parts : P
   pub is_lent : held_packet order interfaces spans (span_bytes spans.bytes block)
       (span_bytes spans.options block) ≡ Some packet
 
+-- the number of a packet's interface, and the places of its data and its options, as in its block: an
+-- enhanced packet has its data after 28 bytes, and its options after the padding of the data; a
+-- simple packet is of interface 0, has its data after 12 bytes, and has no options
+abbrev pub LieAsSaid : Parts → PacketSpans → Type 0
+LieAsSaid (EnhancedParts number ticks captured orig order rest) spans =
+    (spans.interface ≡ number) × (spans.bytes ≡ record { start = 28; length = captured })
+    × (spans.options
+    ≡ record {
+      start = 28 + padded_length captured;
+      length = length rest - padded_length captured;
+    })
+LieAsSaid (SimpleParts orig rest) spans =
+    (spans.interface ≡ 0) × (spans.bytes.start ≡ 12)
+    × (spans.options ≡ record { start = 12; length = 0 })
+LieAsSaid parts spans = ⊥
+
 -- the block has no packet, or these spans lend it
 abbrev pub PacketIfAny : Order → List Described → Parts → List ℕ → Option PacketSpans → Type 0
 PacketIfAny order interfaces parts block None = packet_by interfaces parts ≡ None
 PacketIfAny order interfaces parts block (Some spans) =
     PacketStands order interfaces parts block spans
 
--- where the block has a packet, its spans lie in the block, and its time is below 2^63
+-- if the block has a packet, its spans lie in the block, and its time is below 2^63
 abbrev pub FitsIfAny : Option PacketSpans → ℕ → Type 0
 FitsIfAny None size = Unit {0}
 FitsIfAny (Some spans) size =
     (spans.size ≡ size) × (spans.bytes.start + spans.bytes.length ≤ size) × (spans.time < 2 ^ 63)
     × (spans.options.start + spans.options.length ≤ size)
 
--- where the block has a packet, its interface is known
+-- if the block has a packet, its interface is known
 abbrev pub KnowsIfAny : List Described → Option PacketSpans → Type 0
 KnowsIfAny interfaces None = Unit {0}
 KnowsIfAny interfaces (Some spans) = is_some (slice_get interfaces spans.interface) ≡ true
@@ -76,7 +93,7 @@ pub record Enters (frame : Frame) (interfaces : List Described) (block : List �
   pub fits : FitsIfAny spans frame.length
   pub known : KnowsIfAny interfaces' spans
 
--- where the packet of a block lies, by what the block does; None where it has none
+-- the place where the packet of a block lies, by what the block does; None if it has none
 abbrev pub packet_in_effect : BlockEffect → Option PacketSpans
 packet_in_effect (effect.Packet spans) = Some spans
 packet_in_effect other = None
@@ -91,6 +108,11 @@ interfaces_after other interfaces = interfaces
 abbrev pub HasEffect : Frame → List Described → List ℕ → BlockEffect → Type 0
 HasEffect frame interfaces block does =
     Enters frame interfaces block (packet_in_effect does) (interfaces_after does interfaces)
+
+-- if the block has a packet, its spans are as the block says
+abbrev pub LiesAsSaid : Parts → BlockEffect → Type 0
+LiesAsSaid parts (effect.Packet spans) = LieAsSaid parts spans
+LiesAsSaid parts other = Unit {0}
 
 -- the first check that a block fails after those of its frame: one of its own, or else one of those
 -- that need the interfaces before it

@@ -58,7 +58,7 @@ interface_header size link snap =
     little_bytes 4 1 ++ little_bytes 4 size ++ little_bytes 2 link ++ little_bytes 2 0
     ++ little_bytes 4 snap
 
--- the option of a comment and the end of the options; neither is written where the comment is empty
+-- the option of a comment and the end of the options; neither is written if the comment is empty
 abbrev pub comment_text : List ℕ → List ℕ
 comment_text [] = []
 comment_text (b ∷ bytes) = option_text comment_code (b ∷ bytes) ++ end_text
@@ -82,7 +82,7 @@ packet_header size number p =
     ++ little_bytes 4 (p.time / 2 ^ 32)
     ++ little_bytes 4 (p.time % 2 ^ 32) ++ little_bytes 4 (length p.bytes) ++ little_bytes 4 p.orig
 
--- the checks of a packet that is to be written: its block isn't too long to be read
+-- the checks of a packet that must be written: its block isn't too long to be read
 abbrev pub block_fit_checks : Captured → List (Bool × Fault)
 block_fit_checks p = (
   nat_le (32 + padded_length (length p.bytes) + length (comment_text p.comment))

@@ -19,11 +19,11 @@ most_block = 1048576
 abbrev pub section_type : ℕ
 section_type = 0x0a0d0d0a
 
--- the number at place 8 of a section header, which tells its byte order
+-- the number at place 8 of a section header, which shows its byte order
 abbrev pub byte_order_magic : ℕ
 byte_order_magic = 0x1a2b3c4d
 
--- the type of a block that is no section header, by the number in its first four bytes
+-- the type of a block that isn't a section header, by the number in its first four bytes
 abbrev pub type_of_block : ℕ → BlockType
 type_of_block number =
     if number == 1 then block.Interface
@@ -36,15 +36,15 @@ type_of_block number =
 abbrev pub is_section : List ℕ → Bool
 is_section text = u32_in Little text 0 == section_type
 
--- the byte order in which bytes 8 to 11 are the byte-order magic; None where they are it in neither
+-- the byte order in which bytes 8 to 11 are the byte-order magic; None if they are it in neither
 abbrev pub magic_order : List ℕ → Option Order
 magic_order text =
     if u32_in Little text 8 == byte_order_magic then Some Little
     else (if u32_in Big text 8 == byte_order_magic then Some Big
     else None)
 
--- The byte order of a block: a section header tells its own, the others have that of the section
--- before them. Where there is none, one of the first two checks fails.
+-- The byte order of a block: a section header shows its own, the others have that of the section
+-- before them. If there is none, one of the first two checks fails.
 abbrev pub order_in : Option Order → List ℕ → Order
 order_in section text = unwrap_or (if is_section text then magic_order text else section) Little
 
@@ -68,7 +68,7 @@ frame_checks section text =
     ∷ (nat_le (length_in section text) most_block, TooLong)
     ∷ []
 
--- the first check of a block's first 12 bytes that fails; None where all pass
+-- the first check of a block's first 12 bytes that fails; None if all pass
 abbrev pub frame_fault : Option Order → List ℕ → Option Fault
 frame_fault section text = first_failing (frame_checks section text)
 

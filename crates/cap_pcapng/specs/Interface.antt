@@ -9,11 +9,11 @@ use Rattle.cap_pcapng.specs.Time.{microseconds}
 use Rattle.cap_pcapng.specs.declared.blocks.InterfaceBlock.{InterfaceBlock}
 use Rattle.cap_pcapng.specs.declared.interface.Interface.{Interface}
 
--- an interface without the place in memory where its name lies
+-- an interface without the place of its name in memory
 pub record Described : Type 0 where
   pub link : ℕ
   pub snap : ℕ
-  -- empty where there is none
+  -- empty if there is none
   pub name : List ℕ
   -- how many ticks make a second, and the seconds that are added
   pub units : ℕ

@@ -41,13 +41,13 @@ first_checks option =
     else (if option.code == offset_code then offset_checks option.value
     else []))
 
--- the value of the first option of a code; None where there is none
+-- the value of the first option of a code; None if there is none
 abbrev pub first_value : ℕ → List CodedValue → Option (List ℕ)
 first_value code [] = None
 first_value code (option ∷ options) =
     if option.code == code then Some option.value else first_value code options
 
--- the checks of an option after these: of those of one code the first alone is checked
+-- the checks of an option after these: among options with one code only the first is checked
 abbrev pub checks_after : List CodedValue → CodedValue → List (Bool × Fault)
 checks_after before option =
     if is_some (first_value option.code before) then [] else first_checks option

@@ -29,7 +29,7 @@ written_interface link snap name =
 abbrev pub SectionBack : Type 0
 SectionBack = (before : Option Section) → ReadsAs before section_text (written_section []) []
 
--- an interface that is written gets the next number of its section, where that isn't full and the
+-- an interface that is written gets the next number of its section, if that isn't full and the
 -- interface's values are in their ranges
 abbrev pub InterfaceBack : Type 0
 InterfaceBack =
@@ -39,7 +39,7 @@ InterfaceBack =
     → ReadsAs (Some (written_section interfaces)) (interface_text link snap name)
     (written_section (interfaces ++ written_interface link snap name ∷ [])) []
 
--- a packet that is written, of an interface that was written, is the packet of its block, where its
+-- a packet that is written, of an interface that was written, is the packet of its block, if its
 -- values are in their ranges and the block isn't too long
 abbrev pub PacketBack : Type 0
 PacketBack = (interfaces : List Described) (number : ℕ) (p : Captured)

@@ -8,7 +8,7 @@ use Rattle.cap_pcapng.specs.Padding.{padded_length}
 use Rattle.cap_pcapng.specs.declared.options.BlockOption.{BlockOption}
 use Rattle.cap_pcapng.specs.declared.options.Options.{Options}
 
--- an option without the place in memory where its value lies
+-- an option without the place of its value in memory
 pub record CodedValue : Type 0 where
   pub code : ℕ
   pub value : List ℕ

@@ -15,7 +15,7 @@ time_by (pos n) = if nat_lt n TIME_END then Some n else None
 time_by (negsuc n) = None
 
 -- the time of these ticks, of which `units` make a second, with an offset in seconds added; None
--- where it isn't from 0 to 2^63 - 1
+-- if it isn't from 0 to 2^63 - 1
 abbrev pub representable_time : ℕ → ℕ → ℤ → Option ℕ
 representable_time ticks units offset = time_by (nanoseconds ticks units offset)
 
@@ -28,6 +28,6 @@ is_resolution byte = if nat_lt byte 128 then nat_le byte 12 else nat_le (byte - 
 abbrev pub units_per_second : ℕ → ℕ
 units_per_second byte = if nat_lt byte 128 then 10 ^ byte else 2 ^ (byte - 128)
 
--- how many ticks make a second where no resolution is given: they are microseconds
+-- how many ticks make a second if no resolution is given: they are microseconds
 abbrev pub microseconds : ℕ
 microseconds = 1000000

@@ -21,11 +21,11 @@ pub record Section : Type 0 where
   pub order : Order
   pub interfaces : List Described
 
--- the byte order of the section before a block; None where there is no section
+-- the byte order of the section before a block; None if there is no section
 abbrev pub order_before : Option Section → Option Order
 order_before before = option_map (λ (s : Section). s.order) before
 
--- the interfaces of the section before a block; none where there is no section
+-- the interfaces of the section before a block; none if there is no section
 abbrev pub interfaces_before : Option Section → List Described
 interfaces_before before = option_map_or (λ (s : Section). s.interfaces) before []
 
@@ -43,12 +43,12 @@ parts_after before text = parts_in (frame_after before text) text
 
 -- ---- the checks
 
--- the time of these ticks of an interface; None where there is no interface, or no such time
+-- the time of these ticks of an interface; None if there is no interface, or no such time
 abbrev pub time_of : Option Described → ℕ → Option ℕ
 time_of interface ticks =
     option_and_then (λ (i : Described). representable_time ticks i.units i.offset) interface
 
--- the captured length of a simple packet of an interface; 0 where there is no interface
+-- the captured length of a simple packet of an interface; 0 if there is no interface
 abbrev pub captured_of : Option Described → ℕ → ℕ
 captured_of interface orig =
     option_map_or (λ (i : Described). simple_captured orig i.snap) interface 0
@@ -77,7 +77,7 @@ unit_checks before text =
     ∷ block_checks (frame_after before text) text
     ++ checks_among (interfaces_before before) (parts_after before text)
 
--- why a text doesn't begin with a block: the first check that fails; None where it does
+-- why a text doesn't begin with a block: the first check that fails; None if it does
 abbrev pub unit_fault : Option Section → List ℕ → Option Fault
 unit_fault before text = first_failing (unit_checks before text)
 

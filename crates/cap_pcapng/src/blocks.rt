@@ -88,7 +88,7 @@ pub(crate) fn check_section_body(order: Order, body: &[u8]) -> Result<(), Fault>
 }
 
 /// The captured bytes, which are the first ones of the rest of a body, without their padding; or
-/// `BadBody` where the rest is shorter than these bytes with their padding.
+/// `BadBody` if the rest is shorter than these bytes with their padding.
 fn data_in(rest: &[u8], captured: u32) -> Result<&[u8], Fault>
     ensures { ChecksGive (data_checks captured rest.now) result
         (λ bytes. bytes.now ≡ take captured rest.now) }
@@ -100,7 +100,7 @@ fn data_in(rest: &[u8], captured: u32) -> Result<&[u8], Fault>
 }
 
 impl<'a> EnhancedBlock<'a> {
-    /// Reads the body of an enhanced packet block, or returns `BadBody` where it is shorter than 20
+    /// Reads the body of an enhanced packet block, or returns `BadBody` if it is shorter than 20
     /// bytes. Whether its data lie in the body is left to `data`.
     pub(crate) fn of_body(order: Order, body: &'a [u8]) -> Result<Self, Fault>
         ensures { ChecksGive (body_checks kind.EnhancedPacket order body.now) result
@@ -114,7 +114,7 @@ impl<'a> EnhancedBlock<'a> {
         Ok(EnhancedBlock {
             order,
             interface: u32_at(order, body, 0),
-            // 2^32 times the high half: the proof reads a product where a shift would do.
+            // 2^32 times the high half: the proof reads a product instead of a shift.
             ticks: high * 4_294_967_296 + low,
             captured: u32_at(order, body, 12),
             orig: u32_at(order, body, 16),
@@ -122,7 +122,7 @@ impl<'a> EnhancedBlock<'a> {
         })
     }
 
-    /// The captured bytes, or `BadBody` where the body is shorter than they are with their padding.
+    /// The captured bytes, or `BadBody` if the body is shorter than they are with their padding.
     pub fn data(&self) -> Result<&'a [u8], Fault>
         ensures { ChecksGive (data_checks self.now.captured self.now.rest.now) result
             (λ bytes. bytes.now ≡ take self.now.captured self.now.rest.now) }
@@ -130,7 +130,7 @@ impl<'a> EnhancedBlock<'a> {
         data_in(self.rest, self.captured)
     }
 
-    /// The options after the padded data; none where the body ends before.
+    /// The options after the padded data; none if the body ends before.
     pub fn options(&self) -> Options<'a>
         ensures order { result.order ≡ self.now.order }
         ensures rest { result.rest.now ≡ drop (padded_length self.now.captured) self.now.rest.now }
@@ -141,7 +141,7 @@ impl<'a> EnhancedBlock<'a> {
 }
 
 impl<'a> SimpleBlock<'a> {
-    /// Reads the body of a simple packet block, or returns `BadBody` where it is shorter than 4
+    /// Reads the body of a simple packet block, or returns `BadBody` if it is shorter than 4
     /// bytes. Whether its data lie in the body is left to `data`.
     pub(crate) fn of_body(order: Order, body: &'a [u8]) -> Result<Self, Fault>
         ensures { ChecksGive (body_checks kind.SimplePacket order body.now) result
@@ -156,8 +156,8 @@ impl<'a> SimpleBlock<'a> {
         })
     }
 
-    /// The captured length, in bytes, where the interface has this snap length: the original one,
-    /// but at most that; 0 is no snap length.
+    /// The captured length, in bytes, if the interface has this snap length: the original one,
+    /// but at most that; 0 means no snap length.
     pub fn captured(&self, snap: u32) -> u32
         ensures { result ≡ simple_captured self.now.orig snap }
     {
@@ -168,7 +168,7 @@ impl<'a> SimpleBlock<'a> {
         }
     }
 
-    /// The captured bytes where the interface has this snap length, or `BadBody` where the body is
+    /// The captured bytes if the interface has this snap length, or `BadBody` if the body is
     /// shorter than they are with their padding.
     pub fn data(&self, snap: u32) -> Result<&'a [u8], Fault>
         ensures { ChecksGive (data_checks (simple_captured self.now.orig snap) self.now.rest.now)

@@ -7,7 +7,7 @@ ghost use Rattle.cap_pcapng.specs.Time.{representable_time, units_per_second};
 use cap_octet::Fault;
 use cap_octet::date::{NANOS_PER_SECOND, TIME_END};
 
-/// The bit of a resolution that tells a power of two.
+/// The bit of a resolution that shows a power of two.
 const POWER_OF_TWO: u8 = 128;
 
 /// The greatest negative power of ten that a resolution may be.
@@ -26,7 +26,7 @@ pub struct Clock {
     ghost moves: { 0 < units },
 }
 
-/// How many ticks of a resolution make a second, or `BadTimeResolution` where its power is above 12
+/// How many ticks of a resolution make a second, or `BadTimeResolution` if its power is above 12
 /// of ten or 32 of two (draft-ietf-opsawg-pcapng, option if_tsresol).
 pub(crate) fn units_per_second(resolution: u8) -> Result<u64, Fault>
     ensures { result ≡ (if is_resolution resolution then Ok (units_per_second resolution)
@@ -41,7 +41,7 @@ pub(crate) fn units_per_second(resolution: u8) -> Result<u64, Fault>
 
 impl Clock {
     /// The nanoseconds since 1970-01-01 00:00:00 UTC at a tick, cut to whole ones before the offset
-    /// is added, or `TimeOutOfRange` where they are not from 0 to 2^63 - 1.
+    /// is added, or `TimeOutOfRange` if they are not from 0 to 2^63 - 1.
     pub fn time_at(&self, ticks: u64) -> Result<u64, Fault>
         ensures answer { result ≡ ok_or (representable_time ticks self.now.units self.now.offset)
             Fault.TimeOutOfRange }
@@ -54,7 +54,7 @@ impl Clock {
     }
 }
 
-/// This time in nanoseconds, or `TimeOutOfRange` where it isn't from 0 to 2^63 - 1.
+/// This time in nanoseconds, or `TimeOutOfRange` if it isn't from 0 to 2^63 - 1.
 fn time_in_range(time: i128) -> Result<u64, Fault>
     ensures answer { result ≡ ok_or (time_by time) Fault.TimeOutOfRange }
     ensures in_range { IfOk result (λ time. time < 2 ^ 63) }

@@ -2,8 +2,8 @@
 //! has a packet; with the checks of it that need these interfaces.
 ghost use Rattle.std.specs.Prelude.{◌≡◌, ◌+◌, ◌≤◌, IfOk, IfErr, length};
 ghost use Rattle.cap_pcapng.specs.Answer.{ChecksGive};
-ghost use Rattle.cap_pcapng.specs.Block.{parts_of};
-ghost use Rattle.cap_pcapng.specs.Effect.{HasEffect, IsBlockFault};
+ghost use Rattle.cap_pcapng.specs.Block.{parts_in, parts_of};
+ghost use Rattle.cap_pcapng.specs.Effect.{HasEffect, IsBlockFault, LiesAsSaid};
 ghost use Rattle.cap_pcapng.specs.inside.Effect.{PacketFound, fault_among};
 ghost use Rattle.cap_pcapng.specs.Effect.{span_bytes};
 ghost use Rattle.cap_pcapng.specs.Unit.{checks_among};
@@ -12,20 +12,20 @@ ghost use Rattle.cap_pcapng.specs.declared.blocks.Block.TheVariants as a;
 use crate::blocks::{Block, EnhancedBlock, SimpleBlock};
 use crate::frames::Frame;
 use crate::interface::Interface;
-use crate::read::read_block;
+use crate::read::block;
 use crate::table::MOST_INTERFACES;
 use cap_octet::{Fault, Order};
 
-/// Where the data of an enhanced packet begin in its block.
+/// The place where the data of an enhanced packet begin in its block.
 const ENHANCED_DATA: u32 = 28;
 
-/// Where the data of a simple packet begin in its block.
+/// The place where the data of a simple packet begin in its block.
 const SIMPLE_DATA: u32 = 12;
 
 /// Where some bytes of a unit, which is a record or a block here, lie.
 #[derive(Clone, Copy)]
 pub struct Span {
-    /// Where they begin in the unit.
+    /// The place where they begin in the unit.
     pub start: u32,
     /// How many they are.
     pub length: u32,
@@ -48,14 +48,14 @@ impl Span {
     }
 }
 
-/// Where a packet lies in its unit, and what is in front of its data.
+/// The place of a packet in its unit, and what is in front of its data.
 #[derive(Clone, Copy)]
 pub struct PacketSpans {
     /// The size of its unit, in bytes.
     pub size: u32,
-    /// Where its data lie.
+    /// The place where its data lie.
     pub bytes: Span,
-    /// Where the options of its block lie; none but in an enhanced packet.
+    /// The place where the options of its block lie; none but in an enhanced packet.
     pub options: Span,
     /// The number of its interface in its section; 0 in pcap.
     pub interface: u32,
@@ -93,7 +93,7 @@ pub trait Interfaces {
     fn count(&self) -> usize
         ensures { result ≡ length (list self.now) };
 
-    /// The interface with this number, counted from 0; `None` where there is none.
+    /// The interface with this number, counted from 0; `None` if there is none.
     fn get(&self, number: u32) -> Option<Interface<'_>>
         ensures { option_map description_of result ≡ slice_get (list self.now) number };
 }
@@ -112,7 +112,7 @@ pub enum BlockEffect<'a> {
 }
 
 /// The fault to report of a block whose own checks gave this one, after these interfaces. It is the
-/// same, but where there are 256 interfaces already, `TooManyInterfaces` comes before a fault of a
+/// same, but if there are 256 interfaces already, `TooManyInterfaces` comes before a fault of a
 /// further one's options.
 fn fault_in_full_table<T: Interfaces>(table: &T, fault: Fault) -> Fault
     ensures { result ≡ fault_among (T.list table.now) fault }
@@ -125,7 +125,7 @@ fn fault_in_full_table<T: Interfaces>(table: &T, fault: Fault) -> Fault
     }
 }
 
-/// Where the packet of an enhanced packet block of `size` bytes lies, or the first check that it
+/// The place of the packet of an enhanced packet block of `size` bytes, or the first check that it
 /// fails: its interface isn't known (`UnknownInterface`), its data with their padding end outside
 /// the body (`BadBody`), its time is out of range (`TimeOutOfRange`).
 fn enhanced_packet_spans<T: Interfaces>(
@@ -142,7 +142,7 @@ fn enhanced_packet_spans<T: Interfaces>(
     let Some(interface) = table.get(block.interface) else {
         return Err(Fault::UnknownInterface);
     };
-    // Only whether the padded data end inside the body; where the data lie is told by spans.
+    // Only whether the padded data end inside the body; spans show the place of the data.
     block.data()?;
     let time = interface.clock.time_at(block.ticks)?;
     // 0      28 = ENHANCED_DATA     following
@@ -160,7 +160,7 @@ fn enhanced_packet_spans<T: Interfaces>(
     })
 }
 
-/// Where the packet of a simple packet block of `size` bytes lies, one of interface 0 at time 0; or
+/// The place of the packet of a simple packet block of `size` bytes, one of interface 0 at time 0; or
 /// the first check that it fails: there is no interface (`UnknownInterface`), its data with their
 /// padding end outside the body (`BadBody`).
 fn simple_packet_spans<T: Interfaces>(
@@ -175,7 +175,7 @@ fn simple_packet_spans<T: Interfaces>(
     let Some(interface) = table.get(0) else {
         return Err(Fault::UnknownInterface);
     };
-    // Only whether the padded data end inside the body; where the data lie is told by spans.
+    // Only whether the padded data end inside the body; spans show the place of the data.
     block.data(interface.snap)?;
     Ok(PacketSpans {
         size,
@@ -197,9 +197,10 @@ pub fn block_effect<'a, T: Interfaces>(
     requires whole { length bytes.now ≡ frame.now.length }
     requires shortest { 12 ≤ frame.now.length }
     ensures ok { IfOk result (HasEffect frame.now (T.list table.now) bytes.now) }
+    ensures lies { IfOk result (LiesAsSaid (parts_in frame.now bytes.now)) }
     ensures err { IfErr result (IsBlockFault frame.now (T.list table.now) bytes.now) }
 {
-    match read_block(frame, bytes) {
+    match block(frame, bytes) {
         Ok(Block::Section) => Ok(BlockEffect::Section),
         Ok(Block::Interface(block)) => {
             if table.count() >= MOST_INTERFACES {

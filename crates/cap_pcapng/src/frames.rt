@@ -25,7 +25,7 @@ pub(crate) const BYTE_ORDER_MAGIC: u32 = 0x1a2b_3c4d;
 /// The greatest total length of a block, in bytes.
 pub(crate) const MOST_BLOCK: u32 = 1_048_576;
 
-/// The types of blocks that are told apart (draft-ietf-opsawg-pcapng, "Block Types").
+/// The types of blocks that are distinguished (draft-ietf-opsawg-pcapng, "Block Types").
 #[derive(Clone, Copy)]
 pub enum BlockType {
     /// The section header block.
@@ -53,7 +53,7 @@ pub struct Frame {
 }
 
 impl BlockType {
-    /// The type of a block that is no section header, by the number in its first four bytes.
+    /// The type of a block that isn't a section header, by the number in its first four bytes.
     pub(crate) fn of_number(number: u32) -> Self
         ensures { result ≡ type_of_block number }
     {
@@ -68,7 +68,7 @@ impl BlockType {
 }
 
 /// The byte order of a section header: the one in which its bytes 8 to 11 are the byte-order magic;
-/// `None` where they are it in neither.
+/// `None` if they are it in neither.
 pub(crate) fn magic_order(bytes: &[u8; 12]) -> Option<Order>
     ensures { result ≡ magic_order bytes.now }
 {

@@ -20,7 +20,7 @@ pub(crate) const RESOLUTION_CODE: u16 = 9;
 /// The code of an offset (option if_tsoffset).
 const OFFSET_CODE: u16 = 14;
 
-/// How many ticks make a second where no resolution is given.
+/// How many ticks make a second if no resolution is given.
 const MICROSECONDS: u64 = 1_000_000;
 
 /// The most bytes of an interface's name, as a capture that is read may have them.
@@ -36,14 +36,14 @@ pub struct Interface<'a> {
     pub link: u16,
     /// The snap length, in bytes; 0 is none.
     pub snap: u32,
-    /// Empty where there is none.
+    /// Empty if there is none.
     pub name: &'a [u8],
     /// How the ticks of its packets become times.
     pub clock: Clock,
     ghost short_name: { length name.now ≤ 255 },
 }
 
-/// What the options so far say of an interface: the value of the first of each code; `None` where
+/// What the options so far say of an interface: the value of the first of each code; `None` if
 /// none of the code came.
 #[derive(Clone, Copy)]
 struct FoundOptions<'a> {
@@ -54,7 +54,7 @@ struct FoundOptions<'a> {
     offset: Option<i64>,
 }
 
-/// The name that an option's value is, or `BadOption` where it has over 255 bytes.
+/// The name that an option's value is, or `BadOption` if it has over 255 bytes.
 fn name_in_value(value: &[u8]) -> Result<&[u8], Fault>
     ensures { ChecksGive (name_checks value.now) result (λ name. name.now ≡ value.now) }
 {
@@ -64,8 +64,8 @@ fn name_in_value(value: &[u8]) -> Result<&[u8], Fault>
     Ok(value)
 }
 
-/// How many ticks make a second, by the resolution that an option's value is; or `BadOption` where
-/// it isn't one byte, `BadTimeResolution` where that is out of range (`units_per_second`).
+/// How many ticks make a second, by the resolution that an option's value is; or `BadOption` if
+/// it isn't one byte, `BadTimeResolution` if that is out of range (`units_per_second`).
 fn units_in_value(value: &[u8]) -> Result<u64, Fault>
     ensures { ChecksGive (resolution_checks value.now) result
         (λ units. units ≡ units_in_value value.now) }
@@ -76,7 +76,7 @@ fn units_in_value(value: &[u8]) -> Result<u64, Fault>
     units_per_second(value[0])
 }
 
-/// The offset that an option's value is, in seconds, or `BadOption` where it isn't eight bytes (a
+/// The offset that an option's value is, in seconds, or `BadOption` if it isn't eight bytes (a
 /// signed number in the block's byte order).
 #[tactic(auto, unfolding(cap_octet::specs::Number::number_in))]
 fn offset_in_value(order: Order, value: &[u8]) -> Result<i64, Fault>
@@ -98,7 +98,7 @@ impl<'a> FoundOptions<'a> {
     ghost use Rattle.cap_pcapng.specs.OptionList.{coded_value, options_left};
 
     /// Adds what one option more says, or returns the first check that it fails. Only the first
-    /// option of a code is looked at, even where a later one would fail a check; options of other
+    /// option of a code is looked at, even if a later one would fail a check; options of other
     /// codes say nothing.
     fn add_option(mut self, order: Order, option: BlockOption<'a>) -> Result<Self, Fault>
         ensures { ChecksGive (if is_found self.entry option.entry.code then []
@@ -142,7 +142,7 @@ impl<'a> InterfaceBlock<'a> {
     ghost use Rattle.cap_pcapng.specs.declared.frames.BlockType.TheVariants as kind;
 
     /// Reads the body of an interface description block, or returns the first check that it fails:
-    /// `BadBody` where it is shorter than 8 bytes, or that of one of its options. Where no option
+    /// `BadBody` if it is shorter than 8 bytes, or that of one of its options. If no option
     /// says them, there is no name, a tick is a microsecond and the offset 0.
     pub(crate) fn of_body(order: Order, body: &'a [u8]) -> Result<Self, Fault>
         ensures found { ChecksGive (body_checks kind.Interface order body.now

@@ -7,7 +7,7 @@ pub fn section_back()
     ensures { SectionBack }
 {}
 
-/// An interface that was written reads back as it was, where its section isn't full: it gets the
+/// An interface that was written reads back as it was, if its section isn't full: it gets the
 /// next number there, and its ticks are nanoseconds.
 pub fn interface_back()
     ensures { InterfaceBack }

@@ -21,7 +21,7 @@ pub use effect::{BlockEffect, Interfaces, PacketSpans, Span, block_effect};
 pub use frames::{BlockType, Frame};
 pub use interface::{Interface, MOST_NAME, Name};
 pub use options::{BlockOption, Options};
-pub use read::{begins_section, read_block, read_frame};
+pub use read::{begins_section, block, frame};
 pub use table::{MOST_INTERFACES, Table};
 pub use write::{
     check_block_fits, interface_end, interface_header, option_header, packet_end, packet_header,

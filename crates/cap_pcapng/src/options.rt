@@ -54,8 +54,8 @@ impl<'a> Options<'a> {
         Options { order, rest }
     }
 
-    /// The value of the first comment among the options of a packet; empty where there is none.
-    /// The options end too at a value that doesn't fit, which is no fault in a packet.
+    /// The value of the first comment among the options of a packet; empty if there is none.
+    /// The options end too at a value that doesn't fit, which isn't a fault in a packet.
     pub fn comment(mut self) -> &'a [u8]
         ensures value { result.now ≡ comment_in self.entry.order self.entry.rest.now }
         ensures short { length result.now ≤ 65535 }
@@ -96,7 +96,7 @@ impl<'a> Iterator for Options<'a> {
             self.rest = &[];
             return Some(Err(Fault::BadOption));
         }
-        // Where the next option begins: after the padding, which the last one may lack.
+        // The place where the next option begins: after the padding, which the last one may lack.
         let following = rest.len().min(padded_length(size as u64) as usize);
         self.rest = &rest[following..];
         Some(Ok(BlockOption {

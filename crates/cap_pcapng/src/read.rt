@@ -10,21 +10,21 @@ use crate::blocks::{Block, EnhancedBlock, InterfaceBlock, SimpleBlock, check_sec
 use crate::frames::{BlockType, Frame, MOST_BLOCK, SECTION_TYPE, magic_order};
 use cap_octet::{Fault, Order, u32_at};
 
-/// Whether these are the first bytes of a section header, by the block's type alone.
+/// Whether these are the first bytes of a section header, only by the block's type.
 pub fn begins_section(bytes: &[u8; 4]) -> bool
     ensures { result ≡ is_section bytes.now }
 {
     u32_at(Order::Little, bytes, 0) == SECTION_TYPE
 }
 
-/// Reads the first 12 bytes of a block in a section of this byte order, `None` where no section
+/// Reads the first 12 bytes of a block in a section of this byte order, `None` if no section
 /// began; or returns the first check that they fail:
 ///
-/// - `NotACaptureFile`: no section began, and the block is no section header
+/// - `NotACaptureFile`: no section began, and the block isn't a section header
 /// - `BadByteOrderMagic`: a section header has none
 /// - `BadBlockLength`: the total length is below 12 or no multiple of 4
 /// - `TooLong`: the total length is above 1,048,576
-pub fn read_frame(section: Option<Order>, bytes: &[u8; 12]) -> Result<Frame, Fault>
+pub fn frame(section: Option<Order>, bytes: &[u8; 12]) -> Result<Frame, Fault>
     ensures answer { result ≡ checked (frame_fault section bytes.now) (frame_in section bytes.now) }
     ensures shortest { IfOk result (λ frame. 12 ≤ frame.length) }
     ensures longest { IfOk result (λ frame. frame.length ≤ most_block) }
@@ -57,7 +57,7 @@ pub fn read_frame(section: Option<Order>, bytes: &[u8; 12]) -> Result<Frame, Fau
 }
 
 /// Reads the body of a block, between its two total lengths, or returns the first check that fails:
-/// those that `read_block` lists from `ObsoletePacketBlock` on.
+/// those that `block` lists from `ObsoletePacketBlock` on.
 fn read_body<'a>(frame: &Frame, body: &'a [u8]) -> Result<Block<'a>, Fault>
     ensures parts { ChecksGive (body_checks frame.now.block_type frame.now.order body.now
         ++ option_checks (parts_in_body frame.now.block_type frame.now.order body.now)) result
@@ -85,7 +85,7 @@ fn read_body<'a>(frame: &Frame, body: &'a [u8]) -> Result<Block<'a>, Fault>
 ///   wrong value
 ///
 /// The caller makes the checks that need the interfaces of its section (`block_effect`).
-pub fn read_block<'a>(frame: &Frame, bytes: &'a [u8]) -> Result<Block<'a>, Fault>
+pub fn block<'a>(frame: &Frame, bytes: &'a [u8]) -> Result<Block<'a>, Fault>
     ensures parts { IfOk result (λ block. parts_of block ≡ parts_in frame.now bytes.now) }
     ensures described { IfOk result IsDescribedIfAny }
     ensures passes { IfOk result (λ _. block_fault frame.now bytes.now ≡ None) }

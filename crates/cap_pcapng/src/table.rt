@@ -110,8 +110,8 @@ impl<A: Allocator> Table<A> {
         self.entries.clear();
     }
 
-    /// Gives an interface the next number. `TooManyInterfaces` where there are 256 already,
-    /// `NoMemory` where an allocation fails; either leaves the table unchanged.
+    /// Gives an interface the next number. `TooManyInterfaces` if there are 256 already,
+    /// `NoMemory` if an allocation fails; either leaves the table unchanged.
     pub fn push(&mut self, interface: &Interface<'_>) -> Result<(), Fault>
         ensures pushed { OnOk result (self.new ≡ self.old ++ description_of interface.now ∷ []) }
         ensures kept { OnErr result (self.new ≡ self.old) }
@@ -129,7 +129,7 @@ impl<A: Allocator> Table<A> {
             .map_err(|_| Fault::NoMemory)
     }
 
-    /// The interface with this number, counted from 0, with its name lent; `None` where there is
+    /// The interface with this number, counted from 0, with its name lent; `None` if there is
     /// none.
     pub fn get(&self, number: u32) -> Option<Interface<'_>>
         ensures { option_map description_of result ≡ slice_get self.now number }
@@ -146,7 +146,7 @@ impl<A: Allocator> Interfaces for Table<A> {
         self.entries.len()
     }
 
-    /// The interface with this number; `None` where there is none.
+    /// The interface with this number; `None` if there is none.
     fn get(&self, number: u32) -> Option<Interface<'_>> {
         Table::get(self, number)
     }

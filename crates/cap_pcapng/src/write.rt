@@ -7,7 +7,7 @@
 //!
 //! A block is written in parts: its header, the texts that are lent (data, comment, name), and what
 //! stands between two texts or after the last one. That begins with zeros for the padding of the
-//! text before it; the first of these zeros are left out where the text needs fewer.
+//! text before it; the first of these zeros are left out if the text needs fewer.
 ghost use Rattle.std.specs.Prelude.{◌≡◌, ◌+◌, ◌<◌, ◌^◌, ◌++◌, length, replicate, None};
 ghost use Rattle.byteorder.specs.Endian.{little_bytes};
 ghost use Rattle.cap_octet.specs.Checks.{checked, first_failing};
@@ -41,7 +41,7 @@ fn comment_size(comment: &[u8]) -> u64
     8 + padded_length(comment.len() as u64)
 }
 
-/// Checks that a packet's block has at most 1,048,576 bytes, or returns `TooLong`. Beside data and
+/// Checks that a packet's block has at most 1,048,576 bytes, or returns `TooLong`. Next to data and
 /// comment it has 32 bytes: the header, and the total length at its end.
 pub fn check_block_fits(packet: &Packet<'_>) -> Result<(), Fault>
     ensures { result ≡ checked (first_failing (block_fit_checks (captured packet.now))) tt }
@@ -110,7 +110,7 @@ pub fn option_header(code: u16, value: &[u8]) -> [u8; 7]
 }
 
 /// The end of an enhanced packet block of `size` bytes: its total length, after seven zeros, up to
-/// three of padding and four that end the options. A block without options leaves those four out.
+/// three of padding and four that end the options. A block without options omits those four.
 pub fn packet_end(size: u32) -> [u8; 11]
     ensures { result ≡ replicate 7 0 ++ little_bytes 4 size }
 {
@@ -196,7 +196,7 @@ pub fn write_interface<O: Output>(packet: &Packet<'_>, output: &mut O) -> Result
     let name = packet.name;
     let padding = padding_after(name.len());
     let option = option_header(NAME_CODE, name);
-    // Without the three zeros, as the header needs no padding; of no name without all seven bytes.
+    // Without the three zeros, as the header needs no padding; for no name without all seven bytes.
     let start = if name.is_empty() { 7 } else { 3 };
     let option = &option[start..];
     // 16 of the header, 16 of the end without its padding.

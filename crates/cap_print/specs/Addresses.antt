@@ -28,7 +28,7 @@ four_groups p at = two_groups p at ++ 58 ∷ two_groups p (at + 4)
 unfoldable pub ipv6_text : List ℕ → ℕ → List ℕ
 ipv6_text p at = four_groups p at ++ 58 ∷ four_groups p (at + 8)
 
--- a port after an address, where there is one
+-- a port after an address, if there is one
 abbrev pub port_text : Option ℕ → List ℕ
 port_text None = []
 port_text (Some port) = 46 ∷ decimal port

@@ -1,4 +1,4 @@
--- The bytes of a packet in hexadecimal, 16 a row.
+-- The bytes of a packet in hexadecimal, 16 per row.
 use Rattle.std.specs.Prelude.{ℕ, zero, suc, ◌+◌, ◌*◌, ◌/◌, List, [], ◌∷◌, ◌++◌, length, take, drop, codes}
 use Rattle.cap_octet.specs.NetworkHeader.{link_header_length}
 use Rattle.cap_print.specs.Hexadecimal.{hex_two, hex_place}

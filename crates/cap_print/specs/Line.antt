@@ -14,8 +14,8 @@ use Rattle.cap_print.specs.Network.{network_part}
 unfoldable pub ethertype_text : ℕ → List ℕ
 ethertype_text type = codes ", type 0x" ++ (hex_four type ++ codes ", ")
 
--- what a line says of a link before its EtherType: of Ethernet the addresses of source and
--- destination, of another link its name
+-- the link part before the EtherType: for Ethernet the addresses of source and
+-- destination, for another link its name
 unfoldable pub link_text : Link → List ℕ → List ℕ
 link_text Ether p = mac_text p 6 ++ (codes " > " ++ mac_text p 0)
 link_text link p = link_name link
@@ -33,7 +33,7 @@ link_part n p =
     option_map_or (λ link. link_header link (type_offset link) p) (link_of n)
     (codes "link " ++ (decimal n ++ codes ", "))
 
--- the line of a packet: the date, what is said of the link header where that is asked for, what is
+-- the line of a packet: the date, what is said of the link header if that is asked for, what is
 -- said of the network header, and the original length of the whole packet
 unfoldable pub line : Bool → Captured → List ℕ
 line with_link p =

@@ -13,13 +13,13 @@ use Rattle.cap_print.specs.declared.network.Ip.{Ip}
 use Rattle.cap_print.specs.declared.network.Ip.TheVariants.{V4, V6}
 use Rattle.cap_print.specs.declared.network.IpLayout.{IpLayout}
 
--- where a header of IP has its protocol and its two addresses, and how long they are (RFC 791,
+-- the places in an IP header of its protocol and its two addresses, and how long they are (RFC 791,
 -- section 3.1; RFC 8200, section 3)
 abbrev pub layout_of : Ip → IpLayout
 layout_of V4 = record { protocol = 9; addresses = 12; address_length = 4 }
 layout_of V6 = record { protocol = 6; addresses = 8; address_length = 16 }
 
--- where the addresses of a header of IP end
+-- the end of the addresses of an IP header
 abbrev pub addresses_end : Ip → ℕ → ℕ
 addresses_end ip l = l + (layout_of ip).addresses + 2 * (layout_of ip).address_length
 
@@ -38,7 +38,7 @@ abbrev pub icmp_name : Ip → List ℕ
 icmp_name V4 = codes "ICMP"
 icmp_name V6 = codes "ICMP6"
 
--- the name of a protocol, or its number where it has none
+-- the name of a protocol, or its number if it has none
 unfoldable pub protocol_text : Ip → ℕ → List ℕ
 protocol_text ip n =
     if n == IPPROTO_TCP then codes "TCP"
@@ -55,7 +55,7 @@ address_text V6 p at = ipv6_text p at
 abbrev pub address_with_port : Ip → List ℕ → ℕ → Option ℕ → List ℕ
 address_with_port ip p at port = address_text ip p at ++ port_text port
 
--- `IP A > B: ` or `IP6 A > B: `, each address with its port, where there are ports
+-- `IP A > B: ` or `IP6 A > B: `, each address with its port, if there are ports
 unfoldable pub ip_endpoints : Ip → ℕ → List ℕ → Option (ℕ × ℕ) → List ℕ
 ip_endpoints ip l p ports =
     ip_name ip
@@ -70,7 +70,7 @@ abbrev pub is_later_fragment : Ip → ℕ → List ℕ → Bool
 is_later_fragment V4 l p = not (network_u16 p (l + 6) % 8192 == 0)
 is_later_fragment V6 l p = false
 
--- where the header ends: that of IPv4 says so, that of IPv6 has 40 bytes
+-- the end of the header: that of IPv4 states it, that of IPv6 has 40 bytes
 abbrev pub header_end : Ip → ℕ → List ℕ → ℕ
 header_end V4 l p = 4 * (slice_index p l % 16) + l
 header_end V6 l p = addresses_end V6 l

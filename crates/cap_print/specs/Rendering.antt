@@ -5,7 +5,7 @@ use Rattle.cap_print.specs.declared.print.Options.{Options}
 use Rattle.cap_print.specs.Dump.{link_payload, rows}
 use Rattle.cap_print.specs.Line.{line}
 
--- a packet's line, and after it the rows of its bytes, without those of its link header, where they
+-- a packet's line, and after it the rows of its bytes, without those of its link header, if they
 -- are asked for
 unfoldable pub printed_text : Options → Captured → List ℕ
 printed_text options p =

@@ -76,7 +76,7 @@ pub fn push_ipv6(text: &mut Text, bytes: &[u8], at: usize)
     push_four_groups(text, bytes, at + 8);
 }
 
-/// Appends a port after an address, as `.80`; nothing where there is none. The room is for a point
+/// Appends a port after an address, as `.80`; nothing if there is none. The room is for a point
 /// and ten digits.
 pub fn push_port(text: &mut Text, port: Option<u16>)
     requires { length text.old + 11 ≤ 256 }

@@ -1,4 +1,4 @@
-//! The bytes of a packet in hexadecimal, 16 a row, after `tcpdump -x`.
+//! The bytes of a packet in hexadecimal, 16 per row, after `tcpdump -x`.
 ghost use Rattle.std.specs.Prelude.{◌≡◌, ◌+◌, ◌*◌, ◌≤◌, ◌<◌, ◌++◌, length};
 ghost use Rattle.cap_print.specs.Dump.{pairs, link_payload, row, row_count};
 
@@ -9,7 +9,7 @@ use cap_octet::link_header_length;
 /// How many bytes of a packet a row has, but the last one, which may have fewer.
 const ROW_BYTES: usize = 16;
 
-/// The captured bytes after the link header; none where they end inside it.
+/// The captured bytes after the link header; none if they end inside it.
 pub fn link_payload(link: u16, bytes: &[u8]) -> &[u8]
     ensures { result.now ≡ link_payload link bytes.now }
 {

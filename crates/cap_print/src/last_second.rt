@@ -1,4 +1,4 @@
-//! The date of the second that was printed last, so that it isn't made anew for each packet.
+//! The date of the second that was printed last, so that it isn't made again for each packet.
 use cap_octet::date::second_bytes;
 use std::marker::Model;
 
@@ -40,7 +40,7 @@ impl LastSecond {
     }
 
     /// The date of a second, counted from 1970-01-01 00:00:00 UTC, up to its point, `YYYY-MM-DD
-    /// hh:mm:ss.`. It is made only where the second isn't the one that is kept, which it then is.
+    /// hh:mm:ss.`. It is made only if the second isn't the one that is kept, which it then is.
     #[inline]
     pub fn date_of(&mut self, second: u64) -> [u8; 20]
         requires { second < 2 ^ 34 }

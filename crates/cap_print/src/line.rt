@@ -26,8 +26,8 @@ fn push_ethertype(text: &mut Text, kind: u16)
     text.push_all(b", ");
 }
 
-/// Appends what a line says of a link before its EtherType: of Ethernet the source's address, in
-/// the header's bytes 6 to 11, and the destination's, in its bytes 0 to 5; of another link its
+/// Appends the link part before the EtherType: for Ethernet the source's address, in
+/// the header's bytes 6 to 11, and the destination's, in its bytes 0 to 5; for another link its
 /// name. The header is captured.
 #[tactic(auto, unfolding(crate::specs::Line::link_text))]
 fn push_link_text(text: &mut Text, link: Link, bytes: &[u8])
@@ -47,8 +47,8 @@ fn push_link_text(text: &mut Text, link: Link, bytes: &[u8])
 }
 
 /// Appends what a line says of the header of a link that is known, with its EtherType at
-/// `type_offset`: the link's name alone where that is `None`, since the link has no EtherType, and
-/// `[short]` after the name where the header isn't all captured.
+/// `type_offset`: only the link's name if that is `None`, since the link has no EtherType, and
+/// `[short]` after the name if the header isn't all captured.
 #[tactic(auto, unfolding(crate::specs::Line::link_header))]
 fn push_link_header(text: &mut Text, link: Link, type_offset: Option<usize>, bytes: &[u8])
     requires room { length text.old + 60 ≤ 256 }
@@ -72,7 +72,7 @@ fn push_link_header(text: &mut Text, link: Link, type_offset: Option<usize>, byt
     }
 }
 
-/// Appends what a line says of the link header of a packet with this link type; of one that isn't
+/// Appends what a line says of the link header of a packet with this link type; for one that isn't
 /// known only its number, as `link 147, `.
 #[tactic(auto, unfolding(crate::specs::Line::link_part))]
 fn push_link_part(text: &mut Text, link: u16, bytes: &[u8])

@@ -23,7 +23,7 @@ pub(crate) enum Ip {
     V6,
 }
 
-/// Where a header of IP has what a line says of it, in bytes from its start.
+/// The places of the printed fields of an IP header, in bytes from its start.
 #[derive(Clone, Copy)]
 pub(crate) struct IpLayout {
     /// The number of the protocol after the header.
@@ -52,7 +52,7 @@ fn layout_of(ip: Ip) -> IpLayout
     }
 }
 
-/// Where the two addresses of the header of IP end, and the header too if it has no options.
+/// The end of the two addresses of the IP header, and the header too if it has no options.
 fn addresses_end(ip: Ip, start: usize) -> usize
     requires { start ≤ longest_header }
     ensures { result ≡ addresses_end ip start }
@@ -155,7 +155,7 @@ fn push_endpoints(text: &mut Text, ip: Ip, bytes: &[u8], start: usize, ports: Op
 }
 
 /// Whether an IPv4 packet is a later fragment, whose offset isn't 0, and so has no ports. Those of
-/// IPv6 are told by a header of their own, which isn't read.
+/// IPv6 have a header of their own, which isn't read.
 fn is_later_fragment(ip: Ip, bytes: &[u8], start: usize) -> bool
     requires place { start ≤ longest_header }
     requires there { addresses_end ip start ≤ length bytes.now }
@@ -168,7 +168,7 @@ fn is_later_fragment(ip: Ip, bytes: &[u8], start: usize) -> bool
     }
 }
 
-/// Where the header of IP ends: one of IPv4 states its length, in units of four bytes, in the lower
+/// The end of the IP header: one of IPv4 states its length, in units of four bytes, in the lower
 /// half of its first byte; one of IPv6 ends after its addresses.
 fn header_end(ip: Ip, bytes: &[u8], start: usize) -> usize
     requires place { start ≤ longest_header }
@@ -189,7 +189,7 @@ fn has_ports(protocol: u8) -> bool
     protocol == IPPROTO_TCP || protocol == IPPROTO_UDP
 }
 
-/// The source's and the destination's port, in the four bytes from place `at`; `None` where the
+/// The source's and the destination's port, in the four bytes from place `at`; `None` if the
 /// protocol has no ports or they aren't captured.
 fn ports_at(protocol: u8, bytes: &[u8], at: usize) -> Option<(u16, u16)>
     requires { at ≤ longest_header + 60 }
@@ -203,7 +203,7 @@ fn ports_at(protocol: u8, bytes: &[u8], at: usize) -> Option<(u16, u16)>
 }
 
 /// Appends what a line says of a header of IP: `IP A > B: ` with the protocol, or with `fragment`
-/// where it is a later fragment; `IP [short]` where the addresses aren't all captured. Of IPv6 it
+/// if it is a later fragment; `IP [short]` if the addresses aren't all captured. For IPv6 it
 /// is `IP6`.
 // Inlined with what it calls, so that the version is a constant in each copy.
 #[inline(always)]
@@ -232,7 +232,7 @@ fn push_ip_part(text: &mut Text, ip: Ip, bytes: &[u8], start: usize)
 
 /// Appends what a line says of an ARP or RARP header after its name: its operation (bytes 6 and 7),
 /// and the IPv4 addresses of sender and target (from bytes 14 and 24 on), as RFC 826 has them with
-/// Ethernet; or `[short]` where its 28 bytes aren't all captured.
+/// Ethernet; or `[short]` if its 28 bytes aren't all captured.
 #[tactic(auto, unfolding(crate::specs::Network::arp_part))]
 fn push_arp_part(text: &mut Text, bytes: &[u8], start: usize)
     requires room { length text.old + 120 ≤ 256 }

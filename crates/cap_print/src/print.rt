@@ -10,7 +10,7 @@ use crate::line::write_line;
 use crate::text::Text;
 use cap_octet::{DeviceFault, Output, Packet, write_all};
 
-/// What is printed beside the network header (tcpdump(1)).
+/// What is printed in addition to the network part (tcpdump(1)).
 #[derive(Clone, Copy)]
 pub struct Options {
     /// The link header (`-e`).
@@ -19,7 +19,7 @@ pub struct Options {
     pub bytes: bool,
 }
 
-/// Writes the line of a packet, and the rows of its bytes where they are asked for, by one
+/// Writes the line of a packet, and the rows of its bytes if they are asked for, by one
 /// `write_all` each. `text` is the buffer in which line and rows are made. An error is a failure of
 /// the device in this call, after a prefix of what is printed that isn't the whole.
 pub fn print_packet<O: Output>(

@@ -4,7 +4,7 @@ use cap_octet::date::{NANOS_PER_SECOND, nine_digits, two_digits};
 use itoa::Buffer;
 use std::marker::Model;
 
-/// How many bytes the buffer holds: a line has at most 250, a row fewer.
+/// The bytes of the buffer: a line has at most 250, and a row fewer.
 const ROOM: usize = 256;
 
 /// A buffer of at most 256 bytes, in place. Contracts see it as its bytes; whoever appends knows

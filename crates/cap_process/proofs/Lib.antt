@@ -6,8 +6,8 @@ pub mod Selectors
 pub mod Lines
 pub mod Lists
 pub mod Wholes
+pub mod Closings
 pub mod Negations
 pub mod Prefixes
-pub mod Rows
 pub mod EditRules
 pub mod Refusals

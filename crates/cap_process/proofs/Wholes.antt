@@ -32,21 +32,21 @@ use Rattle.cap_process.proofs.Selectors.{upper_bound}
 
 -- ---- the verdicts
 
-abbrev judged_by : Verdict → List Captured → List Captured
+abbrev pub judged_by : Verdict → List Captured → List Captured
 judged_by (Pass p) rest = p ∷ rest
 judged_by (PassLast p) rest = p ∷ []
 judged_by Skip rest = rest
 judged_by (Refuse fault) rest = []
 
 -- the packets that pass, of these after that many that were decided
-abbrev judged : Policy → ℕ → SelectorState → List Captured → List Captured
+abbrev pub judged : Policy → ℕ → SelectorState → List Captured → List Captured
 judged a k state [] = []
 judged a k state (p ∷ ps) = judged_by (judge a state (k + 1) p).verdict (judged a (k + 1) (judge a state (k + 1) p).state ps)
 
-abbrev under_way : ℕ → SelectorState → List Captured → List Report → JobProgress
+abbrev pub under_way : ℕ → SelectorState → List Captured → List Report → JobProgress
 under_way k state out reports = record { decided = k; state = state; packets = out; reports = reports; end = None }
 
-end-stays : (a : Policy) (w : JobProgress) (input : ℕ) (kind : Option Kind) (size : ℕ) → is_count a ≡ false → end_input a w input kind size ≡ w
+pub end-stays : (a : Policy) (w : JobProgress) (input : ℕ) (kind : Option Kind) (size : ℕ) → is_count a ≡ false → end_input a w input kind size ≡ w
 end-stays (Edit s) w input kind size judges = refl
 end-stays (Filter rule count) w input kind size judges = refl
 end-stays KeepAll w input kind size judges = refl
@@ -117,13 +117,13 @@ coming-packets : (ps : List Captured) → event_packets (coming ps) ≡ ps
 coming-packets [] = refl
 coming-packets (p ∷ ps) = ap (λ (l : List Captured). p ∷ l) (coming-packets ps)
 
-judged-is : (a : Policy) (ps : List Captured) → is_count a ≡ false → judged a 0 initial_state ps ≡ (apply_events a (AsReports []) no_progress (coming ps)).packets
+pub judged-is : (a : Policy) (ps : List Captured) → is_count a ≡ false → judged a 0 initial_state ps ≡ (apply_events a (AsReports []) no_progress (coming ps)).packets
 judged-is a ps judges =
     ap (judged a 0 initial_state) (sym (coming-packets ps))
     ∙ sym (none-refused [] [] (judged a 0 initial_state (event_packets (coming ps))))
     ∙ sym (writes a (AsReports []) 0 initial_state [] [] (coming ps) judges)
 
-judged-all : (k : ℕ) (state : SelectorState) (ps : List Captured) → k + length ps < 2 ^ 63 → judged KeepAll k state ps ≡ ps
+pub judged-all : (k : ℕ) (state : SelectorState) (ps : List Captured) → k + length ps < 2 ^ 63 → judged KeepAll k state ps ≡ ps
 judged-all k state [] less = refl
 judged-all k state (p ∷ ps) less =
     ap (λ (j : Judgement). judged_by j.verdict (judged KeepAll (k + 1) j.state ps)) (upper_bound KeepAll state (k + 1) p refl (omega arith))
@@ -200,7 +200,7 @@ one-input r End =
     ∙ packets-of-input 0 r.items.packets
 one-input r (FaultAt fault offset) = packets-of-input 0 r.items.packets
 
-in-file : (a : Policy) (file : List ℕ) → judged a 0 initial_state (event_packets (sequence_in_turn 0 (whole_input file ∷ [])).events) ≡ judged a 0 initial_state (file_packets file)
+pub in-file : (a : Policy) (file : List ℕ) → judged a 0 initial_state (event_packets (sequence_in_turn 0 (whole_input file ∷ [])).events) ≡ judged a 0 initial_state (file_packets file)
 in-file a file = ap (judged a 0 initial_state) (one-input (whole_input file) (items file).ending)
 
 pub edit_writes : EditWrites
@@ -208,7 +208,7 @@ edit_writes s format names file less =
     command-writes (edit_work s format) names (whole_input file ∷ []) (unique_after s.window [] (packets_selected s 1 (file_packets file))) refl (capture-of-packets format)
     (in-file (Edit s) file ∙ judged-is (Edit s) (file_packets file) refl ∙ passes_unique s (file_packets file) less)
 
-printed : (rule : Rule) (count : Option ℕ) (file : List ℕ) → IfSome count (λ (n : ℕ). 0 < n) → length (file_packets file) < 2 ^ 63
+pub printed : (rule : Rule) (count : Option ℕ) (file : List ℕ) → IfSome count (λ (n : ℕ). 0 < n) → length (file_packets file) < 2 ^ 63
     → judged (Filter rule count) 0 initial_state (event_packets (sequence_in_turn 0 (whole_input file ∷ [])).events) ≡ at_most count (packets_kept rule (file_packets file))
 printed rule count file some less = in-file (Filter rule count) file ∙ judged-is (Filter rule count) (file_packets file) refl ∙ passes_filtered rule count (file_packets file) some less
 
@@ -429,11 +429,11 @@ merges_one order format names file =
 
 -- ---- what a format carries
 
-all-selected : (number : ℕ) (ps : List Captured) → packets_selected no_options number ps ≡ ps
+pub all-selected : (number : ℕ) (ps : List Captured) → packets_selected no_options number ps ≡ ps
 all-selected number [] = refl
 all-selected number (p ∷ ps) = ap (λ (q : Captured). q ∷ packets_selected no_options (number + 1) ps) (same-packet p) ∙ ap (λ (l : List Captured). p ∷ l) (all-selected (number + 1) ps)
 
-all-unique : (before : List Mark) (ps : List Captured) → unique_after None before ps ≡ ps
+pub all-unique : (before : List Mark) (ps : List Captured) → unique_after None before ps ≡ ps
 all-unique before [] = refl
 all-unique before (p ∷ ps) = ap (λ (l : List Captured). p ∷ l) (all-unique (before ++ mark_of p.bytes ∷ []) ps)
 

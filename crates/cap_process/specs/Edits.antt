@@ -6,7 +6,7 @@ use Rattle.cap_window.specs.Marks.{mark_of, has_same, last}
 use Rattle.cap_io.specs.Sequence.{Event, Packet}
 use Rattle.cap_process.specs.Verdict.{EditRule, edited_packet_with, is_selected, shifted_time}
 
--- a selected packet at its moved time, before the rest; where it has no such time, neither it nor
+-- a selected packet at its moved time, before the rest; if it has no such time, neither it nor
 -- the rest
 abbrev pub selected_at : EditRule → Captured → Option ℕ → List Captured → List Captured
 selected_at s p None rest = []

@@ -65,8 +65,8 @@ CountsAll =
 
 -- ---- what a filter keeps
 
--- by the decision on a packet: it and the rest where it is kept; the rest where it is skipped; none
--- where it is refused
+-- by the decision on a packet: it and the rest if it is kept; the rest if it is skipped; none
+-- if it is refused
 abbrev pub kept_by : Decision → Captured → List Captured → List Captured
 kept_by Keep p rest = p ∷ rest
 kept_by Skip p rest = rest
@@ -83,7 +83,7 @@ at_most None ps = ps
 at_most (Some n) ps = take n ps
 
 -- of fewer than 2^63 packets those pass that the rule keeps, up to the first that it refuses; the
--- first of them where a count, which is at least 1, is given
+-- first of them if a count, which is at least 1, is given
 abbrev pub PassesFiltered : Type 0
 PassesFiltered =
     (rule : Rule) (count : Option ℕ) (ps : List Captured) → IfSome count (λ (n : ℕ). 0 < n)
@@ -134,7 +134,7 @@ end_at_time None = None
 end_at_time (Some offset) = Some (FaultIn 0 TimeOutOfRange offset)
 
 -- An edit of fewer than 2^63 packets ends by a fault at the first that is selected and whose moved
--- time is below 0 or above 2^63 - 1 nanoseconds, and goes on where there is none; what passes is
+-- time is below 0 or above 2^63 - 1 nanoseconds, and goes on if there is none; what passes is
 -- what is unique of what is selected before it.
 abbrev pub EndsWithoutTime : Type 0
 EndsWithoutTime = (s : EditRule) (ps : List Placed) → length ps < 2 ^ 63

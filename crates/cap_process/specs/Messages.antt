@@ -47,8 +47,8 @@ refusal_message (Listing listing.Memory) = no_memory_message
 refusal_message (Listing fault) = code_message (listing_message fault)
 refusal_message (Program fault at) = code_message (check_message fault at)
 
--- A message is written whole; or a prefix of it that isn't the whole, where its device failed once.
--- Of a device that doesn't tell its bytes only its failures are known.
+-- A message is written whole; or a prefix of it that isn't the whole, if its device failed once.
+-- On a device that doesn't show its bytes only its failures are known.
 pub record IsTold (tells : Bool) (old : OutputView) (message : List ℕ)
     (new : OutputView) : Type 0 where
   pub answer : Result (Unit {0}) DeviceFault

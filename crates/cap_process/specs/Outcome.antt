@@ -23,10 +23,10 @@ pub data Form : Type 0 where
   AsCapture : (format : Format) → Form
   -- each report, by the names of the inputs
   AsReports : (names : List (List ℕ)) → Form
-  -- a line for each packet, and its bytes where they are asked for
+  -- a line for each packet, and its bytes if they are asked for
   AsLines : (options : Options) → Form
 
--- why a packet that comes after these is refused when it is to be written, if it is; only a capture
+-- why a packet that comes after these is refused when it must be written, if it is; only a capture
 -- refuses any
 abbrev pub form_refuses : Form → List Captured → Captured → Option Fault
 form_refuses (AsCapture format) ps p = refusal_of format ps p
@@ -41,7 +41,7 @@ form_takes_memory form ps p = false
 -- ---- the fold
 
 -- How far a job is: how many packets are decided, what was met, the packets that passed, the
--- reports, and how it ended, where it did.
+-- reports, and how it ended, if it did.
 pub record JobProgress : Type 0 where
   pub decided : ℕ
   pub state : SelectorState
@@ -62,7 +62,7 @@ decide w state new end =
 abbrev pub end_with : JobProgress → SequenceEnd → JobProgress
 end_with w close = record w { end = Some close }
 
--- a packet that passes is written, which leaves `decided`; unless the form refuses it, where the
+-- a packet that passes is written, which doesn't change `decided`; unless the form refuses it, if the
 -- job ends
 abbrev pub unless_refused : Option Fault → JobProgress → ℕ → Placed → (decided : JobProgress)
     → JobProgress
@@ -79,7 +79,7 @@ apply_verdict form w input p (PassLast q) state =
 apply_verdict form w input p Skip state = decide w state [] None
 apply_verdict form w input p (Refuse fault) state = end_with w (FaultIn input fault p.offset)
 
--- an input that was read to its end is reported, where reports are asked, and the tally begins anew
+-- an input that was read to its end is reported, if reports are asked, and the tally begins again
 abbrev pub end_input : Policy → JobProgress → ℕ → Option Kind → ℕ → JobProgress
 end_input Count w input kind size = record w {
   state = record w.state { tally = nothing_counted };
@@ -109,7 +109,7 @@ abbrev pub apply_events : Policy → Form → JobProgress → List Event → Job
 apply_events policy form w [] = w
 apply_events policy form w (e ∷ es) = apply_events policy form (next_progress policy form w e) es
 
--- a job ends so, unless it ended before
+-- a job ends like this, unless it ended before
 abbrev pub end_unless_ended : JobProgress → SequenceEnd → JobProgress
 end_unless_ended w close = unless_ended w.end w (end_with w close)
 
@@ -151,7 +151,7 @@ abbrev pub closing_text : Form → Option ℕ → List Captured → List ℕ
 closing_text (AsCapture format) link [] = file_start format (link_or_ethernet link)
 closing_text form link ps = []
 
--- What the end adds. After a fault that is nothing: where no packet was kept, the output has no
+-- What the end adds. After a fault that is nothing: if no packet was kept, the output has no
 -- file header either.
 abbrev pub text_at_end : Option SequenceEnd → Form → Option ℕ → List Captured → List ℕ
 text_at_end (Some Complete) form link ps = closing_text form link ps
@@ -167,7 +167,7 @@ abbrev pub message : List (List ℕ) → Option SequenceEnd → List ℕ
 message names (Some (FaultIn input fault offset)) = fault_message (name_at names input) offset fault
 message names end = []
 
--- 1 where a job ended by a fault, else 0
+-- 1 if a job ended by a fault, else 0
 abbrev pub status : Option SequenceEnd → ℕ
 status (Some (FaultIn input fault offset)) = 1
 status end = 0
@@ -197,7 +197,7 @@ abbrev pub outcome : Work → List (List ℕ) → List InputItems → Outcome
 outcome work names rs =
     outcome_at work names rs (final_progress work.policy work.form (sequence_of work.order rs))
 
--- these items in place of one input's
+-- these items instead of one input's
 abbrev pub cut_at : List InputItems → ℕ → Items → List InputItems
 cut_at [] i items = []
 cut_at (r ∷ rs) zero items = record r { items = items } ∷ rs

@@ -1,4 +1,4 @@
--- What a contract sees of where a job writes, and what its calls do.
+-- What a contract sees of the output of a job, and what its calls do.
 use Rattle.std.specs.Prelude.{◌≡◌, ℕ, ◌+◌, List, ◌++◌}
 use Rattle.cap_octet.specs.Packet.{Captured}
 use Rattle.cap_print.specs.declared.print.Options.{Options}

@@ -104,7 +104,7 @@ unfoldable pub file_report : List ℕ → Option Kind → ℕ → Tally → List
 file_report name kind size t =
     lines ((codes "File", name) ∷ (size_lines kind size t ++ time_lines t)) (10 ∷ [])
 
--- the name with this index; empty where there is none
+-- the name with this index; empty if there is none
 abbrev pub name_at : List (List ℕ) → ℕ → List ℕ
 name_at names i = unwrap_or (slice_get names i) []
 

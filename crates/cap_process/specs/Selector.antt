@@ -54,7 +54,7 @@ abbrev pub programs_in : {Z : Type 0} → code_policy.Policy Z → List Content
 programs_in (policy.Filter filter count) = programs_of filter
 programs_in other = []
 
--- the programs for what a rule asks, whether or not they ran: of an expression one for each link,
+-- the programs for what a rule asks, whether or not they ran: for an expression one for each link,
 -- each of which accepts exactly the packets that match; none of the empty expression; or the
 -- listing's
 abbrev pub AreFor : rules.Rule → List Content → Type 0
@@ -97,7 +97,7 @@ abbrev pub window_of : Policy → Option ℕ
 window_of (Edit s) = s.window
 window_of other = None
 
--- how many marks a window for n packets in a row has at most: n - 1; none where none is asked for
+-- how many marks a window for n packets in a row has at most: n - 1; none if none is asked for
 abbrev pub places : Option ℕ → ℕ
 places None = 0
 places (Some n) = n - 1

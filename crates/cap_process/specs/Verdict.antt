@@ -116,7 +116,7 @@ abbrev pub edited_packet_with : EditRule → Captured → ℕ → Captured
 edited_packet_with s p time =
     record p { time = time; bytes = bytes_within_snap s.snap (bytes_after_chop s p.bytes) }
 
--- a time as a shift moves it; None where a later one would be 2^63 nanoseconds or more, or an
+-- a time as a shift moves it; None if a later one would be 2^63 nanoseconds or more, or an
 -- earlier one below 0
 abbrev pub shifted_time : Shift → ℕ → Option ℕ
 shifted_time shift.None time = Some time
@@ -137,13 +137,13 @@ unique (Some n) s p =
     if has_same s.window (mark_of p.bytes) then skip_judgement
     (with_mark (n - 1) (mark_of p.bytes) s) else passes (with_mark (n - 1) (mark_of p.bytes) s) p
 
--- a selected packet by its moved time: refused where there is none
+-- a selected packet by its moved time: refused if there is none
 abbrev pub judgement_by_time : EditRule → SelectorState → Captured → Option ℕ → Judgement
 judgement_by_time s state p None = refuses state TimeOutOfRange
 judgement_by_time s state p (Some time) = unique s.window state (edited_packet_with s p time)
 
--- what an edit makes of the packet with this number: it is skipped where it isn't selected, or is a
--- duplicate, and refused where its moved time is out of range
+-- what an edit makes of the packet with this number: it is skipped if it isn't selected, or is a
+-- duplicate, and refused if its moved time is out of range
 abbrev pub selects : EditRule → SelectorState → ℕ → Captured → Judgement
 selects s state number p =
     if is_selected s number p then judgement_by_time s state p (shifted_time s.shift p.time)

@@ -1,27 +1,30 @@
 -- What whole commands write, in the words of lists: the packets of their inputs, which of them
 -- pass, and up to the first that isn't written.
-use Rattle.std.specs.Prelude.{◌≡◌, ℕ, zero, suc, ◌+◌, ◌^◌, ◌<◌, Bool, true, false, if◌then◌else◌, List, [], ◌∷◌, ◌++◌, length, take, Option, None, Some, IfSome}
+use Rattle.std.specs.Prelude.{◌≡◌, ℕ, zero, suc, ◌+◌, ◌^◌, ◌<◌, Bool, true, false, if◌then◌else◌, nat_le, List, [], ◌∷◌, ◌++◌, length, take, Option, None, Some, IfSome}
 use Rattle.std.specs.List.{sum_by}
-use Rattle.std.specs.Option.{is_some}
+use Rattle.std.specs.Option.{is_some, option_or}
 use Rattle.cap_octet.specs.Packet.{Captured}
 use Rattle.cap_octet.specs.declared.fault.Fault.{Fault}
+use Rattle.cap_octet.specs.declared.fault.Fault.TheVariants.{TimeOutOfRange}
 use Rattle.cap_octet.specs.declared.format.Format.{Format}
 use Rattle.cap_octet.specs.declared.link.Link.{Link}
-use Rattle.cap_io.specs.Capture.{Ending, End, FaultAt, items, kind_of}
+use Rattle.cap_io.specs.Capture.{Ending, End, FaultAt, Items, Placed, items, kind_of}
 use Rattle.cap_io.specs.RoundTrip.{Carries}
 use Rattle.cap_command.specs.declared.command.Shift.TheVariants as shift
 use Rattle.cap_print.specs.declared.print.Options.{Options}
 use Rattle.flt_ast.specs.Tree.{TruthTree, denied, truth}
 use Rattle.flt_emit.specs.Elementary.{MatchResult, Rejected}
 use Rattle.flt_gen.specs.Reading.{holds}
-use Rattle.cap_filter.specs.FilterRules.{Rule, by_reading}
-use Rattle.cap_io.specs.Sequence.{Event, Packet, InputEnd, PacketOrder, InTurn, InputItems, whole_input, sequence_of}
+use Rattle.cap_filter.specs.Decisions.{Decision, Refuse}
+use Rattle.cap_filter.specs.FilterRules.{Rule, by_reading, rule_decides}
+use Rattle.cap_io.specs.Sequence.{Event, Packet, InputEnd, SequenceEnd, Complete, FaultIn, PacketOrder, InTurn, InputItems, end_of, whole_input, sequence_of}
 use Rattle.cap_octet.specs.Link.{link_of}
 use Rattle.cap_process.specs.Verdict.{Edit, EditRule, Filter, KeepAll, Count}
-use Rattle.cap_process.specs.Reports.{Report, reports_text}
-use Rattle.cap_process.specs.Outcome.{Form, AsCapture, AsReports, AsLines, Work, form_refuses, output_text, closing_text, first_link, lines_text, outcome}
+use Rattle.cap_process.specs.Messages.{fault_message}
+use Rattle.cap_process.specs.Reports.{Report, name_at, reports_text}
+use Rattle.cap_process.specs.Outcome.{Form, AsCapture, AsReports, AsLines, Outcome, Work, form_refuses, output_text, closing_text, first_link, lines_text, outcome}
 use Rattle.cap_process.specs.Edits.{packets_selected, unique_after}
-use Rattle.cap_process.specs.Lists.{at_most, packets_kept, packets_of, tally_of}
+use Rattle.cap_process.specs.Lists.{at_most, first_without_time, packets_kept, packets_of, tally_of}
 
 -- ---- what is written of packets that pass
 
@@ -43,7 +46,7 @@ abbrev pub closing_if : (status : ℕ) → Form → Option ℕ → List Captured
 closing_if zero form link ps = closing_text form link ps
 closing_if (suc n) form link ps = []
 
--- The bytes of packets that a command writes which ends with this status. Where there are none, and
+-- The bytes of packets that a command writes which ends with this status. If there are none, and
 -- it ends cleanly, they are the start of a file with a link type.
 abbrev pub written_text : Form → (status : ℕ) → Option ℕ → List Captured → List ℕ
 written_text form status link ps = output_text form ps [] ++ closing_if status form link ps
@@ -52,6 +55,42 @@ written_text form status link ps = output_text form ps [] ++ closing_if status f
 abbrev pub file_packets : List ℕ → List Captured
 file_packets file = packets_of (items file).packets
 
+-- ---- how a command ends
+
+-- It ends cleanly: nothing is reported, and the status is 0.
+pub record EndsCleanly (o : Outcome) : Type 0 where
+  pub messages : o.messages ≡ []
+  pub status : o.status ≡ 0
+
+-- It ends by this fault of this input, at this offset: that is reported, and the status is 1.
+pub record EndsByFault (names : List (List ℕ)) (input : ℕ) (fault : Fault) (offset : ℕ)
+    (o : Outcome) : Type 0 where
+  pub messages : o.messages ≡ fault_message (name_at names input) offset fault
+  pub status : o.status ≡ 1
+
+-- it ends like this
+abbrev pub EndsAs : List (List ℕ) → SequenceEnd → Outcome → Type 0
+EndsAs names Complete o = EndsCleanly o
+EndsAs names (FaultIn input fault offset) o = EndsByFault names input fault offset o
+
+-- why a form refuses the first of these packets that it refuses, where these were before them;
+-- None if it refuses none
+abbrev pub first_refusal : Form → List Captured → List Captured → Option Fault
+first_refusal form before [] = None
+first_refusal form before (p ∷ ps) =
+    option_or (form_refuses form before p) (first_refusal form (before ++ p ∷ []) ps)
+
+-- it ends by this fault, at some packet
+pub record EndsAtPacket (names : List (List ℕ)) (fault : Fault) (o : Outcome) : Type 0 where
+  pub input : ℕ
+  pub offset : ℕ
+  pub by : EndsByFault names input fault offset o
+
+-- It ends at the packet that the form refuses for this; if it refuses none, it ends like this.
+abbrev pub EndsUnlessRefused : List (List ℕ) → Option Fault → SequenceEnd → Outcome → Type 0
+EndsUnlessRefused names None end o = EndsAs names end o
+EndsUnlessRefused names (Some fault) end o = EndsAtPacket names fault o
+
 -- ---- edit
 
 -- what an edit that writes this format does
@@ -59,7 +98,7 @@ abbrev pub edit_work : EditRule → Format → Work
 edit_work s format = record { order = InTurn; policy = Edit s; form = AsCapture format }
 
 -- An edit of a file with fewer than 2^63 packets writes what is unique of what is selected of them,
--- up to the first whose moved time is out of range or that the format refuses; of none, where it
+-- up to the first whose moved time is out of range or that the format refuses; for none, if it
 -- ends with status 0, the start of a file.
 abbrev pub EditWrites : Type 0
 EditWrites =
@@ -72,15 +111,34 @@ EditWrites =
     (packets_written (AsCapture format) []
     (unique_after s.window [] (packets_selected s 1 (file_packets file))))
 
+-- how an edit ends whose packets are all written: at the place of a packet whose moved time is out
+-- of range, if there is one, else as the file does
+abbrev pub edit_end : Option ℕ → Ending → SequenceEnd
+edit_end (Some offset) ending = FaultIn 0 TimeOutOfRange offset
+edit_end None ending = end_of 0 ending
+
+-- Such an edit ends at the first packet that the format refuses; if it refuses none, at the
+-- first that is selected and whose moved time is out of range; if there is none, as the file
+-- does: cleanly, with status 0, or by its fault.
+abbrev pub EditEnds : Type 0
+EditEnds =
+    (s : EditRule) (format : Format) (names : List (List ℕ)) (file : List ℕ)
+    → length (file_packets file) < 2 ^ 63
+    → EndsUnlessRefused names
+    (first_refusal (AsCapture format) []
+    (unique_after s.window [] (packets_selected s 1 (file_packets file))))
+    (edit_end (first_without_time s 1 (items file).packets) (items file).ending)
+    (outcome (edit_work s format) names (whole_input file ∷ []))
+
 -- ---- print
 
--- what a print by this filter does, which ends after `count` packets, where there is a count
+-- what a print by this filter does, which ends after `count` packets, if there is a count
 abbrev pub print_work : Rule → Option ℕ → Form → Work
 print_work rule count form = record { order = InTurn; policy = Filter rule count; form = form }
 
 -- A print of a file with fewer than 2^63 packets as a capture writes those that the rule keeps, the
--- first of them where a count, which is at least 1, is given, up to the first that the rule or the
--- format refuses; of none, where it ends with status 0, the start of a file.
+-- first of them if a count, which is at least 1, is given, up to the first that the rule or the
+-- format refuses; for none, if it ends with status 0, the start of a file.
 abbrev pub PrintWrites : Type 0
 PrintWrites =
     (rule : Rule) (count : Option ℕ) (format : Format) (names : List (List ℕ)) (file : List ℕ)
@@ -92,13 +150,47 @@ PrintWrites =
     (packets_written (AsCapture format) [] (at_most count (packets_kept rule (file_packets file))))
 
 -- A print of such a file as lines writes those of the packets that the rule keeps, the first of
--- them where a count, which is at least 1, is given, up to the first that the rule refuses.
+-- them if a count, which is at least 1, is given, up to the first that the rule refuses.
 abbrev pub PrintLines : Type 0
 PrintLines =
     (rule : Rule) (count : Option ℕ) (options : Options) (names : List (List ℕ)) (file : List ℕ)
     → IfSome count (λ (n : ℕ). 0 < n) → length (file_packets file) < 2 ^ 63
     → (outcome (print_work rule count (AsLines options)) names (whole_input file ∷ [])).output
     ≡ lines_text options (at_most count (packets_kept rule (file_packets file)))
+
+-- a rule refuses a packet, or goes on
+abbrev pub end_by_decision : Decision → Placed → (later : SequenceEnd) → SequenceEnd
+end_by_decision (Refuse fault) p later = FaultIn 0 fault p.offset
+end_by_decision decision p later = later
+
+-- the first packet of a file that a rule refuses, or the file's end
+abbrev pub rule_end : Rule → Ending → List Placed → SequenceEnd
+rule_end rule ending [] = end_of 0 ending
+rule_end rule ending (p ∷ ps) =
+    end_by_decision (rule_decides rule p.packet) p (rule_end rule ending ps)
+
+-- whether as many pass as may, if there is a count
+abbrev pub is_reached : (count : Option ℕ) → (kept : ℕ) → Bool
+is_reached None kept = false
+is_reached (Some count) kept = nat_le count kept
+
+-- how a print ends whose packets are all written
+abbrev pub print_end : Rule → Option ℕ → Items → SequenceEnd
+print_end rule count file =
+    if is_reached count (length (packets_kept rule (packets_of file.packets))) then Complete
+    else rule_end rule file.ending file.packets
+
+-- Such a print ends at the first packet that the form refuses; if it refuses none, cleanly, with
+-- status 0, once as many passed as may; else at the first packet that the rule refuses; else as the
+-- file does: cleanly, with status 0, or by its fault. Lines refuse none.
+abbrev pub PrintEnds : Type 0
+PrintEnds =
+    (rule : Rule) (count : Option ℕ) (form : Form) (names : List (List ℕ)) (file : List ℕ)
+    → IfSome count (λ (n : ℕ). 0 < n) → length (file_packets file) < 2 ^ 63
+    → EndsUnlessRefused names
+    (first_refusal form [] (at_most count (packets_kept rule (file_packets file))))
+    (print_end rule count (items file))
+    (outcome (print_work rule count form) names (whole_input file ∷ []))
 
 -- ---- merge
 
@@ -117,7 +209,7 @@ abbrev pub packets_in_order : PacketOrder → List InputItems → List Captured
 packets_in_order order rs = event_packets (sequence_of order rs).events
 
 -- A merge of inputs of which fewer than 2^63 packets come before the first fault writes these in
--- its order, up to the first that its format refuses; of none, where it ends with status 0, the
+-- its order, up to the first that its format refuses; for none, if it ends with status 0, the
 -- start of a file.
 abbrev pub MergeWrites : Type 0
 MergeWrites =
@@ -126,6 +218,15 @@ MergeWrites =
     → (outcome (merge_work order format) names rs).output
     ≡ written_text (AsCapture format) (outcome (merge_work order format) names rs).status
     (first_link rs) (packets_written (AsCapture format) [] (packets_in_order order rs))
+
+-- Such a merge ends at the first packet that its format refuses; if it refuses none, as the order
+-- of its inputs does: cleanly, with status 0, or by the fault of one.
+abbrev pub MergeEnds : Type 0
+MergeEnds =
+    (order : PacketOrder) (format : Format) (names : List (List ℕ)) (rs : List InputItems)
+    → length (packets_in_order order rs) < 2 ^ 63
+    → EndsUnlessRefused names (first_refusal (AsCapture format) [] (packets_in_order order rs))
+    (sequence_of order rs).end (outcome (merge_work order format) names rs)
 
 -- ---- infos
 
@@ -156,6 +257,13 @@ abbrev pub InfosReports : Type 0
 InfosReports =
     (names : List (List ℕ)) (rs : List InputItems)
     → (outcome (infos_work names) names rs).output ≡ reports_text names (reports_of 0 rs)
+
+-- `infos` ends cleanly, with status 0, if all inputs do, else by the fault of the first that
+-- doesn't.
+abbrev pub InfosEnds : Type 0
+InfosEnds =
+    (names : List (List ℕ)) (rs : List InputItems)
+    → EndsAs names (sequence_of InTurn rs).end (outcome (infos_work names) names rs)
 
 -- ---- edits without options
 
@@ -190,14 +298,22 @@ pub record HasCarried (format : Format) (file : List ℕ) (p : Captured) (ps : L
 abbrev pub copy_of : Format → List (List ℕ) → List ℕ → List ℕ
 copy_of format names file = (outcome (edit_work no_options format) names (whole_input file ∷ [])).output
 
--- Where the format carries all packets of a file, one or more and fewer than 2^63, an edit without
+-- If the format carries all packets of a file, one or more and fewer than 2^63, an edit without
 -- options writes a file of the same packets.
 abbrev pub EditKeeps : Type 0
 EditKeeps =
     (format : Format) (names : List (List ℕ)) (file : List ℕ) (p : Captured) (ps : List Captured)
     → HasCarried format file p ps → file_packets (copy_of format names file) ≡ file_packets file
 
--- Of such a file an edit without options, and such an edit of what that wrote, write the same
+-- Such an edit ends as the file does: cleanly, with status 0, or by its fault.
+abbrev pub CopyEnds : Type 0
+CopyEnds =
+    (format : Format) (names : List (List ℕ)) (file : List ℕ) (p : Captured) (ps : List Captured)
+    → HasCarried format file p ps
+    → EndsAs names (end_of 0 (items file).ending)
+    (outcome (edit_work no_options format) names (whole_input file ∷ []))
+
+-- For such a file an edit without options, and such an edit of what that wrote, write the same
 -- bytes.
 abbrev pub EditsAlike : Type 0
 EditsAlike =
@@ -230,7 +346,7 @@ abbrev pub AreRead : List Captured → Type 0
 AreRead [] = Unit {0}
 AreRead (p ∷ ps) = (is_some (link_of p.link) ≡ true) × AreRead ps
 
--- Of packets with link types that expressions are read on there are three lists: those that an
+-- For packets with link types that expressions are read on there are three lists: those that an
 -- expression keeps, those that its negation keeps, and those that it rejects. Whatever is summed of
 -- packets, the sums over the three add up to that over all: each packet is in one list, once.
 abbrev pub NegationParts : Type 0

@@ -47,7 +47,7 @@ fn is_selected<A: Allocator>(edit: &Edit<A>, number: u64, packet: &Packet<'_>) -
     edit.keeps(number) && in_time
 }
 
-/// The bytes without the first `count`; none where there are no more than these.
+/// The bytes without the first `count`; none if there are no more than these.
 fn without_first(count: u32, bytes: &[u8]) -> &[u8]
     ensures { result.now ≡ drop count bytes.now }
 {
@@ -55,7 +55,7 @@ fn without_first(count: u32, bytes: &[u8]) -> &[u8]
     &bytes[count..]
 }
 
-/// The bytes without the last `count`; none where there are no more than these.
+/// The bytes without the last `count`; none if there are no more than these.
 fn without_last(count: u32, bytes: &[u8]) -> &[u8]
     ensures { result.now ≡ without_last count bytes.now }
 {
@@ -63,7 +63,7 @@ fn without_last(count: u32, bytes: &[u8]) -> &[u8]
     &bytes[..count]
 }
 
-/// The first `snap` bytes, as a snap length keeps them; all where there are fewer or no `snap` is
+/// The first `snap` bytes, as a snap length keeps them; all if there are fewer or no `snap` is
 /// given.
 fn bytes_within_snap(snap: Option<u32>, bytes: &[u8]) -> &[u8]
     ensures { result.now ≡ bytes_within_snap snap bytes.now }
@@ -74,7 +74,7 @@ fn bytes_within_snap(snap: Option<u32>, bytes: &[u8]) -> &[u8]
     }
 }
 
-/// A time moved by a shift, both in nanoseconds; `None` where it would be before 1970, or 2^63 or
+/// A time moved by a shift, both in nanoseconds; `None` if it would be before 1970, or 2^63 or
 /// more.
 fn shifted_time(shift: Shift, time: u64) -> Option<u64>
     requires { time < 2 ^ 63 }
@@ -116,7 +116,7 @@ fn edited_packet<'a, A: Allocator>(edit: &Edit<A>, packet: &Packet<'a>, time: u6
 }
 
 /// Puts the mark of a packet (its length and digest) into the window, which keeps the last ones,
-/// and returns whether the packet is no duplicate: whether no equal mark was there. Without a
+/// and returns whether the packet isn't a duplicate: whether no equal mark was there. Without a
 /// window no packet is a duplicate.
 fn mark_and_check_unique<A: Allocator>(window: &mut Option<Window<A>>, packet: &Packet<'_>) -> bool
     requires { length packet.now.bytes.now ≤ most_in_unit }

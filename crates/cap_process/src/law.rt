@@ -8,6 +8,7 @@ ghost use Rattle.cap_process.specs.Lists.{CountsAll, EndsWithoutTime, HasLastMar
 ghost use Rattle.cap_process.specs.Whole.{EditWrites, InfosReports, MergeWrites, PrintLines};
 ghost use Rattle.cap_process.specs.Whole.{PrintWrites, EditKeeps, EditsAlike, MergesOne};
 ghost use Rattle.cap_process.specs.Whole.{CutsGivePrefixes, NegationParts};
+ghost use Rattle.cap_process.specs.Whole.{CopyEnds, EditEnds, InfosEnds, MergeEnds, PrintEnds};
 
 use cap_io::laws::items_back;
 
@@ -36,18 +37,22 @@ pub fn edit_ends_without_time()
     ensures { EndsWithoutTime }
 {}
 
-/// An edit writes what is unique of what is selected of the packets of its input, up to the first
-/// whose moved time is out of range or that its format refuses; of none, where it ends with status
-/// 0, the start of a file.
+/// An edit writes the unique packets among those that it selects in its input, up to the first one
+/// whose moved time is out of range or that its format refuses; if it writes none and its status is
+/// 0, it writes the start of a file. Its status is 0, without a message, exactly if none of these
+/// and no fault of the input ends it; else it reports the one that does.
 pub fn edit_writes_unique()
-    ensures { EditWrites }
+    ensures output { EditWrites }
+    ensures ends { EditEnds }
 {}
 
-/// A print that writes a capture writes the packets that match, or the first `count` of them, up to
-/// the first that its filter or its format refuses; of none, where it ends with status 0, the start
-/// of a file.
+/// A print as a capture writes the packets that match, or the first `count` of them, up to the
+/// first that its filter or its format refuses; if it writes none and its status is 0, it writes
+/// the start of a file. In each form its status is 0, without a message, exactly if it reaches its
+/// count or a clean end of its input before a packet that is refused; else it reports what ends it.
 pub fn print_writes_matching()
-    ensures { PrintWrites }
+    ensures output { PrintWrites }
+    ensures ends { PrintEnds }
 {}
 
 /// A print of lines writes the lines of the packets that match, or of the first `count` of them, up
@@ -57,14 +62,19 @@ pub fn print_has_their_lines()
 {}
 
 /// A merge writes the packets of its inputs in its order, up to the first fault of an input, or the
-/// first packet that its format refuses; of none, where it ends with status 0, the start of a file.
+/// first packet that its format refuses; if it writes none and its status is 0, it writes the start
+/// of a file. Its status is 0, without a message, exactly if neither ends it; else it reports the
+/// one that does.
 pub fn merge_writes_all()
-    ensures { MergeWrites }
+    ensures output { MergeWrites }
+    ensures ends { MergeEnds }
 {}
 
-/// `infos` writes the report of each input, up to the first that ends by a fault.
+/// `infos` writes the report of each input, up to the first that ends by a fault, which it then
+/// reports; else its status is 0.
 pub fn infos_has_each_report()
-    ensures { InfosReports }
+    ensures output { InfosReports }
+    ensures ends { InfosEnds }
 {}
 
 /// A merge of one file is its edit without options.
@@ -72,15 +82,16 @@ pub fn merge_of_one_is_its_edit()
     ensures { MergesOne }
 {}
 
-/// Where its format carries all packets of a file, which has some, an edit without options keeps
-/// them, as they are.
+/// If its format carries all packets of a file, which has some, an edit without options keeps them,
+/// as they are. Its status is 0, unless the file ends by a fault, which it then reports.
 pub fn edit_keeps_what_is_carried()
-    ensures { EditKeeps }
+    ensures output { EditKeeps }
+    ensures ends { CopyEnds }
 {
     items_back();
 }
 
-/// Where its format carries all packets of a file, which has some, an edit without options of what
+/// If its format carries all packets of a file, which has some, an edit without options of what
 /// such an edit wrote writes the same bytes.
 pub fn edit_again_is_alike()
     ensures { EditsAlike }
@@ -88,7 +99,7 @@ pub fn edit_again_is_alike()
     items_back();
 }
 
-/// Of packets with link types that expressions are read on, three lists are made: those that match
+/// For packets with link types that expressions are read on, three lists are made: those that match
 /// an expression, those that match its negation, and those that it rejects. Each packet is in one
 /// of them, once.
 pub fn negation_parts_packets()

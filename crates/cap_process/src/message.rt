@@ -69,7 +69,7 @@ pub fn report_no_memory<O: Output>(output: &mut O) -> Result<(), DeviceFault>
 }
 
 /// Writes the message of a refusal: what is refused (`subject`), why (`text`), and where: `words`
-/// as " at line ", then a number in `digits`; both are empty where there is no place to name.
+/// as " at line ", then a number in `digits`; both are empty if there is no place to name.
 fn write_refusal<'a, O: Output>(
     output: &mut O,
     subject: &'a [u8],
@@ -86,7 +86,7 @@ fn write_refusal<'a, O: Output>(
     write_parts(output, &parts)
 }
 
-/// Reports why an expression was refused, and at which of its bytes, counted from 1, where the
+/// Reports why an expression was refused, and at which of its bytes, counted from 1, if the
 /// fault has a place.
 fn report_expression<O: Output>(output: &mut O, fault: ExprFault) -> Result<(), DeviceFault>
     ensures exact { IsTrue O.tells → AppendsOrStops result (O.written output.old)
@@ -104,7 +104,7 @@ fn report_expression<O: Output>(output: &mut O, fault: ExprFault) -> Result<(), 
     }
 }
 
-/// Reports why a text is no listing, and in which line, counted from 1, where the fault has one.
+/// Reports why a text isn't a listing, and in which line, counted from 1, if the fault has one.
 fn report_listing<O: Output>(output: &mut O, fault: ListingFault) -> Result<(), DeviceFault>
     ensures exact { IsTrue O.tells → AppendsOrStops result (O.written output.old)
         (code_message (listing_message fault)) (O.written output.new) }

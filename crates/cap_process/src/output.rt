@@ -1,4 +1,4 @@
-//! Where a job writes: into a capture, or lines or a text.
+//! The place where a job writes: into a capture, or lines or a text.
 //!
 //! An error of these functions means that the device failed, unless a function says otherwise.
 ghost use Rattle.std.specs.Prelude.{◌≡◌, ◌+◌, IfErr, IsTrue, true};
@@ -60,7 +60,7 @@ impl<O: Output, A: Allocator> JobOutput<O, A> {
     ghost use Rattle.cap_process.specs.Reports.{file_report};
     ghost use Rattle.flt_bpf.specs.Listing.{listing};
 
-    /// An output to which nothing is written yet: `output` is the device, `writing` what is to be
+    /// An output to which nothing is written yet: `output` is the device, `writing` what must be
     /// written. It takes no memory.
     pub fn new(alloc: A, writing: Writing, output: O) -> Self
     where
@@ -133,7 +133,7 @@ impl<O: Output, A: Allocator> JobOutput<O, A> {
     }
 
     /// Ends what is written: a capture without packets gets its file header, with this link type,
-    /// or 1, that of Ethernet, where there is none; in pcapng its section header, which has no link
+    /// or 1, that of Ethernet, if there is none; in pcapng its section header, which has no link
     /// type.
     pub fn finish(&mut self, first_link: Option<u16>) -> Result<(), DeviceFault>
         ensures exact { IsTrue O.tells → EndsOutput first_link self.old result self.new }
@@ -163,7 +163,7 @@ impl<O: Output, A: Allocator> JobOutput<O, A> {
 }
 
 /// Writes the line of a packet into `text`, a buffer, and from there to the output; its bytes too,
-/// where the options ask for them. The one error is `WriteFailed`.
+/// if the options ask for them. The one error is `WriteFailed`.
 fn put_line<O: Output>(
     text: &mut Text,
     options: Options,
@@ -198,8 +198,8 @@ fn put_listing<O: Output, A: Allocator>(
     }
 }
 
-/// Ends a capture, which gets its file header here where it has no packets, with the link type
-/// `first_link`, or that of Ethernet where there is none; in pcapng its section header.
+/// Ends a capture, which gets its file header here if it has no packets, with the link type
+/// `first_link`, or that of Ethernet if there is none; in pcapng its section header.
 fn end_capture<O: Output, A: Allocator>(
     sink: &mut Sink<O, A>,
     first_link: Option<u16>,

@@ -16,7 +16,7 @@ use itoa::Buffer;
 /// What is reported of a file.
 #[derive(Clone, Copy)]
 pub struct Report {
-    /// Its format, by its first bytes; `None` where no unit was read, but then nothing is reported.
+    /// Its format, by its first bytes; `None` if no unit was read, but then nothing is reported.
     pub kind: Option<Kind>,
     /// Its size in bytes.
     pub size: u64,
@@ -40,7 +40,7 @@ pub fn write_report<O: Output>(
     write_times(output, report.tally)
 }
 
-/// The format's name; empty where there is none, but an input without a format isn't reported.
+/// The format's name; empty if there is none, but an input without a format isn't reported.
 fn kind_name(kind: Option<Kind>) -> &'static [u8]
     ensures { result.now ≡ kind_name kind }
 {
@@ -90,7 +90,7 @@ fn write_sizes<O: Output>(output: &mut O, report: &Report) -> Result<(), DeviceF
     write_parts(output, &parts)
 }
 
-/// The date, or the word `none` where no packet was counted.
+/// The date, or the word `none` if no packet was counted.
 fn date_or_none(count: u128, date: &[u8]) -> &[u8]
     ensures { result.now ≡ (if count == 0 then codes "none" else date.now) }
 {

@@ -54,11 +54,11 @@ pub enum Policy<A: Allocator> {
 #[derive(Drop)]
 pub struct Selector<A: Allocator> {
     policy: Policy<A>,
-    /// Where duplicates are searched for; `None` where they aren't.
+    /// Where duplicates are searched for; `None` if they aren't.
     window: Option<Window<A>>,
     /// How many packets passed so far.
     passed: u64,
-    /// Of the packets of the current input, where they are counted.
+    /// For the packets of the current input, if they are counted.
     tally: Tally,
 }
 
@@ -106,8 +106,8 @@ where
 
 impl<A: Allocator> Policy<A> {
     /// Whether a packet passes; an edit changes it into what it passes as. The errors are
-    /// `LinkTypeNotFiltered`, where an expression isn't read on its link type, and
-    /// `TimeOutOfRange`, where the time that an edit moves is out of range.
+    /// `LinkTypeNotFiltered`, if an expression isn't read on its link type, and
+    /// `TimeOutOfRange`, if the time that an edit moves is out of range.
     ///
     /// Where packets are only counted `judge` doesn't call this function, and the clause `exact`
     /// says nothing.
@@ -164,7 +164,7 @@ impl<A: Allocator> Policy<A> {
         matches!(self, Policy::Count)
     }
 
-    /// After how many packets that pass, 1 or more, nothing more is read; `None` where all packets
+    /// After how many packets that pass, 1 or more, nothing more is read; `None` if all packets
     /// are read.
     fn count_limit(&self) -> Option<u64>
         ensures { result ≡ count_limit (policy_of self.now) }
@@ -188,7 +188,7 @@ impl<A: Allocator> Selector<A> {
     ghost use Rattle.cap_process.specs.Selector.{spent_by_verdict};
     ghost use Rattle.cap_process.specs.inside.Selector.{state_with};
 
-    /// A selector by which no packet was judged yet. Where it looks for duplicates it takes the
+    /// A selector by which no packet was judged yet. If it looks for duplicates it takes the
     /// memory of their window here; the error means that memory ran out.
     pub fn new(alloc: A, policy: Policy<A>) -> Result<Self, AllocError>
     where

@@ -10,7 +10,7 @@ const BYTES: Options = Options {
 };
 
 /// Whether what is printed of a packet over these bytes ends with a row of one zero at 65,552;
-/// none where the device fails.
+/// none if the device fails.
 fn is_printed_in(
     alloc: Global,
     packet: &Packet<'_>,
@@ -25,7 +25,7 @@ fn is_printed_in(
     Ok(Some(output.written().ends_with(b"\n\t0x10010: 00\n")))
 }
 
-/// What is written of a packet of 65,553 zeros in full, and where the device fails.
+/// What is written of a packet of 65,553 zeros in full, and if the device fails.
 #[test]
 fn long_packets(rt: HostRuntime) -> Result<(), Fail> {
     let zeros = vec![in rt.alloc(); 0u8; 65_553]?;

@@ -17,13 +17,13 @@ use Rattle.cap_tools.specs.Packets.{JobState, asks_report}
 use Rattle.cap_tools.specs.Jobs.{JobView}
 
 -- The input that is next was read on, to its next packet, its end or a fault, and no further. No
--- packet is decided, and nothing is written unless the input was read to its end and is to be
+-- packet is decided, and nothing is written unless the input was read to its end and must be
 -- reported.
 pub record ReadsOn (tells : Bool) (old : JobView) (input : ℕ) (answer : Result Bool Fault)
     (new : JobView) : Type 0 where
   pub next : next_of old.state.inputs ≡ next.Read input
   pub fetches : ReadSteps old.state.inputs input answer new.state.inputs
-  -- where the input tells its bytes: its next packet, its clean end or its fault, and no more
+  -- if the input shows its bytes: its next packet, its clean end or its fault, and no more
   pub exact : IsTrue tells → ReadsInput old.state.inputs input answer new.state.inputs
   pub decided : new.state.decided ≡ old.state.decided
   pub output : (is_clean_end answer && asks_report old.state.inputs.order old.state.policy)
@@ -83,7 +83,7 @@ abbrev pub names_weight : List (List ℕ) → ℕ
 names_weight [] = 0
 names_weight (name ∷ names) = 19 + length name + names_weight names
 
--- the bytes of the interfaces that are declared; of pcap there are none
+-- the bytes of the interfaces that are declared; for pcap there are none
 abbrev pub declared_weight : Declared → ℕ
 declared_weight (PcapngFile first section) = names_weight (map (λ i. i.name) section.interfaces)
 declared_weight declared = 0
@@ -127,7 +127,7 @@ abbrev pub IsBounded : InputsView → Target → Type 0
 IsBounded inputs target = All IsSmall inputs.cursors × HasFewOutputInterfaces target
 
 -- What a job holds of each input is bounded, and what it holds in all; a window for n packets is
--- counted with n - 1 marks, and with none where no duplicates are searched for.
+-- counted with n - 1 marks, and with none if no duplicates are searched for.
 pub record IsLight (m : JobState) : Type 0 where
   pub each : IsBounded m.inputs m.output
   pub all : weight m ≤ most_weight (length m.inputs.cursors) (places (window_of m.policy))

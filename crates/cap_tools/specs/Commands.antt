@@ -63,8 +63,8 @@ CompileGives words link tells old turn.More new = ⊥
 CompileGives words link tells old (turn.Done status) new =
     ListsSome words link tells old status new ⊎ RefusesExpression words tells old status new
 
--- what the step does that prepares, if there is something to prepare: of a filter on any device, of
--- a compilation only where the output tells its bytes
+-- what the step does that prepares, if there is something to prepare: for a filter on any device, for
+-- a compilation only if the output shows its bytes
 abbrev pub PreparesBy : Option Preparing → (output_tells tells : Bool) → JobView → Turn → JobView
     → Type 0
 PreparesBy None output_tells tells old r new = Unit {0}
@@ -83,7 +83,7 @@ abbrev pub job_left : JobView → ℕ
 job_left j = preparing_left j.preparing + steps_left_in j.state.inputs.cursors
 
 -- What every step of a job keeps, whatever the devices: it prepares no more, its end is known, a
--- step is counted where it was under way, and what it holds is bounded.
+-- step is counted if it was under way, and what it holds is bounded.
 pub record StepKeeps (old : JobView) (r : Turn) (new : JobView) : Type 0 where
   pub prepared : new.preparing ≡ None
   pub done : new.done ≡ done_by r
@@ -97,7 +97,7 @@ pub record StepKeeps (old : JobView) (r : Turn) (new : JobView) : Type 0 where
   pub room : room_by new.state ≡ room_by old.state
   -- a step that goes on sends no message
   pub quiet : r ≡ turn.More → new.err ≡ old.err
-  -- where nothing was prepared, the policy stays; a filter that is read becomes it
+  -- if nothing was prepared, the policy stays; a filter that is read becomes it
   pub policy : old.preparing ≡ None → new.state.policy ≡ old.state.policy
 
 -- A step that prepares reads no input and decides no packet, and no program runs.
@@ -111,7 +111,7 @@ abbrev pub StepReadsBy : Option Preparing → (tells goes : Bool) → JobView �
 StepReadsBy None tells goes old new = StepReads tells goes old new
 StepReadsBy (Some preparing) tells goes old new = PreparesOnly old new
 
--- what is decided of the inputs: before a filter is read, whatever it and its programs will be; of
+-- what is decided of the inputs: before a filter is read, whatever it and its programs will be; for
 -- a compilation nothing is said
 abbrev pub DecidedBy : Option Preparing → List InputPast → List ℕ → JobView → Type 0
 DecidedBy None ss before j = Decided ss before j

@@ -29,7 +29,7 @@ pub record JobView : Type 0 where
   pub err : OutputView
   -- how many steps it made
   pub turns : ℕ
-  -- the status, where it ended
+  -- the status, if it ended
   pub done : Option ℕ
 
 -- the state of a job that has these parts
@@ -62,7 +62,7 @@ first_job a call = record {
   done = None;
 }
 
--- What holds of a job between its steps: of each input some bytes are done, their packets are
+-- What holds of a job between its steps: for each input some bytes are done, their packets are
 -- decided, and what comes of them is written; and each program that judges is one for its
 -- expression and its link, or the listing's.
 pub record Decided (ss : List InputPast) (before : List ℕ) (j : JobView) : Type 0 where
@@ -88,7 +88,7 @@ pub record EndsJob (tells : Bool) (old : JobView) (status : ℕ) (new : JobView)
   pub leaves : StepGives old.state (Some end) new.state
   pub exact : IsTold tells old.err
       (end_message old.state.names new.state.inputs.cursors end) new.err
-  -- where all went well nothing is reported
+  -- if all went well nothing is reported
   pub quiet : status ≡ 0 → new.err ≡ old.err
   pub status_is : status ≡ end_status end
 
@@ -116,7 +116,7 @@ abbrev pub IsStatus : Turn → Type 0
 IsStatus turn.More = Unit {0}
 IsStatus (turn.Done status) = status ≤ 2
 
--- the status after a step, where the job ended
+-- the status after a step, if the job ended
 abbrev pub done_by : Turn → Option ℕ
 done_by turn.More = None
 done_by (turn.Done status) = Some status

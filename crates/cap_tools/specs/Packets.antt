@@ -21,7 +21,7 @@ use Rattle.cap_inputs.specs.Inputs.{InputsView, InputView, InputPast, AreInputsA
 
 -- the state of a job, whatever its programs cost so far
 pub record JobState : Type 0 where
-  -- of its files: of the inputs, then of the output
+  -- of its files: for the inputs, then of the output
   pub names : List (List ℕ)
   pub inputs : InputsView
   pub policy : Policy
@@ -65,7 +65,7 @@ progress_at m packets reports =
       end = None;
     }
 
--- Of each input some bytes are done: their packets are decided, in the job's order, with their
+-- For each input some bytes are done: their packets are decided, in the job's order, with their
 -- greatest time known, and the output is what is written of those that passed, or of the inputs
 -- that were read to their ends. By which programs they are judged is said of the whole job
 -- (`Decided`).
@@ -98,7 +98,7 @@ finish_at (s ∷ ss) zero bytes packets =
     record { text = s.text; done = s.done ++ bytes; packets = s.packets ++ packets } ∷ ss
 finish_at (s ∷ ss) (suc i) bytes packets = s ∷ finish_at ss i bytes packets
 
--- What a step adds to the output, where the job is at `far` before the step and at `next` after
+-- What a step adds to the output, if the job is at `far` before the step and at `next` after
 -- it: nothing, a packet that passes, the report of an input, or what a clean end adds.
 pub data OneAnswer (form : Form) (link : Option ℕ) (far next : JobProgress)
     (bytes : List ℕ) : Type 0 where
@@ -145,7 +145,7 @@ pub record GoesOn {ss : List InputPast} {before : List ℕ} {old : JobState}
 abbrev pub progress_over : JobState → List InputItems → JobProgress
 progress_over m rs = final_progress m.policy (output_form m) (sequence_of m.inputs.order rs)
 
--- the output is all that the job writes of inputs with these items, over which it ends so
+-- the output is all that the job writes of inputs with these items, over which it ends like this
 pub record CompletesOutput {ss : List InputPast} {before : List ℕ} {old : JobState}
     (rs : List InputItems) (d : PacketsDecided ss before old) (new : JobState)
     (close : SequenceEnd) : Type 0 where
@@ -215,7 +215,7 @@ pub record StopsWriting {ss : List InputPast} {before : List ℕ} {old : JobStat
   pub so_far : written_by old ≡ before ++ output_text (output_form old) d.packets d.reports
   pub stops : Stops (written_by old) bytes (written_by new)
 
--- the inputs end so, or the current packet is refused; or the input is cut short; or there was no
+-- the inputs end like this, or the current packet is refused; or the input is cut short; or there was no
 -- memory
 abbrev pub WhyBroken : {ss : List InputPast} {before : List ℕ} {old : JobState}
     → PacketsDecided ss before old → JobState → ℕ → Fault → SourceView → Type 0
@@ -231,14 +231,14 @@ pub record BreaksAt {ss : List InputPast} {before : List ℕ} {old : JobState}
   pub among : slice_get new.inputs.cursors input ≡ Some cursor
   pub why : WhyBroken d new input fault cursor.source
 
--- what a step leaves that ends the job so
+-- the result of a step that ends the job like this
 abbrev pub EndLeaves : {ss : List InputPast} {before : List ℕ} {old : JobState}
     → PacketsDecided ss before old → JobEnd → JobState → Type 0
 EndLeaves {ss} {before} {old} d end.Complete new = CompletesOutput (wholes_of ss) d new Complete
 EndLeaves {ss} {before} {old} d (end.FaultIn input fault) new = BreaksAt d new input fault
 EndLeaves {ss} {before} {old} d end.OutputFailed new = StopsWriting d new
 
--- what a step leaves, by the decided packets before it: the job goes on, or ends
+-- the result of a step, by the decided packets before it: the job goes on, or ends
 abbrev pub StepLeaves : {ss : List InputPast} {before : List ℕ} {old : JobState}
     → PacketsDecided ss before old → Option JobEnd → JobState → Type 0
 StepLeaves {ss} {before} {old} d None new = GoesOn d new

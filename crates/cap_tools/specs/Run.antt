@@ -1,4 +1,4 @@
--- What a run of a command leaves: its outcome on the whole inputs; or what it leaves where a device
+-- The result of a run of a command: its outcome on the whole inputs; or its result if a device
 -- fails, or memory runs out. All of it is said by the call, and by what the run hands back.
 use Rattle.std.specs.Prelude.{◌≡◌, ◌⊎◌, ℕ, ◌+◌, ◌-◌, ◌≤◌, List, [], ◌++◌, length, map, Option, None, Some}
 use Rattle.std.specs.List.{slice_get}
@@ -77,9 +77,9 @@ listing_outcome prog = record { output = listing prog; messages = []; status = 0
 abbrev pub fault_outcome : (output messages : List ℕ) → Outcome
 fault_outcome output messages = record { output = output; messages = messages; status = 1 }
 
--- ---- what a run leaves
+-- ---- the result of a run
 
--- Why an input is cut short after these whole units: `read failed`, where the device wasn't sure of
+-- Why an input is cut short after these whole units: `read failed`, if the device wasn't sure of
 -- the last of the bytes that decide what follows (that it did fail isn't stated); or there was no memory for its next unit, whose
 -- header states more bytes than each that the block held, or which describes an interface.
 abbrev pub IsWhyCut : Fault → FreshInput → (done rest : List ℕ) → Declared → Type 0
@@ -88,7 +88,7 @@ IsWhyCut fault input done rest declared =
     × HasGiven input.sure (input.given + length done + (decisive_length declared rest - 1)))
     ⊎ ((fault ≡ NoMemory) × MemoryEndsAt done rest declared)
 
--- an input ends by a fault where one of its units would begin; before that it has these items
+-- an input ends by a fault at the place where one of its units would begin; before that it has these items
 pub record IsCutInput (call : Call) (place : ℕ) (held : Items) : Type 0 where
   pub input : FreshInput
   pub among : slice_get call.inputs place ≡ Some input
@@ -96,12 +96,12 @@ pub record IsCutInput (call : Call) (place : ℕ) (held : Items) : Type 0 where
   pub cut : IsCutShort input.text fault held
   pub why : IsWhyCut fault input cut.done cut.rest held.declared
 
--- What a run may leave where its output doesn't fail:
+-- The possible results of a run if its output doesn't fail:
 -- what the command defines of its inputs; the message on a filter or an expression that is refused,
 -- or for which there was no memory; or a listing;
--- what it defines where an input is cut short;
--- what is written of some events, where there was no memory to write the next packet;
--- nothing but a message, where there was no memory to begin. No clause can say that an allocation
+-- what it defines if an input is cut short;
+-- what is written of some events, if there was no memory to write the next packet;
+-- nothing but a message, if there was no memory to begin. No clause can say that an allocation
 -- failed: so each case of no memory may be left wherever its facts hold, the last one, and that of a
 -- filter or an expression, always; but then it is exactly this.
 pub data IsOutcome (asked : Assignment) (call : Call) : Outcome → Type 0 where
@@ -128,7 +128,7 @@ pub record HasLeft (call : Call) (o : Outcome) (r : RunResult) : Type 0 where
   pub output : r.output.written ≡ call.output.written ++ o.output
   pub failures : r.output.failures ≡ call.output.failures
   pub message : IsTold call.tells call.messages o.messages r.messages
-  -- where the status is 0 the messages' device has the bytes and the failures that it had
+  -- if the status is 0 the messages' device has the bytes and the failures that it had
   pub quiet : r.status ≡ 0 → r.messages ≡ call.messages
   pub status : r.status ≡ o.status
 
@@ -159,7 +159,7 @@ pub record HasLostOutput (asked : Assignment) (call : Call) (r : RunResult) : Ty
 
 -- ---- all of it
 
--- A run leaves one of its outcomes; or the output failed.
+-- A run ends with one of its outcomes; or the output failed.
 pub data CommandRuns (asked : Assignment) (call : Call) (r : RunResult) : Type 0 where
   ends : (o : Outcome) → IsOutcome asked call o → HasLeft call o r → CommandRuns asked call r
   output_failed : HasLostOutput asked call r → CommandRuns asked call r

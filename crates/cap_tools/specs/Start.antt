@@ -45,12 +45,12 @@ pub record Assignment : Type 0 where
   pub order : PacketOrder
   pub writing : Writing
 
--- what a print writes: packets in a format where there is one, else their lines
+-- what a print writes: packets in a format if there is one, else their lines
 abbrev pub lines_unless : Option Format → Options → Writing
 lines_unless None options = writing.Lines options
 lines_unless (Some format) options = writing.Capture format
 
--- packets alone, with nothing before them
+-- only packets, with nothing before them
 abbrev pub without_preparation : Policy → PacketOrder → Writing → Assignment
 without_preparation policy order to =
     record { preparing = None; policy = policy; order = order; writing = to }

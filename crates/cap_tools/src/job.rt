@@ -27,7 +27,7 @@ use flt_bpf::Program;
 use std::alloc::Allocator;
 use std::marker::Model;
 
-/// Whether the job goes on after a step; where it is done, its status: 0, 1 or 2, as `run` has
+/// Whether the job goes on after a step; if it is done, its status: 0, 1 or 2, as `run` has
 /// them.
 #[derive(Clone, Copy)]
 pub enum Turn {
@@ -39,7 +39,7 @@ pub enum Turn {
 #[derive(Drop)]
 pub struct Job<I: Input, O: Output, E: Output, A: Allocator> {
     alloc: A,
-    /// What is done before the first packet. `None` where nothing is, and once it is done.
+    /// What is done before the first packet. `None` if nothing is, and once it is done.
     preparation: Option<Preparation<A>>,
     inputs: Inputs<I, A>,
     selector: Selector<A>,
@@ -51,7 +51,7 @@ pub struct Job<I: Input, O: Output, E: Output, A: Allocator> {
     decided: u128,
     /// How many steps it made.
     turns: u128,
-    /// The status, where it ended.
+    /// The status, if it ended.
     done: Option<u8>,
 }
 
@@ -100,7 +100,7 @@ impl<I: Input, O: Output, E: Output, A: Allocator> Model for Job<I, O, E, A> {
         }) };
 }
 
-/// The status of a job that ended so: 0 where all is written, 1 after a fault or a failed write.
+/// The status of a job that ended so: 0 if all is written, 1 after a fault or a failed write.
 fn status_at_end(end: JobEnd) -> u8
     ensures { result ≡ end_status end }
 {
@@ -175,9 +175,9 @@ impl<I: Input, O: Output, E: Output, A: Allocator + Copy + Drop> Job<I, O, E, A>
         })
     }
 
-    /// Makes one step. The first one reads the filter or compiles, where that is asked for; each
+    /// Makes one step. The first one reads the filter or compiles, if that is asked for; each
     /// other one reads one input on, decides one packet, or ends the output. It reports how the job
-    /// ended where it did. A message that can't be written is lost. After the end a step returns
+    /// ended if it did. A message that can't be written is lost. After the end a step returns
     /// the status again, and does nothing.
     #[inline(always)]
     pub fn step(&mut self) -> Turn
@@ -234,7 +234,7 @@ impl<I: Input, O: Output, E: Output, A: Allocator + Copy + Drop> Job<I, O, E, A>
     }
 
     /// One step of a job that has nothing to prepare any more: reads one input on, decides one
-    /// packet or ends the output, and reports how the job ended where it did. After the end it
+    /// packet or ends the output, and reports how the job ended if it did. After the end it
     /// returns the status again, and does nothing.
     // It runs twice for each packet; being inlined in `step` saves about 70 instructions.
     #[inline(always)]
@@ -260,7 +260,7 @@ impl<I: Input, O: Output, E: Output, A: Allocator + Copy + Drop> Job<I, O, E, A>
     }
 
     /// Does what is next: reads one input on, decides one packet, or ends the output. It returns
-    /// the end where the job ends here.
+    /// the end if the job ends here.
     #[inline(always)]
     fn do_next(&mut self) -> Option<JobEnd>
         requires { self.old.preparing ≡ None }
@@ -273,8 +273,8 @@ impl<I: Input, O: Output, E: Output, A: Allocator + Copy + Drop> Job<I, O, E, A>
         }
     }
 
-    /// Decides the current packet of an input. It returns the end where the job ends here: after
-    /// the last packet that may pass, or where the packet is refused or can't be written.
+    /// Decides the current packet of an input. It returns the end if the job ends here: after
+    /// the last packet that may pass, or if the packet is refused or can't be written.
     fn decide_next(&mut self, input: usize) -> Option<JobEnd>
         requires prepared { self.old.preparing ≡ None }
         requires next { input_spec.IsNext self.old.state.inputs (Next.Decide input) }
@@ -298,7 +298,7 @@ impl<I: Input, O: Output, E: Output, A: Allocator + Copy + Drop> Job<I, O, E, A>
     }
 
     /// Reads an input on. Where somebody may be waiting for the output, and the read may wait, what
-    /// was written is released first. It returns the end where the job ends here: by a fault of the
+    /// was written is released first. It returns the end if the job ends here: by a fault of the
     /// input, or since the output failed.
     fn read_next(&mut self, input: usize) -> Option<JobEnd>
         requires prepared { self.old.preparing ≡ None }
@@ -313,7 +313,7 @@ impl<I: Input, O: Output, E: Output, A: Allocator + Copy + Drop> Job<I, O, E, A>
     }
 
     /// Before an input is read on, makes the output's device pass on what it holds back, unless the
-    /// input's next packet is at hand. It returns false where the device couldn't.
+    /// input's next packet is at hand. It returns false if the device couldn't.
     // Out of line, since few jobs have an output that is awaited.
     #[inline(never)]
     fn release_before(&mut self, input: usize) -> bool
@@ -323,8 +323,8 @@ impl<I: Input, O: Output, E: Output, A: Allocator + Copy + Drop> Job<I, O, E, A>
         self.inputs.has_next_at_hand(input) || self.output.release()
     }
 
-    /// Reads an input on: to its next packet, its clean end, where it is reported if reports are
-    /// asked for, or a fault. It returns the end where the job ends here: by that fault, or since
+    /// Reads an input on: to its next packet, its clean end, if it is reported if reports are
+    /// asked for, or a fault. It returns the end if the job ends here: by that fault, or since
     /// the report couldn't be written.
     fn read_input(&mut self, input: usize) -> Option<JobEnd>
         requires prepared { self.old.preparing ≡ None }
@@ -382,7 +382,7 @@ impl<I: Input, O: Output, E: Output, A: Allocator + Copy + Drop> Job<I, O, E, A>
         Turn::Done(status)
     }
 
-    /// From here on packets are judged by this filter, up to `count` that pass, or all where there
+    /// From here on packets are judged by this filter, up to `count` that pass, or all if there
     /// is no `count`. It is one step.
     fn install_filter(&mut self, filter: Filter<A>, count: Option<u64>) -> Turn
         requires fresh { IsFresh self.old }
@@ -399,7 +399,7 @@ impl<I: Input, O: Output, E: Output, A: Allocator + Copy + Drop> Job<I, O, E, A>
     }
 
     /// Reports why an expression or a listing is refused, and ends the job: with the status 2, or 1
-    /// where memory ran out. A message that can't be written is lost.
+    /// if memory ran out. A message that can't be written is lost.
     fn refuse(&mut self, refusal: Refusal) -> Turn
         requires fresh { IsFresh self.old }
         requires taken { self.old.preparing ≡ None }
@@ -414,7 +414,7 @@ impl<I: Input, O: Output, E: Output, A: Allocator + Copy + Drop> Job<I, O, E, A>
         Turn::Done(status)
     }
 
-    /// Writes the listing of a program, and ends the job, by a failed write where the output's
+    /// Writes the listing of a program, and ends the job, by a failed write if the output's
     /// device failed.
     fn list(&mut self, program: &Program<A>) -> Turn
         requires fresh { IsFresh self.old }
@@ -468,9 +468,9 @@ impl<I: Input, O: Output, E: Output, A: Allocator + Copy + Drop> Job<I, O, E, A>
 }
 
 /// Runs a proper command. `names` are those of the inputs, then of the output. It returns the
-/// status, 0 where all went well, 1 after a fault, a failed write or a lack of memory, 2 where an
-/// expression or a listing is refused, and hands back the output and the messages' device. Where
-/// there is no memory to begin the job, nothing is written but a message. Of a message that can't
+/// status, 0 if all went well, 1 after a fault, a failed write or a lack of memory, 2 if an
+/// expression or a listing is refused, and hands back the output and the messages' device. If
+/// there is no memory to begin the job, nothing is written but a message. For a message that can't
 /// be written a prefix may be.
 pub fn run<I, O, E, A>(
     alloc: A,

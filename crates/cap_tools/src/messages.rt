@@ -17,7 +17,7 @@ use std::marker::Model;
 #[derive(Drop)]
 pub struct Messages<E: Output, A: Allocator> {
     device: E,
-    /// Of the inputs, then of the output.
+    /// For the inputs, then of the output.
     names: Vec<String<A>, A>,
 }
 
@@ -44,7 +44,7 @@ impl<E: Output, A: Allocator> Messages<E, A> {
     ghost use Rattle.cap_tools.specs.Jobs.{end_message};
     ghost use Rattle.cap_process.specs.Reports.{name_at};
 
-    /// Messages of a job over files of these names: of the inputs, then of the output.
+    /// Messages of a job over files of these names: for the inputs, then of the output.
     pub fn new(device: E, names: Vec<String<A>, A>) -> Self
         ensures { result ≡ record {
           names = map string_bytes names.items;
@@ -55,7 +55,7 @@ impl<E: Output, A: Allocator> Messages<E, A> {
     }
 
     /// The name of the input with this index, or of the output, whose index is that after the
-    /// inputs'; empty where there is none.
+    /// inputs'; empty if there is none.
     pub fn name(&self, index: usize) -> &str
         ensures { result.now ≡ name_at self.now.names index }
     {
@@ -94,8 +94,8 @@ impl<E: Output, A: Allocator> Messages<E, A> {
 }
 
 /// Writes the message of how a job ended: a fault by the name and the offset of its input, a failed
-/// write by the name of the output, which follows those of the inputs. Where all is written there
-/// is no message, and the device isn't called. An error means that the device failed.
+/// write by the name of the output, which follows those of the inputs. If all is written there
+/// isn't a message, and the device isn't called. An error means that the device failed.
 fn write_end_message<I: Input, E: Output, A: Allocator + Copy + Drop>(
     device: &mut E,
     names: &Vec<String<A>, A>,
@@ -117,7 +117,7 @@ fn write_end_message<I: Input, E: Output, A: Allocator + Copy + Drop>(
     }
 }
 
-/// The name at an index; empty where there is none.
+/// The name at an index; empty if there is none.
 fn name_of<A: Allocator>(names: &Vec<String<A>, A>, index: usize) -> &str
     ensures { result.now ≡ name_at (map string_bytes names.now.items) index }
 {

@@ -74,7 +74,7 @@ pub(crate) fn decide<I: Input, O: Output, A: Allocator + Copy + Drop>(
 }
 
 /// How a job ends after a packet with this verdict: complete after the last one that passes. `None`
-/// where it goes on.
+/// if it goes on.
 pub(crate) fn end_after(verdict: Verdict) -> Option<JobEnd>
     ensures { result ≡ end_after verdict }
 {
@@ -85,7 +85,7 @@ pub(crate) fn end_after(verdict: Verdict) -> Option<JobEnd>
 }
 
 /// Reports an input that was read to its end, where packets are counted, and begins the count of
-/// the next one. It returns the end where the job ends here: the output's device failed.
+/// the next one. It returns the end if the job ends here: the output's device failed.
 pub(crate) fn close<I: Input, O: Output, E: Output, A: Allocator>(
     inputs: &Inputs<I, A>,
     input: usize,

@@ -1,4 +1,4 @@
-//! An allocator that counts what is asked of it, and refuses what it is told to.
+//! An allocator that counts what is asked of it, and refuses what a test asks it to.
 
 use std::alloc::{AllocError, Allocator};
 use std::cell::Cell;
@@ -57,7 +57,7 @@ impl<B: Allocator> Drop for Trial<B> {
     }
 }
 
-/// Counts a growth, and tells whether it may be made.
+/// Counts a growth, and returns whether it may be made.
 fn admits(plan: &Plan) -> bool {
     let number = plan.growths.get().saturating_add(1);
     plan.growths.set(number);

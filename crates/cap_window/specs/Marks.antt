@@ -17,6 +17,6 @@ is_same_mark x y = x.length == y.length && pointwise nat_eq x.digest y.digest
 abbrev pub has_same : List Mark → Mark → Bool
 has_same marks m = list_any (is_same_mark m) marks
 
--- the last n of some marks, or all where there are fewer
+-- the last n of some marks, or all if there are fewer
 abbrev pub last : ℕ → List Mark → List Mark
 last n marks = drop (length marks - n) marks

@@ -8,8 +8,8 @@ use crate::mark::{Mark, is_same_mark};
 use circular_buffer::HeapCircularBuffer;
 use std::alloc::Allocator;
 
-/// How many places before a mark the tops of the two trees below it are: of the marks with a 0 and
-/// of those with a 1 as the bit at its depth. Where a link leads out of the window, there is no
+/// How many places before a mark the tops of the two trees below it are: for the marks with a 0 and
+/// of those with a 1 as the bit at its depth. If a link leads out of the window, there is no
 /// such tree.
 #[derive(Clone, Copy)]
 pub struct Links {
@@ -59,7 +59,7 @@ impl Links {
     }
 }
 
-/// The bit of a mark at a depth: of its digest, from the last byte on and the lowest bit of each
+/// The bit of a mark at a depth: in its digest, from the last byte on and the lowest bit of each
 /// first, and from depth 128 on of its length.
 #[inline]
 #[tactic(auto, unfolding(crate::specs::inside::Index::mark_bit))]

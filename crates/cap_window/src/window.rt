@@ -17,7 +17,7 @@ const MOST_HEADS: u32 = 0x0010_0000;
 /// top. Those below a mark go by one bit each, of the digest and then of the length, so that no
 /// mark is deeper than it has bits, whoever chooses the packets. Marks are numbered from 1, and a
 /// link is a difference of two numbers: since a mark is newer than those below it, a tree ends by
-/// itself where it leaves the window, and no mark is deleted from it for that.
+/// itself at the end of the window, and no mark is deleted from it for that.
 #[derive(Drop)]
 pub struct Window<A: Allocator> {
     /// From the oldest to the newest.
@@ -74,8 +74,8 @@ impl<A: Allocator> Window<A> {
     }
 
     /// Puts the mark of a packet's captured bytes into the window, and returns whether an equal one
-    /// was there: of as many bytes with the same digest. The mark is put there in either case, and
-    /// the oldest one leaves the window where it is full. Takes no memory.
+    /// was in it: as many bytes with the same digest. The mark is put there in either case, and
+    /// the oldest one is dropped if the window is full. Takes no memory.
     pub fn seen_before(&mut self, bytes: &[u8]) -> bool
         requires { length bytes.now < 2 ^ 32 }
         ensures answer { IsTrue result ↔ Contains self.old.marks (mark_of bytes.now) }
@@ -89,7 +89,7 @@ impl<A: Allocator> Window<A> {
         found
     }
 
-    /// Whether an equal mark is in the window. If so, it is in the tree of this mark's hash, where
+    /// Whether an equal mark is in the window. If so, it is in the tree of this mark's hash, at the place where
     /// the way down by this mark's bits meets it.
     fn contains(&self, mark: &Mark) -> bool
         ensures { IsTrue result ↔ Contains self.now.marks mark.now }
@@ -99,7 +99,7 @@ impl<A: Allocator> Window<A> {
         // From the place after the newest mark to the top of the tree of this hash.
         let mut step = self.newest + 1 - self.heads[hash];
         // `limit` is the place of the mark above, at first the place after the newest, and the top
-        // of the tree that is left is `step` places before it. Where that leads out of the window,
+        // of the tree that is left is `step` places before it. If that leads out of the window,
         // no mark is left.
         while step as usize <= limit {
             limit -= step as usize;
@@ -112,7 +112,7 @@ impl<A: Allocator> Window<A> {
         false
     }
 
-    /// Puts a mark into the window as the newest; the oldest leaves it where it is full.
+    /// Puts a mark into the window as the newest; the oldest is dropped if it is full.
     fn push(&mut self, mark: Mark)
         ensures { self.new ≡ window (last self.old.capacity (self.old.marks ++ mark ∷ []))
             self.old.capacity }
@@ -160,7 +160,7 @@ fn subtract_from_all(numbers: &mut [u32], less: u32)
     }
 }
 
-/// Numbers the marks from 1 again where the numbers run out, at 2^32 - 1, and returns the number of
+/// Numbers the marks from 1 again if the numbers run out, at 2^32 - 1, and returns the number of
 /// the newest mark; before that it stays `newest`, and nothing changes. The same difference is
 /// subtracted from all heads, so that the `kept` marks of the window have the numbers 1 to `kept`,
 /// and those that left the window have 0.

@@ -49,11 +49,11 @@ texts_in id matches = unwrap_or (all_of id matches) []
 abbrev pub flag_in : Text → List Row → Bool
 flag_in id matches = option_map_or (λ text. bytes_eq text (codes "true")) (one_of id matches) false
 
--- the format that an argument names, or pcapng where it isn't given, or names none
+-- the format that an argument names, or pcapng if it isn't given, or names none
 abbrev pub format_in : Text → List Row → Format
 format_in id matches = unwrap_or (option_and_then format_of_name (first_of id matches)) Pcapng
 
--- the link that an argument names, or Ethernet where it isn't given, or names none
+-- the link that an argument names, or Ethernet if it isn't given, or names none
 abbrev pub link_in : Text → List Row → Link
 link_in id matches = unwrap_or (option_and_then link_of_name (first_of id matches)) Ether
 
@@ -68,16 +68,16 @@ abbrev pub argument_number : (least most : ℕ) → Text → List Row → Option
 argument_number least most id matches =
     option_and_then (number_between least most) (one_of id matches)
 
--- the time that an argument names, in nanoseconds since 1970-01-01 00:00:00 UTC; None where it
+-- the time that an argument names, in nanoseconds since 1970-01-01 00:00:00 UTC; None if it
 -- isn't given, or names none
 abbrev pub time_in : Text → List Row → Option ℕ
 time_in id matches = option_and_then time_value (first_of id matches)
 
--- the nanoseconds of an argument's number of seconds; None where it isn't given, or names none
+-- the nanoseconds of an argument's number of seconds; None if it isn't given, or names none
 abbrev pub duration_in : Text → List Row → Option ℕ
 duration_in id matches = option_and_then duration_value (first_of id matches)
 
--- times are shifted by one of the spans, in nanoseconds, or not; of both by the first
+-- times are shifted by one of the spans, in nanoseconds, or not; for both by the first
 abbrev pub shift_by : (later earlier : Option ℕ) → Shift
 shift_by (Some span) earlier = shift.Later span
 shift_by None (Some span) = shift.Earlier span
@@ -114,11 +114,11 @@ range_fault words =
 abbrev pub name_fault : List Text → Option Text → Option Usage
 name_fault inputs output = if uses_name_twice inputs output then Some NameUsedTwice else None
 
--- an argument has a text that is no time
+-- an argument has a text that isn't a time
 abbrev pub is_bad_time : Text → List Row → Bool
 is_bad_time id matches = is_some (first_of id matches) && is_none (time_in id matches)
 
--- an argument has a text that is no number of seconds
+-- an argument has a text that isn't a number of seconds
 abbrev pub is_bad_duration : Text → List Row → Bool
 is_bad_duration id matches = is_some (first_of id matches) && is_none (duration_in id matches)
 
@@ -132,7 +132,7 @@ has_bad_time matches =
 abbrev pub time_fault : List Row → Option Usage
 time_fault matches = if has_bad_time matches then Some BadTime else None
 
--- times are to be shifted both later and earlier, which can't be
+-- times must be shifted both later and earlier, which can't be
 abbrev pub has_two_shifts : List Row → Bool
 has_two_shifts matches =
     is_some (first_of ids.LATER.now matches) && is_some (first_of ids.EARLIER.now matches)
@@ -171,7 +171,7 @@ merge_fault matches = files_fault (files_in matches) (Some (text_in ids.OUT.now 
 abbrev pub infos_fault : List Row → Option Usage
 infos_fault matches = files_fault (files_in matches) None
 
--- the names that are read: the capture's, and the listing's where there is one
+-- the names that are read: the capture's, and the listing's if there is one
 abbrev pub read_names : List Row → List Text
 read_names matches =
     text_in ids.FILE.now matches ∷ option_to_list (first_of ids.LISTING.now matches)
@@ -182,7 +182,7 @@ has_two_filters matches =
     is_some (first_of ids.LISTING.now matches)
     && nat_lt 0 (length (texts_in ids.WORD.now matches))
 
--- a capture is to be written, and lines are to have link headers or bytes
+-- a capture must be written, and lines must have link headers or bytes
 abbrev pub has_two_outputs : List Row → Bool
 has_two_outputs matches =
     is_some (first_of ids.OUT.now matches)
@@ -306,7 +306,7 @@ SaysLine words line =
     (asked : Subcommand) × (matches : List Row) × Asks words asked matches
     × (fault_in asked matches ≡ None) × IsLineOf asked matches line
 
--- the words are no line: clap refuses them, or it takes them, and memory ran out or this is their
+-- the words aren't a line: clap refuses them, or it takes them, and memory ran out or this is their
 -- first fault
 abbrev pub SaysFault : List Text → Usage → Type 0
 SaysFault words (Refused error) = RefusesWords words error
@@ -327,7 +327,7 @@ is_ready line =
     is_proper line.command (vec_len line.inputs)
     && (is_none line.code || not (has_expression line.command))
 
--- the command with a listing of these bytes; a print alone takes one
+-- the command with a listing of these bytes; only a print takes one
 abbrev pub with_code : Command Global → Vec ℕ → Command Global
 with_code (command.Print print) bytes = command.Print (record print { code = Some bytes })
 with_code asked bytes = asked

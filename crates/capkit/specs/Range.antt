@@ -10,7 +10,7 @@ use Rattle.cap_command.specs.Command.{is_range}
 abbrev pub is_decimal : List ℕ → Bool
 is_decimal text = nat_lt 0 (length text) && list_all is_ascii_digit text
 
--- the number that a text writes in decimal digits alone
+-- the number that a text writes in only decimal digits
 abbrev pub range_number : List ℕ → Option ℕ
 range_number text = if is_decimal text then Some (digits_value 10 text) else None
 
@@ -25,7 +25,7 @@ sides_of word =
     if list_any is_hyphen word then (before_first is_hyphen word, after_first is_hyphen word)
     else (word, word)
 
--- the two numbers, where they are those of a range
+-- the two numbers, if they are those of a range
 abbrev pub range_between : Option ℕ → Option ℕ → Option (ℕ × ℕ)
 range_between (Some first) (Some last) = if is_range first last then Some (first, last) else None
 range_between _ _ = None

@@ -19,7 +19,7 @@ use clap::ArgMatches;
 use std::alloc::Global;
 
 /// The ranges that the words name, at most `MOST_RANGES` (512). An error is that memory ran out, or
-/// else the first of these: there are more (`TooManyValues`), or a word is no range (`BadRange`).
+/// else the first of these: there are more (`TooManyValues`), or a word isn't a range (`BadRange`).
 fn ranges_in(alloc: Global, words: &[&str]) -> Result<Vec<(u64, u64)>, Usage>
     ensures ranges { IfOk result (λ ranges. map Some ranges.items
         ≡ map range_of (map (λ word. word.now) words.now)) }
@@ -40,14 +40,14 @@ fn ranges_in(alloc: Global, words: &[&str]) -> Result<Vec<(u64, u64)>, Usage>
     Ok(ranges)
 }
 
-/// Whether the argument has a text that is no time; false where it isn't given.
+/// Whether the argument has a text that isn't a time; false if it isn't given.
 fn is_bad_time(matches: &ArgMatches<'_>, id: &str) -> bool
     ensures { result ≡ is_bad_time id.now (rows_of (found_of matches.now)) }
 {
     optional_text(matches, id).is_some() && time(matches, id).is_none()
 }
 
-/// Whether the argument has a text that is no number of seconds; false where it isn't given.
+/// Whether the argument has a text that isn't a number of seconds; false if it isn't given.
 fn is_bad_duration(matches: &ArgMatches<'_>, id: &str) -> bool
     ensures { result ≡ is_bad_duration id.now (rows_of (found_of matches.now)) }
 {
@@ -64,7 +64,7 @@ fn has_bad_time(matches: &ArgMatches<'_>) -> bool
         || is_bad_duration(matches, ids::EARLIER)
 }
 
-/// Whether times are to be shifted both later and earlier, which exclude each other. clap isn't
+/// Whether times must be shifted both later and earlier, which exclude each other. clap isn't
 /// told, since its line has no rule of one argument on another (`line_is_simple` of capkit_args).
 fn has_two_shifts(matches: &ArgMatches<'_>) -> bool
     ensures { result ≡ has_two_shifts (rows_of (found_of matches.now)) }
@@ -100,7 +100,7 @@ fn time_shift(matches: &ArgMatches<'_>) -> Shift
         duration(matches, ids::LATER),
         duration(matches, ids::EARLIER),
     ) {
-        // Of both, which `check_edit` refuses, it would be the first.
+        // For both, which `check_edit` refuses, it would be the first.
         (Some(span), _) => Shift::Later(span),
         (None, Some(span)) => Shift::Earlier(span),
         (None, None) => Shift::None,

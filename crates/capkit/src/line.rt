@@ -22,10 +22,10 @@ pub struct Line {
     pub command: Command,
     /// The names of the inputs, of which `-` is standard input.
     pub inputs: Vec<String>,
-    /// The name of the output, of which `-` is standard output; standard output where there is
+    /// The name of the output, of which `-` is standard output; standard output if there is
     /// none.
     pub output: Option<String>,
-    /// The name of a listing, which is to be read and put into the command (`with_code`) before
+    /// The name of a listing, which must be read and put into the command (`with_code`) before
     /// that runs.
     pub code: Option<String>,
 }
@@ -53,13 +53,13 @@ fn line_of_matches(
 
 /// The line that the words after the program's name ask for.
 ///
-/// An error is the first of these that holds: clap refuses the words (also where it is out of
-/// memory), there are more than 512 ranges or 256 inputs, a word is no range, a word is no time or
+/// An error is the first of these that holds: clap refuses the words (even if it is out of
+/// memory), there are more than 512 ranges or 256 inputs, a word isn't a range, a word isn't a time or
 /// no number of seconds, options exclude each other, a name is used twice; or an allocation fails
 /// after clap's parse.
 ///
-/// These exclude each other: `--later` and `--earlier` of an edit; of a print, the words of an
-/// expression and `--code`, `-w` and `-e` or `-x`, and `--format` where there is no `-w`.
+/// These exclude each other: `--later` and `--earlier` of an edit; for a print, the words of an
+/// expression and `--code`, `-w` and `-e` or `-x`, and `--format` if there is no `-w`.
 pub fn command_of(alloc: Global, words: Vec<String>) -> Result<Line, Usage>
     ensures line { IfOk result (SaysLine (map string_bytes words.items)) }
     ensures ready { IfOk result (λ line. is_ready line ≡ true) }

@@ -4,7 +4,7 @@ ghost use Rattle.std.specs.List.{list_any};
 ghost use Rattle.std.specs.Str.{bytes_eq};
 ghost use Rattle.capkit.specs.Names.{is_standard, uses_name_twice};
 
-/// The name of a standard stream: input where it is read, output where it is written.
+/// The name of a standard stream: input if it is read, output if it is written.
 pub const STANDARD: &str = "-";
 
 /// Whether one of the names is `wanted`.

@@ -33,7 +33,7 @@ pub fn expression_text(alloc: Global, matches: &ArgMatches<'_>) -> Result<String
     Ok(joined)
 }
 
-/// A copy of a text, which owns its bytes, where there is one. An error means that memory ran out.
+/// A copy of a text, which owns its bytes, if there is one. An error means that memory ran out.
 fn copy_of_text(alloc: Global, text: Option<&str>) -> Result<Option<String>, AllocError>
     ensures { IfOk result (λ owned. option_map string_bytes owned
         ≡ option_map (λ text. text.now) text.entry) }
@@ -57,14 +57,14 @@ fn print_uses_name_twice(input: &str, listing: Option<&str>, output: Option<&str
     }
 }
 
-/// Whether there are both a listing and words of an expression, of which a print takes one alone.
+/// Whether there are both a listing and words of an expression, of which a print takes only one.
 fn has_two_filters(matches: &ArgMatches<'_>) -> bool
     ensures { result ≡ has_two_filters (rows_of (found_of matches.now)) }
 {
     optional_text(matches, ids::LISTING).is_some() && !texts(matches, ids::WORD).is_empty()
 }
 
-/// Whether packets are to be written to a capture and yet lines are to have link headers or bytes.
+/// Whether packets must be written to a capture and yet lines must have link headers or bytes.
 fn has_two_outputs(matches: &ArgMatches<'_>) -> bool
     ensures { result ≡ has_two_outputs (rows_of (found_of matches.now)) }
 {
@@ -108,7 +108,7 @@ fn check_print(matches: &ArgMatches<'_>) -> Result<(), Usage>
     Ok(())
 }
 
-/// The format in which a print writes packets, where `-w` names a capture; `None` where it prints
+/// The format in which a print writes packets, where `-w` names a capture; `None` if it prints
 /// lines.
 fn output_format(matches: &ArgMatches<'_>) -> Option<Format>
     ensures { result ≡ write_in (rows_of (found_of matches.now)) }
@@ -119,7 +119,7 @@ fn output_format(matches: &ArgMatches<'_>) -> Option<Format>
     }
 }
 
-/// After how many packets that match the print ends; `None` where it reads its capture to the end.
+/// After how many packets that match the print ends; `None` if it reads its capture to the end.
 fn packet_limit(matches: &ArgMatches<'_>) -> Option<u64>
     ensures value { result ≡ argument_number 1 most_64 COUNT.now
         (rows_of (found_of matches.now)) }

@@ -14,7 +14,7 @@ fn has_digits_alone(text: &str) -> bool
     text.bytes().all(|byte| byte.is_ascii_digit())
 }
 
-/// The number that a text of decimal digits alone, one or more, writes, if it is below 2^64. Other
+/// The number that a text of only decimal digits, one or more, writes, if it is below 2^64. Other
 /// texts have none: a plus sign, which `parse` would take, is refused before.
 fn number_in(text: &str) -> Option<u64>
     ensures number { IfSome result (λ n. range_number text.now ≡ Some n) }
@@ -41,7 +41,7 @@ fn range_sides<'a>(word: &'a str) -> (&'a str, &'a str)
     }
 }
 
-/// The range that a word names: `N`, or `N-M` from N to M, in decimal digits alone, with 1 <= N <=
+/// The range that a word names: `N`, or `N-M` from N to M, in only decimal digits, with 1 <= N <=
 /// M < 2^63. `None` of any other word.
 pub fn range_in(word: &str) -> Option<(u64, u64)>
     ensures value { result ≡ range_of word.now }

@@ -1,11 +1,11 @@
-//! Why words are no command line.
+//! Why words aren't a command line.
 ghost use Rattle.std.specs.Prelude.{◌≡◌};
 ghost use Rattle.capkit.specs.declared.usage.Usage.TheVariants.{Memory};
 
 use std::alloc::{AllocError, AllocFailed};
 use thiserror::Error;
 
-/// Why words are no command line. Its text is what a message calls it.
+/// Why words aren't a command line. Its text is what a message calls it.
 #[derive(Debug, Drop, Error)]
 pub enum Usage {
     /// clap refuses the words, also for lack of memory, or handles a request for help or the
@@ -25,11 +25,11 @@ pub enum Usage {
     #[error("options exclude each other")]
     OptionsExclude,
     /// The output, unless it is standard output, is an input or the listing too, or standard input
-    /// is two of these. capkit_host returns it also where the output is one of their files by
+    /// is two of these. capkit_host returns it even if the output is one of their files by
     /// another name.
     #[error("name used twice")]
     NameUsedTwice,
-    /// No memory was left for the words or the line; of clap's own lack of it `Refused` tells.
+    /// No memory was left for the words or the line; `Refused` reports clap's own lack of it.
     #[error("no memory")]
     Memory,
 }

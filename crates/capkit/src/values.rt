@@ -8,17 +8,17 @@ ghost use Rattle.clap.specs.Words.{found_of, rows_of, first_of};
 ghost use Rattle.capkit.specs.Line.{flag_in, format_in, link_in, argument_number};
 ghost use Rattle.capkit.specs.Line.{duration_in, text_in, texts_in, time_in};
 
-use cap_octet::{Format, Link, read_duration, read_timestamp};
+use cap_octet::{Format, Link, span_of, time_of};
 use clap::ArgMatches;
 
-/// Whether the flag of this id is set; false where it isn't given.
+/// Whether the flag of this id is set; false if it isn't given.
 pub fn flag(matches: &ArgMatches<'_>, id: &str) -> bool
     ensures { result ≡ flag_in id.now (rows_of (found_of matches.now)) }
 {
     matches.get_one::<bool>(id).unwrap_or(false)
 }
 
-/// The first value of the argument of this id; `None` where it isn't given.
+/// The first value of the argument of this id; `None` if it isn't given.
 #[tactic(auto, using(crate::proofs::Getters::reads))]
 pub fn optional_text<'a>(matches: &ArgMatches<'a>, id: &str) -> Option<&'a str>
     ensures { option_map (λ text. text.now) result
@@ -27,15 +27,15 @@ pub fn optional_text<'a>(matches: &ArgMatches<'a>, id: &str) -> Option<&'a str>
     matches.get_str(id)
 }
 
-/// The first value of an argument that its command needs, so that clap has it; of another one the
-/// empty text where it isn't given.
+/// The first value of an argument that its command needs, so that clap has it; for another one the
+/// empty text if it isn't given.
 pub fn text<'a>(matches: &ArgMatches<'a>, id: &str) -> &'a str
     ensures { result.now ≡ text_in id.entry.now (rows_of (found_of matches.entry.now)) }
 {
     optional_text(matches, id).unwrap_or_default()
 }
 
-/// All values of the argument, in order; none where it isn't given.
+/// All values of the argument, in order; none if it isn't given.
 #[tactic(auto, using(crate::proofs::Getters::reads))]
 pub fn texts<'m, 'a>(matches: &'m ArgMatches<'a>, id: &str) -> &'m [&'a str]
     ensures { map (λ text. text.now) result.now
@@ -44,7 +44,7 @@ pub fn texts<'m, 'a>(matches: &'m ArgMatches<'a>, id: &str) -> &'m [&'a str]
     matches.get_strs(id).unwrap_or_default()
 }
 
-/// The format that the argument names, or pcapng where it isn't given; clap takes no other names
+/// The format that the argument names, or pcapng if it isn't given; clap takes no other names
 /// than those of formats.
 pub fn format(matches: &ArgMatches<'_>, id: &str) -> Format
     ensures { result ≡ format_in id.entry.now (rows_of (found_of matches.entry.now)) }
@@ -55,7 +55,7 @@ pub fn format(matches: &ArgMatches<'_>, id: &str) -> Format
     }
 }
 
-/// The link that the argument names, or Ethernet where it isn't given; clap takes no other names
+/// The link that the argument names, or Ethernet if it isn't given; clap takes no other names
 /// than those of links.
 pub fn link(matches: &ArgMatches<'_>, id: &str) -> Link
     ensures { result ≡ link_in id.entry.now (rows_of (found_of matches.entry.now)) }
@@ -79,7 +79,7 @@ fn number_within(number: Option<u64>, least: u64, most: u64) -> Option<u64>
     }
 }
 
-/// The number that the argument has; `None` where it isn't given. clap takes only numbers from
+/// The number that the argument has; `None` if it isn't given. clap takes only numbers from
 /// `least` to `most`.
 pub fn number(matches: &ArgMatches<'_>, id: &str, least: u64, most: u64) -> Option<u64>
     ensures value { result ≡ argument_number least most id.now (rows_of (found_of matches.now)) }
@@ -88,7 +88,7 @@ pub fn number(matches: &ArgMatches<'_>, id: &str, least: u64, most: u64) -> Opti
     number_within(matches.get_one::<u64>(id), least, most)
 }
 
-/// The number that the argument has, as `number` gives it, where its bounds are of 32 bits.
+/// The number that the argument has, as `number` gives it, if its bounds are of 32 bits.
 pub fn number_u32(matches: &ArgMatches<'_>, id: &str, least: u32, most: u32) -> Option<u32>
     ensures value { result ≡ argument_number least most id.now (rows_of (found_of matches.now)) }
     ensures bounds { IfSome result (λ n. (least ≤ n) × (n ≤ most)) }
@@ -99,26 +99,26 @@ pub fn number_u32(matches: &ArgMatches<'_>, id: &str, least: u32, most: u32) -> 
     }
 }
 
-/// The time that the argument names, in nanoseconds since 1970-01-01 00:00:00 UTC. `None` where it
-/// isn't given, or its text is no time.
+/// The time that the argument names, in nanoseconds since 1970-01-01 00:00:00 UTC. `None` if it
+/// isn't given, or its text isn't a time.
 pub fn time(matches: &ArgMatches<'_>, id: &str) -> Option<u64>
     ensures value { result ≡ time_in id.now (rows_of (found_of matches.now)) }
     ensures proper { option_map_or is_time result true ≡ true }
 {
     match optional_text(matches, id) {
-        Some(text) => read_timestamp(text),
+        Some(text) => time_of(text),
         None => None,
     }
 }
 
-/// The duration that the argument names as a number of seconds, in nanoseconds. `None` where it
-/// isn't given, or its text is no number of seconds.
+/// The duration that the argument names as a number of seconds, in nanoseconds. `None` if it
+/// isn't given, or its text isn't a number of seconds.
 pub fn duration(matches: &ArgMatches<'_>, id: &str) -> Option<u64>
     ensures value { result ≡ duration_in id.now (rows_of (found_of matches.now)) }
     ensures proper { option_map_or is_time result true ≡ true }
 {
     match optional_text(matches, id) {
-        Some(text) => read_duration(text),
+        Some(text) => span_of(text),
         None => None,
     }
 }

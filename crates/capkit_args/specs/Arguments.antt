@@ -194,7 +194,7 @@ pub record TakesWords (words : List Text) (entered : Option (Text × List Row)) 
   pub enters : subcommand_of (line_app formats links) words ≡ entered
 
 -- clap gives this error for the words: it has one of the kinds of their faults, or memory ran out,
--- which is so where clap takes the words
+-- which is the case if clap takes the words
 pub record RefusesWords (words : List Text) (error : Error) : Type 0 where
   pub formats : ValueParser
   pub links : ValueParser

@@ -52,7 +52,7 @@ pub fn subcommand_of_name(name: &str) -> Subcommand
 }
 
 /// The names that the arguments for a format and for a link choose from. The lists are the
-/// program's; the clauses know their texts, and not where they lie in memory.
+/// program's; the clauses know their texts, and not their places in memory.
 #[derive(Clone, Copy)]
 pub struct Choices<'a> {
     formats: &'a [&'a str],

@@ -28,7 +28,7 @@ pub const FORMAT: &str = "FORMAT";
 /// The input of an edit.
 pub const IN: &str = "IN";
 
-/// Whether the packets of the ranges alone are kept.
+/// Whether only the packets of the ranges are kept.
 pub const KEEP: &str = "keep";
 
 /// How many seconds times are moved later.

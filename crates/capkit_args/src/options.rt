@@ -81,14 +81,14 @@ const MORE: Argument = Argument {
     id: ids::MORE,
     name: Name::Place,
     value: Value::Words,
-    help: "More captures",
+    help: "Up to 255 more captures",
 };
 
 const WORD: Argument = Argument {
     id: ids::WORD,
     name: Name::Place,
     value: Value::Words,
-    help: "The words of an expression, as in pcap-filter(7)",
+    help: "The words of an expression, as in capkit-filter(7)",
 };
 
 const EDIT: CommandRow = CommandRow {

@@ -14,13 +14,13 @@ use Rattle.cap_pcap.proofs.Records.{passes, record_header_in-append}
 use Rattle.cap_pcapng.specs.Comment.{comment_in}
 use Rattle.cap_pcapng.specs.Frame.{is_section}
 use Rattle.cap_pcapng.specs.Interface.{Described}
-use Rattle.cap_pcapng.specs.Unit.{Section, packet_of, packets_in}
-use Rattle.cap_pcapng.specs.Effect.{section_of}
+use Rattle.cap_pcapng.specs.Unit.{Section, packet_of, packets_in, parts_after}
+use Rattle.cap_pcapng.specs.Effect.{LieAsSaid, section_of}
 use Rattle.cap_io.specs.Capture.{Declared, Nothing, PcapFile, PcapngFile, IsUnit, Whole, a_block, a_first_block, file_after, first_link_after, front_of, is_pcapng}
 use Rattle.cap_io.proofs.CapturesCame.{first-packets, section-kept}
 use Rattle.cap_io.proofs.Fronts.{front_of-following, front_of-pcapng, front_of-record, front_of_block-none, is_pcapng-append}
 use Rattle.cap_io.proofs.Units.{front_of-unit}
-use Rattle.capkit_c.specs.inside.Blocks.{Following, BlockStands, IsNoBlock, IsOfIfAny}
+use Rattle.capkit_c.specs.inside.Blocks.{Following, BlockStands, IsNoBlock, IsOfIfAny, spans_of}
 use Rattle.cap_io.specs.Reading.{declared_by}
 use Rattle.capkit_c.specs.inside.Units.{ArePlaced, Begins, IsNoUnit, BeginsWithUnit}
 use Rattle.capkit_c.specs.declared.memory.block.UnitPacket.{UnitPacket}
@@ -87,6 +87,7 @@ record_stands head text found known table count is fits upper_bound =
           within = omega arith;
           comment = refl;
           options = omega arith;
+          lies = (refl, refl, refl);
         },
       );
       there = omega (arith, p.whole, size);
@@ -137,6 +138,7 @@ placed_after section link text order size interfaces' (Some p) b of =
         within = b.fits.1;
         comment = ap (λ (r : Captured). r.comment) (sym is) ∙ ap (comment_in order) (part_within text size p.options_start p.options_length b.fits.3);
         options = b.fits.3;
+        lies = subst (λ (s : Section). LieAsSaid (parts_after (Some s) text) (spans_of size p)) (sym kept) b.lies;
       },
     )
 

@@ -1,13 +1,15 @@
 -- What reading the unit at a reader's place leaves.
-use Rattle.std.proofs.Common.{◌≡◌, ℕ, ◌+◌, ◌-◌, ◌≤◌, List, [], length, take, drop, Option, Some, None, refl, sym, ap, ◌∙◌, subst, arith}
+use Rattle.std.proofs.Common.{◌≡◌, ℕ, ◌+◌, ◌-◌, ◌<◌, ◌≤◌, List, [], length, take, drop, Option, Some, None, refl, sym, ap, ◌∙◌, subst, arith}
 use Rattle.std.specs.Prelude.{min}
 use Rattle.std.proofs.lemmas.List.{drop-drop, length-drop}
 use Rattle.cap_octet.specs.Packet.{Captured}
 use Rattle.cap_octet.specs.declared.fault.Fault.{Fault}
-use Rattle.cap_io.specs.Capture.{Declared, NoUnit, Whole, front_of}
+use Rattle.cap_io.specs.Capture.{Declared, NoUnit, Whole, first_link_of, front_of}
 use Rattle.cap_io.specs.Reading.{declared_by}
-use Rattle.capkit_c.specs.Layout.{declared_in, first_interfaces, reader_form, most_known}
-use Rattle.capkit_c.specs.Units.{IsPacketFound, NextLeaves, Stays, comment_by, ends, fails, finds, is_full, passes}
+use Rattle.cap_pcapng.specs.Interface.{Described}
+use Rattle.capkit_c.specs.Layout.{HasLink, declared_in, first_interfaces, reader_form, most_known}
+use Rattle.capkit_c.specs.Units.{IsPastUnit, IsPacketFound, NextLeaves, Stays, comment_by, ends, fails, finds, is_full, passes}
+use Rattle.capkit_c.specs.inside.Blocks.{spans_of}
 use Rattle.capkit_c.specs.inside.Units.{ArePlaced, Counts, IsNoUnit, IsAtEnd, IsPlaced, BeginsWithUnit, placed_packet}
 use Rattle.capkit_c.specs.declared.memory.block.UnitPacket.{UnitPacket}
 use Rattle.capkit_c.specs.declared.memory.block.Refusal.TheVariants as refusal
@@ -46,6 +48,20 @@ record Read (capture : List ℕ) (r r' : Reader) (t t' : List Interface) (s : Re
   placed : ArePlaced (declared_in r' t') (drop r.offset capture) s.size s.packet packets
   there : s.size ≤ length (drop r.offset capture)
 
+-- a file's first link type is known without its interfaces
+first_known : (f : FileState) (interfaces : List Described) → first_link_of (declared_by f []) ≡ first_link_of (declared_by f interfaces)
+first_known form.Unknown interfaces = refl
+first_known (form.Pcap head) interfaces = refl
+first_known (form.Pcapng order link) interfaces = refl
+
+is_after : (capture : List ℕ) (size : ℕ) (r r' : Reader) (t' : List Interface) (f : FileState) → r'.offset ≡ r.offset + size → size ≤ length (drop r.offset capture) → 0 < size → reader_form r' ≡ f
+    → HasLink (first_link_of (declared_by f [])) r' → IsPastUnit capture size r r' (declared_in r' t')
+is_after capture size r r' t' f offset there some form' link =
+    let P : Option ℕ → Type 0 = λ first. HasLink first r' in
+    let known : first_link_of (declared_by f []) ≡ first_link_of (declared_in r' t') =
+    first_known f (first_interfaces (most_known r' (length t')) t') ∙ ap (λ g. first_link_of (declared_by g (first_interfaces (most_known r' (length t')) t'))) (sym form') in
+    record { offset = offset; there = there; some = some; link = subst P known link }
+
 read : (capture text : List ℕ) (r r' : Reader) (t t' : List Interface) (f : FileState) (count : ℕ) (s : ReadUnit) → f ≡ reader_form r → Counts f r (length t) count → text ≡ drop r.offset capture
     → BeginsWithUnit f (first_interfaces count t) text t' s → reader_form r' ≡ s.form → r'.interfaces ≡ s.interfaces → Read capture r r' t t' s
 read capture text r r' t t' f count s is counts same steps form' interfaces' =
@@ -63,19 +79,19 @@ read capture text r r' t t' f count s is counts same steps form' interfaces' =
 
 pub passed : (capture text : List ℕ) (r r' : Reader) (t t' : List Interface) (p : Packet) (f : FileState) (count : ℕ) (s : ReadUnit) → f ≡ reader_form r → Counts f r (length t) count → text ≡ drop r.offset capture
     → BeginsWithUnit f (first_interfaces count t) text t' s → reader_form r' ≡ s.form → r'.interfaces ≡ s.interfaces → r'.offset ≡ r.offset + s.size → s.packet ≡ None
-    → NextLeaves capture r r' t t' p p found.Unit
-passed capture text r r' t t' p f count s is counts same steps form' interfaces' offset none =
+    → HasLink (first_link_of (declared_by s.form [])) r' → NextLeaves capture r r' t t' p p found.Unit
+passed capture text r r' t t' p f count s is counts same steps form' interfaces' offset none link =
     let b = read capture text r r' t t' f count s is counts same steps form' interfaces' in
     let P : Option UnitPacket → Type 0 = λ o. ArePlaced (declared_in r' t') (drop r.offset capture) s.size o b.packets in
     let empty : b.packets ≡ [] = subst P none b.placed in
-    passes s.size (b.front ∙ ap (λ qs. Whole s.size qs (declared_in r' t')) empty) offset b.there refl
+    passes s.size (b.front ∙ ap (λ qs. Whole s.size qs (declared_in r' t')) empty) (is_after capture s.size r r' t' s.form offset b.there steps.some form' link) refl
 
 -- a part of a unit, as a part of the capture
 part_at : (capture : List ℕ) (at start count : ℕ) → take count (drop start (drop at capture)) ≡ take count (drop (at + start) capture)
 part_at capture at start count = ap (take count) (drop-drop start at capture)
 
 found_at : (capture : List ℕ) (declared : Declared) (at size : ℕ) (p : UnitPacket) (q : Captured) → at ≤ length capture → size ≤ length (drop at capture) → IsPlaced declared (drop at capture) size p q
-    → IsPacketFound capture declared (placed_packet at p) q
+    → IsPacketFound capture at declared (placed_packet at p) q
 found_at capture declared at size p q inside there is =
     let left : length (drop at capture) ≡ length capture - at = length-drop at capture in
     record {
@@ -88,19 +104,26 @@ found_at capture declared at size p q inside there is =
       within = omega (arith, is.within, there, left, inside);
       comment = is.comment ∙ ap (comment_by declared) (part_at capture at p.options_start p.options_length);
       options = omega (arith, is.options, there, left, inside);
+      spans = spans_of size p;
+      lies = is.lies;
+      number = refl;
+      data_at = refl;
+      data_length = refl;
+      options_at = refl;
+      options_length = refl;
     }
 
 pub found_packet : (capture text : List ℕ) (r r' : Reader) (t t' : List Interface) (p p' : Packet) (f : FileState) (count : ℕ) (s : ReadUnit) (placed : UnitPacket) → f ≡ reader_form r → Counts f r (length t) count
     → text ≡ drop r.offset capture → BeginsWithUnit f (first_interfaces count t) text t' s → reader_form r' ≡ s.form → r'.interfaces ≡ s.interfaces → r'.offset ≡ r.offset + s.size → s.packet ≡ Some placed
-    → p' ≡ placed_packet r.offset placed → NextLeaves capture r r' t t' p p' found.Packet
-found_packet capture text r r' t t' p p' f count s placed is counts same steps form' interfaces' offset some packet =
+    → p' ≡ placed_packet r.offset placed → HasLink (first_link_of (declared_by s.form [])) r' → NextLeaves capture r r' t t' p p' found.Packet
+found_packet capture text r r' t t' p p' f count s placed is counts same steps form' interfaces' offset some packet link =
     let b = read capture text r r' t t' f count s is counts same steps form' interfaces' in
     let P : Option UnitPacket → Type 0 = λ o. ArePlaced (declared_in r' t') (drop r.offset capture) s.size o b.packets in
     let q = subst P some b.placed in
     let left : length (drop r.offset capture) ≡ length capture - r.offset = length-drop r.offset capture in
     let inside : r.offset ≤ length capture = omega (arith, b.there, left, steps.some) in
-    let Q : Packet → Type 0 = λ o. IsPacketFound capture (declared_in r' t') o q.0 in
-    finds s.size q.0 (b.front ∙ ap (λ qs. Whole s.size qs (declared_in r' t')) q.1) offset b.there
+    let Q : Packet → Type 0 = λ o. IsPacketFound capture r.offset (declared_in r' t') o q.0 in
+    finds s.size q.0 (b.front ∙ ap (λ qs. Whole s.size qs (declared_in r' t')) q.1) (is_after capture s.size r r' t' s.form offset b.there steps.some form' link)
     (subst Q (sym packet) (found_at capture (declared_in r' t') r.offset s.size placed q.0 inside b.there q.2))
 
 -- ---- no unit

@@ -7,7 +7,7 @@ use Rattle.cap_octet.specs.declared.fault.Fault.{Fault}
 use Rattle.cap_octet.specs.declared.fault.Fault.TheVariants.{Truncated}
 use Rattle.cap_octet.specs.declared.number.Order.{Order}
 use Rattle.cap_octet.proofs.Checks.{checked_err}
-use Rattle.cap_pcapng.specs.Block.{block_checks, parts_in}
+use Rattle.cap_pcapng.specs.Block.{Parts, block_checks, parts_in}
 use Rattle.cap_pcapng.specs.Frame.{frame_checks, frame_fault, frame_in}
 use Rattle.cap_pcapng.specs.Interface.{Described}
 use Rattle.cap_pcapng.specs.Unit.{Section, block_size, checks_among, frame_after, interfaces_before, order_before, parts_after, unit_fault}
@@ -17,7 +17,7 @@ use Rattle.cap_pcapng.specs.Effect.{Enters, IsBlockFault}
 use Rattle.cap_pcapng.specs.declared.effect.PacketSpans.{PacketSpans}
 use Rattle.cap_io.proofs.BlocksCame.{BlockCame, FrontSays, WholeCame, block_came, front_says, says_after}
 use Rattle.cap_io.proofs.BlocksCame as came
-use Rattle.capkit_c.specs.inside.Blocks.{BlockPacketIfAny, BlockStands, IsNoBlock, IsRefusal, spans_of}
+use Rattle.capkit_c.specs.inside.Blocks.{BlockPacketIfAny, BlockStands, IsNoBlock, IsRefusal, LiesIfAny, spans_of}
 use Rattle.capkit_c.specs.declared.memory.block.Refusal.{Refusal}
 use Rattle.capkit_c.specs.declared.memory.block.Refusal.TheVariants as refusal
 use Rattle.capkit_c.specs.declared.memory.block.UnitPacket.{UnitPacket}
@@ -59,6 +59,14 @@ block_cut before text frame enough f short =
 
 -- ---- the whole block
 
+-- its parts are those of the text that it begins
+parts_taken : (before : Option Section) (text : List ℕ) (frame : Frame) → 12 ≤ frame.length → frame.length ≤ length text → IsFramed before text frame
+    → parts_after before text ≡ parts_in frame (take frame.length text)
+parts_taken before text frame least room f =
+    let size : length (take frame.length text) ≡ frame.length = length-take-le frame.length text room in
+    ap (λ (g : Frame). parts_in g text) f.says ∙ ap (parts_in frame) (sym (take-append-drop frame.length text))
+    ∙ parts_in-append frame (take frame.length text) (drop frame.length text) least (omega (arith, size))
+
 pub entry_fails : (before : Option Section) (interfaces : List Described) (text : List ℕ) (frame : Frame) (fault : Fault) → interfaces_before before ≡ interfaces → 12 ≤ length text → 12 ≤ frame.length
     → frame.length ≤ length text → IsFramed before text frame → IsBlockFault frame interfaces (take frame.length text) fault → unit_fault before text ≡ Some fault
 entry_fails before interfaces text frame fault same enough least room f fails =
@@ -69,9 +77,7 @@ entry_fails before interfaces text frame fault same enough least room f fails =
     let blocked : first_failing (block_checks (frame_after before text) text) ≡ first_failing (block_checks frame block) =
     ap (λ (g : Frame). first_failing (block_checks g text)) f.says ∙ ap (λ t. first_failing (block_checks frame t)) (sym joined)
     ∙ ap first_failing (block_checks-append frame (take frame.length text) (drop frame.length text) least (omega (arith, size))) in
-    let parts : parts_after before text ≡ parts_in frame block =
-    ap (λ (g : Frame). parts_in g text) f.says ∙ ap (parts_in frame) (sym joined)
-    ∙ parts_in-append frame (take frame.length text) (drop frame.length text) least (omega (arith, size)) in
+    let parts : parts_after before text ≡ parts_in frame block = parts_taken before text frame least room f in
     elim fails [
       | inl body ↦ unit_fault-block before text fault enough f.passes (omega (arith, whole)) (blocked ∙ body)
       | inr among ↦ unit_fault-among before text enough f.passes (omega (arith, whole)) (blocked ∙ among.0)
@@ -85,8 +91,10 @@ packet_as order before block (Some held) p = record { packet = p.packet; stands 
 pub stands : (before : Option Section) (section : Option Order) (interfaces interfaces' : List Described) (text front : List ℕ) (frame : Frame) (packet : Option UnitPacket) → order_before before ≡ section
     → interfaces_before before ≡ interfaces → 12 ≤ length text → front ≡ take 12 text → Ok frame ≡ checked (frame_fault section front) (frame_in section front) → 12 ≤ frame.length
     → frame.length ≤ length text → Enters frame interfaces (take frame.length text) (option_map (spans_of frame.length) packet) interfaces'
+    → LiesIfAny (parts_in frame (take frame.length text)) (option_map (spans_of frame.length) packet)
     → BlockStands before text frame.order frame.length interfaces' packet
-stands before section interfaces interfaces' text front frame packet is same enough front_is exact least room enters =
+stands before section interfaces interfaces' text front frame packet is same enough front_is exact least room enters lies =
+    let Q : Parts → Type 0 = λ parts. LiesIfAny parts (option_map (spans_of frame.length) packet) in
     let P : List ℕ → Type 0 = λ f. Ok frame ≡ checked (frame_fault section f) (frame_in section f) in
     let said = front_says section (take 12 text) (Ok frame) frame (subst P front_is exact) refl in
     let upper_bound : length (take 12 text) ≡ 12 = front_fits text enough in
@@ -106,6 +114,7 @@ stands before section interfaces interfaces' text front frame packet is same eno
       fits = enters.fits;
       there = room;
       some = omega (arith, least);
+      lies = subst Q (sym (parts_taken before text frame least room (framed before section text front frame is enough front_is exact))) lies;
     }
 
 -- why a block isn't read
@@ -120,6 +129,6 @@ no_block section interfaces text front frame room refusal.NoRoom enough front_is
     order = frame.order;
     size = frame.length;
     interface = r.1.0;
-    stands = stands before section interfaces (interfaces ++ r.1.0 ∷ []) text front frame None is same enough front_is exact least there r.1.1;
+    stands = stands before section interfaces (interfaces ++ r.1.0 ∷ []) text front frame None is same enough front_is exact least there r.1.1 tt;
   },
 )

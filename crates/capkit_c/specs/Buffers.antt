@@ -23,12 +23,12 @@ written_packet time orig bytes comment =
       comment = comment;
     }
 
--- the checks of a packet that is to be written, in order: those that every packet passes that was
+-- the checks of a packet that must be written, in order: those that every packet passes that was
 -- read, and then those of the format
 abbrev pub written_record_checks : Captured → List (Bool × Fault)
 written_record_checks p = (nat_lt p.time TIME_END, TimeOutOfRange) ∷ pcap.record_fit_checks p
 
--- the same of a packet that is to be written as a block, whose interface has this number
+-- the same of a packet that must be written as a block, whose interface has this number
 abbrev pub written_block_checks : (number : ℕ) → Captured → List (Bool × Fault)
 written_block_checks number p =
     (nat_lt p.time TIME_END, TimeOutOfRange)
@@ -37,7 +37,7 @@ written_block_checks number p =
     ++ (nat_lt number most_output_interfaces, TooManyOutputInterfaces)
     ∷ []
 
--- the checks of an interface that is to be described
+-- the checks of an interface that must be described
 abbrev pub interface_checks : (name : List ℕ) → List (Bool × Fault)
 interface_checks name = (nat_le (length name) 255, BadOption) ∷ []
 
@@ -53,7 +53,7 @@ pub record FindNoRoom (bytes old new : List ℕ) (count : ℕ) : Type 0 where
   pub short : length old < length bytes
   pub kept : new ≡ old
 
--- what a write leaves of a buffer: the bytes, unless a check fails or it has no room for all of
+-- the result of a write of a buffer: the bytes, unless a check fails or it has no room for all of
 -- them
 abbrev pub WriteLeaves : Option Fault → (bytes old new : List ℕ) → Written → Type 0
 WriteLeaves refusal bytes old new (written.Whole count) =

@@ -1,11 +1,14 @@
--- What a compilation for C leaves.
-use Rattle.std.specs.Prelude.{◌≡◌, ℕ, ◌+◌, ◌<◌, ◌≤◌, ◌==◌, if◌then◌else◌, List, length, take, drop, None, Some, unwrap_or}
+-- The result of a compilation for C.
+use Rattle.std.specs.Prelude.{◌≡◌, ℕ, ◌+◌, ◌<◌, ◌≤◌, ◌==◌, if◌then◌else◌, Bool, true, false, List, length, take, drop, None, Some, unwrap_or}
+use Rattle.std.specs.List.{list_all}
 use Rattle.std.specs.Str.{IsUtf8, IsValidUpTo}
 use Rattle.flt_bpf.specs.declared.insn.Insn.{Insn}
 use Rattle.flt_words.specs.declared.fault.ExprFault.TheVariants as fault
+use Rattle.flt_words.specs.Characters.{is_blank}
 use Rattle.flt_words.specs.Messages as messages
 use Rattle.cap_octet.specs.Assigned.{LINKTYPE_RAW}
 use Rattle.cap_octet.specs.declared.link.Link.{Link}
+use Rattle.cap_octet.specs.declared.link.Link.TheVariants.{Ether}
 use Rattle.cap_filter.specs.Compilation.{IsCompiled}
 use Rattle.cap_filter.specs.Expressions.{IsTextFault}
 use Rattle.cap_octet.specs.Link.{link_of}
@@ -20,11 +23,28 @@ DLT_RAW = 12
 abbrev pub file_link_type : ℕ → ℕ
 file_link_type n = if n == DLT_RAW then LINKTYPE_RAW else n
 
+-- a text has no token: it is the empty expression, which every packet matches
+abbrev pub are_blanks : List ℕ → Bool
+are_blanks text = list_all is_blank text
+
+-- the link that a text is compiled for: that of the link type; the empty expression reads no header,
+-- so it is compiled for an unknown link type as for Ethernet
+pub data IsLinkFor (text : List ℕ) (link_type : ℕ) : Link → Type 0 where
+  of_link_type : {link : Link} → link_of (file_link_type link_type) ≡ Some link
+      → IsLinkFor text link_type link
+  of_any : link_of (file_link_type link_type) ≡ None → are_blanks text ≡ true
+      → IsLinkFor text link_type Ether
+
+-- a text has tokens, and the link type is unknown
+pub record HasNoLink (text : List ℕ) (link_type : ℕ) : Type 0 where
+  pub unknown : link_of (file_link_type link_type) ≡ None
+  pub has_tokens : are_blanks text ≡ false
+
 -- a program for the expression that a text is, on packets of a link type: it is valid, accepts
 -- exactly the packets that match, and has at most as many instructions as the expression's bound
 pub record IsFor (text : List ℕ) (link_type : ℕ) (prog : List Insn) : Type 0 where
   pub link : Link
-  pub read : link_of (file_link_type link_type) ≡ Some link
+  pub read : IsLinkFor text link_type link
   pub compiled : IsCompiled text link prog
 
 -- the first `count` instructions are such a program, and those after them are as they were
@@ -46,7 +66,7 @@ pub record IsNotUtf8 (text : List ℕ) (at : ℕ) : Type 0 where
 abbrev pub IsFailure : List ℕ → ℕ → ℕ → Failure → Type 0
 IsFailure text link_type room (Text refusal) = IsTextFault text refusal
 IsFailure text link_type room (NotUtf8 at) = IsNotUtf8 text at
-IsFailure text link_type room LinkType = link_of (file_link_type link_type) ≡ None
+IsFailure text link_type room LinkType = HasNoLink text link_type
 IsFailure text link_type room (NoRoom needed) =
     (room < needed) × ((prog : List Insn) × IsFor text link_type prog × (length prog ≡ needed))
 
@@ -69,7 +89,7 @@ failure_status (NotUtf8 at) = 14
 failure_status LinkType = 15
 failure_status (NoRoom needed) = 16
 
--- the number beside the status: where the text is wrong, in bytes from 1; how many instructions are
+-- the number next to the status: if the text is wrong, in bytes from 1; how many instructions are
 -- needed; else 0
 abbrev pub failure_number : Failure → ℕ
 failure_number (Text refusal) = unwrap_or (messages.place_of refusal) 0

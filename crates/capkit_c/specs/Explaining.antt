@@ -1,4 +1,4 @@
--- What asking for the meaning of an expression leaves.
+-- The result of asking for the meaning of an expression.
 use Rattle.std.specs.Prelude.{◌≡◌, ℕ, List, length}
 use Rattle.flt_ast.specs.Tree.{Expression}
 use Rattle.flt_explain.specs.Explained.{explained_text}
@@ -21,7 +21,7 @@ pub record PutsMeaning (text old new : List ℕ) (number : ℕ) : Type 0 where
   pub put : new ≡ put_text meaning old
   pub count : number ≡ length meaning
 
--- no meaning is told: why, with the failure's status and its number; the buffer is as it was
+-- no meaning is reported: why, with the failure's status and its number; the buffer is as it was
 pub record HasNoMeaning (text old new : List ℕ) (number status : ℕ) : Type 0 where
   pub failure : Failure
   pub why : IsTextFailure text failure
@@ -29,7 +29,7 @@ pub record HasNoMeaning (text old new : List ℕ) (number status : ℕ) : Type 0
   pub where_at : number ≡ failure_number failure
   pub kept : new ≡ old
 
--- 0 and the meaning, or another status and where the text is wrong (0 where that has no place)
+-- 0 and the meaning, or another status and the place of the fault (0 if that has no place)
 pub data ExplainLeaves (text old new : List ℕ) (number : ℕ) : ℕ → Type 0 where
   is_explained : PutsMeaning text old new number → ExplainLeaves text old new number 0
   has_none : {status : ℕ} → HasNoMeaning text old new number status

@@ -1,5 +1,5 @@
 -- What the caller's structs say.
-use Rattle.std.specs.Prelude.{ℕ, ◌==◌, if◌then◌else◌, min, List, length, map, take, Option, Some, None}
+use Rattle.std.specs.Prelude.{◌≡◌, ℕ, ◌==◌, if◌then◌else◌, is_some, min, List, length, map, take, Option, Some, None}
 use Rattle.cap_octet.specs.declared.number.Order.{Order}
 use Rattle.cap_octet.specs.declared.number.Order.TheVariants.{Little, Big}
 use Rattle.cap_pcap.specs.declared.header.Resolution.{Resolution}
@@ -12,7 +12,7 @@ use Rattle.cap_io.specs.declared.file_state.FileState.TheVariants as form
 use Rattle.capkit_c.specs.declared.memory.layout.Interface.{Interface}
 use Rattle.capkit_c.specs.declared.memory.layout.Reader.{Reader}
 
--- the byte order that a flag tells: 0 is little-endian, every other number big-endian
+-- the byte order that a flag shows: 0 is little-endian, every other number big-endian
 abbrev pub order_of_flag : ℕ → Order
 order_of_flag flag = if flag == 0 then Little else Big
 
@@ -23,6 +23,11 @@ resolution_by flag = if flag == 0 then Microseconds else Nanoseconds
 -- the first link type of a pcapng file, by the flag that says whether there is one
 abbrev pub link_by : ℕ → ℕ → Option ℕ
 link_by flag link = if flag == 0 then None else Some link
+
+-- a reader has the first link type of a file, and its flag is 1 if there is one, else 0
+pub record HasLink (first : Option ℕ) (r : Reader) : Type 0 where
+  pub link : link_by r.has_link_type r.link_type ≡ first
+  pub flag : r.has_link_type ≡ (if is_some first then 1 else 0)
 
 -- what the units that a reader has read declare of the file
 abbrev pub reader_form : Reader → FileState

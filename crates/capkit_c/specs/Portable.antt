@@ -1,4 +1,4 @@
--- Programs that run alike elsewhere.
+-- Programs that run the same way elsewhere.
 use Rattle.std.specs.Prelude.{ℕ, ◌==◌, ◌&&◌, ◌||◌, ◌^◌, if◌then◌else◌, Bool, true, false, not, zero, suc, List, [], ◌∷◌, length, nat_le, nat_lt, slice_index_or, Option, Some}
 use Rattle.std.specs.List.{list_all}
 use Rattle.flt_bpf.specs.Instructions.{operation_of}
@@ -42,6 +42,16 @@ operation_alike _ k small = true
 abbrev pub runs_alike : Bool → Insn → Bool
 runs_alike small i = operation_alike (operation_of i.code) i.k small
 
+-- whether an operation surely does the same on libpcap's machine, where X and k are not added modulo
+-- 2^32; `small` says that X is below 2^31
+abbrev pub operation_alike_on_libpcap : Option Operation → ℕ → Bool → Bool
+operation_alike_on_libpcap (Some (LoadIndirect width)) k small = small && nat_lt k sign_bit
+operation_alike_on_libpcap _ k small = true
+
+-- whether an instruction surely does the same on libpcap's machine
+abbrev pub runs_alike_on_libpcap : Bool → Insn → Bool
+runs_alike_on_libpcap small i = operation_alike_on_libpcap (operation_of i.code) i.k small
+
 -- by what holds of the places after an instruction: whether at the n-th of them a word is live,
 -- which means that a run from there on may read it before it writes it; past the last one nothing
 -- is
@@ -78,10 +88,20 @@ none_read_unwritten (suc n) insns = none_read_unwritten n insns && not (is_live_
 abbrev pub most_attached : ℕ
 most_attached = 4096
 
--- 1 where a program that is valid surely runs alike on libpcap's and Linux's machines, as far as
--- its instructions tell, and has at most 4,096; else 0
+-- 1 if a valid program surely runs the same on libpcap's and Linux's machines, as far as
+-- its instructions show, and has at most 4,096; else 0
 abbrev pub is_portable : List Insn → ℕ
 is_portable insns =
     if nat_le (length insns) most_attached
     && (list_all (runs_alike (list_all keeps_x_small insns)) insns && none_read_unwritten WORDS insns)
     then 1 else 0
+
+-- the machines on which a valid program surely runs the same, as far as its instructions show, of at most
+-- 4,096: 1 is libpcap's machine, 2 Linux's, and their sum both; 0 is neither
+abbrev pub portability : List Insn → ℕ
+portability insns =
+    if is_portable insns == 1 then 3
+    else (if nat_le (length insns) most_attached
+    && (list_all (runs_alike_on_libpcap (list_all keeps_x_small insns)) insns
+    && none_read_unwritten WORDS insns)
+    then 1 else 0)

@@ -17,7 +17,7 @@ line_packet link_type time original bytes =
       comment = [];
     }
 
--- the line of a packet, with its link header where the flag isn't 0; nothing where its time is 2^63
+-- the line of a packet, with its link header if the flag isn't 0; nothing if its time is 2^63
 -- nanoseconds or more
 abbrev pub packet_line : ℕ → ℕ → ℕ → ℕ → List ℕ → List ℕ
 packet_line with_link link_type time original bytes =

@@ -1,8 +1,8 @@
--- What reading the units of a capture in memory leaves, in numbers for C.
+-- The result of reading the units of a capture in memory, in numbers for C.
 use Rattle.std.specs.Prelude.{◌≡◌, ℕ, List}
 use Rattle.cap_octet.specs.declared.fault.Fault.{Fault}
 use Rattle.cap_octet.specs.declared.fault.Fault.TheVariants as fault
-use Rattle.capkit_c.specs.Units.{NextLeaves}
+use Rattle.capkit_c.specs.Units.{NextLeaves, PacketLeaves}
 use Rattle.capkit_c.specs.declared.memory.layout.Interface.{Interface}
 use Rattle.capkit_c.specs.declared.memory.layout.Packet.{Packet}
 use Rattle.capkit_c.specs.declared.memory.layout.Reader.{Reader}
@@ -41,7 +41,15 @@ found_number found.End = 222
 found_number found.Unit = 223
 found_number found.NoRoom = 224
 
--- a call found something: it leaves what a call that finds this leaves, and returns its number
+-- a call found the next packet, or why there is none: its result is that of a search that
+-- finds this, and it returns its number
+pub record CallLeaves (capture : List ℕ) (r r' : Reader) (t t' : List Interface) (p p' : Packet)
+    (number : ℕ) : Type 0 where
+  pub found : Found
+  pub leaves : PacketLeaves capture r r' t t' p p' found
+  pub exact : number ≡ found_number found
+
+-- a call found something: its result is that of a call that finds this, and it returns its number
 pub record UnitLeaves (capture : List ℕ) (r r' : Reader) (t t' : List Interface) (p p' : Packet)
     (number : ℕ) : Type 0 where
   pub found : Found

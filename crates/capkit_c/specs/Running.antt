@@ -1,10 +1,10 @@
--- What a check and a run for C leave.
+-- The result of a check and a run for C.
 use Rattle.std.specs.Prelude.{◌≡◌, ℕ, ◌+◌, List, length, Some, None}
 use Rattle.flt_bpf.specs.declared.insn.Insn.{Insn}
 use Rattle.flt_bpf.specs.declared.fault.CheckFault.{CheckFault}
 use Rattle.flt_bpf.specs.Machine.{machine, Answered}
-use Rattle.flt_bpf.specs.RunByRules.{run_by_rules}
 use Rattle.flt_bpf.specs.Valid.{IsValid, BreaksFirst, check_number}
+use Rattle.flt_trace.specs.RunByRules.{run_by_rules}
 use Rattle.capkit_c.specs.Texts.{RULES}
 
 -- the numbers of rules, 101 to 108
@@ -13,12 +13,12 @@ rule_number fault = RULES + check_number fault
 
 -- 0 of a valid program, or the number of the first rule that instructions break, and where
 pub data CheckLeaves (insns : List Insn) (index : ℕ) : ℕ → Type 0 where
-  passes : IsValid insns → CheckLeaves insns index 0
+  passes : IsValid insns → index ≡ 0 → CheckLeaves insns index 0
   breaks : {status : ℕ} (fault : CheckFault) → status ≡ rule_number fault
       → BreaksFirst insns fault index → CheckLeaves insns index status
 
 -- the machine's answer after these steps, of a run that meets no broken rule; or 0 after none
--- where the run meets a broken rule or goes past the end, which never happens with a valid program
+-- if the run meets a broken rule or goes past the end, which never happens with a valid program
 pub data RunLeaves (insns : List Insn) (p : List ℕ) (n answer steps : ℕ) : Type 0 where
   answers : run_by_rules insns p n ≡ Some (answer, steps)
       → machine insns p n (length insns) ≡ Answered answer steps

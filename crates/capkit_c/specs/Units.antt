@@ -1,28 +1,30 @@
 -- Units of a capture in memory.
-use Rattle.std.specs.Prelude.{◌≡◌, ℕ, ◌+◌, ◌≤◌, List, [], ◌∷◌, ◌++◌, length, take, drop, Option, Some, None}
+use Rattle.std.specs.Prelude.{◌≡◌, ℕ, ◌+◌, ◌<◌, ◌≤◌, List, [], ◌∷◌, ◌++◌, length, take, drop, Option, Some, None}
 use Rattle.std.specs.List.{slice_get}
 use Rattle.std.specs.Option.{option_map}
 use Rattle.cap_octet.specs.Packet.{Captured}
 use Rattle.cap_octet.specs.declared.fault.Fault.{Fault}
 use Rattle.cap_pcapng.specs.Comment.{comment_in}
 use Rattle.cap_pcapng.specs.Interface.{Described}
-use Rattle.cap_pcapng.specs.Unit.{Section}
-use Rattle.cap_io.specs.Capture.{Declared, Nothing, PcapFile, PcapngFile, Whole, NoUnit, front_of}
-use Rattle.capkit_c.specs.Layout.{declared_in}
+use Rattle.cap_pcapng.specs.Effect.{LieAsSaid}
+use Rattle.cap_pcapng.specs.Unit.{Section, parts_after}
+use Rattle.cap_pcapng.specs.declared.effect.PacketSpans.{PacketSpans}
+use Rattle.cap_io.specs.Capture.{Declared, Nothing, PcapFile, PcapngFile, Whole, NoUnit, first_link_of, front_of}
+use Rattle.capkit_c.specs.Layout.{HasLink, declared_in}
 use Rattle.capkit_c.specs.declared.memory.layout.Interface.{Interface}
 use Rattle.capkit_c.specs.declared.memory.layout.Packet.{Packet}
 use Rattle.capkit_c.specs.declared.memory.layout.Reader.{Reader}
 use Rattle.capkit_c.specs.declared.memory.reader.Found.{Found}
 use Rattle.capkit_c.specs.declared.memory.reader.Found.TheVariants as found
 
--- the comment in a packet's options; empty where it has none, and where the file isn't pcapng
+-- the comment in a packet's options; empty if it has none, and if the file isn't pcapng
 abbrev pub comment_by : Declared → List ℕ → List ℕ
 comment_by Nothing options = []
 comment_by (PcapFile head) options = []
 comment_by (PcapngFile first section) options = comment_in section.order options
 
--- the name of the interface with this number; None where there is none in a pcapng file, and empty
--- where the file isn't pcapng
+-- the name of the interface with this number; None if there is none in a pcapng file, and empty
+-- if the file isn't pcapng
 abbrev pub name_by : Declared → ℕ → Option (List ℕ)
 name_by Nothing number = Some []
 name_by (PcapFile head) number = Some []
@@ -39,9 +41,26 @@ pub record DeclaresOne (declared : Declared) (text : List ℕ)
   pub front : front_of declared text ≡ Whole size [] (PcapngFile first section)
   pub more : section.interfaces ≡ interfaces ++ interface ∷ []
 
--- a packet of a capture, and where its parts are
-pub record IsPacketFound (capture : List ℕ) (declared : Declared) (p : Packet)
+-- the interface's number, and where data and options lie in the unit that a text begins with, as the
+-- unit says: a record's data are after its header of 16 bytes, and it has no interface (0) and no
+-- options
+abbrev pub UnitHas : Declared → List ℕ → PacketSpans → Type 0
+UnitHas Nothing text spans = ⊥
+UnitHas (PcapFile head) text spans =
+    (spans.interface ≡ 0) × (spans.bytes.start ≡ 16)
+    × (spans.options ≡ record { start = 16; length = 0 })
+UnitHas (PcapngFile first section) text spans = LieAsSaid (parts_after (Some section) text) spans
+
+-- a packet of the unit at this offset of a capture, and the places of its parts
+pub record IsPacketFound (capture : List ℕ) (offset : ℕ) (declared : Declared) (p : Packet)
     (q : Captured) : Type 0 where
+  pub spans : PacketSpans
+  pub lies : UnitHas declared (drop offset capture) spans
+  pub number : p.interface ≡ spans.interface
+  pub data_at : p.at ≡ offset + spans.bytes.start
+  pub data_length : p.captured ≡ spans.bytes.length
+  pub options_at : p.options_at ≡ offset + spans.options.start
+  pub options_length : p.options_length ≡ spans.options.length
   pub link : q.link ≡ p.link_type
   pub snap : q.snap ≡ p.snap
   pub name : name_by declared p.interface ≡ Some q.name
@@ -58,19 +77,26 @@ pub record Stays (r r' : Reader) (t t' : List Interface) (p p' : Packet) : Type 
   pub table : t' ≡ t
   pub packet : p' ≡ p
 
+-- the reader is after a unit of this size, which the capture has, and knows the first link type
+pub record IsPastUnit (capture : List ℕ) (size : ℕ) (r r' : Reader) (declared : Declared) : Type 0
+  where
+    pub offset : r'.offset ≡ r.offset + size
+    pub there : size ≤ length (drop r.offset capture)
+    pub some : 0 < size
+    pub link : HasLink (first_link_of declared) r'
+
 -- the unit at the reader's place, by what its units so far declare: it is passed, or its packet is
--- found, or nothing is there, or it has a fault, or a full table has no room for its interface
+-- found, or nothing is present, or it has a fault, or a full table has no room for its interface
 pub data NextLeaves (capture : List ℕ) (r r' : Reader) (t t' : List Interface)
     (p p' : Packet) : Found → Type 0 where
   passes : (size : ℕ)
       → front_of (declared_in r t) (drop r.offset capture) ≡ Whole size [] (declared_in r' t')
-      → r'.offset ≡ r.offset + size
-      → size ≤ length (drop r.offset capture) → p' ≡ p
+      → IsPastUnit capture size r r' (declared_in r' t') → p' ≡ p
       → NextLeaves capture r r' t t' p p' found.Unit
   finds : (size : ℕ) (q : Captured)
       → front_of (declared_in r t) (drop r.offset capture) ≡ Whole size (q ∷ []) (declared_in r' t')
-      → r'.offset ≡ r.offset + size
-      → size ≤ length (drop r.offset capture) → IsPacketFound capture (declared_in r' t') p' q
+      → IsPastUnit capture size r r' (declared_in r' t')
+      → IsPacketFound capture r.offset (declared_in r' t') p' q
       → NextLeaves capture r r' t t' p p' found.Packet
   ends : front_of (declared_in r t) (drop r.offset capture) ≡ NoUnit None → Stays r r' t t' p p'
       → NextLeaves capture r r' t t' p p' found.End
@@ -79,3 +105,25 @@ pub data NextLeaves (capture : List ℕ) (r r' : Reader) (t t' : List Interface)
   is_full : (interfaces : List Described) → length t ≤ length interfaces
       → DeclaresOne (declared_in r t) (drop r.offset capture) interfaces → Stays r r' t t' p p'
       → NextLeaves capture r r' t t' p p' found.NoRoom
+
+-- what ends a search for a packet: neither a packet nor a unit without one
+abbrev pub IsStop : Found → Type 0
+IsStop found.Unit = ⊥
+IsStop found.Packet = ⊥
+IsStop what = Unit {0}
+
+-- a reader and its table, at first and after units without a packet
+pub data PassesUnits (capture : List ℕ) (r : Reader) (t : List Interface)
+    (p : Packet) : Reader → List Interface → Type 0 where
+  none_passed : PassesUnits capture r t p r t
+  one_passed : {s s' : Reader} {u u' : List Interface} → PassesUnits capture r t p s u
+      → NextLeaves capture s s' u u' p p found.Unit → PassesUnits capture r t p s' u'
+
+-- units without a packet are passed, and then this is found: no such unit
+pub record PacketLeaves (capture : List ℕ) (r r' : Reader) (t t' : List Interface) (p p' : Packet)
+    (what : Found) : Type 0 where
+  pub between : Reader
+  pub table : List Interface
+  pub passes : PassesUnits capture r t p between table
+  pub leaves : NextLeaves capture between r' table t' p p' what
+  pub no_unit : ¬ what ≡ found.Unit

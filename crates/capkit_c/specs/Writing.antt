@@ -1,4 +1,4 @@
--- What writes for C leave, in numbers.
+-- The result of writes for C, in numbers.
 use Rattle.std.specs.Prelude.{◌≡◌, ℕ, List, Option}
 use Rattle.cap_octet.specs.declared.fault.Fault.{Fault}
 use Rattle.capkit_c.specs.Buffers.{WriteLeaves}
@@ -12,7 +12,7 @@ written_number (written.Whole count) = 0
 written_number (written.NoRoom count) = 225
 written_number (written.Refused fault) = fault_number fault
 
--- how many bytes are written, or would be if there were room; 0 where they are refused
+-- how many bytes are written, or would be if there were room; 0 if they are refused
 abbrev pub written_length : Written → ℕ
 written_length (written.Whole count) = count
 written_length (written.NoRoom count) = count

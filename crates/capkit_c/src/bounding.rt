@@ -8,7 +8,7 @@ use flt_lang::bound;
 use std::alloc::Global;
 
 /// The bound of the expression that a text is: the most instructions that a program of it has. An
-/// error is why the text is no expression, or that memory ran out.
+/// error is why the text isn't an expression, or that memory ran out.
 fn bound_of_text(alloc: Global, text: &[u8]) -> Result<usize, Failure>
     ensures bounded { IfOk result (IsBound text.now) }
     ensures failed { IfErr result (IsTextFailure text.now) }
@@ -24,8 +24,8 @@ fn bound_of_text(alloc: Global, text: &[u8]) -> Result<usize, Failure>
 }
 
 /// How many instructions the program of an expression has at most, for every link type. By 0
-/// `number` is that bound, from 2 to 32,768; by any other status it says where the text is wrong,
-/// or is 0 where the failure has no place.
+/// `number` is that bound, from 2 to 32,768; by any other status it is the place of the text's
+/// fault, or is 0 if the failure has no place.
 #[unsafe(no_mangle)]
 pub extern "C" fn capkit_bound(alloc: Global, text: &[u8], number: &mut usize) -> u32
     ensures { BoundLeaves text.now number.new result }

@@ -1,8 +1,9 @@
 //! Compilations into the caller's memory.
-ghost use Rattle.std.specs.Prelude.{◌≡◌, ◌≤◌, IfOk, IfErr, OnErr, length};
+ghost use Rattle.std.specs.Prelude.{◌≡◌, ◌≤◌, IfOk, IfErr, IfSome, IfNone, OnErr, length};
+ghost use Rattle.flt_words.specs.Characters.{is_blank};
 ghost use Rattle.capkit_c.specs.Compiling.{CompilesText, IsFailure, WritesProgram};
-ghost use Rattle.capkit_c.specs.Compiling.{IsNotUtf8, failure_number};
-ghost use Rattle.capkit_c.specs.Compiling.{failure_status, file_link_type};
+ghost use Rattle.capkit_c.specs.Compiling.{HasNoLink, IsLinkFor, IsNotUtf8, are_blanks};
+ghost use Rattle.capkit_c.specs.Compiling.{failure_number, failure_status, file_link_type};
 
 use cap_filter::compile::compile_text;
 use cap_octet::Link;
@@ -21,7 +22,7 @@ pub enum Failure {
     Text(ExprFault),
     /// The text isn't UTF-8 from this byte on, counted from 1.
     NotUtf8(usize),
-    /// Expressions aren't read on packets of this link type.
+    /// Expressions aren't read on packets of this link type, except the empty one.
     LinkType,
     /// How many instructions the program has: more than there is room for.
     NoRoom(usize),
@@ -36,6 +37,33 @@ pub(crate) fn file_link_type(number: u16) -> u16
         LINKTYPE_RAW
     } else {
         number
+    }
+}
+
+/// Whether a byte only separates tokens.
+fn is_blank(byte: u8) -> bool
+    ensures { result ≡ is_blank byte }
+{
+    byte == b' ' || byte == b'\t' || byte == b'\n' || byte == b'\r'
+}
+
+/// Whether a text is the empty expression, which has no token.
+fn are_blanks(text: &[u8]) -> bool
+    ensures { result ≡ are_blanks text.now }
+{
+    text.iter().all(|byte| is_blank(*byte))
+}
+
+/// The link that a text is compiled for. The empty expression reads no header, so it is compiled for
+/// every link type. `None` if another text is given with an unknown link type.
+fn link_for(text: &[u8], link_type: u16) -> Option<Link>
+    ensures found { IfSome result (IsLinkFor text.now link_type) }
+    ensures unknown { IfNone result (HasNoLink text.now link_type) }
+{
+    match Link::of_link_type(file_link_type(link_type)) {
+        Some(link) => Some(link),
+        None if are_blanks(text) => Some(Link::Ether),
+        None => None,
     }
 }
 
@@ -64,7 +92,7 @@ fn compile_into(
     ensures failed { IfErr result (IsFailure text.now link_type (length insns.old)) }
     ensures kept { OnErr result (insns.new ≡ insns.old) }
 {
-    let Some(link) = Link::of_link_type(file_link_type(link_type)) else {
+    let Some(link) = link_for(text, link_type) else {
         return Err(Failure::LinkType);
     };
     let text = match utf8_text(text) {
@@ -109,7 +137,7 @@ impl Failure {
         }
     }
 
-    /// The number that C sees beside the status: where the text is wrong, in bytes from 1, or how
+    /// The number that C sees next to the status: if the text is wrong, in bytes from 1, or how
     /// many instructions there are; else 0.
     pub(crate) fn number(self) -> usize
         ensures { result ≡ failure_number self }
@@ -130,8 +158,8 @@ impl Failure {
 /// instructions.
 ///
 /// By 0 `number` is the count of instructions, which stand at the start of `insns`; what is after
-/// them stays. By any other status `insns` is unchanged, and `number` says where the text is wrong
-/// or how many instructions there are, or is 0 where the failure has neither.
+/// them stays. By any other status `insns` is unchanged, and `number` is the place of the text's
+/// fault or how many instructions there are, or is 0 if the failure has neither.
 #[unsafe(no_mangle)]
 pub extern "C" fn capkit_compile(
     alloc: Global,

@@ -11,7 +11,7 @@ use flt_words::ExprFault;
 use std::alloc::Global;
 
 /// What the expression that a text is means, written out as a text again. An error is why the first
-/// text is no expression, or that memory ran out.
+/// text isn't an expression, or that memory ran out.
 fn meaning_of(alloc: Global, text: &[u8]) -> Result<String, Failure>
     ensures meaning { IfOk result (λ meaning. Explains text.now (string_bytes meaning)) }
     ensures failed { IfErr result (IsTextFailure text.now) }
@@ -33,8 +33,8 @@ fn meaning_of(alloc: Global, text: &[u8]) -> Result<String, Failure>
 
 /// Puts what an expression means into a buffer, as far as there is room: the expression again, in
 /// parentheses by its tree, with every qualifier written out. By 0 `number` is the length of the
-/// whole text; by any other status the buffer is unchanged, and `number` says where the text is
-/// wrong, or is 0 where the failure has no place.
+/// whole text; by any other status the buffer is unchanged, and `number` is the place of the text's
+/// fault, or is 0 if the failure has no place.
 #[unsafe(no_mangle)]
 pub extern "C" fn capkit_explain(
     alloc: Global,

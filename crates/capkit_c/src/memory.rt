@@ -8,7 +8,8 @@ mod reader;
 mod writing;
 
 pub use layout::{Interface, Packet, Reader};
-pub use reader::{Found, comment_of, next_unit};
+pub(crate) use reader::bytes_at;
+pub use reader::{Found, comment_of, next_packet, next_unit};
 pub use writing::{
     Written, write_file_header, write_interface, write_packet, write_record, write_section,
 };

@@ -3,6 +3,7 @@ ghost use Rattle.std.specs.Prelude.{◌≡◌, ◌≤◌, length};
 ghost use Rattle.std.specs.List.{list_all};
 ghost use Rattle.capkit_c.specs.Portable.{is_portable, keeps_x_small, runs_alike, live_places};
 ghost use Rattle.capkit_c.specs.Portable.{is_live_at, is_live_before, none_read_unwritten};
+ghost use Rattle.capkit_c.specs.Portable.{portability, runs_alike_on_libpcap};
 
 use flt_bpf::Insn;
 use flt_bpf::operation::{AluOperation, Operand, Operation, Register, Source, decode};
@@ -65,6 +66,26 @@ fn all_run_alike(insns: &[Insn], small: bool) -> bool
     insns.iter().all(|insn| runs_alike(insn, small))
 }
 
+/// Whether an instruction is sure to do the same on libpcap's machine as on the one here, where
+/// `small` says that X is below 2^31, and memory isn't looked at: libpcap doesn't add X and an
+/// offset modulo 2^32.
+fn runs_alike_on_libpcap(insn: &Insn, small: bool) -> bool
+    ensures { result ≡ runs_alike_on_libpcap small insn.now }
+{
+    match decode(insn.code) {
+        Some(Operation::LoadIndirect(_)) => small && insn.k < SIGN_BIT,
+        _ => true,
+    }
+}
+
+/// Whether every instruction is sure to do the same on libpcap's machine, where `small` says that X
+/// is below 2^31 throughout, and memory isn't looked at.
+fn all_run_alike_on_libpcap(insns: &[Insn], small: bool) -> bool
+    ensures { result ≡ list_all (runs_alike_on_libpcap small) insns.now }
+{
+    insns.iter().all(|insn| runs_alike_on_libpcap(insn, small))
+}
+
 /// Whether a word of memory is live at one of the instructions after the current one: whether a run
 /// from there on may read the word before it writes it. `following` says so of each of them, the
 /// next one first, and `place` is the index there; past the last one no word is live.
@@ -121,7 +142,7 @@ fn may_read_unwritten(insns: &[Insn], word: u32) -> bool
     is_live_at(marks, 0)
 }
 
-/// Whether it is sure, by the jumps alone, that no run reads a word of memory before it writes it.
+/// Whether it is sure, only by the jumps, that no run reads a word of memory before it writes it.
 fn no_word_read_unwritten(insns: &[Insn]) -> bool
     requires { length insns.now ≤ MOST_ATTACHED }
     ensures { result ≡ none_read_unwritten WORDS insns.now }
@@ -133,8 +154,8 @@ fn no_word_read_unwritten(insns: &[Insn]) -> bool
     all
 }
 
-/// 1 where a valid program returns the same as here on libpcap's machine and, of packets that are
-/// captured whole, on Linux's, as far as its instructions tell; 0 where it may not, or has over
+/// 1 if a valid program returns the same as here on libpcap's machine and, of packets that are
+/// captured whole, on Linux's, as far as its instructions show; 0 if it may not, or has over
 /// 4,096 instructions.
 #[unsafe(no_mangle)]
 pub extern "C" fn capkit_is_portable(insns: &[Insn]) -> u32
@@ -142,6 +163,25 @@ pub extern "C" fn capkit_is_portable(insns: &[Insn]) -> u32
 {
     if insns.len() <= MOST_ATTACHED
         && all_run_alike(insns, all_keep_x_small(insns))
+        && no_word_read_unwritten(insns)
+    {
+        1
+    } else {
+        0
+    }
+}
+
+/// Where else a valid program returns the same as here, as far as its instructions show, as a sum
+/// of bits: 1 for libpcap's machine, 2 for Linux's with packets that are captured whole. It is 0 of
+/// over 4,096 instructions.
+#[unsafe(no_mangle)]
+pub extern "C" fn capkit_portability(insns: &[Insn]) -> u32
+    ensures { result ≡ portability insns.now }
+{
+    if capkit_is_portable(insns) == 1 {
+        3
+    } else if insns.len() <= MOST_ATTACHED
+        && all_run_alike_on_libpcap(insns, all_keep_x_small(insns))
         && no_word_read_unwritten(insns)
     {
         1

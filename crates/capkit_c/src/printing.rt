@@ -27,7 +27,7 @@ pub extern "C" fn capkit_insn_text(insn: &Insn, index: u32, buffer: &mut [u8]) -
 /// Puts the line of a packet into a buffer, as `capkit print` prints it, or where `with_link` isn't
 /// 0 `capkit print -e`, with its line feed. `time` is in nanoseconds since 1970, `original` how
 /// many bytes the packet had on the wire. It gives the length of the line, at most 250 bytes, or 0
-/// where the time is 2^63 or more.
+/// if the time is 2^63 or more.
 #[unsafe(no_mangle)]
 pub extern "C" fn capkit_line(
     link_type: u16,

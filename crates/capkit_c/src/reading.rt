@@ -3,10 +3,10 @@ ghost use Rattle.std.specs.Prelude.{◌≡◌, List, length, take, drop};
 ghost use Rattle.capkit_c.specs.Layout.{declared_in};
 ghost use Rattle.capkit_c.specs.Units.{comment_by};
 ghost use Rattle.capkit_c.specs.declared.memory.layout.Interface.{Interface};
-ghost use Rattle.capkit_c.specs.Reading.{UnitLeaves, fault_number, found_number};
+ghost use Rattle.capkit_c.specs.Reading.{CallLeaves, UnitLeaves, fault_number, found_number};
 ghost use Rattle.capkit_c.specs.Texts.{put_text};
 
-use crate::memory::{Found, Interface, Packet, Reader, comment_of, next_unit};
+use crate::memory::{Found, Interface, Packet, Reader, comment_of, next_packet, next_unit};
 use crate::texts::put_text;
 use cap_octet::Fault;
 
@@ -41,7 +41,7 @@ pub(crate) fn fault_number(fault: Fault) -> u32
 }
 
 /// The number of what a call found, as C sees it (`library/include/capkit.h`): 0 is a packet.
-fn found_number(found: Found) -> u32
+pub(crate) fn found_number(found: Found) -> u32
     ensures { result ≡ found_number found }
 {
     match found {
@@ -53,11 +53,29 @@ fn found_number(found: Found) -> u32
     }
 }
 
-/// Reads the unit at the reader's place. By 0 it has a packet, by 223 none, and the reader is after
-/// it; 222 is the clean end; by 224 the table has no room for its interface; any other number is
-/// that of the first check that it fails. By all but 0 and 223 nothing is written.
+/// Reads on to the next packet, past units without one, and returns 0; 222 at the clean end; 224 if
+/// the table has no room for the interface of the next unit; else the number of the first check
+/// that the next unit fails. In these cases the packet is unchanged, and the reader is in front of
+/// that unit.
 #[unsafe(no_mangle)]
 pub extern "C" fn capkit_next(
+    reader: &mut Reader,
+    interfaces: &mut [Interface],
+    capture: &[u8],
+    packet: &mut Packet,
+) -> u32
+    ensures { CallLeaves capture.now reader.old reader.new interfaces.old interfaces.new packet.old
+        packet.new result }
+{
+    found_number(next_packet(reader, interfaces, capture, packet))
+}
+
+/// Reads the unit at the reader's place. If it has a packet it returns 0, if it has none 223, and
+/// the reader is after it; 222 is the clean end; 224 that the table has no room for its interface;
+/// any other number is that of the first check that it fails. In all cases but 0 and 223 nothing is
+/// written.
+#[unsafe(no_mangle)]
+pub extern "C" fn capkit_next_unit(
     reader: &mut Reader,
     interfaces: &mut [Interface],
     capture: &[u8],
@@ -70,8 +88,8 @@ pub extern "C" fn capkit_next(
 }
 
 /// Puts the comment of the packet that this reader found last into a buffer (`put_text`), and gives
-/// the comment's length; 0 if the packet has none. Of the reader it needs the form and the byte
-/// order alone, so the clauses hold whatever the table of interfaces is.
+/// the comment's length; 0 if the packet has none. For the reader it needs the form and the byte
+/// order, nothing else, so the clauses hold whatever the table of interfaces is.
 #[unsafe(no_mangle)]
 pub extern "C" fn capkit_comment(
     reader: &Reader,

@@ -5,11 +5,11 @@ ghost use Rattle.flt_bpf.specs.Valid.{IsValid};
 ghost use Rattle.flt_trace.specs.Trace.{Traces};
 ghost use Rattle.capkit_c.specs.Running.{CheckLeaves, RunLeaves, rule_number};
 
-use flt_bpf::{CheckFault, Insn, check_insns, run_any, run_insns};
-use flt_trace::{Step, trace};
+use flt_bpf::{CheckFault, Insn, check_insns};
+use flt_trace::{Step, run_any, run_insns, trace};
 
 /// The number of a rule of valid programs as C sees it, 101 to 108 (`library/include/capkit.h`).
-fn rule_number(fault: CheckFault) -> u32
+pub(crate) fn rule_number(fault: CheckFault) -> u32
     ensures { result ≡ rule_number fault }
 {
     match fault {
@@ -25,8 +25,8 @@ fn rule_number(fault: CheckFault) -> u32
 }
 
 /// 0 if instructions are a valid program; else the number of the first rule that they break.
-/// `index` becomes the index, from 0, of the instruction that breaks it, or 0 where the rule is on
-/// the whole, and where there is none.
+/// `index` becomes the index, from 0, of the instruction that breaks it, or 0 if the rule is on
+/// the whole, and if there is none.
 #[unsafe(no_mangle)]
 pub extern "C" fn capkit_check(insns: &[Insn], index: &mut usize) -> u32
     ensures { CheckLeaves insns.now index.new result }
@@ -47,7 +47,12 @@ pub extern "C" fn capkit_check(insns: &[Insn], index: &mut usize) -> u32
 /// instructions that the run met. C sees to it that the instructions passed the check, or were
 /// compiled.
 #[unsafe(no_mangle)]
-pub extern "C" fn capkit_run(insns: &[Insn], packet: &[u8], len: u32, steps: &mut usize) -> u32
+pub extern "C" fn capkit_run_unchecked(
+    insns: &[Insn],
+    packet: &[u8],
+    len: u32,
+    steps: &mut usize,
+) -> u32
     requires { IsValid insns.now }
     ensures { machine insns.now packet.now len (length insns.now) ≡ Answered result steps.new }
 {
@@ -56,15 +61,34 @@ pub extern "C" fn capkit_run(insns: &[Insn], packet: &[u8], len: u32, steps: &mu
     answer
 }
 
-/// What a valid program returns on a packet of original length `len`: 0 where it doesn't match. It
-/// is `capkit_run` without the number of steps.
+/// What a valid program returns on a packet of original length `len`: 0 if it doesn't match. It
+/// is `capkit_run_unchecked` without the number of steps.
 #[unsafe(no_mangle)]
-pub extern "C" fn capkit_matches(insns: &[Insn], packet: &[u8], len: u32) -> u32
+pub extern "C" fn capkit_matches_unchecked(insns: &[Insn], packet: &[u8], len: u32) -> u32
     requires { IsValid insns.now }
     ensures { (steps : ℕ) × (machine insns.now packet.now len (length insns.now)
         ≡ Answered result steps) }
 {
     run_insns(insns, packet, len).0
+}
+
+/// What instructions return on a packet of original length `len`, valid or not; `steps` becomes the
+/// number of those that the run met. If a run meets one that breaks a rule, or goes past the end,
+/// it returns 0 after 0 steps.
+#[unsafe(no_mangle)]
+pub extern "C" fn capkit_run(insns: &[Insn], packet: &[u8], len: u32, steps: &mut usize) -> u32
+    ensures { RunLeaves insns.now packet.now len result steps.new }
+{
+    capkit_run_any(insns, packet, len, steps)
+}
+
+/// `capkit_run` without the number of steps.
+#[unsafe(no_mangle)]
+pub extern "C" fn capkit_matches(insns: &[Insn], packet: &[u8], len: u32) -> u32
+    ensures { (steps : ℕ) × RunLeaves insns.now packet.now len result steps }
+{
+    let mut steps = 0;
+    capkit_run_any(insns, packet, len, &mut steps)
 }
 
 /// Puts into `steps` what the machine is before each instruction that a run of a valid program
@@ -77,7 +101,7 @@ pub extern "C" fn capkit_trace(insns: &[Insn], packet: &[u8], len: u32, steps: &
     trace(insns, packet, len, steps).1
 }
 
-/// What any instructions return on a packet of original length `len`, valid or not. Where a run
+/// What any instructions return on a packet of original length `len`, valid or not. If a run
 /// meets one that breaks a rule, or goes past the end, it returns 0 after 0 steps.
 #[unsafe(no_mangle)]
 pub extern "C" fn capkit_run_any(insns: &[Insn], packet: &[u8], len: u32, steps: &mut usize) -> u32

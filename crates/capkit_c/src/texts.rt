@@ -17,7 +17,7 @@ pub(crate) const FOUND: u32 = 200;
 const VERSION: [u8; 3] = [0, 1, 0];
 
 /// What a status of a compilation is called, as a message has it; empty of 0, by which there is a
-/// program, and where no status has the number.
+/// program, and if no status has the number.
 fn status_text(status: u32) -> &'static str
     ensures { result.now ≡ status_text status }
 {
@@ -38,11 +38,12 @@ fn status_text(status: u32) -> &'static str
         14 => "not UTF-8",
         15 => "link type not filtered",
         16 => "no room for the program",
+        17 => "not a listing",
         _ => "",
     }
 }
 
-/// What the rule of valid programs is called that has this number after `RULES`; empty where none
+/// What the rule of valid programs is called that has this number after `RULES`; empty if none
 /// has it.
 fn rule_text(rule: u32) -> &'static str
     ensures { result.now ≡ rule_text rule }
@@ -61,7 +62,7 @@ fn rule_text(rule: u32) -> &'static str
 }
 
 /// Puts as many bytes into a buffer as there is room for in front of a NUL, and the NUL; a buffer
-/// of no bytes is left so. It returns how many bytes there are, whether they had room or not.
+/// of no bytes is unchanged. It returns how many bytes there are, whether they had room or not.
 pub(crate) fn put_text(bytes: &[u8], buffer: &mut [u8]) -> usize
     ensures count { result ≡ length bytes.now }
     ensures put { buffer.new ≡ put_text bytes.now buffer.old }
@@ -84,7 +85,7 @@ fn put_with_nul(bytes: &[u8], buffer: &mut [u8])
     buffer[count] = 0;
 }
 
-/// What a number after `FOUND` is called, of a reading or a write; empty where it has no text.
+/// What a number after `FOUND` is called, of a reading or a write; empty if it has no text.
 fn found_text(number: u32) -> &'static str
     ensures { result.now ≡ found_text number }
 {
@@ -103,12 +104,14 @@ fn found_text(number: u32) -> &'static str
         12 => Fault::BadTimeResolution.text(),
         13 => Fault::BadLinkTypeField.text(),
         14 => Fault::ObsoletePacketBlock.text(),
-        // 15 to 20 are faults of devices and jobs, which no call for C returns.
+        // 15 to 20 are faults that no call for C returns; callers show 18 of one pcap file.
+        18 => Fault::LinkTypesDiffer.text(),
         21 => Fault::TooManyOutputInterfaces.text(),
         22 => "end",
         23 => "no packet",
         24 => "no room for the interface",
         25 => "no room in the buffer",
+        26 => "another link type",
         _ => "",
     }
 }

@@ -14,9 +14,9 @@ use crate::memory::{
 };
 use crate::reading::fault_number;
 
-/// Tells C what became of bytes that were to be written: returns the number of that, as
-/// `library/include/capkit.h` has it: 0 where they are written, 225 where the buffer has no room,
-/// or that of a fault. It sets the length to how many bytes they are, 0 where they are refused.
+/// Shows C what became of bytes that should be written: returns the number of that, as
+/// `library/include/capkit.h` has it: 0 if they are written, 225 if the buffer has no room,
+/// or that of a fault. It sets the length to how many bytes they are, 0 if they are refused.
 fn tell_written(written: Written, length: &mut usize) -> u32
     ensures number { result ≡ written_number written }
     ensures length { length.new ≡ written_length written }
@@ -54,7 +54,7 @@ pub extern "C" fn capkit_write_file_header(
 }
 
 /// Puts a record of a pcap file, as `capkit_write_file_header` puts the header. `time` is in
-/// nanoseconds since 1970. A packet that no record holds is 204 (`TooLong`) or 210
+/// nanoseconds since 1970. If no record holds the packet, it is 204 (`TooLong`) or 210
 /// (`TimeOutOfRange`), with the length 0.
 #[unsafe(no_mangle)]
 pub extern "C" fn capkit_write_record(
@@ -100,8 +100,8 @@ pub extern "C" fn capkit_write_interface(
 }
 
 /// Puts an enhanced packet block, as `capkit_write_file_header` puts a header. `time` is in
-/// nanoseconds since 1970. A packet that no block holds is 204 (`TooLong`), 208 (`BadOption`), 210
-/// (`TimeOutOfRange`) or 221 (`TooManyOutputInterfaces`), with the length 0.
+/// nanoseconds since 1970. If no block holds the packet, it is 204 (`TooLong`), 208 (`BadOption`),
+/// 210 (`TimeOutOfRange`) or 221 (`TooManyOutputInterfaces`), with the length 0.
 #[unsafe(no_mangle)]
 pub extern "C" fn capkit_write_packet(
     interface: u32,

@@ -12,8 +12,8 @@ is_broken_pipe _ = false
 abbrev pub has_failed : (cause flushed : Option ErrorKind) → Bool
 has_failed cause flushed = is_some cause || is_some flushed
 
--- The status of a run that the job ended with `status`. A failed write of the job is told by the
--- job's message. That of what was buffered isn't: None says that it is still to be told, unless the
+-- The status of a run that the job ended with `status`. The job's message reports a failed write of
+-- the job. That of what was buffered isn't: None says that it is still to be reported, unless the
 -- reader of a pipe went away.
 abbrev pub status_after_writes : (status : ℕ) → (cause flushed : Option ErrorKind) → Option ℕ
 status_after_writes status None None = Some status

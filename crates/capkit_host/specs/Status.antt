@@ -1,4 +1,4 @@
--- The status that words which are no command line end with.
+-- The status that words which aren't a command line end with.
 use Rattle.std.specs.Prelude.{ℕ, Bool, true, false, if◌then◌else◌}
 use Rattle.clap.specs.Words.{kind_of}
 use Rattle.clap.specs.declared.error.kind.ErrorKind.{ErrorKind}
@@ -12,8 +12,8 @@ is_request DisplayHelp = true
 is_request DisplayVersion = true
 is_request _ = false
 
--- Of a request for help or the version: 0 if the answer could be written, else 1. 1 too if memory
--- ran out once clap had read the words. Of other words that are refused: 2, and so where clap ran
+-- For a request for help or the version: 0 if the answer could be written, else 1. 1 too if memory
+-- ran out once clap had read the words. For other words that are refused: 2, and so where clap ran
 -- out of memory.
 abbrev pub status_of : Usage → (is_written : Bool) → ℕ
 status_of (Refused error) is_written =

@@ -1,5 +1,6 @@
 -- What a name means: a path, or a standard stream.
-use Rattle.std.specs.Prelude.{Bool, false, not}
+use Rattle.std.specs.Prelude.{ℤ, pos, int_lt, Bool, true, false, not}
+use Rattle.std.specs.Fd.{file_raw_fd}
 use Rattle.capkit_host.specs.declared.streams.Created.{Created}
 use Rattle.capkit_host.specs.declared.streams.Created.TheVariants as created
 
@@ -7,3 +8,13 @@ use Rattle.capkit_host.specs.declared.streams.Created.TheVariants as created
 abbrev pub holds_old_bytes : {S : Type 0} → Created S → Bool
 holds_old_bytes (created.File output) = not output.is_emptied
 holds_old_bytes (created.Stream stream) = false
+
+-- the number of an open file is none of those of standard input, output and error: 0 to 2
+abbrev pub is_beside_streams : ℤ → Bool
+is_beside_streams number = int_lt (pos 2) number
+
+-- an output that is a file hasn't the number of a standard stream, so that what is written to that
+-- stream, as a message, never goes into the file
+abbrev pub is_output_beside_streams : {S : Type 0} → Created S → Bool
+is_output_beside_streams (created.File output) = is_beside_streams (file_raw_fd output.file)
+is_output_beside_streams (created.Stream stream) = true

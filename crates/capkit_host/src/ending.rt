@@ -1,4 +1,4 @@
-//! How a run ends: what is buffered is written, and what became of it is told.
+//! How a run ends: what is buffered is written, and what became of it is reported.
 ghost use Rattle.std.specs.Prelude.{◌≡◌, ◌≢◌, ◌<◌, ◌≤◌, IfOk, IfSome, IsOkAnd, IsSome, IsUtf8};
 ghost use Rattle.std.specs.Prelude.{List, [], ◌∷◌, ◌++◌, ℕ, OnOk, is_some, true, false};
 ghost use Rattle.std.specs.Result.{result_ok};
@@ -15,8 +15,8 @@ use std::alloc::Global;
 use std::io::{self, BufWriter, ErrorKind, Write};
 
 /// Ends a run that the job ended with `status`: writes what is buffered to the output of the name
-/// `output`, tells the run's message, and returns the status of the run. An error is that what is
-/// buffered couldn't be written, which is still to be told.
+/// `output`, shows the run's message, and returns the status of the run. An error is that what is
+/// buffered couldn't be written, which is still to be reported.
 pub fn finish<'a, W: Write + Drop>(
     alloc: Global,
     status: u8,
@@ -27,7 +27,7 @@ pub fn finish<'a, W: Write + Drop>(
     requires { status ≤ 2 }
     ensures within { IfOk result (λ ended. ended ≤ 2) }
 
-    // A failed write of the job is told by its message, and not again here; and it is no success.
+    // The job's message reports its failed write, so it isn't reported here; and it isn't a success.
     ensures exact { is_some target.cause ≡ true → IsOkAnd result (λ ended. 0 < ended) }
 {
     let (mut target, cause) = target.into_inner();
@@ -40,7 +40,7 @@ pub fn finish<'a, W: Write + Drop>(
     tell_end(alloc, &mut errors, status, causes, &message, output)
 }
 
-/// Whether a write failed since the reader of a pipe went away; false where none failed.
+/// Whether a write failed since the reader of a pipe went away; false if none failed.
 fn is_broken_pipe(cause: Option<ErrorKind>) -> bool
     ensures { result ≡ is_broken_pipe cause }
 {
@@ -54,8 +54,8 @@ pub fn flush_output(status: u8, target: &mut BufWriter<Created>) -> io::Result<(
     target.flush()
 }
 
-/// The text of a run's message without the line break (byte 10) that ends it; `None` where there is
-/// no message, or the bytes are no UTF-8 text that ends so.
+/// The text of a run's message without the line break (byte 10) that ends it; `None` if there is
+/// no message, or the bytes aren't a UTF-8 text that ends like this.
 fn message_line(message: &[u8]) -> Option<&str>
     ensures text { IfSome result (λ text. message.now ≡ text.now ++ 10 ∷ []) }
     ensures whole { IsUtf8 message.now → (text : List ℕ) → message.now ≡ text ++ 10 ∷ []
@@ -68,7 +68,7 @@ fn message_line(message: &[u8]) -> Option<&str>
 }
 
 /// Writes the message of a run, if there is one (`message_line`), with its control characters as
-/// numbers, by one call where there is memory for the line. One that can't be written is lost.
+/// numbers, by one call if there is memory for the line. One that can't be written is lost.
 fn tell_message<W: Write>(alloc: Global, errors: &mut W, message: &[u8]) {
     if let Some(text) = message_line(message) {
         let _ = match format!(in alloc; "{}\n", Shown { text }) {
@@ -80,8 +80,8 @@ fn tell_message<W: Write>(alloc: Global, errors: &mut W, message: &[u8]) {
 }
 
 /// The status of a run that the job ended with `status`. `cause` is why a write of the job failed,
-/// and `flushed` why the write after it did, of what was buffered; `None` where it didn't. It
-/// returns `None` where the failure of the latter is still to be told.
+/// and `flushed` why the write after it did, of what was buffered; `None` if it didn't. It
+/// returns `None` if the failure of the latter is still to be reported.
 fn status_after_writes(
     status: u8,
     cause: Option<ErrorKind>,
@@ -99,11 +99,11 @@ fn status_after_writes(
     }
 }
 
-/// Tells the message of a run, and returns its status. `causes` are why a write of the job failed,
-/// and why the write of what was buffered did; `None` where it didn't. The error is a failure of
-/// the latter, which is still to be told.
+/// Shows the message of a run, and returns its status. `causes` are why a write of the job failed,
+/// and why the write of what was buffered did; `None` if it didn't. The error is a failure of
+/// the latter, which is still to be reported.
 ///
-/// Where the reader of a pipe went away, as of `| head`, no message says that the rest can't be
+/// If the reader of a pipe went away, as of `| head`, no message says that the rest can't be
 /// written.
 pub fn tell_end<'a, W: Write>(
     alloc: Global,

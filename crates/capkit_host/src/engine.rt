@@ -13,12 +13,12 @@ use std::alloc::Global;
 
 /// Runs commands over devices.
 pub trait Engine {
-    /// What a run of a command leaves: by its call, what it hands back.
+    /// The result of a run of a command: by its call, what it hands back.
     ghost leaves: { Command Global → Call → RunResult → Type 0 };
 
     /// Runs a proper command. `names` are those of the inputs, then of the output. It returns the
-    /// status (0, 1 or 2), and hands back the output and the messages' device. Where inputs and
-    /// output tell their bytes, it leaves what the engine says of the command.
+    /// status (0, 1 or 2), and hands back the output and the messages' device. If contracts know the bytes
+    /// of inputs and output, its result is what the engine states of the command.
     fn run<I: Input + Drop, O: Output, E: Output>(
         alloc: Global,
         command: Command,

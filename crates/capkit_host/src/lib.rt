@@ -1,5 +1,5 @@
 //! Files and standard streams: what names mean, what a command is run over, how its run ends, and
-//! what is told of it.
+//! what is reported of it.
 //!
 //! A function without a clause deals with what no contract here knows: the files of the system, its
 //! terminals and clock, and the texts of clap and of messages. `cap_tests` tests these functions.
@@ -25,5 +25,5 @@ pub mod words;
 /// that can't be opened or created.
 pub const FAULT: u8 = 1;
 
-/// The status of words that are no command line, and of an expression or a listing that is refused.
+/// The status of words that aren't a command line, and of an expression or a listing that is refused.
 pub const USAGE: u8 = 2;

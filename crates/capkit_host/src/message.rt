@@ -1,12 +1,12 @@
 //! Messages: no control character of a name reaches the terminal, and each is written by one call
-//! where there is memory for its line, so that those of runs side by side don't mix.
+//! if there is memory for its line, so that those of runs side by side don't mix.
 
 use crate::hints::{add_commands, hint_for_refusal};
 use std::alloc::{AllocError, Allocator, Global};
 use std::{fmt, io};
 
-/// What clap's advice to pass a word after `--` begins with. The advice fails, since that word is
-/// no name of a file, and no range or part of an expression either.
+/// What clap's advice to pass a word after `--` begins with. The advice fails, since that word isn't
+/// the name of a file, and no range or part of an expression either.
 const VALUE_TIP: &str = "  tip: to pass '";
 
 /// What each line of clap's advice begins with.
@@ -18,19 +18,34 @@ const USAGE_LINE: &str = "Usage: ";
 /// What the line begins with that names the commands and not what they do.
 const COMMAND_NAMES: &str = "  [subcommands: ";
 
-/// A text whose control characters, which a terminal would obey, are shown by their numbers, as
-/// `\x1b`.
+/// A text in which what a terminal would obey is shown by its number: control characters as `\x1b`,
+/// and marks of Unicode that turn the direction of a line or end it as `\u{202e}`.
 #[derive(Drop)]
 pub struct Shown<'a> {
     pub text: &'a str,
 }
 
+/// Whether a letter is a mark that turns the direction of the text after it, so that a line reads
+/// otherwise than it is, or that ends a line.
+fn is_mark(letter: char) -> bool {
+    matches!(
+        letter,
+        '\u{61c}'
+            | '\u{200e}'..='\u{200f}'
+            | '\u{2028}'..='\u{202e}'
+            | '\u{2066}'..='\u{2069}'
+    )
+}
+
 impl fmt::Display for Shown<'_> {
-    /// Writes the text; each control character as `\x` and two hexadecimal digits.
+    /// Writes the text; each control character as `\x` and two hexadecimal digits, each mark
+    /// (`is_mark`) as `\u{` and its digits.
     fn fmt<W: fmt::Write>(&self, f: &mut fmt::Formatter<W>) -> fmt::Result {
         for letter in self.text.chars() {
             if letter.is_control() {
                 write!(f, "\\x{:02x}", u32::from(letter))?;
+            } else if is_mark(letter) {
+                write!(f, "\\u{{{:x}}}", u32::from(letter))?;
             } else {
                 f.write_char(letter)?;
             }
@@ -84,8 +99,8 @@ fn add_line(
     writeln!(text, "{}", Shown { text: line })
 }
 
-/// The text of clap's refusal of some words, mended: without advice that fails, with a hint where
-/// the option is one of another tool, and with what each command is for where none is named. An
+/// The text of clap's refusal of some words, fixed: without advice that fails, with a hint if
+/// the option is one of another tool, and with what each command is for if none is named. An
 /// error means that memory ran out.
 pub fn refusal_text(alloc: Global, error: &clap::Error) -> Result<String, AllocError> {
     let clap_text = format!(in alloc; "{error}")?;
@@ -95,7 +110,7 @@ pub fn refusal_text(alloc: Global, error: &clap::Error) -> Result<String, AllocE
     for line in clap_text.lines() {
         // Where advice is left out, one of the blank lines around it is too.
         let is_second_blank = is_after_blank && line.is_empty();
-        // A hint stands in place of clap's guess at what was meant.
+        // A hint stands instead of clap's guess at what was meant.
         let is_replaced = hint.is_some() && line.starts_with(TIP);
         if is_second_blank || is_replaced || line.starts_with(VALUE_TIP) {
             continue;
@@ -106,7 +121,7 @@ pub fn refusal_text(alloc: Global, error: &clap::Error) -> Result<String, AllocE
     Ok(text)
 }
 
-/// Standard error, which takes a text of any length by one call. A test has its own in place of it.
+/// Standard error, which takes a text of any length by one call. A test has its own instead of it.
 pub trait Errors: Eprint {
     /// Writes the text by one call; what the system doesn't take of it then, by further ones. The
     /// error is the system's.
@@ -121,7 +136,7 @@ impl Errors for HostRuntime {
 }
 
 impl<R: Errors, A: Allocator> Errors for (R, A) {
-    /// As the runtime writes it, whatever the allocator beside it.
+    /// As the runtime writes it, whatever the allocator next to it.
     fn write_text(&self, text: &str) -> io::Result<()> {
         self.0.write_text(text)
     }

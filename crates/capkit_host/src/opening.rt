@@ -5,6 +5,7 @@ ghost use Rattle.std.specs.Global.{Vec};
 ghost use Rattle.std.specs.IoError.{error_kind};
 ghost use Rattle.cap_command.specs.Command.{is_proper};
 ghost use Rattle.capkit.specs.Line.{has_expression, with_code};
+ghost use Rattle.capkit_host.specs.Streams.{is_output_beside_streams};
 
 use crate::progress::{Counted, Progress};
 use crate::stop::Stop;
@@ -34,7 +35,7 @@ pub type Source<'a> = StdInput<Counted<'a, Opened>>;
 pub type Target = StdOutput<Created>;
 
 /// The first `LISTING_ROOM` bytes of the listing of this name. The errors are `NoMemory`, and
-/// `CannotOpen`, also where it is opened and can't be read on.
+/// `CannotOpen`, even if it is opened and can't be read on.
 pub fn read_listing<'a>(rt: &HostRuntime, name: &'a str) -> Result<Vec<u8>, Stop<'a>> {
     let Ok(opened) = Opened::open(rt, name) else {
         return Err(Stop::CannotOpen(name));
@@ -47,7 +48,7 @@ pub fn read_listing<'a>(rt: &HostRuntime, name: &'a str) -> Result<Vec<u8>, Stop
     }
 }
 
-/// The command with the bytes of its listing, where one is named; else the command as it is. An
+/// The command with the bytes of its listing, if one is named; else the command as it is. An
 /// error is that the listing can't be read, or that memory ran out.
 pub fn with_listing<'a>(
     rt: &HostRuntime,
@@ -102,17 +103,19 @@ pub fn open_inputs<'a, 'p>(
     Ok(inputs)
 }
 
-/// Creates the output of this name. A file that is there is opened, and keeps its bytes until the
-/// first write or the end of the run, or for good where nothing runs or the run is refused. The one
+/// Creates the output of this name. A file that is present is opened, and keeps its bytes until the
+/// first write or the end of the run, or for good if nothing runs or the run is refused. The one
 /// error is `CannotCreate`.
-pub fn create_output<'a>(rt: &HostRuntime, name: &'a str) -> Result<Created, Stop<'a>> {
+pub fn create_output<'a>(rt: &HostRuntime, name: &'a str) -> Result<Created, Stop<'a>>
+    ensures { IfOk result (λ created. is_output_beside_streams created ≡ true) }
+{
     match Created::create(rt, name) {
         Ok(created) => Ok(created),
         Err(_) => Err(Stop::CannotCreate(name)),
     }
 }
 
-/// The output with its buffer: none on a terminal; where a read may wait, one that is written out
+/// The output with its buffer: none on a terminal; if a read may wait, one that is written out
 /// before each such read; else one that is written out when it is full. An error means that memory
 /// ran out.
 pub fn buffer_output<'a>(

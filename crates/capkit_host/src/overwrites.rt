@@ -6,10 +6,10 @@ use crate::files::{Identify, Identity};
 use capkit::{Line, STANDARD};
 
 /// The path of the file that is standard input, on systems that have one.
-const STANDARD_INPUT: &str = "/dev/stdin";
+pub(crate) const STANDARD_INPUT: &str = "/dev/stdin";
 
 /// The path of the file that is standard output, on systems that have one.
-const STANDARD_OUTPUT: &str = "/dev/stdout";
+pub(crate) const STANDARD_OUTPUT: &str = "/dev/stdout";
 
 /// The path of the input of this name; `/dev/stdin` for `-`.
 pub(crate) fn input_path(name: &str) -> &str
@@ -22,7 +22,7 @@ pub(crate) fn input_path(name: &str) -> &str
     }
 }
 
-/// The path of the output of this name; `/dev/stdout` for `-`, and where there is no name.
+/// The path of the output of this name; `/dev/stdout` for `-`, and if there is no name.
 pub(crate) fn output_path(name: Option<&str>) -> &str
     ensures { result.now ≡ output_path (option_map (λ name. name.now) name.entry) }
 {
@@ -32,7 +32,7 @@ pub(crate) fn output_path(name: Option<&str>) -> &str
     }
 }
 
-/// Whether the input of this name is the file of that identity; false where it can't be looked up.
+/// Whether the input of this name is the file of that identity; false if it can't be looked up.
 fn input_is_file(files: &impl Identify, name: &str, file: Identity) -> bool {
     files.identity_of(input_path(name)) == Some(file)
 }

@@ -19,7 +19,7 @@ use std::io::ErrorKind;
 const SHOWN_BYTES: usize = 4096;
 
 /// Copies the first word that isn't UTF-8 into the buffer, and returns its length in bytes. Words
-/// that are longer than the buffer are left out; `None` where there is no other one.
+/// that are longer than the buffer are left out; `None` if there is no other one.
 pub fn first_word_not_utf8(rt: &impl Env, buf: &mut [u8]) -> Option<usize>
     ensures { IfSome result (λ count. count ≤ length buf.new) }
 {
@@ -35,7 +35,7 @@ pub fn first_word_not_utf8(rt: &impl Env, buf: &mut [u8]) -> Option<usize>
 }
 
 /// Reports that a word isn't UTF-8, and which, unless it is too long to be shown. It returns the
-/// status of words that are no command line.
+/// status of words that aren't a command line.
 fn refuse_not_utf8(rt: &HostRuntime) -> u8
     ensures { result ≡ 2 }
 {
@@ -60,7 +60,7 @@ pub fn run_program<J: Engine>(rt: &HostRuntime) -> u8
     let words = match env::args(rt) {
         Ok(words) => words.skip(1).collect(rt.alloc()),
         Err(error) if error.kind() == ErrorKind::InvalidData => return refuse_not_utf8(rt),
-        // Where every word is UTF-8, the lack of memory alone keeps them from being copied.
+        // If every word is UTF-8, only the lack of memory keeps them from being copied.
         Err(_) => Err(AllocError),
     };
     let Ok(words) = words else {
@@ -77,7 +77,7 @@ pub fn run_program<J: Engine>(rt: &HostRuntime) -> u8
     )
 }
 
-/// Runs the line by `run`, or reports why the words are no line; returns the status of either.
+/// Runs the line by `run`, or reports why the words aren't a line; returns the status of either.
 fn run_or_refuse<R: FnOnce(Line) -> u8 + Drop>(
     rt: &HostRuntime,
     parsed: Result<Line, Usage>,

@@ -1,4 +1,4 @@
-//! How far long work is: shown on a terminal, where the output is a file, from two seconds on, and
+//! How far long work is: shown on a terminal, if the output is a file, from two seconds on, and
 //! erased at the end.
 
 use capkit::STANDARD;
@@ -13,7 +13,7 @@ const FIRST_SHOWN: u64 = 2;
 /// The bytes of a MiB.
 const MIB: u64 = 1_048_576;
 
-/// The size of all files of these names, in bytes. 0 where one is standard input or no plain file,
+/// The size of all files of these names, in bytes. 0 if one is standard input or no plain file,
 /// so that its size isn't known.
 pub fn total_size(rt: &HostRuntime, names: &[String]) -> u64 {
     let mut total: u64 = 0;
@@ -55,12 +55,12 @@ fn is_drawable(rt: &HostRuntime) -> bool {
     }
 }
 
-/// What the system tells of the process.
+/// What the system shows of the process.
 const STATUS: &str = "/proc/self/stat";
 
-/// Whether a process is in the foreground of its terminal, by what the system tells of it: fields,
+/// Whether a process is in the foreground of its terminal, by what the system shows of it: fields,
 /// of which the second is a name in parentheses, the fifth the group of the process, and the eighth
-/// the group that has the terminal. True where there are no such fields.
+/// the group that has the terminal. True if there are no such fields.
 ///
 /// The name may hold blanks and parentheses.
 pub fn is_in_foreground(status: &str) -> bool {
@@ -75,7 +75,7 @@ pub fn is_in_foreground(status: &str) -> bool {
     }
 }
 
-/// Whether this process is in the foreground of its terminal; true also where that can't be known.
+/// Whether this process is in the foreground of its terminal; true even if that can't be known.
 fn is_in_its_foreground(rt: &HostRuntime) -> bool {
     match fs::read_to_string(rt, STATUS) {
         Ok(status) => is_in_foreground(&status),
@@ -87,9 +87,9 @@ fn is_in_its_foreground(rt: &HostRuntime) -> bool {
 #[derive(Drop)]
 pub struct Progress<'a> {
     rt: &'a HostRuntime,
-    /// When the job began. None where nothing is to be shown.
+    /// When the job began. None if nothing must be shown.
     start: Option<Instant>,
-    /// The size of all inputs, in bytes; 0 where it isn't known.
+    /// The size of all inputs, in bytes; 0 if it isn't known.
     total: u64,
     /// How many bytes of the inputs were read.
     read: Cell<u64>,
@@ -99,9 +99,9 @@ pub struct Progress<'a> {
     is_shown: Cell<bool>,
 }
 
-/// The time now, at which a job begins that shows its progress. `None` where it is to show none:
-/// where the line can't be drawn, where the output isn't a file, so that its lines could meet the
-/// line of progress on the terminal, or where the clock can't be read.
+/// The time now, at which a job begins that shows its progress. `None` if it must show none:
+/// if the line can't be drawn, if the output isn't a file, so that its lines could meet the
+/// line of progress on the terminal, or if the clock can't be read.
 pub fn progress_start(rt: &HostRuntime, output: &str, is_drawable: bool) -> Option<Instant> {
     if !is_drawable || !is_file(rt, output) {
         return None;
@@ -136,10 +136,10 @@ impl<'a> Progress<'a> {
     }
 
     /// Where progress may be shown, counts bytes that were read just now, and shows it on standard
-    /// error if it is due; but not from the background, where the line could meet what is typed.
+    /// error if it is due; but not from the background, if the line could meet what is typed.
     fn count(&self, bytes: usize) {
         if let Some(start) = self.start {
-            // Where the clock can't be read, nothing is shown.
+            // If the clock can't be read, nothing is shown.
             let seconds = match start.elapsed(self.rt) {
                 Ok(elapsed) => elapsed.as_secs(),
                 Err(_) => 0,
@@ -160,7 +160,7 @@ impl<'a> Progress<'a> {
     }
 
     /// Counts bytes that were read by the second `seconds` since the start, and returns whether
-    /// progress is to be shown: once a second at most.
+    /// progress must be shown: once a second at most.
     fn count_and_check_due(&self, bytes: usize, seconds: u64) -> bool {
         self.read.set(self.read.get().saturating_add(bytes as u64));
         let is_due = seconds >= self.next.get();
@@ -171,7 +171,7 @@ impl<'a> Progress<'a> {
     }
 
     /// Writes the line of progress, with the share of the inputs that was read, or the MiB, and the
-    /// MiB per second since the start. It is written over the line that is there: `\r` goes back to
+    /// MiB per second since the start. It is written over the existing line: `\r` goes back to
     /// its start, and `\x1b[K` erases it. What can't be written is lost.
     fn show(&self, terminal: &impl Eprint, seconds: u64) {
         self.is_shown.set(true);
@@ -184,7 +184,7 @@ impl<'a> Progress<'a> {
         };
     }
 
-    /// The share of the inputs that `read` bytes are, in percent, 100 at most. `None` where the
+    /// The share of the inputs that `read` bytes are, in percent, 100 at most. `None` if the
     /// size of the inputs isn't known.
     fn share(&self, read: u64) -> Option<u128> {
         if self.total == 0 {
@@ -194,7 +194,7 @@ impl<'a> Progress<'a> {
         Some(share.min(100))
     }
 
-    /// Ends progress: erases its line, if there is one; but not from the background, where that
+    /// Ends progress: erases its line, if there is one; but not from the background, if that
     /// would erase what is typed.
     pub fn end(&self) {
         if self.is_shown.get() && !is_in_its_foreground(self.rt) {

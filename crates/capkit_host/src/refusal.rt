@@ -1,4 +1,4 @@
-//! Words that are no command line: what is told of them, and the status.
+//! Words that aren't a command line: what is reported of them, and the status.
 ghost use Rattle.std.specs.Prelude.{◌≡◌, Bool};
 ghost use Rattle.capkit_host.specs.Status.{status_of};
 
@@ -22,7 +22,7 @@ fn print_answer(rt: &(impl AllocGlobal + Print + Errors), answer: &clap::Error) 
     }
 }
 
-/// Reports why clap refuses the words, with hints (`refusal_text`); where memory runs out for
+/// Reports why clap refuses the words, with hints (`refusal_text`); if memory runs out for
 /// these, in clap's own words. A report that can't be written is lost.
 pub fn tell_refusal(rt: &(impl AllocGlobal + Print + Errors), error: &clap::Error) {
     let _ = match refusal_text(rt.alloc(), error) {
@@ -31,8 +31,8 @@ pub fn tell_refusal(rt: &(impl AllocGlobal + Print + Errors), error: &clap::Erro
     };
 }
 
-/// Reports why words are no command line, or prints what the user asked to know of it, and returns
-/// whether such an answer could be written; true where none is asked.
+/// Reports why words aren't a command line, or prints what the user asked to know of it, and returns
+/// whether such an answer could be written; true if none is asked.
 fn tell_usage(rt: &(impl AllocGlobal + Print + Errors), usage: &Usage) -> bool {
     match usage {
         Usage::Refused(error) if error.use_stderr() => tell_refusal(rt, error),
@@ -43,8 +43,8 @@ fn tell_usage(rt: &(impl AllocGlobal + Print + Errors), usage: &Usage) -> bool {
     true
 }
 
-/// The status of words that are no command line: 2, also where clap ran out of memory, or 1 of
-/// `Usage::Memory`. Of a request for help or the version it is 0 where the answer could be written,
+/// The status of words that aren't a command line: 2, even if clap ran out of memory, or 1 of
+/// `Usage::Memory`. For a request for help or the version it is 0 if the answer could be written,
 /// and else 1.
 fn status_of(usage: &Usage, is_written: bool) -> u8
     ensures { result ≡ status_of usage.now is_written }
@@ -57,7 +57,7 @@ fn status_of(usage: &Usage, is_written: bool) -> u8
     }
 }
 
-/// Reports why words are no command line, or what the user asked to know of it, and returns the
+/// Reports why words aren't a command line, or what the user asked to know of it, and returns the
 /// status.
 pub fn refuse(rt: &(impl AllocGlobal + Print + Errors), usage: Usage) -> u8
     ensures { (is_written : Bool) × (result ≡ status_of usage is_written) }

@@ -112,7 +112,7 @@ pub fn run_command<J: Engine>(
     }
 }
 
-/// The name of a line's output; `-`, which is standard output, where the line has none.
+/// The name of a line's output; `-`, which is standard output, if the line has none.
 fn output_name(output: &Option<String>) -> &str
     ensures { result.now ≡ unwrap_or (option_map string_bytes output.now) (codes "-") }
 {

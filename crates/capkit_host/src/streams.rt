@@ -3,13 +3,41 @@ ghost use Rattle.std.specs.Prelude.{◌≡◌, ◌≢◌, ◌||◌, IfOk, OnOk, 
 ghost use Rattle.std.specs.Io.{WritesAtMost};
 ghost use Rattle.std.specs.Io.KnownBytes.{WriteAppends};
 ghost use Rattle.capkit.specs.Names.{is_standard};
-ghost use Rattle.capkit_host.specs.Streams.{holds_old_bytes};
+ghost use Rattle.std.specs.Fd.{file_raw_fd};
+ghost use Rattle.capkit_host.specs.Streams.{holds_old_bytes, is_beside_streams};
+ghost use Rattle.capkit_host.specs.Streams.{is_output_beside_streams};
+ghost use Rattle.capkit_host.specs.inside.Streams.{is_input_beside_streams};
 ghost use Rattle.capkit_host.specs.inside.Streams.{is_standard_input, is_standard_output};
 
 use crate::USAGE;
 use capkit::STANDARD;
-use std::fs::{self, File, OpenOptions};
-use std::io::{self, IsTerminal, Read, Stdin, Stdout, Write};
+use std::fs::{File, OpenOptions};
+use std::io::{self, Error, ErrorKind, IsTerminal, Read, Stdin, Stdout, Write};
+use std::os::fd::AsRawFd;
+
+/// The number of the last standard stream; a file of the program has a greater one.
+const LAST_STREAM: i32 = 2;
+
+/// Opens the file of that path as these options say, and never under the number of a standard
+/// stream. The error is the system's.
+///
+/// The system gives the number of a stream that was closed to the next file that is opened; what is
+/// written to that stream would go into the file then.
+fn open_beside_streams(rt: &HostRuntime, how: &OpenOptions, path: &str) -> io::Result<File>
+    ensures { IfOk result (λ file. is_beside_streams (file_raw_fd file) ≡ true) }
+{
+    let opened = how.open(rt, path)?;
+    if opened.as_raw_fd() > LAST_STREAM {
+        return Ok(opened);
+    }
+    // std numbers a clone from 3 on. With `opened` the number of the stream is closed again.
+    let clone = opened.try_clone()?;
+    if clone.as_raw_fd() > LAST_STREAM {
+        Ok(clone)
+    } else {
+        Err(Error::from(ErrorKind::Other))
+    }
+}
 
 /// An input that was opened: a file, or standard input.
 #[derive(Drop)]
@@ -21,12 +49,16 @@ pub enum Opened {
 impl Opened {
     /// Opens the file of that name, or standard input. The error is the system's.
     pub(crate) fn open(rt: &HostRuntime, name: &str) -> io::Result<Opened>
-        ensures { IfOk result (λ opened. is_standard_input opened ≡ is_standard name.now) }
+        ensures standard { IfOk result (λ opened. is_standard_input opened
+            ≡ is_standard name.now) }
+        ensures beside { IfOk result (λ opened. is_input_beside_streams opened ≡ true) }
     {
         if name == STANDARD {
             return Ok(Opened::Stream(rt.stdin()));
         }
-        Ok(Opened::File(fs::open(rt, name)?))
+        let mut how = OpenOptions::new();
+        how.read(true);
+        Ok(Opened::File(open_beside_streams(rt, &how, name)?))
     }
 }
 
@@ -47,7 +79,7 @@ pub struct OutputFile {
     is_emptied: bool,
 }
 
-/// An output that was created: a file, or standard output, in place of which a test has a stream of
+/// An output that was created: a file, or standard output, instead of which a test has a stream of
 /// its own.
 #[derive(Drop)]
 pub enum Created<S = Stdout> {
@@ -63,11 +95,14 @@ impl Created {
             ≡ is_standard name.now) }
         ensures kept { IfOk result (λ created. holds_old_bytes created
             ≡ not (is_standard name.now)) }
+        ensures beside { IfOk result (λ created. is_output_beside_streams created ≡ true) }
     {
         if name == STANDARD {
             return Ok(Created::Stream(rt.stdout()));
         }
-        let file = OpenOptions::new().write(true).create(true).open(rt, name)?;
+        let mut how = OpenOptions::new();
+        how.write(true).create(true);
+        let file = open_beside_streams(rt, &how, name)?;
         Ok(Created::File(OutputFile {
             file,
             is_emptied: false,
@@ -112,7 +147,7 @@ impl<S> Created<S> {
 
 impl<S: Write> Write for Created<S> {
     /// One write. Before the first one, what a plain file held before it was opened is removed;
-    /// where it can't be, that is the error, and nothing is written.
+    /// if it can't be, that is the error, and nothing is written.
     fn write(&mut self, buf: &[u8]) -> io::Result<usize>
         ensures bound { WritesAtMost result buf.now }
         ensures bytes { WriteAppends None None result buf.now }

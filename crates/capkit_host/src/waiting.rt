@@ -1,11 +1,11 @@
-//! When what a run writes leaves its buffer: before a read that may wait, so that it is seen as it
+//! When the output of a run is written out of its buffer: before a read that may wait, so that it is seen as it
 //! comes, and isn't lost if the run is stopped while it waits.
 ghost use Rattle.std.specs.Prelude.{◌≡◌, false, true};
 
 use crate::files::{Identify, is_plain};
 use crate::overwrites::input_path;
 
-/// Whether a read of some input of these names may wait: one is no plain file.
+/// Whether a read of some input of these names may wait: one isn't a plain file.
 pub fn may_wait(files: &impl Identify, names: &[String]) -> bool {
     for name in names {
         if !is_plain(files, input_path(name)) {
@@ -15,7 +15,7 @@ pub fn may_wait(files: &impl Identify, names: &[String]) -> bool {
     false
 }
 
-/// When what a run writes leaves its buffer.
+/// When the output of a run is written out of its buffer.
 #[derive(Drop)]
 pub(crate) enum Buffering {
     /// At once: a terminal shows each line, report or listing as it is written.
@@ -26,7 +26,7 @@ pub(crate) enum Buffering {
     WhenFull,
 }
 
-/// When the buffer of an output is written out: at once on a terminal; else before reads where one
+/// When the buffer of an output is written out: at once on a terminal; else before reads if one
 /// may wait; else when it is full.
 pub(crate) fn buffering_of(is_terminal: bool, may_wait: bool) -> Buffering
     ensures terminal { is_terminal ≡ true → result ≡ Buffering.AtOnce }

@@ -27,7 +27,7 @@ pub fn with_help_option(alloc: Global, words: Vec<String>) -> Result<Vec<String>
 }
 
 /// The line that the words ask for, where `help` may be the first one. The errors are those of
-/// `command_of`, and `NameUsedTwice` also where the line's output is a plain file that it reads.
+/// `command_of`, and `NameUsedTwice` even if the line's output is a plain file that it reads.
 pub fn line_of_words(rt: &HostRuntime, words: Vec<String>) -> Result<Line, Usage>
     ensures ready { IfOk result (λ line. is_ready line ≡ true) }
     ensures line { IfOk result (SaysLine (with_help_option (map string_bytes words.items))) }

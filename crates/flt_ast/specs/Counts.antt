@@ -28,7 +28,7 @@ abbrev pub proto_tests : Option Protocol → ℕ
 proto_tests None = (1 + 1) + (1 + 1)
 proto_tests (Some p) = 1 + 1
 
--- the tests of a protocol alone: `tcp` and `udp` mean `proto 6` and `proto 17`, `icmp` means `ip
+-- the tests of only a protocol: `tcp` and `udp` mean `proto 6` and `proto 17`, `icmp` means `ip
 -- proto 1`, `icmp6` means `ip6 proto 58`
 abbrev pub check_tests : Protocol → ℕ
 check_tests protocol.Tcp = proto_tests None
@@ -56,12 +56,12 @@ ip4_tests (Some p) d = 1 + side_tests d 1
 abbrev pub ip6_test_count : Direction → ℕ
 ip6_test_count d = 1 + side_tests d 4
 
--- the tests of the transport protocol: TCP, UDP, or both where none is named
+-- the tests of the transport protocol: TCP, UDP, or both if none is named
 abbrev pub transport_tests : Option Protocol → ℕ
 transport_tests None = 2
 transport_tests (Some p) = 1
 
--- the tests of ports over IPv4, where the packet is no later fragment, and over IPv6, n tests a
+-- the tests of ports over IPv4, if the packet isn't a later fragment, and over IPv6, n tests a
 -- side
 abbrev pub port_tests : Option Protocol → Direction → ℕ → ℕ
 port_tests p d n =
@@ -86,7 +86,7 @@ abbrev pub value_tests : CompleteQualifiers → Value → ℕ
 value_tests q v = typed_tests q.value_type q.protocol q.direction v
 
 -- the tests of an accessor: its protocol, or for one above IPv4 that of IPv4, its number and that
--- the packet is no later fragment
+-- the packet isn't a later fragment
 abbrev pub accessor_test_count : Protocol → ℕ
 accessor_test_count protocol.Tcp = 1 + 1 + 1
 accessor_test_count protocol.Udp = 1 + 1 + 1
@@ -164,7 +164,7 @@ words_of (truth a) = truth_words a
 abbrev pub bound_of : Expression → ℕ
 bound_of e = 2 + 6 * (tests_of e + nodes_of e)
 
--- what a node alone adds to the tests of its tree
+-- what a node itself adds to the tests of its tree
 abbrev pub node_tests : Node → ℕ
 node_tests (node.Check p) = check_tests p
 node_tests (node.Cast p c) = cast_tests c
@@ -174,7 +174,7 @@ node_tests (node.Compare c) = 1
 node_tests (node.Load p s) = accessor_test_count p
 node_tests _ = 0
 
--- what a node alone adds to the nodes of its tree's arithmetic
+-- what a node itself adds to the nodes of its tree's arithmetic
 abbrev pub node_size : Node → ℕ
 node_size (node.Sized s n) = 2
 node_size (node.Literal n) = 1

@@ -1,4 +1,4 @@
--- What a bare value inherits, and what is filled in where it is left out.
+-- What a bare value inherits, and what is filled in if it is left out.
 use Rattle.std.specs.Prelude.{Some, None, unwrap_or}
 use Rattle.flt_words.specs.declared.token.Join.TheVariants as join
 use Rattle.flt_words.specs.declared.token.ValueType.{ValueType}
@@ -18,14 +18,14 @@ latest q (joined j a b) = latest (latest q a) b
 latest q _ = q
 
 -- each bare value takes the qualifiers of the nearest value to its left that has some, also out of
--- parentheses and from under `not`, or q where there is none
+-- parentheses and from under `not`, or q if there is none
 abbrev pub with_inherited : Qualifiers → TruthTree → TruthTree
 with_inherited q (bare v) = valued q v
 with_inherited q (denied a) = denied (with_inherited q a)
 with_inherited q (joined j a b) = joined j (with_inherited q a) (with_inherited (latest q a) b)
 with_inherited q a = a
 
--- the type that is written, or `host` where it is left out
+-- the type that is written, or `host` if it is left out
 abbrev pub type_or_host : Qualifiers → ValueType
 type_or_host q = unwrap_or q.value_type Host
 
@@ -45,7 +45,7 @@ complete (denied a) = denied (complete a)
 complete (joined j a b) = joined j (complete a) (complete b)
 complete a = a
 
--- the qualifiers that a bare value takes where no value to its left has any: `host`
+-- the qualifiers that a bare value takes if no value to its left has any: `host`
 abbrev pub only_host : Qualifiers
 only_host = record { protocol = None; direction = None; value_type = Some Host }
 

@@ -111,7 +111,7 @@ abbrev pub is_proto : ValueType → Bool
 is_proto Proto = true
 is_proto _ = false
 
--- the direction `src or dst`, as it is filled in where none is written: with a protocol's number
+-- the direction `src or dst`, as it is filled in if none is written: with a protocol's number
 -- none may be
 abbrev pub is_either : Direction → Bool
 is_either (direction.Both join.Or) = true

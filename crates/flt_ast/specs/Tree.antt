@@ -31,7 +31,7 @@ pub data TruthTree : Type 0 where
   denied : TruthTree → TruthTree
   joined : Join → TruthTree → TruthTree → TruthTree
 
--- the empty expression is no operand of any other
+-- the empty expression isn't an operand of any other
 pub data Expression : Type 0 where
   empty : Expression
   truth : TruthTree → Expression

@@ -23,7 +23,7 @@ pub(crate) struct Ip6Net {
 impl Value {
     /// The network of IPv4 that the value means, or `None` for IPv6, MAC addresses and ranges. A
     /// number is the first byte of the address, and without a mask the network is the parts that
-    /// are written. Of a number above 255, which is out of range (E8), its lowest byte is taken.
+    /// are written. A number above 255, which is out of range (E8), gives its lowest byte.
     pub fn ip4_net(self) -> Option<Ip4Net>
         ensures { result ≡ ip4_net self }
     {
@@ -53,7 +53,7 @@ impl Value {
         }
     }
 
-    /// Whether the address has bits set that the mask leaves out (E9). A value that is no network
+    /// Whether the address has bits set that the mask leaves out (E9). A value that isn't a network
     /// has none.
     pub(crate) fn is_past_mask(self) -> bool
         ensures { result ≡ is_past_mask self }

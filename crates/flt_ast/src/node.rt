@@ -10,9 +10,9 @@ use flt_words::{Cast, Comparison, Join, Operator, Protocol, Size, ValueType};
 /// would work on them: operands first, then what takes them.
 #[derive(Clone, Copy)]
 pub enum Node {
-    /// A protocol alone: the packet is of it.
+    /// Only a protocol: the packet is of it.
     Check(Protocol),
-    /// `broadcast` or `multicast`, with the protocol before it, or `None` where none is written.
+    /// `broadcast` or `multicast`, with the protocol before it, or `None` if none is written.
     Cast(Option<Protocol>, Cast),
     /// `less N` or `greater N`.
     Sized(Size, u32),
@@ -34,7 +34,7 @@ pub enum Node {
     Len,
     /// A number that is written by its name, as `tcp-syn`.
     Named(u32),
-    /// Takes a number, the place, and reads this many bytes there: 1 where no size is written.
+    /// Takes a number, the place, and reads this many bytes there: 1 if no size is written.
     Load(Protocol, u32),
     /// Takes a number, after a sign `-`.
     Negate,
@@ -133,7 +133,7 @@ impl Node {
     }
 
     /// How many nodes of arithmetic the node counts as, for the bound of a program. Nodes of truths
-    /// count none, but for `less N`, which is `len <= N` and counts two, and `greater N`.
+    /// count none, except `less N`, which is `len <= N` and counts two, and `greater N`.
     pub fn arithmetic_nodes(self) -> u8
         ensures count { result ≡ node_size self }
         ensures upper_bound { result ≤ 2 }

@@ -2,7 +2,7 @@
 //! docs/inside/COMPILER.md has the table.
 //!
 //! A number of tests fits a byte: no node counts as more than the 15 of `portrange` without a
-//! protocol, for both sides. The bounds in the clauses, up to 27, are greater than the counts where
+//! protocol, for both sides. The bounds in the clauses, up to 27, are greater than the counts because
 //! they take a direction for 8 tests, the most that `side_tests` returns.
 
 ghost use Rattle.std.specs.Prelude.{◌≡◌, ◌≤◌};
@@ -40,7 +40,7 @@ fn proto_tests(protocol: Option<Protocol>) -> u8
     }
 }
 
-/// The tests of a protocol alone: one above IP is tested as its number is (`tcp` is `proto 6`).
+/// The tests of only a protocol: one above IP is tested as its number is (`tcp` is `proto 6`).
 pub(crate) fn check_tests(protocol: Protocol) -> u8
     ensures count { result ≡ check_tests protocol }
     ensures upper_bound { result ≤ 4 }
@@ -138,8 +138,8 @@ pub(crate) fn value_tests(qualifiers: CompleteQualifiers, value: Value) -> u8
     }
 }
 
-/// The tests of an accessor, as `tcp[13]`: its protocol; of one above IPv4 the EtherType, its
-/// number and that the packet is no later fragment.
+/// The tests of an accessor, such as `tcp[13]`: its protocol; above IPv4 the EtherType, its
+/// number and that the packet isn't a later fragment.
 pub(crate) fn accessor_tests(protocol: Protocol) -> u8
     ensures count { result ≡ accessor_test_count protocol }
     ensures upper_bound { result ≤ 3 }

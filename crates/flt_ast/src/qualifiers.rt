@@ -23,7 +23,7 @@ impl Qualifiers {
     ghost use Rattle.std.specs.Prelude.{◌≡◌};
     ghost use Rattle.flt_ast.specs.Filled.{completed_qualifiers, type_or_host};
 
-    /// The type that is written, or `host` where none is.
+    /// The type that is written, or `host` if none is.
     pub(crate) fn type_or_host(self) -> ValueType
         ensures { result ≡ type_or_host self }
     {

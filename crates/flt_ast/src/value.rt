@@ -27,7 +27,7 @@ pub enum Value {
     Number(u32, NetMask),
     /// An IPv4 address or network.
     Dotted(Dotted, NetMask),
-    /// An IPv6 address, with the length of its prefix where one is written.
+    /// An IPv6 address, with the length of its prefix if one is written.
     Ip6(u128, Option<u32>),
     /// A MAC address of 48 bits.
     Mac(u64),

@@ -4,7 +4,6 @@ pub mod Codes
 pub mod Checking
 pub mod Scan
 pub mod Steps
-pub mod ByRules
 pub mod Suffix
 pub mod Jumps
 pub mod Standing

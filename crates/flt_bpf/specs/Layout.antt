@@ -18,7 +18,7 @@ JUMP = 5
 abbrev pub MOST_OFFSET : ℕ
 MOST_OFFSET = 255
 
--- the jump at a place is where a conditional jump goes on, and its target is too far from the
+-- a conditional jump goes on at the jump at a place, and its target is too far from the
 -- instruction after that one
 pub record IsNeeded (prog : List Insn) (place : ℕ) (jump : Insn) : Type 0 where
   pub from : ℕ

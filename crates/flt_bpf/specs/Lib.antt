@@ -9,6 +9,5 @@ pub mod Machine
 pub mod Message
 pub mod Refusal
 pub mod Registers
-pub mod RunByRules
 pub mod Valid
 pub mod inside

@@ -66,7 +66,7 @@ pub record IsInsnLine (line : List ℕ) (i : Insn) : Type 0 where
   pub numbers : AreNumbers line (i.code ∷ i.jt ∷ i.jf ∷ i.k ∷ [])
   pub in_range : HasFieldsInRange i
 
--- the pieces between line feeds, without the last one where that is empty
+-- the pieces between line feeds, without the last one if that is empty
 abbrev pub lines_from : List (List ℕ) → List (List ℕ)
 lines_from [] = []
 lines_from ([] ∷ []) = []
@@ -89,13 +89,13 @@ pub record IsListing (text : List ℕ) (is : List Insn) : Type 0 where
   pub upper_bound : length is ≤ MOST_INSTRUCTIONS
   pub lines : AreListingLines (lines_of text) is
 
--- the first line is there and is a number of instructions that a program may have
+-- the first line is present and is a number of instructions that a program may have
 pub record HasCount (lines : List (List ℕ)) (count : ℕ) : Type 0 where
   pub number : IsSomeAnd (slice_get lines 0) (λ line. IsWrittenNumber line count)
   pub upper_bound : count ≤ MOST_INSTRUCTIONS
 
--- The line after k others is wrong: the first one where it is no count; a later one where it
--- should be an instruction and is none or is missing, or where it is one too many.
+-- The line after k others is wrong: the first one if it isn't a count; a later one if it
+-- should be an instruction and is none or is missing, or if it is one too many.
 abbrev pub IsWrong : List (List ℕ) → ℕ → Type 0
 IsWrong lines zero = (count : ℕ) → ¬ HasCount lines count
 IsWrong lines (suc k) = (count : ℕ) × HasCount lines count

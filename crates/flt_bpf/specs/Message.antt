@@ -23,7 +23,7 @@ has_index TooLong = false
 has_index NoReturn = false
 has_index _ = true
 
--- the message on a broken rule, with the index of the instruction where one instruction breaks it
+-- the message on a broken rule, with the index of the instruction if one instruction breaks it
 abbrev pub check_message : CheckFault → ℕ → List ℕ
 check_message fault index =
     check_text fault ++ (if has_index fault then codes " at " ++ decimal index else [])
@@ -33,12 +33,12 @@ abbrev pub listing_text : ListingFault → List ℕ
 listing_text (listing.NotListing line) = codes "not a listing"
 listing_text listing.Memory = codes "no memory"
 
--- the number, from 1, of the line at which a text is refused, or none where memory ran out
+-- the number, from 1, of the line at which a text is refused, or none if memory ran out
 abbrev pub wrong_line : ListingFault → Option ℕ
 wrong_line (listing.NotListing line) = Some line
 wrong_line listing.Memory = None
 
--- what a message says of the place of a line, by its number; nothing where there is none
+-- what a message says of the place of a line, by its number; nothing if there is none
 abbrev pub at_line : Option ℕ → List ℕ
 at_line None = []
 at_line (Some line) = codes " at line " ++ decimal line

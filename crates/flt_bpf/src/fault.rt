@@ -1,4 +1,4 @@
-//! Why instructions are no valid program, and why a text is no listing.
+//! Why instructions aren't a valid program, and why a text isn't a listing.
 
 ghost use Rattle.std.specs.Prelude.{◌≡◌, Some};
 ghost use Rattle.flt_bpf.specs.Message.{check_text, has_index, listing_text};
@@ -75,7 +75,7 @@ impl Error for CheckFault {}
 /// Why a text was not read as a listing.
 #[derive(Clone, Copy, PartialEq, Eq, Debug)]
 pub enum ListingFault {
-    /// L1: the text is no listing; the line with this number, from 1, is the first wrong one, or
+    /// L1: the text isn't a listing; the line with this number, from 1, is the first wrong one, or
     /// the text is too long: then it is 1.
     NotListing(usize),
     /// An allocation for the instructions failed.
@@ -83,7 +83,7 @@ pub enum ListingFault {
 }
 
 impl ListingFault {
-    /// What messages call the fault. Where there is a `line`, the words `at line` and its number
+    /// What messages call the fault. If there is a `line`, the words `at line` and its number
     /// follow.
     pub fn text(self) -> &'static str
         ensures { result.now ≡ listing_text self }
@@ -105,7 +105,7 @@ impl ListingFault {
     }
 }
 
-/// The text, and ` at line ` with the number of the line where there is one.
+/// The text, and ` at line ` with the number of the line if there is one.
 impl fmt::Display for ListingFault {
     ghost use Rattle.std.specs.Prelude.{Some};
     ghost use Rattle.flt_bpf.specs.Message.{listing_message};

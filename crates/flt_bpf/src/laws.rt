@@ -1,16 +1,11 @@
-//! Laws over the definitions of codes, listings and runs: each is a theorem, and its function does
+//! Laws over the definitions of codes and listings: each is a theorem, and its function does
 //! nothing.
 
-ghost use Rattle.std.specs.Prelude.{◌≡◌, ℕ, ◌≤◌, List, length, All, Some, None};
+ghost use Rattle.std.specs.Prelude.{◌≡◌, ℕ, ◌≤◌, List, length, All, Some};
 ghost use Rattle.flt_bpf.specs.declared.insn.Insn.{Insn};
-ghost use Rattle.flt_bpf.specs.declared.fault.CheckFault.{CheckFault};
-ghost use Rattle.flt_bpf.specs.declared.machine.State.{State};
 ghost use Rattle.flt_bpf.specs.declared.operation.Operation.{Operation};
 ghost use Rattle.flt_bpf.specs.Instructions.{code_of, operation_of};
 ghost use Rattle.flt_bpf.specs.Listing.{listing, HasFieldsInRange, IsListing, IsRefusedAt};
-ghost use Rattle.flt_bpf.specs.Machine.{machine, Stands, Answered};
-ghost use Rattle.flt_bpf.specs.RunByRules.{run_by_rules, run_end, BreaksRuleAt, MeetsNoBrokenRule};
-ghost use Rattle.flt_bpf.specs.Valid.{IsValid};
 
 /// An operation that a code gives has this code. The other way round is in the contract of
 /// `Operation::code`.
@@ -40,22 +35,4 @@ pub fn one_reading()
         → IsRefusedAt text other → line ≡ other }
     ensures not_both { (text : List ℕ) (is : List Insn) (line : ℕ) → IsListing text is
         → ¬ IsRefusedAt text line }
-{}
-
-/// What `run_any` returns, in terms of the machine's run. Where that meets no instruction that
-/// breaks a rule, as with every valid program, it is the machine's answer and count, or `None`
-/// where the run goes past the end. Where the run meets a broken rule it is `None`. An answer and
-/// count are always the machine's.
-pub fn any_run()
-    ensures unbroken { (insns : List Insn) (packet : List ℕ) (len : ℕ)
-        → MeetsNoBrokenRule insns packet len
-        → run_by_rules insns packet len ≡ run_end (machine insns packet len (length insns)) }
-    ensures valid { (insns : List Insn) (packet : List ℕ) (len : ℕ) → IsValid insns
-        → run_by_rules insns packet len ≡ run_end (machine insns packet len (length insns)) }
-    ensures broken { (insns : List Insn) (packet : List ℕ) (len met place : ℕ) (state : State)
-        (fault : CheckFault) → machine insns packet len met ≡ Stands place state
-        → BreaksRuleAt insns fault place → run_by_rules insns packet len ≡ None }
-    ensures answer { (insns : List Insn) (packet : List ℕ) (len answer count : ℕ)
-        → run_by_rules insns packet len ≡ Some (answer, count)
-        → machine insns packet len (length insns) ≡ Answered answer count }
 {}

@@ -37,7 +37,7 @@ impl Width {
     }
 }
 
-/// What a register is loaded with, where it isn't bytes of the packet.
+/// What a register is loaded with, if it isn't bytes of the packet.
 #[derive(Clone, Copy)]
 pub enum Source {
     /// The number k.
@@ -178,7 +178,7 @@ macro_rules! operation_at {
 }
 
 /// The operation with this code, or `None` if no operation has it.
-// Where this is inlined, the compiler makes one jump of this match and of the one on its result.
+// If this is inlined, the compiler makes one jump of this match and of the one on its result.
 #[inline(always)]
 #[tactic(auto, unfolding(crate::specs::Instructions::operation_of))]
 pub fn decode(code: u16) -> Option<Operation>
@@ -216,7 +216,7 @@ pub(crate) fn known_operation(code: u16) -> Operation
 
 impl Operation {
     /// The code of the operation. `decode` gives the operation back.
-    // Where this is inlined, the code of an operation that is written out costs nothing.
+    // If this is inlined, the code of an operation that is written out costs nothing.
     #[inline(always)]
     #[tactic(auto, unfolding(crate::specs::Instructions::operation_of))]
     pub fn code(self) -> u16

@@ -25,7 +25,7 @@ pub(crate) const BLANK: u8 = b' ';
 /// What ends a line.
 pub(crate) const LINE_FEED: u8 = b'\n';
 
-/// A text up to the first of some byte, and what follows that byte, where there is one.
+/// A text up to the first of some byte, and what follows that byte, if there is one.
 #[derive(Clone, Copy)]
 struct Cut<'a> {
     piece: &'a [u8],
@@ -98,7 +98,7 @@ fn first_number(line: &[u8]) -> Option<FirstNumber<'_>>
     Some(FirstNumber { number, rest })
 }
 
-/// The number that a line is; `None` where it has a blank or isn't one.
+/// The number that a line is; `None` if it has a blank or isn't one.
 fn only_number(line: &[u8]) -> Option<u64>
     ensures { result ≡ only_of (line_numbers line.now) }
 {
@@ -109,7 +109,7 @@ fn only_number(line: &[u8]) -> Option<u64>
     }
 }
 
-/// The instruction with these fields, or `None` where one is out of the range of its type.
+/// The instruction with these fields, or `None` if one is out of the range of its type.
 fn insn_with_fields(code: u64, jt: u64, jf: u64, k: u64) -> Option<Insn>
     ensures { result ≡ insn_from code jt jf k }
 {
@@ -164,7 +164,7 @@ fn first_line(text: &[u8]) -> FirstLine<'_>
 }
 
 /// `count` instructions, one on each line of a text: what follows the first line of a listing. An
-/// error has the number of the first wrong line, where the first line of this text is line 2, or is
+/// error has the number of the first wrong line, if the first line of this text is line 2, or is
 /// a failed allocation.
 fn insns_on_lines<A: Allocator>(
     alloc: A,

@@ -23,7 +23,7 @@ pub data MatchResult : Type 0 where
   No : MatchResult
   Rejected : MatchResult
 
--- a truth, or where there is none, a rejection
+-- a truth, or if there is none, a rejection
 abbrev pub reading_of : Option Bool → MatchResult
 reading_of None = Rejected
 reading_of (Some true) = Yes
@@ -43,19 +43,19 @@ compares AtMost a b = nat_le a b
 compares Greater a b = nat_lt b a
 compares AtLeast a b = nat_le b a
 
--- the length in bytes of the IPv4 header that begins at a place, or none where its first byte isn't
+-- the length in bytes of the IPv4 header that begins at a place, or none if its first byte isn't
 -- captured
 abbrev pub header_at : List ℕ → ℕ → Option ℕ
 header_at p at = with (field p at Byte) (λ byte. Some (header_length byte))
 
--- a field of a packet, or none where it isn't all captured, or the first byte of the header before
+-- a field of a packet, or none if it isn't all captured, or the first byte of the header before
 -- it isn't; a place after a header is taken modulo 2^32
 abbrev pub field_at : Offset → Width → List ℕ → Option ℕ
 field_at (Fixed k) width p = field p k width
 field_at (AfterHeader header k) width p =
     with (header_at p header) (λ x. field p ((x + k) % 2 ^ 32) width)
 
--- the bits of a number that a mask leaves, or all of them without one
+-- the bits of a number that a mask keeps, or all of them without one
 abbrev pub under_mask : Option ℕ → ℕ → ℕ
 under_mask None v = v
 under_mask (Some mask) v = bit_and v mask
@@ -67,7 +67,7 @@ field_reads t p =
     (with (field_at t.offset t.width p)
     (λ v. Some (compares t.comparison (under_mask t.mask v) t.value)))
 
--- what an elementary test reads; what the link decides alone is the same for all packets
+-- what an elementary test reads; what the link itself decides is the same for all packets
 abbrev pub elementary_reads : Elementary → List ℕ → MatchResult
 elementary_reads (Outcome b) p = reading_of (Some b)
 elementary_reads (Field t) p = field_reads t p
@@ -104,7 +104,7 @@ has_type_at (Some at) n = is_at at HalfWord n
 abbrev pub has_type : Link → ℕ → Elementary
 has_type link n = has_type_at (type_offset link) n
 
--- a frame is of a kind other than Ethernet: by the EtherType at a place, or, where there is none,
+-- a frame is of a kind other than Ethernet: by the EtherType at a place, or, if there is none,
 -- as raw IP, by the version in its first byte; so raw IP is never ARP or RARP
 abbrev pub type_test : Option ℕ → FrameKind → Elementary
 type_test type_offset Ethernet = Outcome false
@@ -125,7 +125,7 @@ abbrev pub kind_test : Link → FrameKind → Elementary
 kind_test link Ethernet = Outcome (is_ethernet link)
 kind_test link kind = type_test (type_offset link) kind
 
--- an IPv4 packet is no fragment but the first
+-- an IPv4 packet is the first fragment, or whole
 abbrev pub first_fragment : Link → Elementary
 first_fragment link = is_masked (network_offset link + 6) HalfWord 0x1fff 0
 

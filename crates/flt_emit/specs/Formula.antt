@@ -1,8 +1,7 @@
 -- Tests joined by and, or and not, and how they are read.
-use Rattle.std.specs.Prelude.{ℕ, ◌==◌, ◌||◌, nat_lt, if◌then◌else◌, Bool, true, false, List, [], ◌∷◌, length, Some, None}
+use Rattle.std.specs.Prelude.{ℕ, ◌&&◌, ◌||◌, nat_le, Bool, true, false, List, [], ◌∷◌, Option, Some, None}
 use Rattle.flt_bpf.specs.declared.operation.Width.{Width}
 use Rattle.flt_words.specs.declared.token.Comparison.{Comparison}
-use Rattle.flt_words.specs.declared.token.Comparison.TheVariants.{Equal}
 use Rattle.flt_words.specs.declared.token.Protocol.{Protocol}
 use Rattle.flt_words.specs.declared.token.Side.TheVariants.{Source, Destination}
 use Rattle.flt_words.specs.declared.token.Join.TheVariants.{And, Or}
@@ -11,31 +10,32 @@ use Rattle.flt_ast.specs.declared.qualifiers.Direction.TheVariants as direction
 use Rattle.flt_ast.specs.Tree.{NumberTree}
 use Rattle.cap_octet.specs.declared.link.Link.{Link}
 use Rattle.flt_emit.specs.declared.elementary.Elementary.{Elementary}
+use Rattle.flt_emit.specs.declared.elementary.Interval.{Interval}
 use Rattle.flt_emit.specs.declared.elementary.MaskedField.{MaskedField}
 use Rattle.flt_emit.specs.declared.elementary.Offset.{Offset}
 use Rattle.flt_emit.specs.declared.elementary.Sides.{Sides}
 use Rattle.flt_emit.specs.declared.elementary.Elementary.TheVariants.{Outcome}
-use Rattle.flt_emit.specs.Elementary.{MatchResult, Yes, No, Rejected, reading_of, with, compares, field_at, under_mask, elementary_reads, compares_at}
+use Rattle.flt_emit.specs.Elementary.{MatchResult, Yes, No, Rejected, reading_of, with, compares, field_at, under_mask, elementary_reads}
 use Rattle.flt_emit.specs.Numbers.{number, accessor_tests}
 
 -- a test, a comparison of two numbers, two formulas that both hold or either of which does, one
--- that doesn't hold, or whether a field is one of some numbers
+-- that doesn't hold, or whether a field is in some intervals
 pub data Formula : Type 0 where
   Single : Elementary → Formula
   Compare : Comparison → NumberTree → NumberTree → Formula
   Both : Formula → Formula → Formula
   Either : Formula → Formula → Formula
   Except : Formula → Formula
-  -- a field is one of some numbers
-  Among : MaskedField → List ℕ → Formula
+  -- a field is in one of some intervals
+  Among : MaskedField → List Interval → Formula
 
--- both hold: the second is read only where the first is yes
+-- both hold: the second is read only if the first is yes
 abbrev pub both : MatchResult → MatchResult → MatchResult
 both Yes b = b
 both No b = No
 both Rejected b = Rejected
 
--- either holds: the second is read only where the first is no
+-- either holds: the second is read only if the first is no
 abbrev pub either : MatchResult → MatchResult → MatchResult
 either Yes b = Yes
 either No b = b
@@ -47,21 +47,25 @@ negation Yes = No
 negation No = Yes
 negation Rejected = Rejected
 
--- whether two numbers compare so; where one of them has no value, the packet is rejected
+-- whether two numbers compare so; if one of them has no value, the packet is rejected
 abbrev pub relation_reads : Link → Comparison → NumberTree → NumberTree → List ℕ → ℕ → MatchResult
 relation_reads link c l r p n =
     reading_of (with (number link l p n)
     (λ x. with (number link r p n) (λ y. Some (compares c x y))))
 
--- a number is one of some
-abbrev pub is_one_of : ℕ → List ℕ → Bool
-is_one_of x [] = false
-is_one_of x (v ∷ vs) = x == v || is_one_of x vs
+-- a number is in an interval
+abbrev pub is_in : ℕ → Interval → Bool
+is_in x i = nat_le i.low x && nat_le x i.high
 
--- whether a field is one of some numbers; where it isn't all captured, the packet is rejected
-abbrev pub among_reads : MaskedField → List ℕ → List ℕ → MatchResult
-among_reads f vs p =
-    reading_of (with (field_at f.offset f.width p) (λ x. Some (is_one_of (under_mask f.mask x) vs)))
+-- a number is in one of some intervals
+abbrev pub is_within : ℕ → List Interval → Bool
+is_within x [] = false
+is_within x (i ∷ is) = is_in x i || is_within x is
+
+-- whether a field is in some intervals; if it isn't all captured, the packet is rejected
+abbrev pub among_reads : MaskedField → List Interval → List ℕ → MatchResult
+among_reads f is p =
+    reading_of (with (field_at f.offset f.width p) (λ x. Some (is_within (under_mask f.mask x) is)))
 
 -- the reading of a formula on a packet of original length n
 abbrev pub reads : Link → Formula → List ℕ → ℕ → MatchResult
@@ -70,9 +74,9 @@ reads link (Compare c l r) p n = relation_reads link c l r p n
 reads link (Both a b) p n = both (reads link a p n) (reads link b p n)
 reads link (Either a b) p n = either (reads link a p n) (reads link b p n)
 reads link (Except a) p n = negation (reads link a p n)
-reads link (Among f vs) p n = among_reads f vs p
+reads link (Among f is) p n = among_reads f is p
 
--- some tests that all hold, read one after the other; of no tests that is always so
+-- some tests that all hold, read one after the other; for no tests that is always so
 abbrev pub all_of : List Elementary → Formula
 all_of [] = Single (Outcome true)
 all_of (t ∷ []) = Single t
@@ -96,30 +100,36 @@ sides (direction.One Destination) source destination = all_of destination
 sides (direction.Both Or) source destination = Either (all_of source) (all_of destination)
 sides (direction.Both And) source destination = Both (all_of source) (all_of destination)
 
--- a field of which all bits count
-abbrev pub whole_field : Offset → Width → MaskedField
-whole_field offset width = record { offset = offset; width = width; mask = None }
+-- numbers that are looked for: those that come first in the expression, all of them, and all
+-- without the first
+pub record Numbers : Type 0 where
+  pub first : Interval
+  pub all : List Interval
+  pub others : List Interval
 
--- the numbers, of which the first one that is this number is left out
-abbrev pub without : ℕ → List ℕ → List ℕ
-without a [] = []
-without a (v ∷ vs) = if v == a then vs else v ∷ without a vs
+-- an interval that nothing looks for
+abbrev pub no_interval : Interval
+no_interval = record { low = 0; high = 0 }
 
--- the numbers without the one that comes first in the expression; a number that is alone stays, so
--- that one is left at least
-abbrev pub remaining : ℕ → List ℕ → List ℕ
-remaining first numbers = if nat_lt (length numbers) 2 then numbers else without first numbers
+-- nothing is looked for
+abbrev pub no_numbers : Numbers
+no_numbers = record { first = no_interval; all = []; others = [] }
 
--- one of several numbers on a side, or on either; `src and dst` is never asked for so, and is no
--- here. The source is compared with the first number alone before the destination is looked at: so
--- a packet that ends between the two is read as by tests of one number after the other. After the
--- destination the source is known not to be the first number
-abbrev pub any_sides : Direction → Sides → ℕ → List ℕ → Formula
-any_sides (direction.One Source) at first numbers = Among (whole_field at.source at.width) numbers
-any_sides (direction.One Destination) at first numbers =
-    Among (whole_field at.destination at.width) numbers
-any_sides (direction.Both Or) at first numbers =
-    Either (Single (compares_at at.source at.width Equal first))
-    (Either (Among (whole_field at.destination at.width) numbers)
-    (Among (whole_field at.source at.width) (remaining first numbers)))
-any_sides (direction.Both And) at first numbers = Single (Outcome false)
+-- a field under a mask, or of which all bits count
+abbrev pub masked_field : Offset → Width → Option ℕ → MaskedField
+masked_field offset width mask = record { offset = offset; width = width; mask = mask }
+
+-- one of several numbers on a side, or on either; `src and dst` is never asked for like this, and
+-- doesn't match here. The source is compared with only the first numbers before the destination is looked at: so
+-- a packet that ends between the two is read as by tests of one after the other. After the
+-- destination the source is known not to be one of the first
+abbrev pub any_sides : Direction → Sides → Option ℕ → Numbers → Formula
+any_sides (direction.One Source) at mask numbers =
+    Among (masked_field at.source at.width mask) numbers.all
+any_sides (direction.One Destination) at mask numbers =
+    Among (masked_field at.destination at.width mask) numbers.all
+any_sides (direction.Both Or) at mask numbers =
+    Either (Among (masked_field at.source at.width mask) (numbers.first ∷ []))
+    (Either (Among (masked_field at.destination at.width mask) numbers.all)
+    (Among (masked_field at.source at.width mask) numbers.others))
+any_sides (direction.Both And) at mask numbers = Single (Outcome false)

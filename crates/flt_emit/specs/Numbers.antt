@@ -19,8 +19,8 @@ use Rattle.cap_octet.specs.Link.{network_offset}
 abbrev pub width_of : ℕ → Width
 width_of size = if size == 1 then Byte else if size == 2 then HalfWord else Word
 
--- the place of byte 0 of a protocol: of the frame, of the network header, or of what follows an
--- IPv4 header; none where the byte with the length of that header isn't captured
+-- the place of byte 0 of a protocol: for the frame, of the network header, or of what follows an
+-- IPv4 header; none if the byte with the length of that header isn't captured
 abbrev pub base : Link → Protocol → List ℕ → Option ℕ
 base link Ether p = Some 0
 base link Tcp p = with (header_at p (network_offset link)) (λ x. Some (x + network_offset link))
@@ -42,7 +42,7 @@ result_of And a b = Some (bit_and a b)
 result_of ShiftLeft a b = Some (if nat_lt b 32 then (a * 2 ^ b) % 2 ^ 32 else 0)
 result_of ShiftRight a b = Some (if nat_lt b 32 then a / 2 ^ b else 0)
 
--- the value of arithmetic on a packet of original length n, or none where it is rejected
+-- the value of arithmetic on a packet of original length n, or none if it is rejected
 abbrev pub number : Link → NumberTree → List ℕ → ℕ → Option ℕ
 number link (literal k) p n = Some k
 number link (named k) p n = Some k

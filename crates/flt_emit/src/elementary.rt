@@ -1,10 +1,10 @@
 //! The tests that primitives are made of, as data: each looks at one field of a packet, or the link
-//! type alone decides it. `table.rt` has them for each link, `emit.rt` their code.
+//! type itself decides it. `table.rt` has them for each link, `emit.rt` their code.
 
 use flt_bpf::operation::Width;
 use flt_words::Comparison;
 
-/// What a frame is by its link header, or by its version where there is none.
+/// What a frame is by its link header, or by its version if there is none.
 #[derive(Clone, Copy)]
 pub enum FrameKind {
     Ethernet,
@@ -14,7 +14,7 @@ pub enum FrameKind {
     Rarp,
 }
 
-/// Where a field stands, in bytes.
+/// The place where a field stands, in bytes.
 #[derive(Clone, Copy)]
 pub enum Offset {
     /// A given number of bytes after the start of the packet.
@@ -24,7 +24,7 @@ pub enum Offset {
     AfterHeader(u32, u32),
 }
 
-/// A field: where it stands, how wide it is, and the mask where not all of its bits count.
+/// A field: its place, its width, and the mask if not all of its bits count.
 #[derive(Clone, Copy)]
 pub struct MaskedField {
     pub offset: Offset,
@@ -32,7 +32,14 @@ pub struct MaskedField {
     pub mask: Option<u32>,
 }
 
-/// A test of a field: the field, of which only the bits of the mask count, or all where there is no
+/// The numbers from the first to the last.
+#[derive(Clone, Copy)]
+pub struct Interval {
+    pub low: u32,
+    pub high: u32,
+}
+
+/// A test of a field: the field, of which only the bits of the mask count, or all if there is no
 /// mask, is compared with a number.
 #[derive(Clone, Copy)]
 pub struct FieldTest {
@@ -43,7 +50,7 @@ pub struct FieldTest {
     pub value: u32,
 }
 
-/// A test that the link type alone decides, or a test of a field.
+/// A test that the link type itself decides, or a test of a field.
 #[derive(Clone, Copy)]
 pub enum Elementary {
     /// Yes or no, whatever the packet is.
@@ -51,7 +58,7 @@ pub enum Elementary {
     Field(FieldTest),
 }
 
-/// Where a source and a destination stand, both addresses or both ports, and how wide they are.
+/// The places of a source and a destination, both addresses or both ports, and their width.
 #[derive(Clone, Copy)]
 pub struct Sides {
     pub width: Width,

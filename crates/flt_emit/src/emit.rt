@@ -61,8 +61,8 @@ impl<A: Allocator> Code<A> {
         }
     }
 
-    /// Emits one test. Returns the place where it begins: of one that the link type alone decides,
-    /// which takes no code, that is one of the targets.
+    /// Emits one test. Returns the place where it begins: for one that the link type itself
+    /// decides, which takes no code, that is one of the targets.
     pub fn emit_elementary(&mut self, test: Elementary, to: Targets) -> Result<usize, AllocError>
         ensures { Emits result (emit_elementary test to.yes to.no self.old) self.new }
     {
@@ -78,7 +78,7 @@ impl<A: Allocator> Code<A> {
         }
     }
 
-    /// Emits some tests that all have to hold. Returns the place where they begin; of no test that
+    /// Emits some tests that all have to hold. Returns the place where they begin; for no test that
     /// is `to.yes`. It calls itself for each: they are few.
     pub fn emit_all(&mut self, tests: &[Elementary], to: Targets) -> Result<usize, AllocError>
         ensures { Emits result (emit_all tests.now to.yes to.no self.old) self.new }

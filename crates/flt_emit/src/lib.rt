@@ -11,9 +11,8 @@ mod elementary;
 mod emit;
 mod table;
 
-pub use among::whole_field;
 pub use code::{Code, Targets};
-pub use elementary::{Elementary, FieldTest, FrameKind, MaskedField, Offset, Sides};
+pub use elementary::{Elementary, FieldTest, FrameKind, Interval, MaskedField, Offset, Sides};
 pub use table::{
     compares_at, first_fragment, has_ip_proto, has_ip6_proto, has_type, is_at, kind_test,
     network_offset,

@@ -1,4 +1,4 @@
-//! The table of elementary tests, for every link. A doc says what holds where the test is yes.
+//! The table of elementary tests, for every link. A doc says what holds if the test is yes.
 
 ghost use Rattle.std.specs.Prelude.{◌≡◌, ◌≤◌, IfSome, Some, None};
 ghost use Rattle.cap_octet.specs.Link.{longest_header, network_offset};
@@ -12,7 +12,7 @@ use cap_octet::assigned::{ETHERTYPE_ARP, ETHERTYPE_IPV4, ETHERTYPE_IPV6, ETHERTY
 use flt_bpf::operation::Width;
 use flt_words::Comparison;
 
-/// Where the network header begins, in bytes from the start of the packet.
+/// The place where the network header begins, in bytes from the start of the packet.
 pub fn network_offset(link: Link) -> u32
     ensures place { result ≡ network_offset link }
     ensures near { result ≤ longest_header }
@@ -88,7 +88,7 @@ fn type_test(type_offset: Option<usize>, kind: FrameKind) -> Elementary
     }
 }
 
-/// A frame is of a kind: Ethernet by the link type alone, the others as in `type_test`.
+/// A frame is of a kind: Ethernet only by the link type, the others as in `type_test`.
 pub fn kind_test(link: Link, kind: FrameKind) -> Elementary
     ensures { result ≡ kind_test link kind }
 {
@@ -98,8 +98,8 @@ pub fn kind_test(link: Link, kind: FrameKind) -> Elementary
     }
 }
 
-/// An IPv4 packet is no fragment but the first: the offset, the lower 13 bits of the half word at
-/// byte 6, is 0 (RFC 791, section 3.1).
+/// An IPv4 packet is the first fragment, or whole: the offset, the lower 13 bits of the half word
+/// at byte 6, is 0 (RFC 791, section 3.1).
 pub fn first_fragment(link: Link) -> Elementary
     ensures { result ≡ first_fragment link }
 {

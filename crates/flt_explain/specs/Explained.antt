@@ -45,7 +45,7 @@ abbrev pub protocol_tokens : Option Protocol → List TokenKind → List TokenKi
 protocol_tokens None rest = rest
 protocol_tokens (Some p) rest = token.Protocol p ∷ rest
 
--- the direction before a value, and then the rest; of both sides the source comes first
+-- the direction before a value, and then the rest; with both sides the source comes first
 abbrev pub direction_tokens : Direction → List TokenKind → List TokenKind
 direction_tokens (direction.One s) rest = token.Side s ∷ rest
 direction_tokens (direction.Both j) rest =

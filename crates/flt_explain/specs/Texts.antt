@@ -102,7 +102,7 @@ name_word following n =
     if n == 16 then codes "tcp-ack" else
     if n == 32 then codes "tcp-urg" else decimal n
 
--- the byte of an address that stands where a byte counts `weight`, a power of 256
+-- the byte of an address that stands if a byte counts `weight`, a power of 256
 abbrev pub octet : ℕ → ℕ → ℕ
 octet weight address = address / weight % 256
 
@@ -133,7 +133,7 @@ bytes_text half = join_with_byte 58 (map hex_byte (half_bytes half))
 unfoldable pub mac_word : ℕ → List ℕ
 mac_word address = bytes_text (address / 2 ^ 24) ++ 58 ∷ bytes_text (address % 2 ^ 24)
 
--- the group of half an IPv6 address that stands where a group counts `weight`, a power of 65,536
+-- the group of half an IPv6 address that stands if a group counts `weight`, a power of 65,536
 abbrev pub group_at : ℕ → ℕ → ℕ
 group_at weight half = half / weight % 65536
 

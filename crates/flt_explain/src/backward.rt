@@ -4,7 +4,7 @@
 //! Everywhere `is_operand` is whether a node is an operand of another one: then it has parentheses
 //! around it, unless it is one token or an accessor; a value that isn't resolved has them always,
 //! even if it is one token. Each `write_..` writes before what is written already, so the end of a
-//! text comes first. An error is always a failed allocation, but for `Writer::new`.
+//! text comes first. An error is always a failed allocation, except `Writer::new`.
 
 ghost use Rattle.std.specs.Prelude.{◌≡◌, [], ◌∷◌, IfNone, IfOk, IfSome, OnOk, true};
 ghost use Rattle.flt_ast.specs.declared.node.Node.TheVariants as node;
@@ -79,7 +79,7 @@ impl<A: Allocator> Writer<A> {
         Ok(())
     }
 
-    /// Takes off what waits since the shortest time, or `None` where nothing waits.
+    /// Takes off what waits since the shortest time, or `None` if nothing waits.
     fn pop_pending(&mut self) -> Option<Pending>
         ensures some { IfSome result (λ p. self.old.pending ≡ p ∷ self.new.pending) }
         ensures none { IfNone result (self.old.pending ≡ []) }
@@ -132,7 +132,7 @@ impl<A: Allocator> Writer<A> {
     }
 
     /// Begins a node with operands, which are written next: `pending`, what stands before or
-    /// between them, waits. Of a node that is an operand itself the `)` is written, and the `(`
+    /// between them, waits. If a node is an operand itself, the `)` is written, and the `(`
     /// waits too.
     fn begin_operator(&mut self, is_operand: bool, pending: Pending) -> Result<(), AllocError>
         ensures { OnOk result (self.new ≡ around is_operand pending self.old) }

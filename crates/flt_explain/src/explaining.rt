@@ -33,11 +33,11 @@ fn explained_tokens<A: Allocator + Clone>(
 /// Writes out what an expression means, as an expression of the language.
 ///
 /// Each operand is in parentheses, unless it is one word or an accessor; a value that isn't
-/// resolved is so always. Each value of a resolved tree has all its qualifiers before it, but that
+/// resolved always means this. Each value of a resolved tree has all its qualifiers before it, but that
 /// `proto` has no direction: `tcp port 80 or 443` is `(tcp src or dst port 80) or (tcp src or dst
 /// port 443)`. Accessors have their size. Numbers are in decimal, and names stay names.
 ///
-/// The text may be longer than an expression may be, or nest deeper. Where it is not, the resolved
+/// The text may be longer than an expression may be, or nest deeper. If it is not, the resolved
 /// tree of a text is read back from it (`laws::explained_back`, `laws::writable`). Trees that no
 /// text has are written too: those with a check of `ether`, an accessor of `icmp6`, a cast after
 /// another protocol than `ether`, `ip` and `ip6`, a name of a number that has none, an address or a

@@ -11,7 +11,7 @@ ghost use Rattle.flt_explain.specs.Explained.{explained_text};
 ghost use Rattle.flt_explain.specs.Writable.{IsReadBack, IsWritable};
 
 /// What a resolved tree means is read as this tree, if its numbers, names and addresses are those
-/// of words, and its protocols stand where they may (`IsWritable`): unless its text is longer than
+/// of words, and its protocols are in allowed places (`IsWritable`): unless its text is longer than
 /// an expression may be, the text has tokens, they have a tree, and that resolved is the tree
 /// again. `parse` still refuses what nests too deep.
 pub fn explained_back()

@@ -1,4 +1,4 @@
-//! How tokens are spelled: their text, which `flt_words::lex` reads again where they are those of
+//! How tokens are spelled: their text, which `flt_words::lex` reads again if they are those of
 //! an expression that `explain` writes.
 
 ghost use Rattle.std.specs.Prelude.{◌≡◌, ◌<◌, ◌++◌, OnOk};
@@ -140,7 +140,7 @@ fn name_of_number_one(following: Following) -> &'static str
 }
 
 /// Appends the name of a number, as the table in `flt_words/src/spelling.rt` has it, or the number
-/// in decimal where it has none.
+/// in decimal if it has none.
 fn push_name<A: Allocator>(
     text: &mut String<A>,
     following: Following,
@@ -184,7 +184,7 @@ fn push_dotted<A: Allocator>(
     }
 }
 
-/// The byte of half a MAC address that stands where a byte counts `weight`: a power of 256, and 1
+/// The byte of half a MAC address at the place at which a byte counts `weight`: a power of 256, and 1
 /// for the last one.
 fn byte_of(half: u64, weight: u64) -> u8
     requires { 0 < weight }
@@ -223,7 +223,7 @@ fn push_mac<A: Allocator>(text: &mut String<A>, address: u64) -> Result<(), Allo
     push_three_bytes(text, address % 0x100_0000)
 }
 
-/// The group of half an IPv6 address that stands where a group counts `weight`: a power of 65,536,
+/// The group of half an IPv6 address at the place at which a group counts `weight`: a power of 65,536,
 /// and 1 for the last one.
 fn group_of(half: u128, weight: u128) -> u16
     requires { 0 < weight }
@@ -331,7 +331,7 @@ fn joins_previous(token: TokenKind) -> bool
     )
 }
 
-/// What stands between a token and the next one, the first of `rest`: a blank, or nothing where one
+/// What stands between a token and the next one, the first of `rest`: a blank, or nothing if one
 /// of both joins the other or no token is left.
 fn gap(token: TokenKind, rest: &[TokenKind]) -> &'static str
     ensures { result.now ≡ gap token rest.now }

@@ -1,12 +1,13 @@
--- Numbers that ascend.
-use Rattle.std.proofs.Common.{◌≡◌, ◌⊎◌, inl, inr, ℕ, zero, suc, ◌+◌, ◌-◌, ◌/◌, ◌<◌, ◌≤◌, List, [], ◌∷◌, length, take, drop, get_or, Bool, true, false, refl, ap, ◌∙◌, sym, subst, arith}
-use Rattle.std.specs.Prelude.{nat_lt, nat_le, ◌==◌, ◌&&◌, ◌||◌, not, if◌then◌else◌}
+-- Intervals that ascend.
+use Rattle.std.proofs.Common.{◌≡◌, ℕ, zero, suc, ◌+◌, ◌-◌, ◌/◌, ◌<◌, ◌≤◌, List, [], ◌∷◌, length, take, drop, get_or, Bool, true, false, refl, ap, ◌∙◌, sym, arith}
+use Rattle.std.specs.Prelude.{nat_lt, nat_le, ◌==◌, ◌&&◌, ◌||◌, max, if◌then◌else◌}
 use Rattle.std.specs.List.{insert}
 use Rattle.std.proofs.lemmas.Bool.Decides.{nat_tests}
-use Rattle.flt_emit.proofs.Search.{split_is}
-use Rattle.flt_emit.specs.inside.Code.{is_gap, split_below, split}
-use Rattle.flt_emit.specs.Formula.{Formula, Single, Compare, Both, Either, Except, Among, is_one_of, without, remaining}
-use Rattle.flt_gen.specs.inside.Group.{insert_ascending}
+use Rattle.flt_emit.specs.declared.elementary.Interval.{Interval}
+use Rattle.flt_emit.specs.inside.Code.{low_of}
+use Rattle.flt_emit.specs.Formula.{Formula, Single, Compare, Both, Either, Except, Among, is_in, is_within, no_interval}
+use Rattle.flt_gen.specs.inside.Counts.{first_ends}
+use Rattle.flt_gen.specs.inside.Intervals.{insert_ascending, is_gap, extended, joined_from, joined_all}
 
 -- by a test
 pub if_case : {A : Type 0} (P : A → Type 0) (b : Bool) (x y : A) → (b ≡ true → P x) → (b ≡ false → P y) → P (if b then x else y)
@@ -17,241 +18,218 @@ pub both_true : (a b : Bool) → (a && b) ≡ true → (a ≡ true) × (b ≡ tr
 both_true true b e = (refl, e)
 both_true false b e = cc
 
--- after smaller numbers a number is put before the first that isn't smaller
-pub inserted_at : (a : ℕ) (vs : List ℕ) (at : ℕ) → at ≤ length vs → ((i : ℕ) → i < at → get_or vs i 0 < a) → (at < length vs → a ≤ get_or vs at 0) → insert vs at a ≡ insert_ascending a vs
-inserted_at a [] zero l low high = refl
-inserted_at a [] (suc at) l low high = absurd (omega arith)
-inserted_at a (v ∷ vs) zero l low high =
+-- after lower intervals one is put before the first that isn't lower
+pub inserted_at : (i : Interval) (is : List Interval) (at : ℕ) → at ≤ length is → ((k : ℕ) → k < at → (get_or is k no_interval).low < i.low) → (at < length is → i.low ≤ (get_or is at no_interval).low) → insert is at i ≡ insert_ascending i is
+inserted_at i [] zero l low high = refl
+inserted_at i [] (suc at) l low high = absurd (omega arith)
+inserted_at i (j ∷ js) zero l low high =
     let h = high (omega arith) in
-    if_case (λ r. a ∷ v ∷ vs ≡ r) (nat_lt v a) (v ∷ insert_ascending a vs) (a ∷ v ∷ vs) (λ e. absurd (let k : v < a = grind (arith, nat_tests) in omega arith)) (λ e. refl)
-inserted_at a (v ∷ vs) (suc at) l low high =
+    if_case (λ r. i ∷ j ∷ js ≡ r) (nat_lt j.low i.low) (j ∷ insert_ascending i js) (i ∷ j ∷ js) (λ e. absurd (let k : j.low < i.low = grind (arith, nat_tests) in omega arith)) (λ e. refl)
+inserted_at i (j ∷ js) (suc at) l low high =
     let k = low 0 (omega arith) in
-    let h = inserted_at a vs at (omega arith) (λ i m. low (suc i) (omega arith)) (λ m. high (omega arith)) in
-    if_case (λ r. v ∷ insert vs at a ≡ r) (nat_lt v a) (v ∷ insert_ascending a vs) (a ∷ v ∷ vs) (λ e. ap (λ r. v ∷ r) h) (λ e. absurd (let no : (v < a) → ⊥ = grind (arith, nat_tests) in no k))
+    let h = inserted_at i js at (omega arith) (λ n m. low (suc n) (omega arith)) (λ m. high (omega arith)) in
+    if_case (λ r. j ∷ insert js at i ≡ r) (nat_lt j.low i.low) (j ∷ insert_ascending i js) (i ∷ j ∷ js) (λ e. ap (λ r. j ∷ r) h) (λ e. absurd (let no : (j.low < i.low) → ⊥ = grind (arith, nat_tests) in no k))
 
--- none of the numbers is smaller
-abbrev AllFrom : ℕ → List ℕ → Type 0
-AllFrom a [] = Unit {0}
-AllFrom a (v ∷ vs) = (a ≤ v) × AllFrom a vs
+-- intervals from a number on, each of which begins past the one before
+abbrev pub Apart : ℕ → List Interval → Type 0
+Apart a [] = Unit {0}
+Apart a (i ∷ is) = (a ≤ i.low) × (i.low ≤ i.high) × Apart (i.high + 1) is
 
-abbrev pub Ascending : List ℕ → Type 0
-Ascending [] = Unit {0}
-Ascending (v ∷ vs) = AllFrom v vs × Ascending vs
-
--- numbers that are searched: there is one at least
-abbrev pub Searchable : List ℕ → Type 0
+-- intervals that are searched: there is one at least
+abbrev pub Searchable : List Interval → Type 0
 Searchable [] = ⊥
-Searchable (v ∷ vs) = Ascending (v ∷ vs)
+Searchable (i ∷ is) = Apart 0 (i ∷ is)
 
--- all numbers that a formula searches
+-- all intervals that a formula searches
 abbrev pub Searches : Formula → Type 0
 Searches (Single t) = Unit {0}
 Searches (Compare c l r) = Unit {0}
 Searches (Both a b) = Searches a × Searches b
 Searches (Either a b) = Searches a × Searches b
 Searches (Except a) = Searches a
-Searches (Among f vs) = Searchable vs
+Searches (Among f is) = Searchable is
 
-pub searchable_ascends : (vs : List ℕ) → Searchable vs → Ascending vs
-searchable_ascends [] h = absurd h
-searchable_ascends (v ∷ vs) h = h
+pub searchable_apart : (is : List Interval) → Searchable is → Apart 0 is
+searchable_apart [] h = absurd h
+searchable_apart (i ∷ is) h = h
 
-all_from_less : (a b : ℕ) (vs : List ℕ) → a ≤ b → AllFrom b vs → AllFrom a vs
-all_from_less a b [] l h = tt
-all_from_less a b (v ∷ vs) l h = (let k = h.0 in omega arith, all_from_less a b vs l h.1)
+apart_less : (a b : ℕ) (is : List Interval) → a ≤ b → Apart b is → Apart a is
+apart_less a b [] l h = tt
+apart_less a b (i ∷ is) l h = (let k = h.0 in omega arith, h.1, h.2)
 
-all_from_take : (a h : ℕ) (vs : List ℕ) → AllFrom a vs → AllFrom a (take h vs)
-all_from_take a zero [] l = tt
-all_from_take a zero (v ∷ vs) l = tt
-all_from_take a (suc h) [] l = tt
-all_from_take a (suc h) (v ∷ vs) l = (l.0, all_from_take a h vs l.1)
+pub apart_take : (a h : ℕ) (is : List Interval) → Apart a is → Apart a (take h is)
+apart_take a zero [] l = tt
+apart_take a zero (i ∷ is) l = tt
+apart_take a (suc h) [] l = tt
+apart_take a (suc h) (i ∷ is) l = (l.0, l.1, apart_take (i.high + 1) h is l.2)
 
-pub ascending_take : (h : ℕ) (vs : List ℕ) → Ascending vs → Ascending (take h vs)
-ascending_take zero [] l = tt
-ascending_take zero (v ∷ vs) l = tt
-ascending_take (suc h) [] l = tt
-ascending_take (suc h) (v ∷ vs) l = (all_from_take v h vs l.0, ascending_take h vs l.1)
+pub apart_drop : (a h : ℕ) (is : List Interval) → Apart a is → Apart a (drop h is)
+apart_drop a zero [] l = tt
+apart_drop a zero (i ∷ is) l = l
+apart_drop a (suc h) [] l = tt
+apart_drop a (suc h) (i ∷ is) l = let m = l.0 in let n = l.1 in apart_less a (i.high + 1) (drop h is) (omega arith) (apart_drop (i.high + 1) h is l.2)
 
-pub ascending_drop : (h : ℕ) (vs : List ℕ) → Ascending vs → Ascending (drop h vs)
-ascending_drop zero [] l = tt
-ascending_drop zero (v ∷ vs) l = l
-ascending_drop (suc h) [] l = tt
-ascending_drop (suc h) (v ∷ vs) l = ascending_drop h vs l.1
+-- which half a number can be in
+under_interval : (x : ℕ) (i : Interval) → x < i.low → is_in x i ≡ false
+under_interval x i l = let no : nat_le i.low x ≡ false = grind (arith, nat_tests) in ap (λ b. b && nat_le x i.high) no
 
-all_from_inserted : (b a : ℕ) (vs : List ℕ) → b ≤ a → AllFrom b vs → AllFrom b (insert_ascending a vs)
-all_from_inserted b a [] l h = (l, tt)
-all_from_inserted b a (v ∷ vs) l h =
-    if_case (λ xs. AllFrom b xs) (nat_lt v a) _ _ (λ e. (h.0, all_from_inserted b a vs l h.1)) (λ e. (l, h))
+and_false : (b : Bool) → (b && false) ≡ false
+and_false true = refl
+and_false false = refl
 
-pub ascending_inserted : (a : ℕ) (vs : List ℕ) → Ascending vs → Ascending (insert_ascending a vs)
-ascending_inserted a [] h = (tt, tt)
-ascending_inserted a (v ∷ vs) h =
-    if_case (λ xs. Ascending xs) (nat_lt v a) _ _
-    (λ e. let l : v < a = grind (arith, nat_tests) in (all_from_inserted v a vs (omega arith) h.0, ascending_inserted a vs h.1))
-    (λ e. let l : a ≤ v = grind (arith, nat_tests) in ((l, all_from_less a v vs l h.0), h))
+past_interval : (x : ℕ) (i : Interval) → i.high < x → is_in x i ≡ false
+past_interval x i l = let no : nat_le x i.high ≡ false = grind (arith, nat_tests) in ap (λ b. nat_le i.low x && b) no ∙ and_false (nat_le i.low x)
 
-pub length_inserted : (a : ℕ) (vs : List ℕ) → length (insert_ascending a vs) ≡ length vs + 1
-length_inserted a [] = refl
-length_inserted a (v ∷ vs) =
-    if_case (λ xs. length xs ≡ length (v ∷ vs) + 1) (nat_lt v a) _ _ (λ e. let h = length_inserted a vs in omega arith) (λ e. omega arith)
+none_below : (x a : ℕ) (is : List Interval) → x < a → Apart a is → is_within x is ≡ false
+none_below x a [] l h = refl
+none_below x a (i ∷ is) l h =
+    let k = h.0 in let m = h.1 in
+    ap (λ b. b || is_within x is) (under_interval x i (omega arith)) ∙ none_below x (i.high + 1) is (omega arith) h.2
+
+pub lower_half : (x a h : ℕ) (is : List Interval) → Apart a is → h < length is → x < low_of (drop h is) → is_within x is ≡ is_within x (take h is)
+lower_half x a h [] up l m = absurd (omega arith)
+lower_half x a zero (i ∷ is) up l m = none_below x i.low (i ∷ is) m (omega arith, up.1, up.2)
+lower_half x a (suc h) (i ∷ is) up l m = ap (λ b. is_in x i || b) (lower_half x (i.high + 1) h is up.2 (omega arith) m)
+
+at_least : (a h : ℕ) (is : List Interval) → Apart a is → h < length is → a ≤ low_of (drop h is)
+at_least a h [] up l = absurd (omega arith)
+at_least a zero (i ∷ is) up l = up.0
+at_least a (suc h) (i ∷ is) up l = let k = up.0 in let m = up.1 in let n = at_least (i.high + 1) h is up.2 (omega arith) in omega arith
+
+pub upper_half : (x a h : ℕ) (is : List Interval) → Apart a is → h < length is → low_of (drop h is) ≤ x → is_within x is ≡ is_within x (drop h is)
+upper_half x a h [] up l m = absurd (omega arith)
+upper_half x a zero (i ∷ is) up l m = refl
+upper_half x a (suc h) (i ∷ is) up l m =
+    let low = at_least (i.high + 1) h is up.2 (omega arith) in
+    ap (λ b. b || is_within x is) (past_interval x i (omega arith)) ∙ upper_half x (i.high + 1) h is up.2 (omega arith) m
+
+pub first_taken : (h : ℕ) (is : List Interval) → 0 < h → low_of (take h is) ≡ low_of is
+first_taken zero is l = absurd (omega arith)
+first_taken (suc h) [] l = refl
+first_taken (suc h) (i ∷ is) l = refl
+
+-- intervals that ascend by where they begin, from a number on
+abbrev pub Ordered : ℕ → List Interval → Type 0
+Ordered a [] = Unit {0}
+Ordered a (i ∷ is) = (a ≤ i.low) × (i.low ≤ i.high) × Ordered i.low is
+
+pub ordered_inserted : (a : ℕ) (i : Interval) (is : List Interval) → a ≤ i.low → i.low ≤ i.high → Ordered a is → Ordered a (insert_ascending i is)
+ordered_inserted a i [] l m h = (l, m, tt)
+ordered_inserted a i (j ∷ js) l m h =
+    if_case (Ordered a) (nat_lt j.low i.low) (j ∷ insert_ascending i js) (i ∷ j ∷ js)
+    (λ e. let k : j.low < i.low = grind (arith, nat_tests) in (h.0, h.1, ordered_inserted j.low i js (omega arith) m h.2))
+    (λ e. let k : i.low ≤ j.low = grind (arith, nat_tests) in (l, m, (k, h.1, h.2)))
+
+pub length_inserted : (i : Interval) (is : List Interval) → length (insert_ascending i is) ≡ length is + 1
+length_inserted i [] = refl
+length_inserted i (j ∷ js) =
+    if_case (λ xs. length xs ≡ length (j ∷ js) + 1) (nat_lt j.low i.low) (j ∷ insert_ascending i js) (i ∷ j ∷ js) (λ e. let h = length_inserted i js in omega arith) (λ e. omega arith)
 
 or_swap : (a b c : Bool) → (b || (a || c)) ≡ (a || (b || c))
 or_swap true true c = refl
 or_swap true false c = refl
 or_swap false b c = refl
 
-pub one_of_inserted : (x a : ℕ) (vs : List ℕ) → is_one_of x (insert_ascending a vs) ≡ (x == a || is_one_of x vs)
-one_of_inserted x a [] = refl
-one_of_inserted x a (v ∷ vs) =
-    if_case (λ xs. is_one_of x xs ≡ (x == a || (x == v || is_one_of x vs))) (nat_lt v a) _ _
-    (λ e. ap (λ b. x == v || b) (one_of_inserted x a vs) ∙ or_swap (x == a) (x == v) (is_one_of x vs))
+pub within_inserted : (x : ℕ) (i : Interval) (is : List Interval) → is_within x (insert_ascending i is) ≡ (is_in x i || is_within x is)
+within_inserted x i [] = refl
+within_inserted x i (j ∷ js) =
+    if_case (λ xs. is_within x xs ≡ (is_in x i || (is_in x j || is_within x js))) (nat_lt j.low i.low) (j ∷ insert_ascending i js) (i ∷ j ∷ js)
+    (λ e. ap (λ b. is_in x j || b) (within_inserted x i js) ∙ or_swap (is_in x i) (is_in x j) (is_within x js))
     (λ e. refl)
 
-none_below : (x v : ℕ) (vs : List ℕ) → x < v → AllFrom v vs → is_one_of x vs ≡ false
-none_below x v [] l h = refl
-none_below x v (w ∷ vs) l h =
-    let k = h.0 in
-    let no : (x == w) ≡ false = grind (arith, nat_tests) in
-    ap (λ b. b || is_one_of x vs) no ∙ none_below x v vs l h.1
+-- single numbers
+abbrev pub Points : List Interval → Type 0
+Points [] = Unit {0}
+Points (i ∷ is) = (i.low ≡ i.high) × Points is
 
--- which half a number can be in
-pub lower_half : (x h : ℕ) (vs : List ℕ) → Ascending vs → h < length vs → x < get_or vs h 0 → is_one_of x vs ≡ is_one_of x (take h vs)
-lower_half x h [] up l m = absurd (omega arith)
-lower_half x zero (v ∷ vs) up l m =
-    let no : (x == v) ≡ false = grind (arith, nat_tests) in
-    ap (λ b. b || is_one_of x vs) no ∙ none_below x v vs m up.0
-lower_half x (suc h) (v ∷ vs) up l m = ap (λ b. x == v || b) (lower_half x h vs up.1 (omega arith) m)
+pub points_inserted : (i : Interval) (is : List Interval) → i.low ≡ i.high → Points is → Points (insert_ascending i is)
+points_inserted i [] e h = (e, tt)
+points_inserted i (j ∷ js) e h =
+    if_case Points (nat_lt j.low i.low) (j ∷ insert_ascending i js) (i ∷ j ∷ js) (λ t. (h.0, points_inserted i js e h.1)) (λ f. (e, h))
 
-at_least : (v h : ℕ) (vs : List ℕ) → AllFrom v vs → h < length vs → v ≤ get_or vs h 0
-at_least v h [] up l = absurd (omega arith)
-at_least v zero (w ∷ vs) up l = up.0
-at_least v (suc h) (w ∷ vs) up l = at_least v h vs up.1 (omega arith)
+-- those that touch, joined
+or_again : (a b c : Bool) → ((a || b) || c) ≡ (a || (b || c))
+or_again true b c = refl
+or_again false b c = refl
 
-head_of_half : (x h : ℕ) (vs : List ℕ) → h < length vs → x ≡ get_or vs h 0 → is_one_of x (drop h vs) ≡ true
-head_of_half x h [] l e = absurd (omega arith)
-head_of_half x zero (v ∷ vs) l e = let same : (x == v) ≡ true = grind (arith, nat_tests) in ap (λ b. b || is_one_of x vs) same
-head_of_half x (suc h) (v ∷ vs) l e = head_of_half x h vs (omega arith) e
-
-or_known : (a b : Bool) → (a ≡ true → b ≡ true) → (a || b) ≡ b
-or_known true b h = sym (h refl)
-or_known false b h = refl
-
-pub upper_half : (x h : ℕ) (vs : List ℕ) → Ascending vs → h < length vs → get_or vs h 0 ≤ x → is_one_of x vs ≡ is_one_of x (drop h vs)
-upper_half x h [] up l m = absurd (omega arith)
-upper_half x zero (v ∷ vs) up l m = refl
-upper_half x (suc h) (v ∷ vs) up l m =
-    ap (λ b. x == v || b) (upper_half x h vs up.1 (omega arith) m)
-    ∙ or_known (x == v) (is_one_of x (drop h vs)) (λ e.
-    let same : x ≡ v = grind (arith, nat_tests) in
-    let low = at_least v h vs up.0 (omega arith) in
-    head_of_half x h vs (omega arith) (omega arith))
-
--- the first number of both parts
-pub first_dropped : (h : ℕ) (vs : List ℕ) → get_or (drop h vs) 0 0 ≡ get_or vs h 0
-first_dropped zero [] = refl
-first_dropped zero (v ∷ vs) = refl
-first_dropped (suc h) [] = refl
-first_dropped (suc h) (v ∷ vs) = first_dropped h vs
-
-pub first_taken : (h : ℕ) (vs : List ℕ) → 0 < h → get_or (take h vs) 0 0 ≡ get_or vs 0 0
-first_taken zero vs l = absurd (omega arith)
-first_taken (suc h) [] l = refl
-first_taken (suc h) (v ∷ vs) l = refl
-
--- numbers without a gap
-lower : (at n : ℕ) → at < suc n → (at < n) ⊎ (at ≡ n)
-lower at n l = by (nat_lt at n) refl
+joined_in : (x : ℕ) (i j : Interval) → i.low ≤ i.high → i.low ≤ j.low → j.low ≤ j.high → j.low ≤ i.high + 1 → is_in x (extended i j) ≡ (is_in x i || is_in x j)
+joined_in x i j low order high touch = by (nat_le i.low x) refl (nat_le x i.high) refl (nat_le j.low x) refl (nat_le x j.high) refl (nat_le x (max i.high j.high)) refl
   where
-    by : (b : Bool) → nat_lt at n ≡ b → (at < n) ⊎ (at ≡ n)
-    by true e = inl (grind (arith, nat_tests))
-    by false e = let no : n ≤ at = grind (arith, nat_tests) in inr (omega arith)
+    by : (a : Bool) → nat_le i.low x ≡ a → (b : Bool) → nat_le x i.high ≡ b → (c : Bool) → nat_le j.low x ≡ c → (d : Bool) → nat_le x j.high ≡ d → (m : Bool) → nat_le x (max i.high j.high) ≡ m → (a && m) ≡ ((a && b) || (c && d))
+    by true p true q c r d s true t = refl
+    by true p true q c r d s false t = absurd (let u : x ≤ i.high = grind (arith, nat_tests) in let v : max i.high j.high < x = grind (arith, nat_tests) in omega arith)
+    by true p false q true r true s true t = refl
+    by true p false q true r true s false t = absurd (let u : x ≤ j.high = grind (arith, nat_tests) in let v : max i.high j.high < x = grind (arith, nat_tests) in omega arith)
+    by true p false q true r false s false t = refl
+    by true p false q true r false s true t = absurd (let u : i.high < x = grind (arith, nat_tests) in let w : j.high < x = grind (arith, nat_tests) in let v : x ≤ max i.high j.high = grind (arith, nat_tests) in omega arith)
+    by true p false q false r d s m t = absurd (let u : i.high < x = grind (arith, nat_tests) in let w : x < j.low = grind (arith, nat_tests) in omega arith)
+    by false p b q true r d s m t = absurd (let u : x < i.low = grind (arith, nat_tests) in let w : j.low ≤ x = grind (arith, nat_tests) in omega arith)
+    by false p b q false r d s m t = refl
 
-no_gaps : (m : ℕ) (vs : List ℕ) (n : ℕ) → split_below m vs n ≡ 0 → (at : ℕ) → at < n → is_gap vs at ≡ false
-no_gaps m vs zero e at l = absurd (omega arith)
-no_gaps m vs (suc n) e at l = by (is_gap vs n) refl (nat_lt n m) (split_below m vs n) refl e (λ z k. no_gaps m vs n z at k)
+ordered_less : (a b : ℕ) (is : List Interval) → a ≤ b → Ordered b is → Ordered a is
+ordered_less a b [] l h = tt
+ordered_less a b (i ∷ is) l h = (let k = h.0 in omega arith, h.1, h.2)
+
+apart_from : (a : ℕ) (i : Interval) (js : List Interval) → a ≤ i.low → i.low ≤ i.high → Ordered i.low js → Apart a (joined_from i js)
+apart_from a i [] l m h = (l, m, tt)
+apart_from a i (j ∷ js) l m h =
+    if_case (Apart a) (is_gap i j) (i ∷ joined_from j js) (joined_from (extended i j) js)
+    (λ e. let gap : 1 < j.low - i.high = grind (arith, nat_tests) in (l, m, apart_from (i.high + 1) j js (omega arith) h.1 h.2))
+    (λ e. apart_from a (extended i j) js l (omega arith) (ordered_less i.low j.low js h.0 h.2))
+
+within_from : (x : ℕ) (i : Interval) (js : List Interval) → i.low ≤ i.high → Ordered i.low js → is_within x (joined_from i js) ≡ (is_in x i || is_within x js)
+within_from x i [] m h = refl
+within_from x i (j ∷ js) m h =
+    if_case (λ is. is_within x is ≡ (is_in x i || (is_in x j || is_within x js))) (is_gap i j) (i ∷ joined_from j js) (joined_from (extended i j) js)
+    (λ e. ap (λ b. is_in x i || b) (within_from x j js h.1 h.2))
+    (λ e. let near : j.low - i.high ≤ 1 = grind (arith, nat_tests) in
+    within_from x (extended i j) js (omega arith) (ordered_less i.low j.low js h.0 h.2)
+    ∙ ap (λ b. b || is_within x js) (joined_in x i j m h.0 h.1 (omega arith))
+    ∙ or_again (is_in x i) (is_in x j) (is_within x js))
+
+length_from : (i : Interval) (js : List Interval) → (1 ≤ length (joined_from i js)) × (length (joined_from i js) ≤ length js + 1)
+length_from i [] = (omega arith, omega arith)
+length_from i (j ∷ js) =
+    if_case (λ is. (1 ≤ length is) × (length is ≤ length (j ∷ js) + 1)) (is_gap i j) (i ∷ joined_from j js) (joined_from (extended i j) js)
+    (λ e. let h = (length_from j js).1 in (omega arith, omega arith))
+    (λ e. let h = length_from (extended i j) js in let k = h.1 in (h.0, omega arith))
+
+abbrev ends : Interval → ℕ
+ends i = if i.low == i.high then 0 else 1
+
+ends_few : (is : List Interval) → first_ends is ≤ 1
+ends_few [] = omega arith
+ends_few (i ∷ is) = if_case (λ n. n ≤ 1) (i.low == i.high) 0 1 (λ e. omega arith) (λ e. omega arith)
+
+tests_from : (i : Interval) (js : List Interval) → length (joined_from i js) + first_ends (joined_from i js) ≤ length js + 1 + ends i
+tests_from i [] = omega arith
+tests_from i (j ∷ js) =
+    if_case (λ is. length is + first_ends is ≤ length (j ∷ js) + 1 + ends i) (is_gap i j) (i ∷ joined_from j js) (joined_from (extended i j) js)
+    (λ e. let h = (length_from j js).1 in omega arith)
+    (λ e. let h = tests_from (extended i j) js in let k = ends_few (extended i j ∷ []) in omega arith)
+
+pub searchable_joined : (is : List Interval) → 1 ≤ length is → Ordered 0 is → Searchable (joined_all is)
+searchable_joined [] l h = absurd (omega arith)
+searchable_joined (i ∷ is) l h = some (joined_from i is) (length_from i is).0 (apart_from 0 i is h.0 h.1 h.2)
   where
-    by : (b : Bool) → is_gap vs n ≡ b → (c : Bool) (s : ℕ) → split_below m vs n ≡ s → (if b && (c || s == 0) then suc n else s) ≡ 0 → (split_below m vs n ≡ 0 → at < n → is_gap vs at ≡ false) → is_gap vs at ≡ false
-    by false f c s z e rest = elim (lower at n l) [ inl k ↦ rest (z ∙ e) k | inr k ↦ ap (is_gap vs) k ∙ f ]
-    by true f true s z e rest = absurd (omega arith)
-    by true f false zero z e rest = absurd (omega arith)
-    by true f false (suc s) z e rest = absurd (let some : (suc s == 0) ≡ false = grind (arith, nat_tests) in let q : suc s ≡ 0 = subst (λ d. (if d then suc n else suc s) ≡ 0) some e in omega arith)
+    some : (js : List Interval) → 1 ≤ length js → Apart 0 js → Searchable js
+    some [] l h = absurd (omega arith)
+    some (j ∷ js) l h = h
 
-one_of_gapless : (a : ℕ) (vs : List ℕ) (v : ℕ) → Ascending (v ∷ vs) → ((at : ℕ) → at < length vs → is_gap (v ∷ vs) at ≡ false) → (is_one_of a (v ∷ vs) ≡ (nat_le v a && not (nat_lt (get_or (v ∷ vs) (length vs) 0) a))) × (v ≤ get_or (v ∷ vs) (length vs) 0)
-one_of_gapless a [] v up g = (only (a == v) refl (nat_le v a) refl (nat_lt v a) refl, omega arith)
-  where
-    only : (b : Bool) → (a == v) ≡ b → (c : Bool) → nat_le v a ≡ c → (d : Bool) → nat_lt v a ≡ d → (b || false) ≡ (c && not d)
-    only true f true g true h = absurd (grind (arith, nat_tests))
-    only true f true g false h = refl
-    only true f false g d h = absurd (grind (arith, nat_tests))
-    only false f true g true h = refl
-    only false f true g false h = absurd (grind (arith, nat_tests))
-    only false f false g d h = refl
-one_of_gapless a (w ∷ vs) v up g =
-    let next = g 0 (omega arith) in
-    let near : w - v ≤ 1 = grind (arith, nat_tests) in
-    let low : v ≤ w = up.0.0 in
-    let rest = one_of_gapless a vs w up.1 (λ at l. g (suc at) (omega arith)) in
-    let below : w ≤ get_or (w ∷ vs) (length vs) 0 = rest.1 in
-    (ap (λ b. a == v || b) rest.0 ∙ joined (get_or (w ∷ vs) (length vs) 0) (a == v) refl (nat_le w a) refl (nat_lt (get_or (w ∷ vs) (length vs) 0) a) refl (nat_le v a) refl near low below, omega arith)
-  where
-    joined : (last : ℕ) (b : Bool) → (a == v) ≡ b → (c : Bool) → nat_le w a ≡ c → (d : Bool) → nat_lt last a ≡ d → (e : Bool) → nat_le v a ≡ e → w - v ≤ 1 → v ≤ w → w ≤ last → (b || (c && not d)) ≡ (e && not d)
-    joined last true f c g true h e k near low below = absurd (let same : a ≡ v = grind (arith, nat_tests) in let over : last < a = grind (arith, nat_tests) in omega arith)
-    joined last true f c g false h true k near low below = refl
-    joined last true f c g false h false k near low below = absurd (let same : a ≡ v = grind (arith, nat_tests) in let no : a < v = grind (arith, nat_tests) in omega arith)
-    joined last false f true g d h true k near low below = refl
-    joined last false f true g d h false k near low below = absurd (let inside : w ≤ a = grind (arith, nat_tests) in let no : a < v = grind (arith, nat_tests) in omega arith)
-    joined last false f false g d h true k near low below = absurd (let out : a < w = grind (arith, nat_tests) in let yes : v ≤ a = grind (arith, nat_tests) in let apart : (a ≡ v → ⊥) = grind (arith, nat_tests) in apart (omega arith))
-    joined last false f false g d h false k near low below = refl
+pub within_joined : (x : ℕ) (is : List Interval) → Ordered 0 is → is_within x (joined_all is) ≡ is_within x is
+within_joined x [] h = refl
+within_joined x (i ∷ is) h = within_from x i is h.1 h.2
 
-pub one_of_run : (a : ℕ) (vs : List ℕ) → Ascending vs → 0 < length vs → split vs ≡ 0 → is_one_of a vs ≡ (nat_le (get_or vs 0 0) a && not (nat_lt (get_or vs (length vs - 1) 0) a))
-one_of_run a [] up some e = absurd (omega arith)
-one_of_run a (v ∷ vs) up some e =
-    let last : length (v ∷ vs) - 1 ≡ length vs = omega arith in
-    let none : split_below (length (v ∷ vs) / 2) (v ∷ vs) (length vs) ≡ 0 = ap (split_below (length (v ∷ vs) / 2) (v ∷ vs)) (sym last) ∙ sym (split_is (v ∷ vs)) ∙ e in
-    (one_of_gapless a vs v up (no_gaps (length (v ∷ vs) / 2) (v ∷ vs) (length vs) none)).0
-    ∙ ap (λ n. nat_le v a && not (nat_lt (get_or (v ∷ vs) n 0) a)) (sym last)
+-- what is counted of them: no more than there were, where they were single numbers, or one more
+pub joined_tests : (is : List Interval) → 1 ≤ length is → max 1 (length (joined_all is)) + first_ends (joined_all is) ≤ length is + 1
+joined_tests [] l = absurd (omega arith)
+joined_tests (i ∷ is) l = let h = length_from i is in let a = h.0 in let b = h.1 in let k = ends_few (joined_from i is) in omega arith
 
--- the numbers without one of them
-one_of_without : (x a : ℕ) (vs : List ℕ) → (x == a) ≡ false → is_one_of x (without a vs) ≡ is_one_of x vs
-one_of_without x a [] apart = refl
-one_of_without x a (v ∷ vs) apart =
-    if_case (λ ws. is_one_of x ws ≡ is_one_of x (v ∷ vs)) (v == a) vs (v ∷ without a vs)
-    (λ e. let same : v ≡ a = grind (arith, nat_tests) in sym (ap (λ b. b || is_one_of x vs) (ap (λ w. x == w) same ∙ apart)))
-    (λ e. ap (λ b. x == v || b) (one_of_without x a vs apart))
-
-pub one_of_others : (x a : ℕ) (vs : List ℕ) → (x == a) ≡ false → is_one_of x (remaining a vs) ≡ is_one_of x vs
-one_of_others x a vs apart =
-    if_case (λ ws. is_one_of x ws ≡ is_one_of x vs) (nat_lt (length vs) 2) vs (without a vs) (λ e. refl) (λ e. one_of_without x a vs apart)
-
--- one fewer at most
-without_length : (a : ℕ) (vs : List ℕ) → (length (without a vs) ≤ length vs) × (length vs ≤ length (without a vs) + 1)
-without_length a [] = (omega arith, omega arith)
-without_length a (v ∷ vs) =
-    if_case (λ ws. (length ws ≤ length (v ∷ vs)) × (length (v ∷ vs) ≤ length ws + 1)) (v == a) vs (v ∷ without a vs)
-    (λ e. (omega arith, omega arith))
-    (λ e. let h = without_length a vs in let l = h.0 in let m = h.1 in (omega arith, omega arith))
-
-pub others_fewer : (a : ℕ) (vs : List ℕ) → length (remaining a vs) ≤ length vs
-others_fewer a vs =
-    if_case (λ ws. length ws ≤ length vs) (nat_lt (length vs) 2) vs (without a vs) (λ e. omega arith) (λ e. (without_length a vs).0)
-
-all_from_without : (b a : ℕ) (vs : List ℕ) → AllFrom b vs → AllFrom b (without a vs)
-all_from_without b a [] h = tt
-all_from_without b a (v ∷ vs) h =
-    if_case (λ ws. AllFrom b ws) (v == a) vs (v ∷ without a vs) (λ e. h.1) (λ e. (h.0, all_from_without b a vs h.1))
-
-ascending_without : (a : ℕ) (vs : List ℕ) → Ascending vs → Ascending (without a vs)
-ascending_without a [] h = tt
-ascending_without a (v ∷ vs) h =
-    if_case (λ ws. Ascending ws) (v == a) vs (v ∷ without a vs) (λ e. h.1) (λ e. (all_from_without v a vs h.0, ascending_without a vs h.1))
-
-searchable_some : (vs : List ℕ) → 1 ≤ length vs → Ascending vs → Searchable vs
-searchable_some [] l h = absurd (omega arith)
-searchable_some (v ∷ vs) l h = h
-
-pub others_searchable : (a : ℕ) (vs : List ℕ) → Searchable vs → Searchable (remaining a vs)
-others_searchable a vs h =
-    if_case Searchable (nat_lt (length vs) 2) vs (without a vs) (λ e. h)
-    (λ e. let many : 2 ≤ length vs = grind (arith, nat_tests) in
-    let l = (without_length a vs).1 in
-    searchable_some (without a vs) (omega arith) (ascending_without a vs (searchable_ascends vs h)))
+pub joined_points : (is : List Interval) → 1 ≤ length is → Points is → max 1 (length (joined_all is)) + first_ends (joined_all is) ≤ length is
+joined_points [] l h = absurd (omega arith)
+joined_points (i ∷ is) l h =
+    let same : (i.low == i.high) ≡ true = (let e = h.0 in grind (arith, nat_tests)) in
+    let none : ends i ≡ 0 = ap (λ b. if b then 0 else 1) same in
+    let few = tests_from i is in
+    let some = (length_from i is).0 in
+    omega arith

@@ -17,6 +17,7 @@ use Rattle.cap_octet.specs.declared.link.Link.{Link}
 use Rattle.flt_emit.specs.declared.elementary.FrameKind.{FrameKind}
 use Rattle.flt_emit.specs.declared.elementary.FrameKind.TheVariants as kind
 use Rattle.flt_emit.specs.declared.elementary.Elementary.{Elementary}
+use Rattle.flt_emit.specs.declared.elementary.Interval.{Interval}
 use Rattle.flt_emit.specs.declared.elementary.MaskedField.{MaskedField}
 use Rattle.flt_emit.specs.declared.elementary.Sides.{Sides}
 use Rattle.flt_gen.specs.declared.address.Hosts.{Hosts}
@@ -25,10 +26,10 @@ use Rattle.flt_gen.specs.declared.address.NetTest.{NetTest}
 use Rattle.flt_gen.specs.declared.port.Ports.TheVariants.{One, Between}
 use Rattle.flt_gen.specs.declared.port.PortTest.{PortTest}
 use Rattle.flt_gen.specs.declared.port.Transport.{Transport}
-use Rattle.flt_emit.specs.Formula.{Formula, Single, Both, Either, Among, all_of, sides, remaining, any_sides}
+use Rattle.flt_emit.specs.Formula.{Formula, Single, Both, Either, Among, all_of, sides, Numbers, no_numbers, any_sides}
 use Rattle.flt_gen.specs.Primitives.{after, any_proto, mac_tests, check_formula, cast_formula, proto_formula, hosts_of_kind, hosts_formula, net_formula, net_test, ip6_formula, ether_host, port_formula, port_test, port_sides, transport, value_formula}
-use Rattle.flt_gen.specs.inside.Counts.{tests, nodes, words}
-use Rattle.flt_gen.proofs.Ascending.{Searchable, Searches, others_searchable, others_fewer}
+use Rattle.flt_gen.specs.inside.Counts.{first_ends, tests, nodes, words}
+use Rattle.flt_gen.proofs.Ascending.{Searchable, Searches}
 
 -- a formula without comparisons, with at most n tests, in which all numbers that are searched ascend
 pub record Bare (f : Formula) (n : ℕ) : Type 0 where
@@ -55,7 +56,7 @@ bare_both h k = record {
   few = omega (arith, h.few, k.few);
 }
 
-bare_either : {a b : Formula} {m n : ℕ} → Bare a m → Bare b n → Bare (Either a b) (m + n)
+pub bare_either : {a b : Formula} {m n : ℕ} → Bare a m → Bare b n → Bare (Either a b) (m + n)
 bare_either h k = record {
   no_nodes = omega (arith, h.no_nodes, k.no_nodes);
   no_words = omega (arith, h.no_words, k.no_words);
@@ -81,21 +82,32 @@ bare_sides (direction.Both Or) s t n l m some = bare_either (bare_all s n l some
 bare_sides (direction.Both And) s t n l m some = bare_both (bare_all s n l some) (bare_all t n m some)
 
 -- numbers that are looked for on a side, or on either
-bare_among : (f : MaskedField) (bs : List ℕ) → Searchable bs → Bare (Among f bs) (max 1 (length bs))
-bare_among f bs h = record { no_nodes = refl; no_words = refl; searches = h; few = omega arith }
+abbrev among_tests : List Interval → ℕ
+among_tests is = max 1 (length is) + first_ends is
 
-pub bare_any : (d : Direction) (at : Sides) (f : ℕ) (bs : List ℕ) → Searchable bs → Bare (any_sides d at f bs) (length bs * count.side_tests d 1 + 1)
-bare_any (direction.One Source) at f bs h = bare_within _ (omega arith) (bare_among _ bs h)
-bare_any (direction.One Destination) at f bs h = bare_within _ (omega arith) (bare_among _ bs h)
-bare_any (direction.Both Or) at f bs h =
-    let l = others_fewer f bs in
-    let some = searchable_some bs h in
-    bare_within _ (omega arith) (bare_either (bare_one _) (bare_either (bare_among _ bs h) (bare_among _ (remaining f bs) (others_searchable f bs h))))
-  where
-    searchable_some : (bs : List ℕ) → Searchable bs → 1 ≤ length bs
-    searchable_some [] h = absurd h
-    searchable_some (b ∷ bs) h = omega arith
-bare_any (direction.Both And) at f bs h = bare_some _ (omega arith)
+bare_among : (f : MaskedField) (is : List Interval) (n : ℕ) → Searchable is → among_tests is ≤ n → Bare (Among f is) n
+bare_among f is n h l = record { no_nodes = refl; no_words = refl; searches = h; few = l }
+
+abbrev pub any_tests : Direction → ℕ → ℕ → ℕ → ℕ
+any_tests (direction.Both Or) f a o = f + (a + o)
+any_tests (direction.Both And) f a o = 1
+any_tests _ f a o = a
+
+-- the tests of all and of the others
+pub record Sought (numbers : Numbers) (f a o : ℕ) : Type 0 where
+  pub first : Searchable (numbers.first ∷ [])
+  pub all : Searchable numbers.all
+  pub others : Searchable numbers.others
+  pub first_few : among_tests (numbers.first ∷ []) ≤ f
+  pub all_few : among_tests numbers.all ≤ a
+  pub others_few : among_tests numbers.others ≤ o
+
+pub bare_any : (d : Direction) (at : Sides) (mask : Option ℕ) (numbers : Numbers) (f a o : ℕ) → Sought numbers f a o → Bare (any_sides d at mask numbers) (any_tests d f a o)
+bare_any (direction.One Source) at mask numbers f a o h = bare_among _ numbers.all a h.all h.all_few
+bare_any (direction.One Destination) at mask numbers f a o h = bare_among _ numbers.all a h.all h.all_few
+bare_any (direction.Both Or) at mask numbers f a o h =
+    bare_either (bare_among _ (numbers.first ∷ []) f h.first h.first_few) (bare_either (bare_among _ numbers.all a h.all h.all_few) (bare_among _ numbers.others o h.others h.others_few))
+bare_any (direction.Both And) at mask numbers f a o h = bare_some _ (omega arith)
 
 -- protocols and Ethernet addresses
 bare_proto : (link : Link) (n : ℕ) → Bare (any_proto link n) 4
@@ -132,7 +144,7 @@ abbrev pub of_kinds : Option Protocol → ℕ → ℕ
 of_kinds None n = n + n + n
 of_kinds (Some p) n = n
 
-pub bare_hosts : (link : Link) (p : Option Protocol) (h : Hosts) (bs : List ℕ) (n : ℕ) → 1 ≤ n → ((k : FrameKind) → Bare (hosts_of_kind link k h bs) n) → Bare (hosts_formula link p h bs) (of_kinds p n)
+pub bare_hosts : (link : Link) (p : Option Protocol) (h : Hosts) (bs : Numbers) (n : ℕ) → 1 ≤ n → ((k : FrameKind) → Bare (hosts_of_kind link k h bs) n) → Bare (hosts_formula link p h bs) (of_kinds p n)
 bare_hosts link None h bs n some each = bare_within _ (omega arith) (bare_either (each kind.Ip) (bare_either (each kind.Arp) (each kind.Rarp)))
 bare_hosts link (Some protocol.Ip) h bs n some each = each kind.Ip
 bare_hosts link (Some protocol.Arp) h bs n some each = each kind.Arp
@@ -146,7 +158,7 @@ ip4_are (Some p) d = refl
 pub bare_net : (link : Link) (p : Option Protocol) (net : NetTest) → Bare (net_formula link p net) (count.ip4_tests p net.direction)
 bare_net link p net =
     let e = ip4_are p net.direction in
-    bare_within _ (omega arith) (bare_hosts link p (hosts.Net net) [] _ (omega arith) (λ k. bare_after (bare_sides net.direction _ _ 1 (omega arith) (omega arith) (omega arith))))
+    bare_within _ (omega arith) (bare_hosts link p (hosts.Net net) no_numbers _ (omega arith) (λ k. bare_after (bare_sides net.direction _ _ 1 (omega arith) (omega arith) (omega arith))))
 
 bare_ip6 : (link : Link) (d : Direction) (prefix : Option ℕ) (a : ℕ) → Bare (ip6_formula link d prefix a) (count.ip6_test_count d)
 bare_ip6 link d prefix a = bare_after (bare_sides d _ _ 4 (omega arith) (omega arith) (omega arith))
@@ -158,16 +170,16 @@ bare_transport (Some protocol.Tcp) s t f n h = bare_after h
 bare_transport (Some protocol.Udp) s t f n h = bare_after h
 bare_transport (Some _) s t f n h = bare_some _ (omega arith)
 
-pub bare_ports : (link : Link) (wanted : PortTest) (bs : List ℕ) (n : ℕ) → ((header : Transport) → Bare (port_sides wanted.ports wanted.direction header bs) n) → Bare (port_formula link wanted bs) (1 + count.transport_tests wanted.protocol + 1 + n + (1 + count.transport_tests wanted.protocol + n))
+pub bare_ports : (link : Link) (wanted : PortTest) (bs : Numbers) (n : ℕ) → ((header : Transport) → Bare (port_sides wanted.ports wanted.direction header bs) n) → Bare (port_formula link wanted bs) (1 + count.transport_tests wanted.protocol + 1 + n + (1 + count.transport_tests wanted.protocol + n))
 bare_ports link wanted bs n each =
     bare_within _ (omega arith)
     (bare_either (bare_after (bare_transport wanted.protocol _ _ _ _ (bare_after (each _)))) (bare_after (bare_transport wanted.protocol _ _ _ n (each _))))
 
-pub bare_port : (link : Link) (p : Option Protocol) (d : Direction) (n : ℕ) → Bare (port_formula link (port_test p d (One n)) []) (count.port_tests p d 1)
-bare_port link p d n = bare_ports link (port_test p d (One n)) [] _ (λ header. bare_sides d _ _ 1 (omega arith) (omega arith) (omega arith))
+pub bare_port : (link : Link) (p : Option Protocol) (d : Direction) (n : ℕ) → Bare (port_formula link (port_test p d (One n)) no_numbers) (count.port_tests p d 1)
+bare_port link p d n = bare_ports link (port_test p d (One n)) no_numbers _ (λ header. bare_sides d _ _ 1 (omega arith) (omega arith) (omega arith))
 
-bare_range : (link : Link) (p : Option Protocol) (d : Direction) (a b : ℕ) → Bare (port_formula link (port_test p d (Between a b)) []) (count.port_tests p d 2)
-bare_range link p d a b = bare_ports link (port_test p d (Between a b)) [] _ (λ header. bare_sides d _ _ 2 (omega arith) (omega arith) (omega arith))
+bare_range : (link : Link) (p : Option Protocol) (d : Direction) (a b : ℕ) → Bare (port_formula link (port_test p d (Between a b)) no_numbers) (count.port_tests p d 2)
+bare_range link p d a b = bare_ports link (port_test p d (Between a b)) no_numbers _ (λ header. bare_sides d _ _ 2 (omega arith) (omega arith) (omega arith))
 
 -- values
 some_ip4 : (p : Option Protocol) (d : Direction) → 1 ≤ count.ip4_tests p d

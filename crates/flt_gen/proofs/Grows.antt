@@ -1,5 +1,5 @@
 -- The code of a formula has no fault and no jump, and no more instructions and branches than are counted.
-use Rattle.std.proofs.Common.{◌≡◌, ℕ, zero, suc, ◌+◌, ◌-◌, ◌*◌, ◌<◌, ◌≤◌, List, [], ◌∷◌, length, take, drop, get_or, Bool, true, false, cond, Option, Some, None, refl, sym, ap, ◌∙◌, arith, length-drop, length-take}
+use Rattle.std.proofs.Common.{◌≡◌, ℕ, zero, suc, ◌+◌, ◌-◌, ◌*◌, ◌/◌, ◌<◌, ◌≤◌, List, [], ◌∷◌, length, take, drop, Bool, true, false, cond, Option, Some, None, refl, sym, ap, ◌∙◌, arith, length-drop, length-take}
 use Rattle.std.specs.Prelude.{◌≢◌, nat_lt, ◌==◌, not, ◌&&◌, if◌then◌else◌, count_by}
 use Rattle.std.proofs.lemmas.Bool.Decides.{nat_tests}
 use Rattle.std.proofs.lemmas.List.Sums.{sum_by-cons}
@@ -30,15 +30,15 @@ use Rattle.flt_ast.specs.Counts.{number_words, number_size}
 use Rattle.flt_ast.specs.Tree.{NumberTree, literal, len, named, load, negated, applied}
 use Rattle.cap_octet.specs.declared.link.Link.{Link}
 use Rattle.cap_octet.specs.Link.{network_offset}
+use Rattle.flt_emit.specs.declared.elementary.Interval.{Interval}
 use Rattle.flt_emit.specs.declared.elementary.Elementary.{Elementary}
 use Rattle.flt_emit.specs.declared.elementary.Elementary.TheVariants.{Outcome, Field}
 use Rattle.flt_emit.specs.declared.elementary.Offset.{Offset}
 use Rattle.flt_emit.specs.declared.elementary.Offset.TheVariants.{Fixed, AfterHeader}
 use Rattle.flt_emit.specs.Numbers.{width_of}
 use Rattle.flt_emit.specs.Formula.{Formula, Single, Compare, Both, Either, Except, Among}
-use Rattle.flt_emit.proofs.Search.{split_inside}
-use Rattle.flt_emit.specs.inside.Code.{plain, computation, takes_constant, constant, constant_operand, branch_insn, emit_branch, emit_comparison, emit_field, emit_mask, emit_accessor, emit_number, Block, at_top, emit_range, emit_chain, split, emit_search, most_halvings, emit_elementary, emit_formula}
-use Rattle.flt_gen.specs.inside.Counts.{words, nodes, tests}
+use Rattle.flt_emit.specs.inside.Code.{plain, computation, takes_constant, constant, constant_operand, branch_insn, emit_branch, emit_comparison, emit_field, emit_mask, emit_accessor, emit_number, Block, at_top, emit_interval, emit_chain, are_few, low_of, emit_search, MOST_HALVINGS, emit_elementary, emit_formula}
+use Rattle.flt_gen.specs.inside.Counts.{words, nodes, first_ends, tests}
 use Rattle.flt_gen.proofs.Ascending.{if_case}
 use Rattle.flt_gen.proofs.Codes.{code_is}
 use Rattle.flt_gen.proofs.Numbers.{operand_is}
@@ -249,43 +249,76 @@ elementary_fits (Field t) hit miss c s h m =
 branch_fits : {c : List Insn} {m w : ℕ} (t : Test) (k hit miss : ℕ) (d : List Insn) → Grows c d m w → Inside d hit → Inside d miss → Fits c (at_top (emit_branch t Constant k hit miss d)) (m + 1) (w + 3)
 branch_fits t k hit miss d g h m = fits_on g (fits_top (branch_grows t Constant k hit miss d g.sound h m))
 
--- a number has one test, and each further one a part of its own at most
+-- an interval has one test, and each further one a test whether it may be that; the first one has
+-- one more where it isn't known to be no lower, and more than one number
+abbrev first_more : Bool → List Interval → ℕ
+first_more true is = 0
+first_more false is = first_ends is
+
 abbrev Searched : List Insn → Block → ℕ → Type 0
-Searched c e n = Fits c e (2 * n - 1) (3 * (2 * n - 1))
+Searched c e n = Fits c e n (3 * n)
 
-chain_fits : (vs : List ℕ) (hit miss : ℕ) (c : List Insn) → Sound c → Inside c hit → Inside c miss → Fits c (emit_chain vs hit miss c) (length vs) (3 * length vs)
-chain_fits [] hit miss c s h m = record { grows = grows_none s; entry = m }
-chain_fits (v ∷ vs) hit miss c s h m =
-    let e = emit_chain vs hit miss c in
-    let f = chain_fits vs hit miss c s h m in
-    fits_more _ _ (omega arith) (omega arith) (branch_fits test.Equal v hit e.entry e.code f.grows (inside_on f.grows h) f.entry)
+ends_few : (from : Bool) (is : List Interval) → first_more from is ≤ 1
+ends_few true is = omega arith
+ends_few false [] = omega arith
+ends_few false (i ∷ is) = if_case (λ n. n ≤ 1) (i.low == i.high) 0 1 (λ e. omega arith) (λ e. omega arith)
 
-range_fits : (from : Bool) (low high hit miss : ℕ) (c : List Insn) → Sound c → Inside c hit → Inside c miss → Fits c (emit_range from low high hit miss c) 2 6
-range_fits true low high hit miss c s h m = fits_more _ _ (omega arith) (omega arith) (branch_fits test.Greater high miss hit c (grows_none s) m h)
-range_fits false low high hit miss c s h m =
-    let f = branch_fits test.Greater high miss hit c (grows_none s) m h in
-    branch_fits test.AtLeast low _ miss _ f.grows f.entry (inside_on f.grows m)
+rest_few : (is : List Interval) → 2 * length is - 1 + first_more false is ≤ 2 * length is
+rest_few [] = omega arith
+rest_few (i ∷ is) = let l = ends_few false (i ∷ is) in omega arith
 
-search_fits : (k : ℕ) (from : Bool) (vs : List ℕ) (hit miss : ℕ) (c : List Insn) → Sound c → Inside c hit → Inside c miss → Searched c (emit_search k from vs hit miss c) (length vs)
+interval_fits : (from : Bool) (i : Interval) (is : List Interval) (hit miss : ℕ) (c : List Insn) → Sound c → Inside c hit → Inside c miss → Searched c (emit_interval from i hit miss c) (1 + first_more from (i ∷ is))
+interval_fits from i is hit miss c s h m = by (i.low == i.high) refl
+  where
+    above : Fits c (at_top (emit_branch test.Greater Constant i.high miss hit c)) 1 3
+    above = branch_fits test.Greater i.high miss hit c (grows_none s) m h
+
+    range : (from : Bool) → (i.low == i.high) ≡ false → Searched c (let e = at_top (emit_branch test.Greater Constant i.high miss hit c) in if from then e else at_top (emit_branch test.AtLeast Constant i.low e.entry miss e.code)) (1 + first_more from (i ∷ is))
+    range true e = fits_more _ _ (omega arith) (omega arith) above
+    range false e =
+        let two : first_more false (i ∷ is) ≡ 1 = ap (λ b. if b then 0 else 1) e in
+        fits_more _ _ (omega arith) (omega arith) (branch_fits test.AtLeast i.low _ miss _ above.grows above.entry (inside_on above.grows m))
+
+    by : (b : Bool) → (i.low == i.high) ≡ b → Searched c (if b then at_top (emit_branch test.Equal Constant i.low hit miss c) else (let e = at_top (emit_branch test.Greater Constant i.high miss hit c) in if from then e else at_top (emit_branch test.AtLeast Constant i.low e.entry miss e.code))) (1 + first_more from (i ∷ is))
+    by true e = fits_more _ _ (omega arith) (omega arith) (branch_fits test.Equal i.low hit miss c (grows_none s) h m)
+    by false e = range from e
+
+chain_fits : (from : Bool) (is : List Interval) (hit miss : ℕ) (c : List Insn) → Sound c → Inside c hit → Inside c miss → Searched c (emit_chain from is hit miss c) (2 * length is - 1 + first_more from is)
+chain_fits from [] hit miss c s h m = fits_more _ _ (omega arith) (omega arith) (record { grows = grows_none s; entry = m })
+chain_fits from (i ∷ is) hit miss c s h m =
+    let e = emit_chain false is hit miss c in
+    let f = chain_fits false is hit miss c s h m in
+    let few = rest_few is in
+    fits_more _ _ (omega arith) (omega arith) (fits_on f.grows (interval_fits from i is hit e.entry e.code f.grows.sound (inside_on f.grows h) f.entry))
+
+pub are_many : (is : List Interval) → are_few is ≡ false → 2 ≤ length is
+are_many [] e = cc
+are_many (i ∷ []) e = cc
+are_many (i ∷ j ∷ is) e = omega arith
+
+first_of_half : (from : Bool) (h : ℕ) (is : List Interval) → 0 < h → first_more from (take h is) ≡ first_more from is
+first_of_half true h is l = refl
+first_of_half false zero is l = absurd (omega arith)
+first_of_half false (suc h) [] l = refl
+first_of_half false (suc h) (i ∷ is) l = refl
+
+search_fits : (k : ℕ) (from : Bool) (is : List Interval) (hit miss : ℕ) (c : List Insn) → Sound c → Inside c hit → Inside c miss → Searched c (emit_search k from is hit miss c) (2 * length is - 1 + first_more from is)
 unfolding emit_search
-search_fits zero from vs hit miss c s h m = fits_more _ _ (omega arith) (omega arith) (chain_fits vs hit miss c s h m)
-search_fits (suc k) from vs hit miss c s h m =
-    let half = split vs in
-    let inside = split_inside vs in
-    let a = length-drop half vs in
-    let b = length-take half vs in
-    let upper = emit_search k true (drop half vs) hit miss c in
-    let lower = emit_search k from (take half vs) hit miss upper.code in
-    let fu = search_fits k true (drop half vs) hit miss c s h m in
-    let fl = search_fits k from (take half vs) hit miss upper.code fu.grows.sound (inside_on fu.grows h) (inside_on fu.grows m) in
+search_fits zero from is hit miss c s h m = chain_fits from is hit miss c s h m
+search_fits (suc k) from is hit miss c s h m =
+    let half = length is / 2 in
+    let a = length-drop half is in
+    let b = length-take half is in
+    let upper = emit_search k true (drop half is) hit miss c in
+    let lower = emit_search k from (take half is) hit miss upper.code in
+    let fu = search_fits k true (drop half is) hit miss c s h m in
+    let fl = search_fits k from (take half is) hit miss upper.code fu.grows.sound (inside_on fu.grows h) (inside_on fu.grows m) in
     let both = fits_on fu.grows fl in
-    if_case (λ (e : Block). Searched c e (length vs)) (nat_lt (length vs) 2) _ _
-    (λ few. fits_more _ _ (omega arith) (omega arith) (chain_fits vs hit miss c s h m))
-    (λ many. let two : 2 ≤ length vs = grind (arith, nat_tests) in
-    if_case (λ (e : Block). Searched c e (length vs)) (half == 0) _ _
-    (λ run. fits_more _ _ (omega arith) (omega arith) (range_fits from (get_or vs 0 0) (get_or vs (length vs - 1) 0) hit miss c s h m))
-    (λ gap. let some : 0 < half = grind (arith, nat_tests) in
-    fits_more _ _ (omega arith) (omega arith) (branch_fits test.AtLeast (get_or vs half 0) upper.entry lower.entry lower.code both.grows (inside_on fl.grows fu.entry) fl.entry)))
+    if_case (λ (e : Block). Searched c e (2 * length is - 1 + first_more from is)) (are_few is) _ _
+    (λ few. chain_fits from is hit miss c s h m)
+    (λ many. let two = are_many is many in
+    let first = first_of_half from half is (omega arith) in
+    fits_more _ _ (omega arith) (omega arith) (branch_fits test.AtLeast (low_of (drop half is)) upper.entry lower.entry lower.code both.grows (inside_on fl.grows fu.entry) fl.entry))
 
 pub emitted_fits : (link : Link) (f : Formula) (hit miss : ℕ) (c : List Insn) → words f ≤ 16 → Sound c → Inside c hit → Inside c miss → Fits c (emit_formula link f hit miss c) (4 * tests f + 6 * nodes f) (6 * (tests f + nodes f))
 emitted_fits link (Single t) hit miss c few s h m = fits_more _ _ (omega arith) (omega arith) (elementary_fits t hit miss c s h m)
@@ -310,6 +343,7 @@ emitted_fits link (Either a b) hit miss c few s h m =
     fits_more _ _ (omega arith) (omega arith)
     (fits_on f.grows (emitted_fits link a hit e.entry e.code (omega arith) f.grows.sound (inside_on f.grows h) f.entry))
 emitted_fits link (Except a) hit miss c few s h m = emitted_fits link a miss hit c few s m h
-emitted_fits link (Among f vs) hit miss c few s h m =
-    let g = search_fits (most_halvings (length vs)) false vs hit miss c s h m in
+emitted_fits link (Among f is) hit miss c few s h m =
+    let g = search_fits MOST_HALVINGS false is hit miss c s h m in
+    let more = ends_few false is in
     fits_more _ _ (omega arith) (omega arith) (fits_top (field_grows f.offset f.width (mask_grows f.mask g.grows)))

@@ -12,6 +12,7 @@ pub mod Grows
 pub mod Accessors
 pub mod Walking
 pub mod Counted
+pub mod Prefixes
 pub mod Together
 pub mod Once
 pub mod Needed

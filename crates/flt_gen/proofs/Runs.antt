@@ -1,5 +1,5 @@
 -- The code of a formula goes on where the formula's reading says.
-use Rattle.std.proofs.Common.{◌≡◌, ℕ, zero, suc, ◌+◌, ◌-◌, ◌%◌, ◌^◌, ◌<◌, ◌≤◌, List, [], ◌∷◌, length, take, drop, get_or, Bool, true, false, Option, Some, None, refl, sym, ap, ◌∙◌, subst, arith}
+use Rattle.std.proofs.Common.{◌≡◌, ℕ, zero, suc, ◌+◌, ◌-◌, ◌/◌, ◌%◌, ◌^◌, ◌<◌, ◌≤◌, List, [], ◌∷◌, length, take, drop, Bool, true, false, Option, Some, None, refl, sym, ap, ◌∙◌, subst, arith}
 use Rattle.std.specs.Prelude.{nat_le, nat_lt, ◌==◌, not, ◌&&◌, ◌||◌, if◌then◌else◌, bit_and}
 use Rattle.std.specs.Option.{option_map}
 use Rattle.std.proofs.lemmas.Bool.Decides.{nat_tests}
@@ -23,17 +23,18 @@ use Rattle.flt_ast.specs.Tree.{NumberTree}
 use Rattle.cap_octet.specs.declared.link.Link.{Link}
 use Rattle.flt_emit.specs.declared.elementary.Offset.{Offset}
 use Rattle.flt_emit.specs.declared.elementary.Offset.TheVariants.{Fixed, AfterHeader}
+use Rattle.flt_emit.specs.declared.elementary.Interval.{Interval}
 use Rattle.flt_emit.specs.declared.elementary.MaskedField.{MaskedField}
 use Rattle.flt_emit.specs.declared.elementary.Elementary.{Elementary}
 use Rattle.flt_emit.specs.declared.elementary.Elementary.TheVariants.{Outcome, Field}
 use Rattle.flt_emit.specs.Elementary.{MatchResult, Yes, No, Rejected, reading_of, with, compares, field_at, under_mask, field_reads, elementary_reads}
 use Rattle.flt_emit.specs.Numbers.{number}
-use Rattle.flt_emit.specs.Formula.{Formula, Single, Compare, Both, Either, Except, Among, is_one_of, among_reads, relation_reads, both, either, negation as exchanged, reads}
-use Rattle.flt_emit.proofs.Search.{split_inside}
-use Rattle.flt_emit.specs.inside.Code.{plain, constant, branch_insn, emit_elementary, emit_branch, emit_comparison, emit_field, emit_mask, emit_test, emit_relation, Block, emit_run, emit_chain, split, emit_search, most_halvings, emit_among, emit_formula}
+use Rattle.flt_emit.specs.Formula.{Formula, Single, Compare, Both, Either, Except, Among, is_in, is_within, among_reads, relation_reads, both, either, negation as exchanged, reads}
+use Rattle.flt_emit.specs.inside.Code.{plain, constant, branch_insn, emit_elementary, emit_branch, emit_comparison, emit_field, emit_mask, emit_test, emit_relation, Block, at_top, emit_interval, emit_chain, are_few, low_of, emit_search, MOST_HALVINGS, emit_among, emit_formula}
 use Rattle.flt_gen.specs.inside.Counts.{words}
-use Rattle.flt_gen.proofs.Ascending.{if_case, Ascending, Searchable, Searches, searchable_ascends, ascending_take, ascending_drop, lower_half, first_dropped, first_taken, one_of_run, upper_half}
+use Rattle.flt_gen.proofs.Ascending.{if_case, Apart, Searchable, Searches, searchable_apart, apart_take, apart_drop, lower_half, first_taken, upper_half}
 use Rattle.flt_gen.proofs.Codes.{run, run_plain}
+use Rattle.flt_gen.proofs.Grows.{are_many}
 use Rattle.flt_gen.proofs.Leads.{HasWords, Tops, Leads, leads_top, leads_on, leads_in, leads_to}
 use Rattle.flt_gen.proofs.Numbers.{answer_for, constant_is, operands_run, number_runs}
 use Rattle.flt_gen.proofs.Tails.{by_right, branch_extends, chain_extends, search_extends, emitted_extends}
@@ -86,6 +87,17 @@ range_is : (b c : Bool) (v w : ℕ) → (if b then (if c then w else v) else w) 
 range_is true true v w = refl
 range_is true false v w = refl
 range_is false c v w = refl
+
+pub one_number : (a low high : ℕ) → low ≡ high → (a == low) ≡ (nat_le low a && nat_le a high)
+one_number a low high e = by (a == low) refl (nat_le low a) refl (nat_le a high) refl
+  where
+    by : (b : Bool) → (a == low) ≡ b → (c : Bool) → nat_le low a ≡ c → (d : Bool) → nat_le a high ≡ d → b ≡ (c && d)
+    by true p true q true r = refl
+    by true p true q false r = absurd (let s : a ≡ low = grind (arith, nat_tests) in let t : high < a = grind (arith, nat_tests) in omega arith)
+    by true p false q d r = absurd (let s : a ≡ low = grind (arith, nat_tests) in let t : a < low = grind (arith, nat_tests) in omega arith)
+    by false p true q true r = absurd (let s : low ≤ a = grind (arith, nat_tests) in let t : a ≤ high = grind (arith, nat_tests) in let no : (a ≡ low → ⊥) = grind (arith, nat_tests) in no (omega arith))
+    by false p true q false r = refl
+    by false p false q d r = refl
 
 -- a state with a number in A, and with another one in X
 abbrev Has : ℕ → State → Type 0
@@ -150,110 +162,117 @@ module _ (p : List ℕ) (n : ℕ) where
       masked_tops t.mask (emit_comparison t.comparison Constant t.value hit miss c) x _
       (comparison_tops t.comparison Constant t.value (under_mask t.mask x) t.value hit miss v w c (λ s q. q.1) (λ s q. refl) (leads_in p n (λ s q. q.0) h) (leads_in p n (λ s q. q.0) m))))
 
-  -- one of some numbers
-  chain_leads : (a : ℕ) (vs : List ℕ) (hit miss v w : ℕ) (c : List Insn) → Leads p n (Has a) c hit v → Leads p n (Has a) c miss w → Leads p n (Has a) (emit_chain vs hit miss c).code (emit_chain vs hit miss c).entry (if is_one_of a vs then v else w)
-  chain_leads a [] hit miss v w c h m = m
-  chain_leads a (x ∷ vs) hit miss v w c h m =
-      let e = emit_chain vs hit miss c in
-      leads_to p n (or_else (a == x) (is_one_of a vs) v w)
-      (leads_top p n (emit_branch test.Equal Constant x hit e.entry e.code) _
-      (branch_tops test.Equal Constant x a x hit e.entry v (if is_one_of a vs then v else w) e.code (λ s q. q.1) (λ s q. refl) (leads_on p n (chain_extends vs hit miss c) h) (chain_leads a vs hit miss v w c h m)))
-
-  -- the same where it may be known that A is no less than the first number; else it leads anywhere
-  record Found (a : ℕ) (from : Bool) (vs : List ℕ) (e : Block) (v w : ℕ) : Type 0 where
+  -- in some intervals, where it may be known that A is no lower than the first; else it leads anywhere
+  record Found (a : ℕ) (from : Bool) (low : ℕ) (inside : Bool) (e : Block) (v w : ℕ) : Type 0 where
     value : ℕ
     leads : Leads p n (Has a) e.code e.entry value
-    right : (from ≡ true → get_or vs 0 0 ≤ a) → value ≡ (if is_one_of a vs then v else w)
+    right : (from ≡ true → low ≤ a) → value ≡ (if inside then v else w)
 
-  chain_found : (a : ℕ) (from : Bool) (vs : List ℕ) (hit miss v w : ℕ) (c : List Insn) → Leads p n (Has a) c hit v → Leads p n (Has a) c miss w → Found a from vs (emit_chain vs hit miss c) v w
-  chain_found a from vs hit miss v w c h m = record { value = if is_one_of a vs then v else w; leads = chain_leads a vs hit miss v w c h m; right = λ _. refl }
+  interval_found : (a : ℕ) (from : Bool) (i : Interval) (hit miss v w : ℕ) (c : List Insn) → i.low ≤ i.high → Leads p n (Has a) c hit v → Leads p n (Has a) c miss w → Found a from i.low (is_in a i) (emit_interval from i hit miss c) v w
+  interval_found a from i hit miss v w c order h m = by (i.low == i.high) refl
+    where
+      d : List Insn
+      d = emit_branch test.Greater Constant i.high miss hit c
 
-  at_most : (a high hit miss v w : ℕ) (c : List Insn) → Leads p n (Has a) c hit v → Leads p n (Has a) c miss w → Leads p n (Has a) (emit_branch test.Greater Constant high miss hit c) (length (emit_branch test.Greater Constant high miss hit c)) (if nat_lt high a then w else v)
-  at_most a high hit miss v w c h m =
-      leads_top p n (emit_branch test.Greater Constant high miss hit c) _ (branch_tops test.Greater Constant high a high miss hit w v c (λ s q. q.1) (λ s q. refl) m h)
+      at_most : Leads p n (Has a) d (length d) (if nat_lt i.high a then w else v)
+      at_most = leads_top p n d _ (branch_tops test.Greater Constant i.high a i.high miss hit w v c (λ s q. q.1) (λ s q. refl) m h)
 
-  range_found : (a : ℕ) (from : Bool) (vs : List ℕ) (hit miss v w : ℕ) (c : List Insn) → Ascending vs → 0 < length vs → split vs ≡ 0 → Leads p n (Has a) c hit v → Leads p n (Has a) c miss w → Found a from vs (emit_run from vs hit miss c) v w
-  range_found a true vs hit miss v w c up some whole h m =
-      let high = get_or vs (length vs - 1) 0 in
-      record {
-        value = if nat_lt high a then w else v;
-        leads = at_most a high hit miss v w c h m;
-        right = λ t. let low = t refl in let above : nat_le (get_or vs 0 0) a ≡ true = grind (arith, nat_tests) in
-            in_range (nat_le (get_or vs 0 0) a) (nat_lt high a) v w above ∙ ap (λ b. if b then v else w) (sym (one_of_run a vs up some whole));
+      inside_is : (b : Bool) → (b && not (nat_lt i.high a)) ≡ (b && nat_le a i.high)
+      inside_is b = ap (λ x. b && x) (at_most_is a i.high)
+
+      range : (from : Bool) → Found a from i.low (is_in a i) (if from then at_top d else at_top (emit_branch test.AtLeast Constant i.low (length d) miss d)) v w
+      range true = record {
+        value = if nat_lt i.high a then w else v;
+        leads = at_most;
+        right = λ t. let low = t refl in let above : nat_le i.low a ≡ true = grind (arith, nat_tests) in
+            in_range (nat_le i.low a) (nat_lt i.high a) v w above ∙ ap (λ b. if b then v else w) (inside_is (nat_le i.low a));
       }
-  range_found a false vs hit miss v w c up some whole h m =
-      let low = get_or vs 0 0 in
-      let high = get_or vs (length vs - 1) 0 in
-      let d = emit_branch test.Greater Constant high miss hit c in
-      record {
-        value = if nat_le low a then (if nat_lt high a then w else v) else w;
-        leads = leads_top p n (emit_branch test.AtLeast Constant low (length d) miss d) _ (branch_tops test.AtLeast Constant low a low (length d) miss _ w d (λ s q. q.1) (λ s q. refl) (at_most a high hit miss v w c h m) (leads_on p n (branch_extends test.Greater Constant high miss hit c) m));
-        right = λ _. range_is (nat_le low a) (nat_lt high a) v w ∙ ap (λ b. if b then v else w) (sym (one_of_run a vs up some whole));
+      range false = record {
+        value = if nat_le i.low a then (if nat_lt i.high a then w else v) else w;
+        leads = leads_top p n (emit_branch test.AtLeast Constant i.low (length d) miss d) _ (branch_tops test.AtLeast Constant i.low a i.low (length d) miss _ w d (λ s q. q.1) (λ s q. refl) at_most (leads_on p n (branch_extends test.Greater Constant i.high miss hit c) m));
+        right = λ _. range_is (nat_le i.low a) (nat_lt i.high a) v w ∙ ap (λ b. if b then v else w) (inside_is (nat_le i.low a));
       }
 
-  halves_found : (a h : ℕ) (from : Bool) (vs : List ℕ) (v w x y : ℕ) → Ascending vs → 0 < h → h < length vs → (get_or vs h 0 ≤ a → x ≡ (if is_one_of a (drop h vs) then v else w)) → ((from ≡ true → get_or vs 0 0 ≤ a) → y ≡ (if is_one_of a (take h vs) then v else w)) → (from ≡ true → get_or vs 0 0 ≤ a) → (b : Bool) → nat_le (get_or vs h 0) a ≡ b → (if b then x else y) ≡ (if is_one_of a vs then v else w)
-  halves_found a h from vs v w x y up some l f g t true e =
-      let m : get_or vs h 0 ≤ a = grind (arith, nat_tests) in
-      f m ∙ ap (λ b. if b then v else w) (sym (upper_half a h vs up l m))
-  halves_found a h from vs v w x y up some l f g t false e =
-      let m : a < get_or vs h 0 = grind (arith, nat_tests) in
-      g t ∙ ap (λ b. if b then v else w) (sym (lower_half a h vs up l m))
+      by : (b : Bool) → (i.low == i.high) ≡ b → Found a from i.low (is_in a i) (if b then at_top (emit_branch test.Equal Constant i.low hit miss c) else (if from then at_top d else at_top (emit_branch test.AtLeast Constant i.low (length d) miss d))) v w
+      by true e = record {
+        value = if a == i.low then v else w;
+        leads = leads_top p n (emit_branch test.Equal Constant i.low hit miss c) _ (branch_tops test.Equal Constant i.low a i.low hit miss v w c (λ s q. q.1) (λ s q. refl) h m);
+        right = λ _. let same : i.low ≡ i.high = grind (arith, nat_tests) in ap (λ b. if b then v else w) (one_number a i.low i.high same);
+      }
+      by false e = range from
 
-  search_found : (k a : ℕ) (from : Bool) (vs : List ℕ) (hit miss v w : ℕ) (c : List Insn) → Ascending vs → Leads p n (Has a) c hit v → Leads p n (Has a) c miss w → Found a from vs (emit_search k from vs hit miss c) v w
+  chain_found : (a : ℕ) (from : Bool) (f : ℕ) (is : List Interval) (hit miss v w : ℕ) (c : List Insn) → Apart f is → Leads p n (Has a) c hit v → Leads p n (Has a) c miss w → Found a from (low_of is) (is_within a is) (emit_chain from is hit miss c) v w
+  chain_found a from f [] hit miss v w c up h m = record { value = w; leads = m; right = λ _. refl }
+  chain_found a from f (i ∷ is) hit miss v w c up h m =
+      let e = emit_chain false is hit miss c in
+      let rest = chain_found a false (i.high + 1) is hit miss v w c up.2 h m in
+      let first = interval_found a from i hit e.entry v rest.value e.code up.1 (leads_on p n (chain_extends false is hit miss c) h) rest.leads in
+      record {
+        value = first.value;
+        leads = first.leads;
+        right = λ t. first.right t ∙ ap (λ y. if is_in a i then v else y) (rest.right (λ z. cc)) ∙ or_else (is_in a i) (is_within a is) v w;
+      }
+
+  halves_found : (a f h : ℕ) (from : Bool) (is : List Interval) (v w x y : ℕ) → Apart f is → h < length is → (low_of (drop h is) ≤ a → x ≡ (if is_within a (drop h is) then v else w)) → y ≡ (if is_within a (take h is) then v else w) → (b : Bool) → nat_le (low_of (drop h is)) a ≡ b → (if b then x else y) ≡ (if is_within a is then v else w)
+  halves_found a f h from is v w x y up l high low true e =
+      let m : low_of (drop h is) ≤ a = grind (arith, nat_tests) in
+      high m ∙ ap (λ b. if b then v else w) (sym (upper_half a f h is up l m))
+  halves_found a f h from is v w x y up l high low false e =
+      let m : a < low_of (drop h is) = grind (arith, nat_tests) in
+      low ∙ ap (λ b. if b then v else w) (sym (lower_half a f h is up l m))
+
+  search_found : (k a : ℕ) (from : Bool) (f : ℕ) (is : List Interval) (hit miss v w : ℕ) (c : List Insn) → Apart f is → Leads p n (Has a) c hit v → Leads p n (Has a) c miss w → Found a from (low_of is) (is_within a is) (emit_search k from is hit miss c) v w
   unfolding emit_search
-  search_found zero a from vs hit miss v w c up h m = chain_found a from vs hit miss v w c h m
-  search_found (suc k) a from vs hit miss v w c up h m =
-      let half = split vs in
-      let inside = split_inside vs in
-      let upper = emit_search k true (drop half vs) hit miss c in
-      let lower = emit_search k from (take half vs) hit miss upper.code in
-      let xu = search_extends k true (drop half vs) hit miss c in
-      let fu = search_found k a true (drop half vs) hit miss v w c (ascending_drop half vs up) h m in
-      let fl = search_found k a from (take half vs) hit miss v w upper.code (ascending_take half vs up) (leads_on p n xu h) (leads_on p n xu m) in
-      if_case (λ (e : Block). Found a from vs e v w) (nat_lt (length vs) 2) _ _
-      (λ few. chain_found a from vs hit miss v w c h m)
-      (λ many. let two : 2 ≤ length vs = grind (arith, nat_tests) in
-      if_case (λ (e : Block). Found a from vs e v w) (half == 0) _ _
-      (λ run. let none : half ≡ 0 = grind (arith, nat_tests) in range_found a from vs hit miss v w c up (omega arith) none h m)
-      (λ gap. let some : 0 < half = grind (arith, nat_tests) in
+  search_found zero a from f is hit miss v w c up h m = chain_found a from f is hit miss v w c up h m
+  search_found (suc k) a from f is hit miss v w c up h m =
+      let half = length is / 2 in
+      let upper = emit_search k true (drop half is) hit miss c in
+      let lower = emit_search k from (take half is) hit miss upper.code in
+      let xu = search_extends k true (drop half is) hit miss c in
+      let fu = search_found k a true f (drop half is) hit miss v w c (apart_drop f half is up) h m in
+      let fl = search_found k a from f (take half is) hit miss v w upper.code (apart_take f half is up) (leads_on p n xu h) (leads_on p n xu m) in
+      if_case (λ (e : Block). Found a from (low_of is) (is_within a is) e v w) (are_few is) _ _
+      (λ few. chain_found a from f is hit miss v w c up h m)
+      (λ many. let two = are_many is many in
+      let pivot = low_of (drop half is) in
+      let some : 0 < half = omega arith in
       record {
-        value = if nat_le (get_or vs half 0) a then fu.value else fl.value;
-        leads = leads_top p n (emit_branch test.AtLeast Constant (get_or vs half 0) upper.entry lower.entry lower.code) _
-            (branch_tops test.AtLeast Constant (get_or vs half 0) a (get_or vs half 0) upper.entry lower.entry fu.value fl.value lower.code (λ s q. q.1) (λ s q. refl) (leads_on p n (search_extends k from (take half vs) hit miss upper.code) fu.leads) fl.leads);
-        right = λ t. halves_found a half from vs v w fu.value fl.value up some (omega arith)
-            (λ m. fu.right (λ _. subst (λ z. z ≤ a) (sym (first_dropped half vs)) m))
-            (λ t. fl.right (λ e. subst (λ z. z ≤ a) (sym (first_taken half vs some)) (t e)))
-            t (nat_le (get_or vs half 0) a) refl;
-      }))
+        value = if nat_le pivot a then fu.value else fl.value;
+        leads = leads_top p n (emit_branch test.AtLeast Constant pivot upper.entry lower.entry lower.code) _
+            (branch_tops test.AtLeast Constant pivot a pivot upper.entry lower.entry fu.value fl.value lower.code (λ s q. q.1) (λ s q. refl) (leads_on p n (search_extends k from (take half is) hit miss upper.code) fu.leads) fl.leads);
+        right = λ t. halves_found a f half from is v w fu.value fl.value up (omega arith)
+            (λ m. fu.right (λ _. m))
+            (fl.right (λ e. subst (λ z. z ≤ a) (sym (first_taken half is some)) (t e)))
+            (nat_le pivot a) refl;
+      })
 
   -- several numbers' code is entered at its top
-  run_top : (from : Bool) (vs : List ℕ) (hit miss : ℕ) (c : List Insn) → 0 ≡ length (emit_run from vs hit miss c).code - (emit_run from vs hit miss c).entry
-  run_top true vs hit miss c = omega arith
-  run_top false vs hit miss c = omega arith
+  interval_top : (from : Bool) (i : Interval) (hit miss : ℕ) (c : List Insn) → 0 ≡ length (emit_interval from i hit miss c).code - (emit_interval from i hit miss c).entry
+  interval_top from i hit miss c =
+      if_case (λ (e : Block). 0 ≡ length e.code - e.entry) (i.low == i.high) _ _ (λ one. omega arith)
+      (λ many. if_case (λ (e : Block). 0 ≡ length e.code - e.entry) from _ _ (λ above. omega arith) (λ any. omega arith))
 
-  search_top : (k : ℕ) (from : Bool) (vs : List ℕ) (hit miss : ℕ) (c : List Insn) → Searchable vs → 0 ≡ length (emit_search k from vs hit miss c).code - (emit_search k from vs hit miss c).entry
+  search_top : (k : ℕ) (from : Bool) (is : List Interval) (hit miss : ℕ) (c : List Insn) → Searchable is → 0 ≡ length (emit_search k from is hit miss c).code - (emit_search k from is hit miss c).entry
   unfolding emit_search
   search_top k from [] hit miss c h = absurd h
-  search_top zero from (x ∷ vs) hit miss c h = omega arith
-  search_top (suc k) from (x ∷ []) hit miss c h = omega arith
-  search_top (suc k) from (x ∷ y ∷ vs) hit miss c h =
-      if_case (λ (e : Block). 0 ≡ length e.code - e.entry) (nat_lt (length (x ∷ y ∷ vs)) 2) _ _
-      (λ few. absurd (let no : length (x ∷ y ∷ vs) < 2 = grind (arith, nat_tests) in omega arith))
-      (λ many. if_case (λ (e : Block). 0 ≡ length e.code - e.entry) (split (x ∷ y ∷ vs) == 0) _ _
-      (λ run. run_top from (x ∷ y ∷ vs) hit miss c)
-      (λ gap. omega arith))
+  search_top zero from (i ∷ is) hit miss c h = let e = emit_chain false is hit miss c in interval_top from i hit e.entry e.code
+  search_top (suc k) from (i ∷ is) hit miss c h =
+      let r = emit_chain false is hit miss c in
+      if_case (λ (e : Block). 0 ≡ length e.code - e.entry) (are_few (i ∷ is)) _ _
+      (λ few. interval_top from i hit r.entry r.code)
+      (λ many. omega arith)
 
-  search_tops : (a : ℕ) (vs : List ℕ) (hit miss v w : ℕ) (c : List Insn) → Searchable vs → Leads p n HasWords c hit v → Leads p n HasWords c miss w → Tops p n (Has a) (emit_search (most_halvings (length vs)) false vs hit miss c).code (if is_one_of a vs then v else w)
-  search_tops a vs hit miss v w c up h m =
-      let e = emit_search (most_halvings (length vs)) false vs hit miss c in
-      let f = search_found (most_halvings (length vs)) a false vs hit miss v w c (searchable_ascends vs up) (leads_in p n (λ s q. q.0) h) (leads_in p n (λ s q. q.0) m) in
-      λ s q. ap (λ k. answer_of e.code p n k s) (search_top (most_halvings (length vs)) false vs hit miss c up) ∙ f.leads.by s q ∙ ap Some (f.right (λ z. cc))
+  search_tops : (a : ℕ) (is : List Interval) (hit miss v w : ℕ) (c : List Insn) → Searchable is → Leads p n HasWords c hit v → Leads p n HasWords c miss w → Tops p n (Has a) (emit_search MOST_HALVINGS false is hit miss c).code (if is_within a is then v else w)
+  search_tops a is hit miss v w c up h m =
+      let e = emit_search MOST_HALVINGS false is hit miss c in
+      let f = search_found MOST_HALVINGS a false 0 is hit miss v w c (searchable_apart is up) (leads_in p n (λ s q. q.0) h) (leads_in p n (λ s q. q.0) m) in
+      λ s q. ap (λ k. answer_of e.code p n k s) (search_top MOST_HALVINGS false is hit miss c up) ∙ f.leads.by s q ∙ ap Some (f.right (λ z. cc))
 
-  among_leads : (f : MaskedField) (vs : List ℕ) (hit miss v w : ℕ) (c : List Insn) → Searchable vs → Leads p n HasWords c hit v → Leads p n HasWords c miss w → Leads p n HasWords (emit_among f vs hit miss c).code (emit_among f vs hit miss c).entry (pick (among_reads f vs p) v w)
-  among_leads f vs hit miss v w c up h m =
-      let e = emit_search (most_halvings (length vs)) false vs hit miss c in
-      leads_top p n (emit_field f.offset f.width (emit_mask f.mask e.code)) (pick (among_reads f vs p) v w)
-      (field_tops f.offset f.width (λ x. is_one_of (under_mask f.mask x) vs) (emit_mask f.mask e.code) v w (λ x. masked_tops f.mask e.code x _ (search_tops (under_mask f.mask x) vs hit miss v w c up h m)))
+  among_leads : (f : MaskedField) (is : List Interval) (hit miss v w : ℕ) (c : List Insn) → Searchable is → Leads p n HasWords c hit v → Leads p n HasWords c miss w → Leads p n HasWords (emit_among f is hit miss c).code (emit_among f is hit miss c).entry (pick (among_reads f is p) v w)
+  among_leads f is hit miss v w c up h m =
+      let e = emit_search MOST_HALVINGS false is hit miss c in
+      leads_top p n (emit_field f.offset f.width (emit_mask f.mask e.code)) (pick (among_reads f is p) v w)
+      (field_tops f.offset f.width (λ x. is_within (under_mask f.mask x) is) (emit_mask f.mask e.code) v w (λ x. masked_tops f.mask e.code x _ (search_tops (under_mask f.mask x) is hit miss v w c up h m)))
 
   -- a relation: the test of both numbers, or of one and a constant
   relation_picks : (o : Option ℕ) (b : ℕ → ℕ → Bool) (q : Option ℕ) (v w : ℕ) → answer_for o (λ x. pick (reading_of (with q (λ y. Some (b x y)))) v w) ≡ pick (reading_of (with o (λ x. with q (λ y. Some (b x y))))) v w
@@ -294,4 +313,4 @@ module _ (p : List ℕ) (n : ℕ) where
       (emitted_leads link b hit miss v w c (omega arith) up.1 h m))
   emitted_leads link (Except a) hit miss v w c few up h m =
       leads_to p n (pick_negated (reads link a p n) v w) (emitted_leads link a miss hit w v c few up m h)
-  emitted_leads link (Among f vs) hit miss v w c few up h m = among_leads f vs hit miss v w c up h m
+  emitted_leads link (Among f is) hit miss v w c few up h m = among_leads f is hit miss v w c up h m

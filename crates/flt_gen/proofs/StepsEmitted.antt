@@ -5,7 +5,7 @@ use Rattle.std.specs.declared.alloc.AllocError.{AllocError}
 use Rattle.flt_words.specs.declared.token.Join.TheVariants.{And, Or}
 use Rattle.cap_octet.specs.declared.link.Link.{Link}
 use Rattle.flt_emit.specs.declared.elementary.Elementary.{Elementary}
-use Rattle.flt_emit.specs.Formula.{Formula, Single, Compare, Both, Either, Except, Among, all_of}
+use Rattle.flt_emit.specs.Formula.{Formula, Single, Compare, Both, Either, Except, Among, all_of, Numbers}
 use Rattle.flt_gen.specs.inside.Emitted.{is_idle, needed_tests}
 use Rattle.flt_gen.specs.inside.Steps.{Steps, Part, Joint, Meaning, meaning, with_parts, with_formula, no_steps, IsPut, IsJoined}
 use Rattle.flt_gen.specs.inside.Walk.{Walk, finish_formula, emit_part, emit_parts}
@@ -20,10 +20,10 @@ parts_emitted link w (Either a b) ps =
     let v = emit_part link w (Joint Or) in
     parts_emitted link v b (with_parts a ps) ∙ parts_emitted link (finish_formula link b v) a ps
 parts_emitted link w (Except a) ps = refl
-parts_emitted link w (Among f vs) ps = refl
+parts_emitted link w (Among f is) ps = refl
 
 -- where they are all that is emitted
-pub steps_emitted : {T : Type 0} (r : Result T AllocError) (link : Link) (f : Formula) (numbers : List ℕ) (s : Steps) (w new : Walk) → IsPut f (no_steps numbers) s → OnOk r ((l : Link) → new ≡ emit_parts l w (meaning s).parts) → OnOk r (new ≡ finish_formula link f w)
+pub steps_emitted : {T : Type 0} (r : Result T AllocError) (link : Link) (f : Formula) (numbers : Numbers) (s : Steps) (w new : Walk) → IsPut f (no_steps numbers) s → OnOk r ((l : Link) → new ≡ emit_parts l w (meaning s).parts) → OnOk r (new ≡ finish_formula link f w)
 steps_emitted (Ok t) link f numbers s w new put e = e link ∙ ap (λ (m : Meaning). emit_parts link w m.parts) put ∙ parts_emitted link w f []
 steps_emitted (Err t) link f numbers s w new put e = tt
 

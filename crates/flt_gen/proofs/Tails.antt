@@ -1,6 +1,6 @@
 -- Code that grew in front still stands at its end.
-use Rattle.std.proofs.Common.{◌≡◌, ℕ, zero, suc, ◌+◌, ◌-◌, ◌≤◌, List, [], ◌∷◌, length, take, drop, get_or, Bool, true, false, Option, Some, None, refl, ap, ◌∙◌, arith}
-use Rattle.std.specs.Prelude.{nat_lt, ◌==◌}
+use Rattle.std.proofs.Common.{◌≡◌, ℕ, zero, suc, ◌+◌, ◌-◌, ◌/◌, ◌≤◌, List, [], ◌∷◌, length, take, drop, Bool, true, false, Option, Some, None, refl, ap, ◌∙◌, arith}
+use Rattle.std.specs.Prelude.{◌==◌}
 use Rattle.flt_bpf.specs.declared.insn.Insn.{Insn}
 use Rattle.flt_bpf.specs.declared.operation.Width.{Width}
 use Rattle.flt_bpf.specs.declared.operation.Test.{Test}
@@ -15,11 +15,12 @@ use Rattle.flt_ast.specs.Tree.{NumberTree, literal, len, named, load, negated, a
 use Rattle.cap_octet.specs.declared.link.Link.{Link}
 use Rattle.flt_emit.specs.declared.elementary.Offset.{Offset}
 use Rattle.flt_emit.specs.declared.elementary.Offset.TheVariants.{Fixed, AfterHeader}
+use Rattle.flt_emit.specs.declared.elementary.Interval.{Interval}
 use Rattle.flt_emit.specs.declared.elementary.Elementary.{Elementary}
 use Rattle.flt_emit.specs.declared.elementary.Elementary.TheVariants.{Outcome, Field}
 use Rattle.flt_emit.specs.Numbers.{width_of}
 use Rattle.flt_emit.specs.Formula.{Formula, Single, Compare, Both, Either, Except, Among}
-use Rattle.flt_emit.specs.inside.Code.{plain, emit_branch, emit_comparison, emit_field, emit_mask, emit_accessor, constant, constant_operand, emit_right, emit_number, emit_relation, Block, emit_range, emit_chain, split, emit_search, most_halvings, emit_elementary, emit_formula}
+use Rattle.flt_emit.specs.inside.Code.{plain, emit_branch, emit_comparison, emit_field, emit_mask, emit_accessor, constant, constant_operand, emit_right, emit_number, emit_relation, Block, emit_interval, emit_chain, are_few, low_of, emit_search, MOST_HALVINGS, emit_elementary, emit_formula}
 use Rattle.flt_bpf.specs.declared.operation.Operation.TheVariants.{Store}
 use Rattle.flt_bpf.specs.declared.operation.Register.TheVariants.{Accumulator}
 use Rattle.flt_gen.proofs.Ascending.{if_case}
@@ -98,27 +99,29 @@ elementary_extends (Outcome true) hit miss c = extends_none c
 elementary_extends (Outcome false) hit miss c = extends_none c
 elementary_extends (Field t) hit miss c = field_extends t.offset t.width c _ (mask_extends t.mask c _ (comparison_extends t.comparison Constant t.value hit miss c))
 
-pub chain_extends : (vs : List ℕ) (hit miss : ℕ) (c : List Insn) → Extends c (emit_chain vs hit miss c).code
-chain_extends [] hit miss c = extends_none c
-chain_extends (v ∷ vs) hit miss c = extends_put c _ _ (chain_extends vs hit miss c)
+pub interval_extends : (from : Bool) (i : Interval) (hit miss : ℕ) (c : List Insn) → Extends c (emit_interval from i hit miss c).code
+interval_extends from i hit miss c =
+    if_case (λ (e : Block). Extends c e.code) (i.low == i.high) _ _
+    (λ one. branch_extends test.Equal Constant i.low hit miss c)
+    (λ many. if_case (λ (e : Block). Extends c e.code) from _ _
+    (λ above. branch_extends test.Greater Constant i.high miss hit c)
+    (λ any. extends_on (branch_extends test.Greater Constant i.high miss hit c) (branch_extends test.AtLeast Constant i.low _ miss (emit_branch test.Greater Constant i.high miss hit c))))
 
-pub range_extends : (from : Bool) (low high hit miss : ℕ) (c : List Insn) → Extends c (emit_range from low high hit miss c).code
-range_extends true low high hit miss c = branch_extends test.Greater Constant high miss hit c
-range_extends false low high hit miss c =
-    extends_on (branch_extends test.Greater Constant high miss hit c) (branch_extends test.AtLeast Constant low _ miss (emit_branch test.Greater Constant high miss hit c))
+pub chain_extends : (from : Bool) (is : List Interval) (hit miss : ℕ) (c : List Insn) → Extends c (emit_chain from is hit miss c).code
+chain_extends from [] hit miss c = extends_none c
+chain_extends from (i ∷ is) hit miss c =
+    let e = emit_chain false is hit miss c in extends_on (chain_extends false is hit miss c) (interval_extends from i hit e.entry e.code)
 
-pub search_extends : (k : ℕ) (from : Bool) (vs : List ℕ) (hit miss : ℕ) (c : List Insn) → Extends c (emit_search k from vs hit miss c).code
+pub search_extends : (k : ℕ) (from : Bool) (is : List Interval) (hit miss : ℕ) (c : List Insn) → Extends c (emit_search k from is hit miss c).code
 unfolding emit_search
-search_extends zero from vs hit miss c = chain_extends vs hit miss c
-search_extends (suc k) from vs hit miss c =
-    let h = split vs in
-    let upper = emit_search k true (drop h vs) hit miss c in
-    let lower = emit_search k from (take h vs) hit miss upper.code in
-    if_case (λ (e : Block). Extends c e.code) (nat_lt (length vs) 2) _ _
-    (λ e. chain_extends vs hit miss c)
-    (λ e. if_case (λ (e : Block). Extends c e.code) (h == 0) _ _
-    (λ e. range_extends from (get_or vs 0 0) (get_or vs (length vs - 1) 0) hit miss c)
-    (λ e. extends_on (extends_on (search_extends k true (drop h vs) hit miss c) (search_extends k from (take h vs) hit miss upper.code)) (branch_extends test.AtLeast Constant (get_or vs h 0) upper.entry lower.entry lower.code)))
+search_extends zero from is hit miss c = chain_extends from is hit miss c
+search_extends (suc k) from is hit miss c =
+    let h = length is / 2 in
+    let upper = emit_search k true (drop h is) hit miss c in
+    let lower = emit_search k from (take h is) hit miss upper.code in
+    if_case (λ (e : Block). Extends c e.code) (are_few is) _ _
+    (λ e. chain_extends from is hit miss c)
+    (λ e. extends_on (extends_on (search_extends k true (drop h is) hit miss c) (search_extends k from (take h is) hit miss upper.code)) (branch_extends test.AtLeast Constant (low_of (drop h is)) upper.entry lower.entry lower.code))
 
 pub emitted_extends : (link : Link) (f : Formula) (hit miss : ℕ) (c : List Insn) → Extends c (emit_formula link f hit miss c).code
 emitted_extends link (Single t) hit miss c = elementary_extends t hit miss c
@@ -128,4 +131,4 @@ emitted_extends link (Both a b) hit miss c =
 emitted_extends link (Either a b) hit miss c =
     let e = emit_formula link b hit miss c in extends_on (emitted_extends link b hit miss c) (emitted_extends link a hit e.entry e.code)
 emitted_extends link (Except a) hit miss c = emitted_extends link a miss hit c
-emitted_extends link (Among f vs) hit miss c = field_extends f.offset f.width c _ (mask_extends f.mask c _ (search_extends (most_halvings (length vs)) false vs hit miss c))
+emitted_extends link (Among f is) hit miss c = field_extends f.offset f.width c _ (mask_extends f.mask c _ (search_extends MOST_HALVINGS false is hit miss c))

@@ -1,34 +1,95 @@
--- Hosts or ports that are looked for together read as one after the other.
-use Rattle.std.proofs.Common.{◌≡◌, ℕ, List, [], ◌∷◌, Bool, true, false, Option, Some, None, refl, sym, ap, ap₂, ◌∙◌, arith}
-use Rattle.std.specs.Prelude.{◌==◌, ◌||◌}
+-- Addresses or ports that are looked for together read as one after the other.
+use Rattle.std.proofs.Common.{◌≡◌, ℕ, ◌+◌, ◌-◌, ◌*◌, ◌/◌, ◌^◌, ◌%◌, ◌<◌, ◌≤◌, List, [], ◌∷◌, Bool, true, false, Option, Some, None, refl, sym, ap, ap₂, ◌∙◌, subst, arith}
+use Rattle.std.specs.Prelude.{◌==◌, ◌||◌, ◌&&◌, nat_lt, nat_le, min, max, bit_and, if◌then◌else◌}
 use Rattle.std.proofs.lemmas.Bool.Decides.{nat_tests}
 use Rattle.flt_words.specs.declared.token.Protocol.{Protocol}
 use Rattle.flt_words.specs.declared.token.Protocol.TheVariants.{Ip, Arp, Rarp, Tcp, Udp}
-use Rattle.flt_words.specs.declared.token.Comparison.TheVariants.{Equal}
 use Rattle.flt_words.specs.declared.token.ValueType.{ValueType}
-use Rattle.flt_words.specs.declared.token.ValueType.TheVariants.{Host, Port}
+use Rattle.flt_words.specs.declared.token.ValueType.TheVariants.{Host, Net, Port, PortRange}
 use Rattle.flt_words.specs.declared.token.Side.TheVariants.{Source, Destination}
 use Rattle.flt_words.specs.declared.token.Join.TheVariants.{And, Or}
 use Rattle.flt_ast.specs.declared.qualifiers.Direction.{Direction}
 use Rattle.flt_ast.specs.declared.qualifiers.Direction.TheVariants as direction
+use Rattle.flt_ast.specs.declared.qualifiers.CompleteQualifiers.{CompleteQualifiers}
+use Rattle.flt_ast.specs.declared.value.Value.{Value}
+use Rattle.flt_ast.specs.declared.value.Value.TheVariants as value
+use Rattle.flt_ast.specs.declared.value.NetMask.TheVariants as mask
+use Rattle.flt_ast.specs.declared.net.Ip4Net.{Ip4Net}
+use Rattle.flt_ast.specs.Nets.{first_bits, ip4_net}
 use Rattle.cap_octet.specs.declared.link.Link.{Link}
 use Rattle.cap_octet.specs.Link.{type_offset}
 use Rattle.flt_emit.specs.declared.elementary.FrameKind.{FrameKind}
 use Rattle.flt_emit.specs.declared.elementary.FrameKind.TheVariants as kind
 use Rattle.flt_emit.specs.declared.elementary.Elementary.{Elementary}
+use Rattle.flt_emit.specs.declared.elementary.Interval.{Interval}
+use Rattle.flt_gen.specs.declared.group.Member.{Member}
 use Rattle.flt_gen.specs.declared.port.Ports.{Ports}
-use Rattle.flt_gen.specs.declared.port.Ports.TheVariants.{One, Several}
+use Rattle.flt_gen.specs.declared.port.Ports.TheVariants.{One, Between, Several}
 use Rattle.flt_emit.specs.declared.elementary.Sides.{Sides}
 use Rattle.flt_gen.specs.declared.port.Transport.{Transport}
-use Rattle.flt_emit.specs.Elementary.{MatchResult, Yes, No, Rejected, reading_of, with, field_at, compares_at, kind_test, elementary_reads}
-use Rattle.flt_emit.specs.Formula.{Formula, is_one_of, both, either, sides, reads}
-use Rattle.flt_gen.specs.Primitives.{address_places, port_places, port_sides, transport, following, ip_transport, ip6_transport, port_test, port_formula}
-use Rattle.flt_emit.specs.Formula.{remaining, any_sides}
-use Rattle.flt_gen.specs.inside.Group.{insert_ascending, one_formula, several_formula}
-use Rattle.flt_gen.proofs.Ascending.{one_of_inserted, one_of_others}
+use Rattle.flt_emit.specs.Elementary.{MatchResult, Yes, No, Rejected, reading_of, with, field_at, under_mask, kind_test, elementary_reads}
+use Rattle.flt_emit.specs.Formula.{Formula, is_in, is_within, both, either, all_of, sides, Numbers, no_numbers, any_sides, reads}
+use Rattle.flt_gen.specs.Primitives.{partial_mask, address_places, address_test, port_is, port_between, port_places, port_sides, transport, following, ip_transport, ip6_transport, port_test, port_formula, net_test, net_formula, value_formula}
+use Rattle.flt_gen.specs.inside.Intervals.{joined_all, sought}
+use Rattle.flt_gen.specs.inside.Group.{mask_of, found_member, net_numbers, member_of, several_formula}
+use Rattle.flt_gen.proofs.Ascending.{Ordered, within_joined}
 use Rattle.flt_gen.proofs.Exclusive.{ip_no_ip6, ip_no_arp, ip_no_rarp, arp_no_rarp}
+use Rattle.flt_gen.proofs.Prefixes.{Good, same_hit, net_hit, whole_mask}
+use Rattle.flt_gen.proofs.Runs.{one_number}
 
-yes_or : (b c : Bool) → reading_of (Some (b || c)) ≡ either (reading_of (Some b)) (reading_of (Some c))
+-- a field is what a member looks for, or what one of some does
+abbrev pub hit : Member → ℕ → Bool
+hit m x = is_in (under_mask (mask_of m.bits) x) m.numbers
+
+abbrev pub any_hit : List Member → ℕ → Bool
+any_hit [] x = false
+any_hit (m ∷ ms) x = hit m x || any_hit ms x
+
+abbrev pub raw_any : List Member → ℕ → Bool
+raw_any [] y = false
+raw_any (m ∷ ms) y = is_in y m.numbers || raw_any ms y
+
+-- members whose numbers mean the same under the mask of so many bits
+abbrev pub Goods : List Member → ℕ → Type 0
+Goods [] t = Unit {0}
+Goods (m ∷ ms) t = Good m t × Goods ms t
+
+pub any_same : (ms : List Member) (t : ℕ) → Goods ms t → (x : ℕ) → raw_any ms (under_mask (mask_of t) x) ≡ any_hit ms x
+any_same [] t h x = refl
+any_same (m ∷ ms) t h x = ap₂ (λ a b. a || b) (same_hit m t h.0 x) (any_same ms t h.1 x)
+
+-- ports of any kind
+abbrev pub is_port : ValueType → Bool
+is_port Port = true
+is_port PortRange = true
+is_port _ = false
+
+-- those that are looked for together: not both sides at once
+abbrev pub Merged : Direction → Type 0
+Merged (direction.Both And) = ⊥
+Merged _ = Unit {0}
+
+-- what is read of a field that is there
+abbrev read_by : Option ℕ → (ℕ → Bool) → MatchResult
+read_by o f = reading_of (with o (λ x. Some (f x)))
+
+abbrev exact : Bool → MatchResult
+exact b = reading_of (Some b)
+
+-- one member, and several, the first of which is f, on the sides that a direction asks for
+abbrev plain_reads : Direction → Option ℕ → Option ℕ → (ℕ → Bool) → MatchResult
+plain_reads (direction.One Source) s d f = read_by s f
+plain_reads (direction.One Destination) s d f = read_by d f
+plain_reads (direction.Both Or) s d f = either (read_by s f) (read_by d f)
+plain_reads (direction.Both And) s d f = both (read_by s f) (read_by d f)
+
+abbrev sides_read : Direction → Option ℕ → Option ℕ → (ℕ → Bool) → (ℕ → Bool) → (ℕ → Bool) → MatchResult
+sides_read (direction.One Source) s d f a o = read_by s a
+sides_read (direction.One Destination) s d f a o = read_by d a
+sides_read (direction.Both Or) s d f a o = either (read_by s f) (either (read_by d a) (read_by s o))
+sides_read (direction.Both And) s d f a o = both (read_by s f) (read_by d f)
+
+yes_or : (b c : Bool) → exact (b || c) ≡ either (exact b) (exact c)
 yes_or true c = refl
 yes_or false c = refl
 
@@ -36,107 +97,54 @@ or_none : (b : Bool) → (b || false) ≡ b
 or_none true = refl
 or_none false = refl
 
--- a field that is one of some numbers, or one more
-one_side : (o : Option ℕ) (a : ℕ) (bs : List ℕ) → reading_of (with o (λ x. Some (is_one_of x (insert_ascending a bs)))) ≡ either (reading_of (with o (λ x. Some (is_one_of x (a ∷ []))))) (reading_of (with o (λ x. Some (is_one_of x bs))))
-one_side None a bs = refl
-one_side (Some x) a bs =
-    ap (λ b. reading_of (Some b)) (one_of_inserted x a bs ∙ ap (λ b. b || is_one_of x bs) (sym (or_none (x == a)))) ∙ yes_or (x == a || false) (is_one_of x bs)
+read_or : (o : Option ℕ) (f g : ℕ → Bool) → read_by o (λ x. f x || g x) ≡ either (read_by o f) (read_by o g)
+read_or None f g = refl
+read_or (Some x) f g = yes_or (f x) (g x)
 
--- what is read of two fields that are there
-abbrev exact : Bool → MatchResult
-exact b = reading_of (Some b)
+read_same : (o : Option ℕ) (f g : ℕ → Bool) → ((x : ℕ) → f x ≡ g x) → read_by o f ≡ read_by o g
+read_same None f g e = refl
+read_same (Some x) f g e = ap exact (e x)
 
-both_told : (a f x y z : Bool) → (f ≡ true → x ≡ true) → either (exact a) (either (exact (z || y)) (exact (a || x))) ≡ either (either (exact a) (either (exact (z || false)) (exact (a || false)))) (either (exact f) (either (exact y) (exact x)))
-both_told true f x y z h = refl
-both_told false f x y true h = refl
-both_told false true true true false h = refl
-both_told false true true false false h = refl
-both_told false true false y false h = absurd (let e = h refl in cc)
-both_told false false x y false h = refl
+both_told : (m n k b o : Bool) → either (exact m) (either (exact (n || b)) (exact (k || o))) ≡ either (either (exact m) (exact n)) (either (exact k) (either (exact b) (exact o)))
+both_told true n k b o = refl
+both_told false true k b o = refl
+both_told false false true true o = refl
+both_told false false true false o = refl
+both_told false false false b o = refl
 
--- the same of the source and the destination
-two_sides : (os od : Option ℕ) (a f : ℕ) (bs : List ℕ) → is_one_of f bs ≡ true → either (reading_of (with os (λ x. Some (x == a)))) (either (reading_of (with od (λ x. Some (is_one_of x (insert_ascending a bs))))) (reading_of (with os (λ x. Some (is_one_of x (insert_ascending a bs)))))) ≡ either (either (reading_of (with os (λ x. Some (x == a)))) (either (reading_of (with od (λ x. Some (is_one_of x (a ∷ []))))) (reading_of (with os (λ x. Some (is_one_of x (a ∷ []))))))) (either (reading_of (with os (λ x. Some (x == f)))) (either (reading_of (with od (λ x. Some (is_one_of x bs)))) (reading_of (with os (λ x. Some (is_one_of x bs))))))
-two_sides None od a f bs h = refl
-two_sides (Some x) None a f bs h = cut (x == a)
+-- one more in front of those of which k is the first
+one_more : (d : Direction) (s t : Option ℕ) (m k o : ℕ → Bool) → Merged d → sides_read d s t m (λ x. m x || (k x || o x)) (λ x. k x || o x) ≡ either (plain_reads d s t m) (sides_read d s t k (λ x. k x || o x) o)
+one_more (direction.One Source) s t m k o h = read_or s m (λ x. k x || o x)
+one_more (direction.One Destination) s t m k o h = read_or t m (λ x. k x || o x)
+one_more (direction.Both Or) None t m k o h = refl
+one_more (direction.Both Or) (Some x) None m k o h = cut (m x) (k x)
   where
-    cut : (b : Bool) → either (exact b) Rejected ≡ either (either (exact b) Rejected) (either (exact (x == f)) Rejected)
-    cut true = refl
-    cut false = refl
-two_sides (Some x) (Some y) a f bs h =
-    ap (λ b. either (exact (x == a)) (either (exact b) (exact (is_one_of x (insert_ascending a bs))))) (one_of_inserted y a bs)
-    ∙ ap (λ b. either (exact (x == a)) (either (exact (y == a || is_one_of y bs)) (exact b))) (one_of_inserted x a bs)
-    ∙ both_told (x == a) (x == f) (is_one_of x bs) (is_one_of y bs) (y == a) first
+    cut : (b c : Bool) → either (exact b) Rejected ≡ either (either (exact b) Rejected) (either (exact c) Rejected)
+    cut true c = refl
+    cut false c = refl
+one_more (direction.Both Or) (Some x) (Some y) m k o h = both_told (m x) (m y) (k x) (k y || o y) (o x)
+one_more (direction.Both And) s t m k o h = absurd h
+
+one_alone : (d : Direction) (s t : Option ℕ) (m : ℕ → Bool) → sides_read d s t m (λ x. m x || false) (λ x. false) ≡ plain_reads d s t m
+one_alone (direction.One Source) s t m = read_same s (λ x. m x || false) m (λ x. or_none (m x))
+one_alone (direction.One Destination) s t m = read_same t (λ x. m x || false) m (λ x. or_none (m x))
+one_alone (direction.Both Or) None t m = refl
+one_alone (direction.Both Or) (Some x) None m = refl
+one_alone (direction.Both Or) (Some x) (Some y) m = last (m x) (m y)
   where
-    first : (x == f) ≡ true → is_one_of x bs ≡ true
-    first e = let same : x ≡ f = grind (arith, nat_tests) in ap (λ z. is_one_of z bs) same ∙ h
+    last : (b c : Bool) → either (exact b) (either (exact (c || false)) (exact false)) ≡ either (exact b) (exact c)
+    last true c = refl
+    last false true = refl
+    last false false = refl
+one_alone (direction.Both And) s t m = refl
 
--- after the first the source is looked for among the others
-abbrev all_numbers : Option ℕ → Option ℕ → ℕ → List ℕ → MatchResult
-all_numbers os od a bs =
-    either (reading_of (with os (λ x. Some (x == a)))) (either (reading_of (with od (λ x. Some (is_one_of x bs)))) (reading_of (with os (λ x. Some (is_one_of x bs)))))
-
-abbrev other_numbers : Option ℕ → Option ℕ → ℕ → List ℕ → MatchResult
-other_numbers os od a bs =
-    either (reading_of (with os (λ x. Some (x == a)))) (either (reading_of (with od (λ x. Some (is_one_of x bs)))) (reading_of (with os (λ x. Some (is_one_of x (remaining a bs))))))
-
-others_enough : (os od : Option ℕ) (a : ℕ) (bs : List ℕ) → other_numbers os od a bs ≡ all_numbers os od a bs
-others_enough None od a bs = refl
-others_enough (Some x) od a bs = by_first (x == a) refl
-  where
-    d : MatchResult
-    d = reading_of (with od (λ y. Some (is_one_of y bs)))
-
-    by_first : (b : Bool) → (x == a) ≡ b → either (exact b) (either d (exact (is_one_of x (remaining a bs)))) ≡ either (exact b) (either d (exact (is_one_of x bs)))
-    by_first true e = refl
-    by_first false e = ap (λ c. either d (exact c)) (one_of_others x a bs e)
-
--- those that are looked for together: not both sides at once
-abbrev pub Merged : Direction → Type 0
-Merged (direction.Both And) = ⊥
-Merged _ = Unit {0}
+sides_same : (d : Direction) (s t : Option ℕ) (f g a b o q : ℕ → Bool) → ((x : ℕ) → f x ≡ g x) → ((x : ℕ) → a x ≡ b x) → ((x : ℕ) → o x ≡ q x) → sides_read d s t f a o ≡ sides_read d s t g b q
+sides_same (direction.One Source) s t f g a b o q e h k = read_same s a b h
+sides_same (direction.One Destination) s t f g a b o q e h k = read_same t a b h
+sides_same (direction.Both Or) s t f g a b o q e h k = ap₂ either (read_same s f g e) (ap₂ either (read_same t a b h) (read_same s o q k))
+sides_same (direction.Both And) s t f g a b o q e h k = ap₂ both (read_same s f g e) (read_same t f g e)
 
 module _ (link : Link) (p : List ℕ) (n : ℕ) where
-  abbrev side_reads : Sides → Direction → ℕ → List ℕ → MatchResult
-  side_reads at d f bs = reads link (any_sides d at f bs) p n
-
-  sides_more : (at : Sides) (d : Direction) (a f : ℕ) (bs : List ℕ) → Merged d → is_one_of f bs ≡ true → side_reads at d a (insert_ascending a bs) ≡ either (side_reads at d a (a ∷ [])) (side_reads at d f bs)
-  sides_more at (direction.One Source) a f bs m h = one_side (field_at at.source at.width p) a bs
-  sides_more at (direction.One Destination) a f bs m h = one_side (field_at at.destination at.width p) a bs
-  sides_more at (direction.Both Or) a f bs m h =
-      let s = field_at at.source at.width p in
-      let t = field_at at.destination at.width p in
-      others_enough s t a (insert_ascending a bs)
-      ∙ two_sides s t a f bs h
-      ∙ ap (λ r. either (all_numbers s t a (a ∷ [])) r) (sym (others_enough s t f bs))
-  sides_more at (direction.Both And) a f bs m h = absurd m
-
-  plain_one : (o : Option ℕ) (a : ℕ) → reading_of (with o (λ x. Some (x == a))) ≡ reading_of (with o (λ x. Some (is_one_of x (a ∷ []))))
-  plain_one None a = refl
-  plain_one (Some x) a = ap exact (sym (or_none (x == a)))
-
-  again : (a b : MatchResult) → either a b ≡ either a (either b a)
-  again Yes b = refl
-  again No Yes = refl
-  again No No = refl
-  again No Rejected = refl
-  again Rejected b = refl
-
-  -- one number
-  abbrev sides_of_one : Sides → Direction → ℕ → Formula
-  sides_of_one at d a = sides d (compares_at at.source at.width Equal a ∷ []) (compares_at at.destination at.width Equal a ∷ [])
-
-  sides_plain : (at : Sides) (d : Direction) (a : ℕ) → Merged d → reads link (sides_of_one at d a) p n ≡ side_reads at d a (a ∷ [])
-  sides_plain at (direction.One Source) a m = plain_one (field_at at.source at.width p) a
-  sides_plain at (direction.One Destination) a m = plain_one (field_at at.destination at.width p) a
-  sides_plain at (direction.Both Or) a m =
-      let s = field_at at.source at.width p in
-      let t = field_at at.destination at.width p in
-      let r = reading_of (with s (λ x. Some (x == a))) in
-      again r (reading_of (with t (λ x. Some (x == a))))
-      ∙ ap (λ q. either r (either q r)) (plain_one t a)
-      ∙ ap (λ q. either r (either (reading_of (with t (λ x. Some (is_one_of x (a ∷ []))))) q)) (plain_one s a)
-  sides_plain at (direction.Both And) a m = absurd m
-
   or_no : (s : MatchResult) → either s No ≡ s
   or_no Yes = refl
   or_no No = refl
@@ -213,58 +221,220 @@ module _ (link : Link) (p : List ℕ) (n : ℕ) where
   two_headers protocol v w =
       either (both (kind_reads kind.Ip) (after_reads protocol (ip_transport link) v)) (both (kind_reads kind.Ip6) (after_reads protocol (ip6_transport link) w))
 
-  abbrev by_sides : ValueType → Option Protocol → (Sides → MatchResult) → MatchResult
-  by_sides Host None x =
+  abbrev hosts_by : Option Protocol → (Sides → MatchResult) → MatchResult
+  hosts_by None x =
       either (both (kind_reads kind.Ip) (x (address_places link kind.Ip)))
       (either (both (kind_reads kind.Arp) (x (address_places link kind.Arp))) (both (kind_reads kind.Rarp) (x (address_places link kind.Rarp))))
-  by_sides Host (Some Ip) x = both (kind_reads kind.Ip) (x (address_places link kind.Ip))
-  by_sides Host (Some Arp) x = both (kind_reads kind.Arp) (x (address_places link kind.Arp))
-  by_sides Host (Some Rarp) x = both (kind_reads kind.Rarp) (x (address_places link kind.Rarp))
-  by_sides Host (Some _) x = No
-  by_sides Port protocol x = two_headers protocol (x (port_places (ip_transport link))) (x (port_places (ip6_transport link)))
+  hosts_by (Some Ip) x = both (kind_reads kind.Ip) (x (address_places link kind.Ip))
+  hosts_by (Some Arp) x = both (kind_reads kind.Arp) (x (address_places link kind.Arp))
+  hosts_by (Some Rarp) x = both (kind_reads kind.Rarp) (x (address_places link kind.Rarp))
+  hosts_by (Some _) x = No
+
+  abbrev ports_by : Option Protocol → (Sides → MatchResult) → MatchResult
+  ports_by protocol x = two_headers protocol (x (port_places (ip_transport link))) (x (port_places (ip6_transport link)))
+
+  abbrev pub by_sides : ValueType → Option Protocol → (Sides → MatchResult) → MatchResult
+  by_sides Host protocol x = hosts_by protocol x
+  by_sides Net protocol x = hosts_by protocol x
+  by_sides Port protocol x = ports_by protocol x
+  by_sides PortRange protocol x = ports_by protocol x
   by_sides _ protocol x = No
 
-  sides_join : (k : ValueType) (protocol : Option Protocol) (x y : Sides → MatchResult) → by_sides k protocol (λ at. either (x at) (y at)) ≡ either (by_sides k protocol x) (by_sides k protocol y)
-  sides_join Host None x y =
+  hosts_join : (protocol : Option Protocol) (x y : Sides → MatchResult) → hosts_by protocol (λ at. either (x at) (y at)) ≡ either (hosts_by protocol x) (hosts_by protocol y)
+  hosts_join None x y =
       three_kinds (kind_reads kind.Ip) (kind_reads kind.Arp) (kind_reads kind.Rarp) _ _ _ _ _ _ (ip_no_arp p (type_offset link)) (ip_no_rarp p (type_offset link)) (arp_no_rarp p (type_offset link))
-  sides_join Host (Some Ip) x y = one_kind (kind_reads kind.Ip) _ _
-  sides_join Host (Some Arp) x y = one_kind (kind_reads kind.Arp) _ _
-  sides_join Host (Some Rarp) x y = one_kind (kind_reads kind.Rarp) _ _
-  sides_join Host (Some _) x y = refl
-  sides_join Port protocol x y =
+  hosts_join (Some Ip) x y = one_kind (kind_reads kind.Ip) _ _
+  hosts_join (Some Arp) x y = one_kind (kind_reads kind.Arp) _ _
+  hosts_join (Some Rarp) x y = one_kind (kind_reads kind.Rarp) _ _
+  hosts_join (Some _) x y = refl
+
+  ports_join : (protocol : Option Protocol) (x y : Sides → MatchResult) → ports_by protocol (λ at. either (x at) (y at)) ≡ either (ports_by protocol x) (ports_by protocol y)
+  ports_join protocol x y =
       let h = port_places (ip_transport link) in
       let k = port_places (ip6_transport link) in
       ap₂ (λ v w. either (both (kind_reads kind.Ip) v) (both (kind_reads kind.Ip6) w)) (after_more protocol (ip_transport link) (x h) (y h)) (after_more protocol (ip6_transport link) (x k) (y k))
       ∙ two_kinds (kind_reads kind.Ip) (kind_reads kind.Ip6) _ _ _ _ (ip_no_ip6 p (type_offset link))
+
+  sides_join : (k : ValueType) (protocol : Option Protocol) (x y : Sides → MatchResult) → by_sides k protocol (λ at. either (x at) (y at)) ≡ either (by_sides k protocol x) (by_sides k protocol y)
+  sides_join Host protocol x y = hosts_join protocol x y
+  sides_join Net protocol x y = hosts_join protocol x y
+  sides_join Port protocol x y = ports_join protocol x y
+  sides_join PortRange protocol x y = ports_join protocol x y
   sides_join _ protocol x y = refl
 
-  ports_are : (protocol : Option Protocol) (d : Direction) (ports : Ports) (bs : List ℕ) → reads link (port_formula link (port_test protocol d ports) bs) p n ≡ two_headers protocol (reads link (port_sides ports d (ip_transport link) bs) p n) (reads link (port_sides ports d (ip6_transport link) bs) p n)
+  ports_are : (protocol : Option Protocol) (d : Direction) (ports : Ports) (bs : Numbers) → reads link (port_formula link (port_test protocol d ports) bs) p n ≡ two_headers protocol (reads link (port_sides ports d (ip_transport link) bs) p n) (reads link (port_sides ports d (ip6_transport link) bs) p n)
   ports_are protocol d ports bs =
       let h = ip_transport link in
       let k = ip6_transport link in
       ap₂ (λ v w. either (both (kind_reads kind.Ip) v) (both (kind_reads kind.Ip6) w)) (after_is protocol h (port_sides ports d h bs)) (after_is protocol k (port_sides ports d k bs))
 
-  -- members of a group
-  abbrev pub together : ValueType → Option Protocol → Direction → ℕ → List ℕ → MatchResult
-  together k protocol d f bs = reads link (several_formula link k protocol d f bs) p n
+  -- several, and one
+  abbrev source_of : Sides → Option ℕ
+  source_of at = field_at at.source at.width p
 
-  several_are : (k : ValueType) (protocol : Option Protocol) (d : Direction) (f : ℕ) (bs : List ℕ) → together k protocol d f bs ≡ by_sides k protocol (λ at. side_reads at d f bs)
-  several_are Port protocol d f bs = ports_are protocol d (Several f) bs
-  several_are Host (Some Ip) d f bs = refl
-  several_are _ _ d f bs = refl
+  abbrev destination_of : Sides → Option ℕ
+  destination_of at = field_at at.destination at.width p
 
-  one_is : (k : ValueType) (protocol : Option Protocol) (d : Direction) (a : ℕ) → reads link (one_formula link k protocol d a) p n ≡ by_sides k protocol (λ at. reads link (sides_of_one at d a) p n)
-  one_is Port protocol d a = ports_are protocol d (One a) []
-  one_is Host (Some Ip) d a = refl
-  one_is _ _ d a = refl
+  abbrev pub members_read : ValueType → Option Protocol → Direction → Member → List Member → MatchResult
+  members_read k protocol d m ms =
+      by_sides k protocol (λ at. sides_read d (source_of at) (destination_of at) (hit m) (any_hit (m ∷ ms)) (any_hit ms))
 
-  pub more_together : (k : ValueType) (protocol : Option Protocol) (d : Direction) (a f : ℕ) (bs : List ℕ) → Merged d → is_one_of f bs ≡ true → together k protocol d a (insert_ascending a bs) ≡ either (together k protocol d a (a ∷ [])) (together k protocol d f bs)
-  more_together k protocol d a f bs m h =
-      several_are k protocol d a (insert_ascending a bs)
-      ∙ ap (by_sides k protocol) (λ i at. sides_more at d a f bs m h i)
-      ∙ sides_join k protocol (λ at. side_reads at d a (a ∷ [])) (λ at. side_reads at d f bs)
-      ∙ ap₂ either (sym (several_are k protocol d a (a ∷ []))) (sym (several_are k protocol d f bs))
+  abbrev member_reads : ValueType → Option Protocol → Direction → Member → MatchResult
+  member_reads k protocol d m = by_sides k protocol (λ at. plain_reads d (source_of at) (destination_of at) (hit m))
 
-  pub plain_together : (k : ValueType) (protocol : Option Protocol) (d : Direction) (a : ℕ) → Merged d → reads link (one_formula link k protocol d a) p n ≡ together k protocol d a (a ∷ [])
-  plain_together k protocol d a m =
-      one_is k protocol d a ∙ ap (by_sides k protocol) (λ i at. sides_plain at d a m i) ∙ sym (several_are k protocol d a (a ∷ []))
+  pub members_more : (k : ValueType) (protocol : Option Protocol) (d : Direction) (m l : Member) (ms : List Member) → Merged d → members_read k protocol d m (l ∷ ms) ≡ either (member_reads k protocol d m) (members_read k protocol d l ms)
+  members_more k protocol d m l ms h =
+      ap (by_sides k protocol) (λ i at. one_more d (source_of at) (destination_of at) (hit m) (hit l) (any_hit ms) h i)
+      ∙ sides_join k protocol (λ at. plain_reads d (source_of at) (destination_of at) (hit m)) (λ at. sides_read d (source_of at) (destination_of at) (hit l) (any_hit (l ∷ ms)) (any_hit ms))
+
+  pub members_alone : (k : ValueType) (protocol : Option Protocol) (d : Direction) (m : Member) → members_read k protocol d m [] ≡ member_reads k protocol d m
+  members_alone k protocol d m = ap (by_sides k protocol) (λ i at. one_alone d (source_of at) (destination_of at) (hit m) i)
+
+  -- the formula of several
+  abbrev side_reads : Sides → Direction → ℕ → Numbers → MatchResult
+  side_reads at d t numbers = reads link (any_sides d at (mask_of t) numbers) p n
+
+  sides_are : (at : Sides) (d : Direction) (t : ℕ) (m : Member) (ms : List Member) (all others : List Interval) → Merged d → Goods (m ∷ ms) t → Ordered 0 all → Ordered 0 others → ((y : ℕ) → is_within y all ≡ raw_any (m ∷ ms) y) → ((y : ℕ) → is_within y others ≡ raw_any ms y) → side_reads at d t (sought m.numbers all others) ≡ sides_read d (source_of at) (destination_of at) (hit m) (any_hit (m ∷ ms)) (any_hit ms)
+  sides_are at d t m ms all others h g oa oo wa wo = by d h ∙ same
+    where
+      u : ℕ → ℕ
+      u x = under_mask (mask_of t) x
+
+      same : sides_read d (source_of at) (destination_of at) (λ x. is_within (u x) (m.numbers ∷ [])) (λ x. is_within (u x) (joined_all all)) (λ x. is_within (u x) (joined_all others)) ≡ sides_read d (source_of at) (destination_of at) (hit m) (any_hit (m ∷ ms)) (any_hit ms)
+      same = sides_same d (source_of at) (destination_of at) _ _ _ _ _ _
+          (λ x. or_none (is_in (u x) m.numbers) ∙ same_hit m t g.0 x)
+          (λ x. within_joined (u x) all oa ∙ wa (u x) ∙ any_same (m ∷ ms) t g x)
+          (λ x. within_joined (u x) others oo ∙ wo (u x) ∙ any_same ms t g.1 x)
+
+      by : (e : Direction) → Merged e → reads link (any_sides e at (mask_of t) (sought m.numbers all others)) p n ≡ sides_read e (source_of at) (destination_of at) (λ x. is_within (u x) (m.numbers ∷ [])) (λ x. is_within (u x) (joined_all all)) (λ x. is_within (u x) (joined_all others))
+      by (direction.One Source) q = refl
+      by (direction.One Destination) q = refl
+      by (direction.Both Or) q = refl
+      by (direction.Both And) q = absurd q
+
+  -- ports have no mask
+  pub several_are : (q : CompleteQualifiers) (t : ℕ) (k : ValueType) (m : Member) (ms : List Member) (all others : List Interval) → (is_port k ≡ true → 32 ≤ t) → Merged q.direction → Goods (m ∷ ms) t → Ordered 0 all → Ordered 0 others → ((y : ℕ) → is_within y all ≡ raw_any (m ∷ ms) y) → ((y : ℕ) → is_within y others ≡ raw_any ms y) → reads link (several_formula link q t k (sought m.numbers all others)) p n ≡ members_read k q.protocol q.direction m ms
+  several_are q t k m ms all others whole h g oa oo wa wo = by k whole
+    where
+      numbers : Numbers
+      numbers = sought m.numbers all others
+
+      each : (at : Sides) → side_reads at q.direction t numbers ≡ sides_read q.direction (source_of at) (destination_of at) (hit m) (any_hit (m ∷ ms)) (any_hit ms)
+      each at = sides_are at q.direction t m ms all others h g oa oo wa wo
+
+      hosts_are : (protocol : Option Protocol) → reads link (several_formula link (record q { protocol = protocol }) t Host numbers) p n ≡ hosts_by protocol (λ at. side_reads at q.direction t numbers)
+      hosts_are None = refl
+      hosts_are (Some Ip) = refl
+      hosts_are (Some Arp) = refl
+      hosts_are (Some Rarp) = refl
+      hosts_are (Some _) = refl
+
+      ports : 32 ≤ t → reads link (several_formula link q t Port numbers) p n ≡ ports_by q.protocol (λ at. side_reads at q.direction t numbers)
+      ports l =
+          ports_are q.protocol q.direction Several numbers
+          ∙ ap (λ o. ports_by q.protocol (λ at. reads link (any_sides q.direction at o numbers) p n)) (sym (whole_mask t l))
+
+      by : (k : ValueType) → (is_port k ≡ true → 32 ≤ t) → reads link (several_formula link q t k numbers) p n ≡ by_sides k q.protocol (λ at. sides_read q.direction (source_of at) (destination_of at) (hit m) (any_hit (m ∷ ms)) (any_hit ms))
+      by Host w = hosts_are q.protocol ∙ ap (hosts_by q.protocol) (λ i at. each at i)
+      by Net w = hosts_are q.protocol ∙ ap (hosts_by q.protocol) (λ i at. each at i)
+      by Port w = ports (w refl) ∙ ap (ports_by q.protocol) (λ i at. each at i)
+      by PortRange w = ports (w refl) ∙ ap (ports_by q.protocol) (λ i at. each at i)
+      by _ w = refl
+
+  -- the row of a member
+  row_sides : (at : Sides) (d : Direction) (s t : List Elementary) (f : ℕ → Bool) → reads link (all_of s) p n ≡ read_by (source_of at) f → reads link (all_of t) p n ≡ read_by (destination_of at) f → reads link (sides d s t) p n ≡ plain_reads d (source_of at) (destination_of at) f
+  row_sides at (direction.One Source) s t f e h = e
+  row_sides at (direction.One Destination) s t f e h = h
+  row_sides at (direction.Both Or) s t f e h = ap₂ either e h
+  row_sides at (direction.Both And) s t f e h = ap₂ both e h
+
+  hosts_same : (protocol : Option Protocol) (x y : Sides → MatchResult) → ((k : FrameKind) → x (address_places link k) ≡ y (address_places link k)) → hosts_by protocol x ≡ hosts_by protocol y
+  hosts_same None x y e = ap₂ either (ap (both (kind_reads kind.Ip)) (e kind.Ip)) (ap₂ either (ap (both (kind_reads kind.Arp)) (e kind.Arp)) (ap (both (kind_reads kind.Rarp)) (e kind.Rarp)))
+  hosts_same (Some Ip) x y e = ap (both (kind_reads kind.Ip)) (e kind.Ip)
+  hosts_same (Some Arp) x y e = ap (both (kind_reads kind.Arp)) (e kind.Arp)
+  hosts_same (Some Rarp) x y e = ap (both (kind_reads kind.Rarp)) (e kind.Rarp)
+  hosts_same (Some _) x y e = refl
+
+  address_row : (protocol : Option Protocol) (d : Direction) (mask : Option ℕ) (a : ℕ) (f : ℕ → Bool) → ((x : ℕ) → (under_mask mask x == a) ≡ f x) → reads link (net_formula link protocol (net_test d mask a)) p n ≡ hosts_by protocol (λ at. plain_reads d (source_of at) (destination_of at) f)
+  address_row protocol d mask a f e = kinds_are protocol ∙ hosts_same protocol row (λ at. plain_reads d (source_of at) (destination_of at) f) each
+    where
+      row : Sides → MatchResult
+      row at = reads link (sides d (address_test mask a at.source ∷ []) (address_test mask a at.destination ∷ [])) p n
+
+      kinds_are : (protocol : Option Protocol) → reads link (net_formula link protocol (net_test d mask a)) p n ≡ hosts_by protocol row
+      kinds_are None = refl
+      kinds_are (Some Ip) = refl
+      kinds_are (Some Arp) = refl
+      kinds_are (Some Rarp) = refl
+      kinds_are (Some _) = refl
+
+      each : (k : FrameKind) → row (address_places link k) ≡ plain_reads d (source_of (address_places link k)) (destination_of (address_places link k)) f
+      each k =
+          let at = address_places link k in
+          row_sides at d (address_test mask a at.source ∷ []) (address_test mask a at.destination ∷ []) f
+          (read_same (source_of at) (λ x. under_mask mask x == a) f e) (read_same (destination_of at) (λ x. under_mask mask x == a) f e)
+
+  both_ends : (o : Option ℕ) (a b : ℕ) → both (read_by o (λ x. nat_le a x)) (read_by o (λ x. nat_le x b)) ≡ read_by o (λ x. nat_le a x && nat_le x b)
+  both_ends None a b = refl
+  both_ends (Some x) a b = by (nat_le a x) (nat_le x b)
+    where
+      by : (c e : Bool) → both (exact c) (exact e) ≡ exact (c && e)
+      by true e = refl
+      by false e = refl
+
+  port_row : (protocol : Option Protocol) (d : Direction) (ports : Ports) (f : ℕ → Bool) → ((header : Transport) → reads link (port_sides ports d header no_numbers) p n ≡ plain_reads d (source_of (port_places header)) (destination_of (port_places header)) f) → reads link (port_formula link (port_test protocol d ports) no_numbers) p n ≡ ports_by protocol (λ at. plain_reads d (source_of at) (destination_of at) f)
+  port_row protocol d ports f e =
+      ports_are protocol d ports no_numbers ∙ ap₂ (two_headers protocol) (e (ip_transport link)) (e (ip6_transport link))
+
+  one_port : (d : Direction) (a : ℕ) (f : ℕ → Bool) → ((x : ℕ) → (x == a) ≡ f x) → (header : Transport) → reads link (port_sides (One a) d header no_numbers) p n ≡ plain_reads d (source_of (port_places header)) (destination_of (port_places header)) f
+  one_port d a f e header =
+      let at = port_places header in
+      row_sides at d (port_is a header.source) (port_is a header.destination) f (read_same (source_of at) (λ x. x == a) f e) (read_same (destination_of at) (λ x. x == a) f e)
+
+  some_ports : (d : Direction) (a b : ℕ) (f : ℕ → Bool) → ((x : ℕ) → (nat_le a x && nat_le x b) ≡ f x) → (header : Transport) → reads link (port_sides (Between a b) d header no_numbers) p n ≡ plain_reads d (source_of (port_places header)) (destination_of (port_places header)) f
+  some_ports d a b f e header =
+      let at = port_places header in
+      row_sides at d (port_between a b header.source) (port_between a b header.destination) f
+      (both_ends (source_of at) a b ∙ read_same (source_of at) (λ x. nat_le a x && nat_le x b) f e)
+      (both_ends (destination_of at) a b ∙ read_same (destination_of at) (λ x. nat_le a x && nat_le x b) f e)
+
+  abbrev Rows : ValueType → Option Protocol → Direction → Value → Member → Type 0
+  Rows k protocol d v m = reads link (value_formula link k protocol d v) p n ≡ member_reads k protocol d m
+
+  unmasked : (i : Interval) (x : ℕ) → is_in x i ≡ is_in (under_mask (mask_of 32) x) i
+  unmasked i x = ap (λ o. is_in (under_mask o x) i) (sym (whole_mask 32 (omega arith)))
+
+  some_member : (l m : Member) → Some l ≡ Some m → l ≡ m
+  some_member l m e = cc
+
+  net_row : (protocol : Option Protocol) (d : Direction) (b a : ℕ) (m : Member) → net_numbers b (record { address = a; mask = first_bits 32 b }) ≡ Some m → reads link (net_formula link protocol (net_test d (mask_of b) a)) p n ≡ hosts_by protocol (λ at. plain_reads d (source_of at) (destination_of at) (hit m))
+  net_row protocol d b a m e = by (bit_and a (first_bits 32 b) == a) refl e
+    where
+      l : Member
+      l = found_member b a (a + (2 ^ 32 - 1 - first_bits 32 b))
+
+      by : (t : Bool) → (bit_and a (first_bits 32 b) == a) ≡ t → (if t then Some l else None) ≡ Some m → reads link (net_formula link protocol (net_test d (mask_of b) a)) p n ≡ hosts_by protocol (λ at. plain_reads d (source_of at) (destination_of at) (hit m))
+      by true t h =
+          let inside : bit_and a (first_bits 32 b) ≡ a = grind (arith, nat_tests) in
+          subst (λ (z : Member). reads link (net_formula link protocol (net_test d (mask_of b) a)) p n ≡ hosts_by protocol (λ at. plain_reads d (source_of at) (destination_of at) (hit z))) (some_member l m h)
+          (address_row protocol d (mask_of b) a (hit l) (λ x. net_hit b a x inside))
+      by false t h = cc
+
+  pub member_is : (k : ValueType) (protocol : Option Protocol) (d : Direction) (v : Value) (m : Member) → member_of k v ≡ Some m → Rows k protocol d v m
+  member_is Host protocol d (value.Dotted x z) m e =
+      let l = found_member 32 x.address x.address in
+      subst (λ (w : Member). Rows Host protocol d (value.Dotted x z) w) (some_member l m e)
+      (address_row protocol d None x.address (hit l) (λ y. one_number y x.address x.address refl ∙ unmasked l.numbers y))
+  member_is Net protocol d (value.Number x mask.Unwritten) m e = net_row protocol d 8 (x % 256 * 2 ^ 24) m e
+  member_is Net protocol d (value.Number x (mask.Prefix b)) m e = net_row protocol d b (x % 256 * 2 ^ 24) m e
+  member_is Net protocol d (value.Dotted x mask.Unwritten) m e = net_row protocol d (8 * x.parts) x.address m e
+  member_is Net protocol d (value.Dotted x (mask.Prefix b)) m e = net_row protocol d b x.address m e
+  member_is Port protocol d (value.Number x z) m e =
+      let l = found_member 32 x x in
+      subst (λ (w : Member). Rows Port protocol d (value.Number x z) w) (some_member l m e)
+      (port_row protocol d (One x) (hit l) (one_port d x (hit l) (λ y. one_number y x x refl ∙ unmasked l.numbers y)))
+  member_is PortRange protocol d (value.Range a b) m e =
+      let l = found_member 32 (min a b) (max a b) in
+      subst (λ (w : Member). Rows PortRange protocol d (value.Range a b) w) (some_member l m e)
+      (port_row protocol d (Between (min a b) (max a b)) (hit l) (some_ports d (min a b) (max a b) (hit l) (λ y. unmasked l.numbers y)))
+  member_is _ protocol d _ m e = cc

@@ -16,6 +16,7 @@ use Rattle.flt_ast.specs.Tree.{NumberTree, literal, len, named, load, negated, a
 use Rattle.flt_ast.specs.inside.Nodes.{number_onto, truth_onto, expr_onto}
 use Rattle.cap_octet.specs.declared.link.Link.{Link}
 use Rattle.flt_emit.specs.declared.code.Targets.{Targets}
+use Rattle.flt_gen.specs.declared.group.Entry.{Entry}
 use Rattle.flt_gen.specs.declared.waiting.LeftTruth.{LeftTruth}
 use Rattle.flt_gen.specs.declared.waiting.Pending.TheVariants as next
 use Rattle.flt_gen.specs.inside.Emitted.{protocols_of, relation_formula, qualified_needed}
@@ -71,12 +72,12 @@ between c to ts = waiting c to ts no_group
 abbrev emit_of : Link → Formula → List Insn → Targets → List LeftTruth → Walk
 emit_of link f c to ts = finish_truth (emit_formula link f to.yes to.no c) (between c to ts)
 
-leaf_put : (link : Link) (f : Formula) (c : List Insn) (to : Targets) (ts : List LeftTruth) (group : Group) (bs : List ℕ) → finish_formula link f (flush_members link (waiting c to ts group) bs) ≡ emit_of link (or_any f (group_formula link group) bs) c to ts
+leaf_put : (link : Link) (f : Formula) (c : List Insn) (to : Targets) (ts : List LeftTruth) (group : Group) (bs : List Entry) → finish_formula link f (flush_members link (waiting c to ts group) bs) ≡ emit_of link (or_any f (group_formula link group) bs) c to ts
 leaf_put link f c to ts group [] = refl
 leaf_put link f c to ts group (b ∷ bs) = refl
 
 value_walked : (link : Link) (q : CompleteQualifiers) (v : Value) (c : List Insn) (to : Targets) (ts : List LeftTruth) (group : Group) (o : Option Group) → emit_value link q v (waiting c to ts group) o ≡ emit_of link (choice o (λ more. group_formula link more) (or_group link (qualified_needed link q v) group)) c to ts
-value_walked link q v c to ts group None = leaf_put link (qualified_needed link q v) c to ts group group.numbers
+value_walked link q v c to ts group None = leaf_put link (qualified_needed link q v) c to ts group group.entries
 value_walked link q v c to ts group (Some more) = refl
 
 -- a comparison after the group that waits: a constant that is its right operand is in the test
@@ -99,7 +100,7 @@ relation_walked link k a b c to ts d =
     both len = number_walked link a _ d
     both r = number_walked link r _ (number_onto a d) ∙ number_walked link a _ d
 
-relation_settled : (link : Link) (k : Comparison) (a b : NumberTree) (c : List Insn) (to : Targets) (ts : List LeftTruth) (group : Group) (d : List Node) (bs : List ℕ) → comparison_walked link k b (flush_members link (waiting c to ts group) bs) (number_onto a d) ≡ emit_nodes link (emit_of link (or_any (relation_formula link k a b) (group_formula link group) bs) c to ts) d
+relation_settled : (link : Link) (k : Comparison) (a b : NumberTree) (c : List Insn) (to : Targets) (ts : List LeftTruth) (group : Group) (d : List Node) (bs : List Entry) → comparison_walked link k b (flush_members link (waiting c to ts group) bs) (number_onto a d) ≡ emit_nodes link (emit_of link (or_any (relation_formula link k a b) (group_formula link group) bs) c to ts) d
 relation_settled link k a b c to ts group d [] = relation_walked link k a b c to ts d
 relation_settled link k a b c to ts group d (h ∷ hs) =
     let e = emit_formula link (group_formula link group) to.yes to.no c in
@@ -126,7 +127,7 @@ abbrev Walks : Link → TruthTree → Group → Type 0
 Walks link a group =
     (c : List Insn) (to : Targets) (ts : List LeftTruth) (d : List Node) → emit_nodes link (waiting c to ts group) (truth_onto a d) ≡ emit_nodes link (emit_of link (grouped_formula link group a) c to ts) d
 
-denied_walked : (link : Link) (a : TruthTree) → Walks link a no_group → (c : List Insn) (to : Targets) (ts : List LeftTruth) (group : Group) (d : List Node) (bs : List ℕ) → emit_nodes link (emit_truth_node link (flush_members link (waiting c to ts group) bs) Not) (truth_onto a d) ≡ emit_nodes link (emit_of link (or_any (Except (grouped_formula link no_group a)) (group_formula link group) bs) c to ts) d
+denied_walked : (link : Link) (a : TruthTree) → Walks link a no_group → (c : List Insn) (to : Targets) (ts : List LeftTruth) (group : Group) (d : List Node) (bs : List Entry) → emit_nodes link (emit_truth_node link (flush_members link (waiting c to ts group) bs) Not) (truth_onto a d) ≡ emit_nodes link (emit_of link (or_any (Except (grouped_formula link no_group a)) (group_formula link group) bs) c to ts) d
 denied_walked link a h c to ts group d [] = h c (targets to.no to.yes) ts d
 denied_walked link a h c to ts group d (b ∷ bs) =
     let e = emit_formula link (group_formula link group) to.yes to.no c in h e.code (targets e.entry to.yes) ts d
@@ -136,7 +137,7 @@ both_walked link a b ha hb c to ts d =
     let e = emit_formula link (grouped_formula link no_group b) to.yes to.no c in
     hb c to (record { join = And; to = to } ∷ ts) (truth_onto a d) ∙ ha e.code (targets e.entry to.no) ts d
 
-settled_both : (link : Link) (a b : TruthTree) → Walks link a no_group → Walks link b no_group → (c : List Insn) (to : Targets) (ts : List LeftTruth) (group : Group) (d : List Node) (bs : List ℕ) → (let v = flush_members link (waiting c to ts group) bs in emit_nodes link (record v { truths = record { join = And; to = v.to } ∷ v.truths }) (truth_onto b (truth_onto a d))) ≡ emit_nodes link (emit_of link (or_any (Both (grouped_formula link no_group a) (grouped_formula link no_group b)) (group_formula link group) bs) c to ts) d
+settled_both : (link : Link) (a b : TruthTree) → Walks link a no_group → Walks link b no_group → (c : List Insn) (to : Targets) (ts : List LeftTruth) (group : Group) (d : List Node) (bs : List Entry) → (let v = flush_members link (waiting c to ts group) bs in emit_nodes link (record v { truths = record { join = And; to = v.to } ∷ v.truths }) (truth_onto b (truth_onto a d))) ≡ emit_nodes link (emit_of link (or_any (Both (grouped_formula link no_group a) (grouped_formula link no_group b)) (group_formula link group) bs) c to ts) d
 settled_both link a b ha hb c to ts group d [] = both_walked link a b ha hb c to ts d
 settled_both link a b ha hb c to ts group d (x ∷ xs) =
     let e = emit_formula link (group_formula link group) to.yes to.no c in both_walked link a b ha hb e.code (targets to.yes e.entry) ts d
@@ -149,13 +150,13 @@ either_walked link a b group (Some more) e ha hm hb c to ts d = member_waits lin
 
 truth_walked : (link : Link) (a : TruthTree) (group : Group) → Walks link a group
 truth_walked link (qualified q v) group = λ c to ts d. ap (λ w. emit_nodes link w d) (value_walked link q v c to ts group (larger_group q v group))
-truth_walked link (compared x a b) group = λ c to ts d. compare_walked link x b (waiting c to ts group) (number_onto a d) ∙ relation_settled link x a b c to ts group d group.numbers
-truth_walked link (denied a) group = λ c to ts d. denied_walked link a (truth_walked link a no_group) c to ts group d group.numbers
+truth_walked link (compared x a b) group = λ c to ts d. compare_walked link x b (waiting c to ts group) (number_onto a d) ∙ relation_settled link x a b c to ts group d group.entries
+truth_walked link (denied a) group = λ c to ts d. denied_walked link a (truth_walked link a no_group) c to ts group d group.entries
 truth_walked link (joined And a b) group =
-    λ c to ts d. settled_both link a b (truth_walked link a no_group) (truth_walked link b no_group) c to ts group d group.numbers
+    λ c to ts d. settled_both link a b (truth_walked link a no_group) (truth_walked link b no_group) c to ts group d group.entries
 truth_walked link (joined Or a b) group =
     λ c to ts d. either_walked link a b group (truth_member b group) refl (truth_walked link a no_group) (λ more. truth_walked link a more) (truth_walked link b group) c to ts d
-truth_walked link a group = λ c to ts d. ap (λ w. emit_nodes link w d) (leaf_put link (formula link a) c to ts group group.numbers)
+truth_walked link a group = λ c to ts d. ap (λ w. emit_nodes link w d) (leaf_put link (formula link a) c to ts group group.entries)
 
 -- the walk over a whole expression ends with its code, entered where both targets are
 pub record Ends (w : Walk) (e : Block) : Type 0 where

@@ -9,7 +9,7 @@ use Rattle.flt_emit.specs.Elementary.{Yes}
 use Rattle.flt_gen.specs.Reading.{holds}
 
 -- a run on the captured bytes p of a packet of original length n reaches an answer, which is other
--- than 0 exactly where the expression matches
+-- than 0 exactly if the expression matches
 pub record Decides (prog : List Insn) (e : Expression) (link : Link) (p : List ℕ)
     (n : ℕ) : Type 0 where
   pub answer : ℕ

@@ -37,7 +37,7 @@ use Rattle.flt_gen.specs.declared.port.Transport.{Transport}
 use Rattle.flt_gen.specs.declared.port.Ports.TheVariants.{One, Between, Several}
 use Rattle.flt_emit.specs.Elementary.{with, is_at, compares_at, compares_under, has_type, kind_test, first_fragment, has_ip_proto, has_ip6_proto}
 use Rattle.cap_octet.specs.Link.{network_offset}
-use Rattle.flt_emit.specs.Formula.{Formula, Single, Compare, Both, Either, all_of, sides, any_sides}
+use Rattle.flt_emit.specs.Formula.{Formula, Single, Compare, Both, Either, all_of, sides, Numbers, no_numbers, any_sides}
 
 -- a test, and then a formula
 abbrev pub after : Elementary → Formula → Formula
@@ -61,7 +61,7 @@ any_proto link n = Either (ip_proto link n) (ip6_proto link n)
 abbrev pub ether_proto : Link → ℕ → Formula
 ether_proto link n = Single (has_type link n)
 
--- a protocol's keyword alone
+-- only a protocol's keyword
 abbrev pub check_formula : Link → Protocol → Formula
 check_formula link protocol.Ether = Single (kind_test link Ethernet)
 check_formula link protocol.Ip = Single (kind_test link Ip)
@@ -116,7 +116,7 @@ cast_formula link (Some _) Multicast = Single (Outcome false)
 
 -- IPv4 addresses and networks
 
--- the mask of a word, or none where all of its bits count
+-- the mask of a word, or none if all of its bits count
 abbrev pub partial_mask : ℕ → Option ℕ
 partial_mask mask = if mask == 2 ^ 32 - 1 then None else Some mask
 
@@ -150,26 +150,26 @@ net_tests at net =
     sides net.direction (address_test net.mask net.address at.source ∷ [])
     (address_test net.mask net.address at.destination ∷ [])
 
--- the addresses of a header of a kind, as a direction asks for them, are those of hosts: of all in
--- a network, or of several, whose addresses are these numbers
-abbrev pub hosts_sides : Link → FrameKind → Hosts → List ℕ → Formula
+-- the addresses of a header of a kind, as a direction asks for them, are those of hosts: for all in
+-- a network, or of several, whose addresses under a mask, if there is one, are these numbers
+abbrev pub hosts_sides : Link → FrameKind → Hosts → Numbers → Formula
 hosts_sides link kind (hosts.Net net) numbers = net_tests (address_places link kind) net
-hosts_sides link kind (hosts.Several direction first) numbers =
-    any_sides direction (address_places link kind) first numbers
+hosts_sides link kind (hosts.Several direction mask) numbers =
+    any_sides direction (address_places link kind) mask numbers
 
 -- hosts in a header of a kind
-abbrev pub hosts_of_kind : Link → FrameKind → Hosts → List ℕ → Formula
+abbrev pub hosts_of_kind : Link → FrameKind → Hosts → Numbers → Formula
 hosts_of_kind link kind wanted numbers =
     after (kind_test link kind) (hosts_sides link kind wanted numbers)
 
 -- hosts in a header of IPv4, ARP or RARP
-abbrev pub any_hosts : Link → Hosts → List ℕ → Formula
+abbrev pub any_hosts : Link → Hosts → Numbers → Formula
 any_hosts link wanted numbers =
     Either (hosts_of_kind link Ip wanted numbers)
     (Either (hosts_of_kind link Arp wanted numbers) (hosts_of_kind link Rarp wanted numbers))
 
 -- hosts of IPv4 in the headers that a protocol, or none, allows
-abbrev pub hosts_formula : Link → Option Protocol → Hosts → List ℕ → Formula
+abbrev pub hosts_formula : Link → Option Protocol → Hosts → Numbers → Formula
 hosts_formula link (Some protocol.Ip) wanted numbers = hosts_of_kind link Ip wanted numbers
 hosts_formula link (Some protocol.Arp) wanted numbers = hosts_of_kind link Arp wanted numbers
 hosts_formula link (Some protocol.Rarp) wanted numbers = hosts_of_kind link Rarp wanted numbers
@@ -178,7 +178,7 @@ hosts_formula link (Some _) wanted numbers = Single (Outcome false)
 
 -- the hosts of a network, in the headers that a protocol, or none, allows
 abbrev pub net_formula : Link → Option Protocol → NetTest → Formula
-net_formula link protocol net = hosts_formula link protocol (hosts.Net net) []
+net_formula link protocol net = hosts_formula link protocol (hosts.Net net) no_numbers
 
 -- a test of this address, as far as the mask goes
 abbrev pub net_test : Direction → Option ℕ → ℕ → NetTest
@@ -221,14 +221,14 @@ abbrev pub port_places : Transport → Sides
 port_places header =
     record { width = HalfWord; source = header.source; destination = header.destination }
 
--- the ports after a header are those that are looked for: where they are several, these numbers
-abbrev pub port_sides : Ports → Direction → Transport → List ℕ → Formula
+-- the ports after a header are those that are looked for: if they are several, these numbers
+abbrev pub port_sides : Ports → Direction → Transport → Numbers → Formula
 port_sides (One n) direction header numbers =
     sides direction (port_is n header.source) (port_is n header.destination)
 port_sides (Between a b) direction header numbers =
     sides direction (port_between a b header.source) (port_between a b header.destination)
-port_sides (Several first) direction header numbers =
-    any_sides direction (port_places header) first numbers
+port_sides Several direction header numbers =
+    any_sides direction (port_places header) None numbers
 
 -- the test of TCP, that of UDP, or either, and then a formula
 abbrev pub transport : Option Protocol → Elementary → Elementary → Formula → Formula
@@ -242,13 +242,13 @@ abbrev pub following : Option Elementary → Formula → Formula
 following None f = f
 following (Some t) f = after t f
 
--- the ports after a header, which is no later fragment's
-abbrev pub ports_after : Transport → PortTest → List ℕ → Formula
+-- the ports after a header, which isn't a later fragment's
+abbrev pub ports_after : Transport → PortTest → Numbers → Formula
 ports_after header wanted numbers =
     following header.no_later_fragment (port_sides wanted.ports wanted.direction header numbers)
 
 -- the ports after a header that names the protocol that is asked for
-abbrev pub transport_ports : Transport → PortTest → List ℕ → Formula
+abbrev pub transport_ports : Transport → PortTest → Numbers → Formula
 transport_ports header wanted numbers =
     transport wanted.protocol header.tcp header.udp (ports_after header wanted numbers)
 
@@ -272,8 +272,8 @@ ip6_transport link = record {
   destination = Fixed (network_offset link + 42);
 }
 
--- `port` and `portrange`: the ports of TCP and UDP over IPv4 or IPv6; of SCTP no port is read
-abbrev pub port_formula : Link → PortTest → List ℕ → Formula
+-- `port` and `portrange`: the ports of TCP and UDP over IPv4 or IPv6; for SCTP no port is read
+abbrev pub port_formula : Link → PortTest → Numbers → Formula
 port_formula link wanted numbers =
     Either (after (kind_test link Ip) (transport_ports (ip_transport link) wanted numbers))
     (after (kind_test link Ip6) (transport_ports (ip6_transport link) wanted numbers))
@@ -283,7 +283,7 @@ abbrev pub port_test : Option Protocol → Direction → Ports → PortTest
 port_test protocol direction ports =
     record { protocol = protocol; direction = direction; ports = ports }
 
--- Values with their qualifiers. What doesn't fit was refused before: most of that is no here and
+-- Values with their qualifiers. What doesn't fit was refused before: most of that isn't one here and
 -- above, and of the rest nothing depends on what it is (a host of fewer parts, a port's mask).
 
 -- `host` with an address of any kind
@@ -310,13 +310,13 @@ net_value_formula link protocol direction v = ip4_formula link protocol directio
 -- `port` with a number
 abbrev pub port_value_formula : Link → Option Protocol → Direction → Value → Formula
 port_value_formula link protocol direction (value.Number n mask) =
-    port_formula link (port_test protocol direction (One n)) []
+    port_formula link (port_test protocol direction (One n)) no_numbers
 port_value_formula link protocol direction _ = Single (Outcome false)
 
 -- `portrange` with a range, whose ends may stand in either order
 abbrev pub range_value_formula : Link → Option Protocol → Direction → Value → Formula
 range_value_formula link protocol direction (value.Range a b) =
-    port_formula link (port_test protocol direction (Between (min a b) (max a b))) []
+    port_formula link (port_test protocol direction (Between (min a b) (max a b))) no_numbers
 range_value_formula link protocol direction _ = Single (Outcome false)
 
 -- `proto` with a number

@@ -1,5 +1,5 @@
 //! Hosts and networks of IPv4 and IPv6, as rows of the table of primitives. A word of an IPv6
-//! address of which no bit counts is tested only where that decides: `.._needed` in clauses is the
+//! address of which no bit counts is tested only if that decides: `.._needed` in clauses is the
 //! row without the other such words.
 
 ghost use Rattle.std.specs.Prelude.{◌≡◌, ◌+◌, ◌≤◌, OnOk};
@@ -46,11 +46,11 @@ impl NetTest {
 pub enum Hosts {
     /// Those of a network, which may be a single one.
     Net(NetTest),
-    /// The steps' numbers, on these sides. The number is the one that is first in the expression.
-    Several(Direction, u32),
+    /// The steps' numbers, on these sides, under a mask where not the whole address counts.
+    Several(Direction, Option<u32>),
 }
 
-/// The mask of a word of 32 bits, or `None` where all of its bits count.
+/// The mask of a word of 32 bits, or `None` if all of its bits count.
 pub fn partial_mask(mask: u32) -> Option<u32>
     ensures { result ≡ partial_mask mask }
 {
@@ -88,7 +88,7 @@ fn address_places(link: Link, kind: FrameKind) -> Sides
 }
 
 /// The mask of a word whose first `bits` bits count, or all 32 if there are more.
-fn prefix_mask(bits: u32) -> u32
+pub fn prefix_mask(bits: u32) -> u32
     ensures { result ≡ first_bits 32 bits }
 {
     let others = 32u32.saturating_sub(bits);
@@ -136,7 +136,7 @@ fn is_idle(test: Elementary) -> bool
     }
 }
 
-/// The test of the last of some words. Where no bit of it counts, it only asks whether the word is
+/// The test of the last of some words. If no bit of it counts, it only asks whether the word is
 /// captured: every number is 0 at least.
 fn last_test(test: Elementary) -> Elementary
     ensures { result ≡ last_test test }
@@ -173,7 +173,7 @@ impl<A: Allocator> Steps<A> {
                 let destination = address_test(net.mask, net.address, at.destination);
                 self.put_sides(net.direction, &[source], &[destination])?;
             }
-            Hosts::Several(direction, first) => self.put_among_sides(direction, at, first)?,
+            Hosts::Several(direction, mask) => self.put_among_sides(direction, at, mask)?,
         }
         self.put_join(Join::And)
     }
@@ -205,7 +205,7 @@ impl<A: Allocator> Steps<A> {
     }
 
     /// Adds the steps of tests of words that all have to hold, each after the one before. One of
-    /// which no bit counts is left out in front of another: where its word isn't captured, no later
+    /// which no bit counts is left out in front of another: if its word isn't captured, no later
     /// one is.
     fn put_words(&mut self, tests: &[Elementary]) -> Result<(), AllocError>
         ensures { OnOk result (IsPut (all_of (needed_tests tests.now)) self.old self.new) }

@@ -1,6 +1,6 @@
-//! Arithmetic of numbers alone becomes one number before code is emitted for it, but for what
-//! divides by 0; and negations between `and` become one of what is between `or`, which is looked for
-//! together.
+//! Arithmetic of only numbers becomes one number before code is emitted for it, except what
+//! divides by 0; and negations between `and` become one of what is between `or`, which is looked
+//! for together.
 
 ghost use Rattle.std.specs.Prelude.{◌≡◌, [], fold, reverse, OnOk, IfOk};
 ghost use Rattle.std.specs.Option.{IfSome};
@@ -165,8 +165,8 @@ fn push_after_negation<A: Allocator>(
     nodes.push(Node::Join(Join::And))
 }
 
-/// Pushes `and`; if the latest node, which then is its right operand's, is a negation, it may become
-/// one with another.
+/// Pushes `and`; if the latest node, which then is its right operand's, is a negation, it may
+/// become one with another.
 fn push_conjunction<A: Allocator>(
     nodes: &mut Stack<Node, A>,
     held: &mut Stack<Node, A>,
@@ -186,7 +186,7 @@ fn push_conjunction<A: Allocator>(
     }
 }
 
-/// Pushes one more node of a tree, after its operands; arithmetic of numbers alone becomes one
+/// Pushes one more node of a tree, after its operands; arithmetic of only numbers becomes one
 /// number, and negations between `and` become one. What `held` has is of no use.
 fn push_folded<A: Allocator>(
     nodes: &mut Stack<Node, A>,
@@ -203,8 +203,9 @@ fn push_folded<A: Allocator>(
     }
 }
 
-/// The nodes of a tree, in which arithmetic of numbers alone becomes one number, and `not a and not
-/// b` becomes `not (a or b)`. An error is a failed allocation, or an allocator that cannot be cloned.
+/// The nodes of a tree, in which arithmetic of only numbers becomes one number, and `not a and not
+/// b` becomes `not (a or b)`. An error is a failed allocation, or an allocator that cannot be
+/// cloned.
 pub fn folded_nodes<A: Allocator + Clone>(
     alloc: A,
     nodes: &[Node],

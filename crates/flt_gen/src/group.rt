@@ -1,36 +1,64 @@
-//! Hosts or ports that are looked for together. They come from the last one to the first, so each
-//! is put in front of the others.
+//! Addresses or ports that are looked for together. They come from the last one to the first, so
+//! each is put in front of the others.
 
-ghost use Rattle.std.specs.Prelude.{◌≡◌, ◌≤◌, if◌then◌else◌, Some, None, length, IfOk, OnOk};
+ghost use Rattle.std.specs.Prelude.{◌≡◌, ◌≤◌, [], nat_lt, if◌then◌else◌, Some, None, length, IfOk, OnOk};
 ghost use Rattle.std.specs.List.{insert};
-ghost use Rattle.flt_gen.specs.inside.Group.{no_group, insert_ascending, same_type, same_protocol};
-ghost use Rattle.flt_gen.specs.inside.Group.{same_direction, goes_with, member_number};
-ghost use Rattle.flt_gen.specs.inside.Group.{larger_group, group_formula};
-ghost use Rattle.flt_gen.specs.inside.Steps.{IsPut};
+ghost use Rattle.flt_gen.specs.inside.Intervals.{insert_ascending};
+ghost use Rattle.flt_gen.specs.inside.Group.{no_group, same_type, same_protocol, same_direction};
+ghost use Rattle.flt_gen.specs.inside.Group.{goes_with, prefix_bits, net_member, member_of, is_empty};
+ghost use Rattle.flt_gen.specs.inside.Group.{larger_group, is_searched, group_formula, rows_formula};
+ghost use Rattle.flt_gen.specs.inside.Group.{numbers_of};
+ghost use Rattle.flt_gen.specs.inside.Steps.{IsPut, no_steps};
 
-use crate::address::{Hosts, NetTest};
+use crate::address::{Hosts, partial_mask, prefix_mask};
 use crate::port::{PortTest, Ports};
+use crate::stack::Stack;
 use crate::steps::Steps;
 use cap_octet::Link;
-use flt_ast::{CompleteQualifiers, Direction, Value};
-use flt_emit::Elementary;
+use flt_ast::{CompleteQualifiers, Direction, NetMask, Value};
+use flt_emit::{Elementary, Interval};
 use flt_words::{Join, Protocol, Side, ValueType};
 use std::alloc::{AllocError, Allocator};
 use std::marker::Model;
 
-/// How many hosts or ports are looked for together at most. Each is put in its place among the
-/// others, so that a group takes time by the square of its length.
+/// How many are looked for together at most. Each is put in its place among the others, so that a
+/// group takes time by the square of its length.
 const MOST_TOGETHER: usize = 4096;
 
-/// Hosts or ports with the same protocol and direction: the address or number of the one that
-/// stands first, and those of all, which ascend.
+/// How many are looked for together at least where not each is one number: fewer are shorter one
+/// after the other.
+const FEWEST_RANGES: usize = 8;
+
+/// What a value looks for as a member of a group: numbers, of which the first `bits` bits count.
+#[derive(Clone, Copy)]
+pub struct Member {
+    pub bits: u32,
+    pub numbers: Interval,
+}
+
+/// A member: a value with its qualifiers.
+#[derive(Clone, Copy)]
+pub struct Entry {
+    pub qualifiers: CompleteQualifiers,
+    pub value: Value,
+}
+
+/// Addresses or ports with the same protocol and direction.
 #[derive(Drop)]
 pub struct Group<A: Allocator> {
-    value_type: ValueType,
-    protocol: Option<Protocol>,
-    direction: Direction,
-    first: u32,
-    numbers: Vec<u32, A>,
+    /// Those of the value that stands first in the expression.
+    qualifiers: CompleteQualifiers,
+    /// The most bits that count of a member.
+    bits: u32,
+    /// Whether each member is one number.
+    is_plain: bool,
+    /// The numbers of the value that stands first.
+    first: Interval,
+    /// The numbers of all, which ascend by their beginnings, and of all but that value.
+    all: Vec<Interval, A>,
+    others: Vec<Interval, A>,
+    /// The members, of which the first in the expression is the latest.
+    entries: Stack<Entry, A>,
 }
 
 impl<A: Allocator> Model for Group<A> {
@@ -39,20 +67,23 @@ impl<A: Allocator> Model for Group<A> {
     ghost Value = { Group };
 
     ghost view = { λ g. record {
-      value_type = g.value_type;
-      protocol = g.protocol;
-      direction = g.direction;
+      qualifiers = g.qualifiers;
+      bits = g.bits;
+      is_plain = g.is_plain;
       first = g.first;
-      numbers = g.numbers.items;
+      all = g.all.items;
+      others = g.others.items;
+      entries = g.entries;
     } };
 }
 
-/// Whether both are hosts or both ports: others aren't looked for together.
+/// Whether both are addresses of IPv4 or both ports: others aren't looked for together.
 fn same_type(one: ValueType, other: ValueType) -> bool
     ensures { result ≡ same_type one other }
 {
     match (one, other) {
-        (ValueType::Host, ValueType::Host) | (ValueType::Port, ValueType::Port) => true,
+        (ValueType::Host | ValueType::Net, ValueType::Host | ValueType::Net) => true,
+        (ValueType::Port | ValueType::PortRange, ValueType::Port | ValueType::PortRange) => true,
         _ => false,
     }
 }
@@ -84,74 +115,111 @@ fn same_direction(one: Direction, other: Direction) -> bool
     }
 }
 
-/// The number by which a value is a member of a group: the address of an IPv4 host, or a port.
-/// `None` for a value that can't be one.
-fn member_number(value_type: ValueType, value: Value) -> Option<u32>
-    ensures { result ≡ member_number value_type value }
+/// The length of the prefix of a network of IPv4. `None` for one with `mask`, whose bits need be no
+/// prefix, and for other values.
+fn prefix_bits(value: Value) -> Option<u32>
+    ensures { result ≡ prefix_bits value }
 {
-    match (value_type, value) {
-        (ValueType::Host, Value::Dotted(host, _)) => Some(host.address),
-        (ValueType::Port, Value::Number(port, _)) => Some(port),
+    match value {
+        Value::Number(_, NetMask::Unwritten) => Some(8),
+        Value::Dotted(dotted, NetMask::Unwritten) => Some(8 * u32::from(dotted.parts)),
+        Value::Number(_, NetMask::Prefix(bits)) | Value::Dotted(_, NetMask::Prefix(bits)) => {
+            Some(bits)
+        }
         _ => None,
     }
 }
 
-/// The index at which a number is put among others, so that they still ascend.
-fn place_among(numbers: &[u32], number: u32) -> usize
+/// A network as a member: `None` if it has no prefix, or if its address has other bits.
+fn net_member(value: Value) -> Option<Member>
+    ensures { result ≡ net_member value }
+{
+    match (prefix_bits(value), value.ip4_net()) {
+        (Some(bits), Some(net)) if net.address & net.mask == net.address => {
+            let (low, high) = (net.address, net.address + (u32::MAX - net.mask));
+            Some(Member {
+                bits,
+                numbers: Interval { low, high },
+            })
+        }
+        _ => None,
+    }
+}
+
+/// What a value looks for as a member of a group: an address or network of IPv4, a port or a range
+/// of ports. `None` for a value that can't be one.
+fn member_of(value_type: ValueType, value: Value) -> Option<Member>
+    ensures { result ≡ member_of value_type value }
+{
+    let (low, high) = match (value_type, value) {
+        (ValueType::Net, value) => return net_member(value),
+        (ValueType::Host, Value::Dotted(host, _)) => (host.address, host.address),
+        (ValueType::Port, Value::Number(port, _)) => (port, port),
+        (ValueType::PortRange, Value::Range { first, last }) => (first.min(last), first.max(last)),
+        _ => return None,
+    };
+    Some(Member {
+        bits: 32,
+        numbers: Interval { low, high },
+    })
+}
+
+/// The index at which an interval is put among others, so that they still ascend.
+fn place_among(numbers: &[Interval], new: Interval) -> usize
     ensures inside { result ≤ length numbers.now }
-    ensures place { insert numbers.now result number ≡ insert_ascending number numbers.now }
+    ensures place { insert numbers.now result new ≡ insert_ascending new numbers.now }
 {
     let mut at = 0;
     // The label names the loop in its proof.
-    'lower: while at < numbers.len() && numbers[at] < number {
+    'lower: while at < numbers.len() && numbers[at].low < new.low {
         at += 1;
     }
     at
 }
 
-impl<A: Allocator> Group<A> {
-    /// A group without members, which any value may join that can be a member at all.
-    pub fn new(alloc: A) -> Self
-        ensures { result ≡ no_group }
-    {
-        Group {
-            value_type: ValueType::Host,
-            protocol: None,
-            direction: Direction::Both(Join::Or),
-            first: 0,
-            numbers: Vec::new(alloc),
-        }
-    }
+/// Puts an interval among others, so that they still ascend.
+fn put_among<A: Allocator>(numbers: &mut Vec<Interval, A>, new: Interval) -> Result<(), AllocError>
+    ensures { OnOk result (numbers.new.items ≡ insert_ascending new numbers.old.items) }
+{
+    let at = place_among(numbers, new);
+    numbers.insert(at, new)?;
+    Ok(())
+}
 
+impl<A: Allocator> Group<A> {
     /// Takes all members out.
     pub fn clear(&mut self)
         ensures { self.new ≡ no_group }
     {
-        self.value_type = ValueType::Host;
-        self.protocol = None;
-        self.direction = Direction::Both(Join::Or);
-        self.first = 0;
-        self.numbers.clear();
+        self.qualifiers = NO_QUALIFIERS;
+        self.bits = 0;
+        self.is_plain = true;
+        self.first = Interval { low: 0, high: 0 };
+        self.all.clear();
+        self.others.clear();
+        self.entries.clear();
     }
 
-    /// The addresses or numbers of the members, which ascend.
-    pub fn numbers(&self) -> &[u32]
-        ensures { result.now ≡ self.now.numbers }
+    /// Whether there is no member.
+    pub fn is_empty(&self) -> bool
+        ensures { result ≡ is_empty self.now.entries }
     {
-        &self.numbers
+        self.entries.entries().is_empty()
     }
 
     /// Whether a value with these qualifiers may join the members: any may if there are none, else
     /// one with the same (`same_type`, `same_protocol`, `same_direction`), while there are fewer
-    /// than `MOST_TOGETHER`.
-    fn goes_with(&self, qualifiers: CompleteQualifiers) -> bool
-        ensures { result ≡ goes_with qualifiers self.now self.now.numbers }
+    /// than `MOST_TOGETHER`. Whole addresses and networks don't go together, since only the bits of
+    /// networks are masked.
+    fn goes_with(&self, qualifiers: CompleteQualifiers, bits: u32) -> bool
+        ensures { result ≡ goes_with qualifiers bits self.now self.now.entries }
     {
-        self.numbers.is_empty()
-            || (same_type(qualifiers.value_type, self.value_type)
-                && (same_protocol(qualifiers.protocol, self.protocol)
-                    && (same_direction(qualifiers.direction, self.direction)
-                        && self.numbers.len() < MOST_TOGETHER)))
+        self.is_empty()
+            || (same_type(qualifiers.value_type, self.qualifiers.value_type)
+                && (same_protocol(qualifiers.protocol, self.qualifiers.protocol)
+                    && (same_direction(qualifiers.direction, self.qualifiers.direction)
+                        && ((bits < 32) == (self.bits < 32)
+                            && self.entries.entries().len() < MOST_TOGETHER))))
     }
 
     /// Adds a value as a member, which stands in front of the others in the expression, if it can
@@ -161,45 +229,98 @@ impl<A: Allocator> Group<A> {
             ≡ (if taken then Some self.new else None)) }
         ensures same { IfOk result (λ taken. self.new ≡ (if taken then self.new else self.old)) }
     {
-        match member_number(qualifiers.value_type, value) {
-            Some(number) if self.goes_with(qualifiers) => {
-                let at = place_among(&self.numbers, number);
-                self.numbers.insert(at, number)?;
-                self.value_type = qualifiers.value_type;
-                self.protocol = qualifiers.protocol;
-                self.direction = qualifiers.direction;
-                self.first = number;
+        match member_of(qualifiers.value_type, value) {
+            Some(new) if self.goes_with(qualifiers, new.bits) => {
+                if !self.is_empty() {
+                    put_among(&mut self.others, self.first)?;
+                }
+                put_among(&mut self.all, new.numbers)?;
+                self.entries.push(Entry { qualifiers, value })?;
+                self.qualifiers = qualifiers;
+                self.bits = self.bits.max(new.bits);
+                self.is_plain = new.numbers.low == new.numbers.high && self.is_plain;
+                self.first = new.numbers;
                 Ok(true)
             }
             _ => Ok(false),
         }
     }
 
-    /// Adds the steps that look for the group's members together. `steps` has their numbers.
-    pub fn put_members(&self, link: Link, steps: &mut Steps<A>) -> Result<(), AllocError>
-        requires { steps.old.numbers ≡ self.now.numbers }
-        ensures { OnOk result (IsPut (group_formula link self.now) steps.old steps.new) }
+    /// Whether the members are looked for together.
+    fn is_searched(&self) -> bool
+        ensures { result ≡ is_searched self.now }
     {
-        let (protocol, direction, first) = (self.protocol, self.direction, self.first);
-        match (self.numbers(), self.value_type) {
-            ([_], ValueType::Host) => {
-                let net = NetTest::new(direction, None, first);
-                steps.put_hosts(link, protocol, Hosts::Net(net))
+        let fewest = if self.is_plain { 2 } else { FEWEST_RANGES };
+        self.entries.entries().len() >= fewest
+    }
+
+    /// Adds the steps of the members one after the other. `steps` has their numbers.
+    fn put_rows(&mut self, link: Link, steps: &mut Steps<A>) -> Result<(), AllocError>
+        ensures { OnOk result (IsPut
+            (rows_formula link self.old.entries) steps.old steps.new) }
+    {
+        let Some(first) = self.entries.pop() else {
+            return steps.put_test(Elementary::Outcome(false));
+        };
+        steps.put_value(link, first.qualifiers, first.value)?;
+        if self.is_empty() {
+            return Ok(());
+        }
+        self.put_rows(link, steps)?;
+        steps.put_join(Join::Or)
+    }
+
+    /// Begins the steps of the group's members, with the numbers that they look for.
+    pub fn begin_steps(&self, steps: &mut Steps<A>) -> Result<(), AllocError>
+        ensures { OnOk result (steps.new ≡ no_steps (numbers_of self.now)) }
+    {
+        steps.begin(self.first, &self.all, &self.others)
+    }
+
+    /// Adds the steps that look for the group's members. `steps` has their numbers.
+    pub fn put_members(&mut self, link: Link, steps: &mut Steps<A>) -> Result<(), AllocError>
+        requires { steps.old.numbers ≡ numbers_of self.old }
+        ensures { OnOk result (IsPut (group_formula link self.old) steps.old steps.new) }
+    {
+        if !self.is_searched() {
+            return self.put_rows(link, steps);
+        }
+        let (protocol, direction) = (self.qualifiers.protocol, self.qualifiers.direction);
+        match self.qualifiers.value_type {
+            ValueType::Host | ValueType::Net => {
+                let mask = partial_mask(prefix_mask(self.bits));
+                steps.put_hosts(link, protocol, Hosts::Several(direction, mask))
             }
-            (_, ValueType::Host) => {
-                steps.put_hosts(link, protocol, Hosts::Several(direction, first))
-            }
-            ([_], ValueType::Port) => {
-                steps.put_ports(link, PortTest::new(protocol, direction, Ports::One(first)))
-            }
-            (_, ValueType::Port) => {
-                steps.put_ports(
-                    link,
-                    PortTest::new(protocol, direction, Ports::Several(first)),
-                )
+            ValueType::Port | ValueType::PortRange => {
+                steps.put_ports(link, PortTest::new(protocol, direction, Ports::Several))
             }
             // No other type has members.
             _ => steps.put_test(Elementary::Outcome(false)),
         }
+    }
+}
+
+/// The qualifiers of a group without members. They decide nothing.
+const NO_QUALIFIERS: CompleteQualifiers = CompleteQualifiers {
+    protocol: None,
+    direction: Direction::Both(Join::Or),
+    value_type: ValueType::Host,
+};
+
+impl<A: Allocator + Clone> Group<A> {
+    /// A group without members, which any value may join that can be a member at all. An error is
+    /// an allocator that cannot be cloned.
+    pub fn new(alloc: A) -> Result<Self, AllocError>
+        ensures { IfOk result (λ group. group ≡ no_group) }
+    {
+        Ok(Group {
+            qualifiers: NO_QUALIFIERS,
+            bits: 0,
+            is_plain: true,
+            first: Interval { low: 0, high: 0 },
+            all: Vec::new(alloc.clone()?),
+            others: Vec::new(alloc.clone()?),
+            entries: Stack::new(alloc),
+        })
     }
 }

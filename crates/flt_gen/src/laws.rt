@@ -9,7 +9,7 @@ pub fn masks_join()
 
 /// By IPv4, IPv6, ARP and RARP an expression means the network headers that a line names so. The
 /// packets that it rejects are those of which too little is captured for a network header, and none
-/// where the link has no header of this kind.
+/// if the link has no header of this kind.
 pub fn kinds_agree()
     ensures kind { MatchesKind }
     ensures short { RejectsShort }

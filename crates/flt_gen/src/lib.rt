@@ -1,6 +1,6 @@
 //! From filter expressions to programs of the packet-filter machine.
 //!
-//! - `program` has all stages. `folding` first makes one number of arithmetic of numbers alone.
+//! - `program` has all stages. `folding` first makes one number of arithmetic of only numbers.
 //! - `walk` takes the nodes from the last to the first and emits their code, with `waiting` (what
 //!   waits meanwhile) and `number` (arithmetic).
 //! - `steps` has a primitive's formula as tests and operators. `protocol`, `address` and `port` put

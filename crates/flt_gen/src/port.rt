@@ -1,5 +1,5 @@
 //! Ports, as a row of the table of primitives. They are tested layer by layer: the network header
-//! (`put_ports`), TCP or UDP (`put_transport_ports`), that it is no later fragment
+//! (`put_ports`), TCP or UDP (`put_transport_ports`), that it isn't a later fragment
 //! (`put_ports_after`), the ports (`put_port_sides`).
 
 ghost use Rattle.std.specs.Prelude.{◌≡◌, OnOk};
@@ -25,8 +25,8 @@ pub enum Ports {
     One(u32),
     /// Those from the first to the second.
     Between(u32, u32),
-    /// The steps' numbers. This one is the first in the expression.
-    Several(u32),
+    /// The steps' numbers.
+    Several,
 }
 
 /// A test of ports: the protocol, if one is asked for, the sides, and the ports.
@@ -50,7 +50,7 @@ impl PortTest {
     }
 }
 
-/// What follows a network header: the tests of TCP and UDP, the test that the packet is no later
+/// What follows a network header: the tests of TCP and UDP, the test that the packet isn't a later
 /// fragment, which has no ports, and the places of both ports.
 #[derive(Clone, Copy)]
 pub struct Transport {
@@ -63,7 +63,7 @@ pub struct Transport {
 }
 
 /// What follows an IPv4 header. That has no fixed length: the ports stand at the bytes 0 and 2 past
-/// where it ends.
+/// its end.
 fn ip_transport(link: Link) -> Transport
     ensures { result ≡ ip_transport link }
 {
@@ -133,20 +133,20 @@ impl<A: Allocator> Steps<A> {
                 let source = port_between(first, last, source);
                 self.put_sides(direction, &source, &port_between(first, last, destination))
             }
-            Ports::Several(first) => {
+            Ports::Several => {
                 let width = Width::HalfWord;
                 let at = Sides {
                     width,
                     source,
                     destination,
                 };
-                self.put_among_sides(direction, at, first)
+                self.put_among_sides(direction, at, None)
             }
         }
     }
 
-    /// Adds the steps of the ports after a header, and before them the test that the packet is no
-    /// later fragment, where there is one.
+    /// Adds the steps of the ports after a header, and before them the test that the packet isn't a
+    /// later fragment, if there is one.
     fn put_ports_after(&mut self, header: Transport, wanted: PortTest) -> Result<(), AllocError>
         ensures { OnOk result
             (IsPut (ports_after header wanted self.old.numbers) self.old self.new) }

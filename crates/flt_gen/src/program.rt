@@ -41,8 +41,8 @@ fn wide_code<A: Allocator + Clone>(
 /// link, matches. It has at most as many instructions as the expression's bound, and none of
 /// them is met twice in a run.
 ///
-/// A jump (`ja`) stands only where a conditional jump's target is more than 255 instructions past
-/// the one after it, and nowhere where a program without jumps has at most 256 instructions by the
+/// A jump (`ja`) stands only if a conditional jump's target is more than 255 instructions past
+/// the one after it, and nowhere if a program without jumps has at most 256 instructions by the
 /// expression's counts.
 ///
 /// An error is a failed allocation: for a copy of the tree's nodes, for the instructions, or for

@@ -73,7 +73,7 @@ impl<A: Allocator> Steps<A> {
         self.put_join(Join::Or)
     }
 
-    /// Adds the steps of a protocol's keyword alone, as `tcp` or `arp`.
+    /// Adds the steps of only a protocol's keyword, such as `tcp` or `arp`.
     pub fn put_check(&mut self, link: Link, protocol: Protocol) -> Result<(), AllocError>
         ensures { OnOk result (IsPut (check_formula link protocol) self.old self.new) }
     {

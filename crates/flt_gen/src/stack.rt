@@ -37,7 +37,7 @@ impl<T: Drop, A: Allocator> Stack<T, A> {
         Ok(())
     }
 
-    /// Takes the latest entry out; `None` where there is none.
+    /// Takes the latest entry out; `None` if there is none.
     pub fn pop(&mut self) -> Option<T>
         ensures { MatchOption result ((self.old ≡ []) × (self.new ≡ []))
             (λ entry. self.old ≡ entry ∷ self.new) }

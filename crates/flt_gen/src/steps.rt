@@ -5,17 +5,18 @@
 //!
 //!     IPv4?  protocol 6?  and  IPv6?  next header 6?  and  or
 //!
-//! The files beside this one put the rows of the table of primitives into steps: a function
+//! The files next to this one put the rows of the table of primitives into steps: a function
 //! `put_..` adds the steps of the formula that its clause names. The walk emits their code, from
 //! the last one to the first.
 
 ghost use Rattle.std.specs.Prelude.{◌≡◌, [], OnOk, MatchOption};
-ghost use Rattle.flt_emit.specs.Formula.{Single, Among, all_of, sides, any_sides, remaining};
+ghost use Rattle.flt_emit.specs.Formula.{Single, all_of, sides, no_numbers, any_sides};
+ghost use Rattle.flt_gen.specs.inside.Intervals.{is_gap, joined_all, sought};
 
 use crate::stack::Stack;
 use flt_ast::Direction;
-use flt_emit::{Elementary, MaskedField, Sides, compares_at, whole_field};
-use flt_words::{Comparison, Join, Side};
+use flt_emit::{Elementary, Interval, MaskedField, Sides};
+use flt_words::{Join, Side};
 use std::alloc::{AllocError, Allocator};
 use std::marker::Model;
 
@@ -24,19 +25,23 @@ use std::marker::Model;
 pub enum Step {
     /// A test.
     Check(Elementary),
+    /// The field is one of the numbers that come first in the expression.
+    AmongFirst(MaskedField),
     /// The field is one of the numbers that are looked for.
     AmongAll(MaskedField),
-    /// The field is one of those numbers, of which this one, which was tested before, is left out
-    /// once, unless it is alone.
-    AmongOthers(MaskedField, u32),
+    /// The field is one of those numbers, without the ones that come first.
+    AmongOthers(MaskedField),
     /// `and` or `or`, between the two formulas before it.
     Joined(Join),
 }
 
-/// The steps of a formula, and the numbers that are looked for where there are several.
+/// The steps of a formula, and the numbers that are looked for if there are several: the ones
+/// that come first in the expression, all of them, and all but the first.
 #[derive(Drop)]
 pub struct Steps<A: Allocator> {
-    numbers: Vec<u32, A>,
+    first: Interval,
+    all: Vec<Interval, A>,
+    others: Vec<Interval, A>,
     steps: Stack<Step, A>,
 }
 
@@ -45,29 +50,100 @@ impl<A: Allocator> Model for Steps<A> {
 
     ghost Value = { Steps };
 
-    ghost view = { λ s. record { numbers = s.numbers.items; steps = s.steps } };
+    ghost view = { λ s. record {
+      numbers = record { first = s.first; all = s.all.items; others = s.others.items };
+      steps = s.steps;
+    } };
+}
+
+/// Whether there is a number between two intervals, the second of which doesn't begin first.
+fn is_gap(lower: Interval, upper: Interval) -> bool
+    ensures { result ≡ is_gap lower upper }
+{
+    upper.low.saturating_sub(lower.high) > 1
+}
+
+/// Puts intervals, which ascend by their beginnings, into a list, in which none touches the next
+/// one. What was in the list goes.
+fn join_touching<A: Allocator>(
+    numbers: &[Interval],
+    joined: &mut Vec<Interval, A>,
+) -> Result<(), AllocError>
+    ensures { OnOk result (joined.new.items ≡ joined_all numbers.now) }
+{
+    joined.clear();
+    let [first, others @ ..] = numbers else {
+        return Ok(());
+    };
+    let mut last = *first;
+    let mut at = 0;
+    // The label names the loop in its proof.
+    'touching: while at < others.len() {
+        let next = others[at];
+        if is_gap(last, next) {
+            joined.push(last)?;
+            last = next;
+        } else {
+            last.high = last.high.max(next.high);
+        }
+        at += 1;
+    }
+    joined.push(last)?;
+    Ok(())
 }
 
 impl<A: Allocator> Steps<A> {
     ghost use Rattle.flt_gen.specs.inside.Steps.{with_step, no_steps, IsPut, IsJoined};
 
-    /// Begins a formula: no step is there yet, and these numbers are looked for.
-    pub fn begin(&mut self, numbers: &[u32]) -> Result<(), AllocError>
-        ensures { OnOk result (self.new ≡ no_steps numbers.now) }
+    /// Begins a formula without numbers that are looked for: no step is present yet.
+    pub fn begin_alone(&mut self)
+        ensures { self.new ≡ no_steps no_numbers }
     {
         self.steps.clear();
-        self.numbers.clear();
-        self.numbers.extend_from_slice(numbers)
+        self.first = Interval { low: 0, high: 0 };
+        self.all.clear();
+        self.others.clear();
     }
 
-    /// The numbers that are looked for.
-    pub fn numbers(&self) -> &[u32]
-        ensures { result.now ≡ self.now.numbers }
+    /// Begins a formula: no step is present yet, and these numbers are looked for, those that come
+    /// first, all and all but the first. They ascend by their beginnings; those that touch are
+    /// joined.
+    pub fn begin(
+        &mut self,
+        first: Interval,
+        all: &[Interval],
+        others: &[Interval],
+    ) -> Result<(), AllocError>
+        ensures { OnOk result (self.new ≡ no_steps (sought first all.now others.now)) }
     {
-        &self.numbers
+        self.steps.clear();
+        self.first = first;
+        join_touching(all, &mut self.all)?;
+        join_touching(others, &mut self.others)
     }
 
-    /// Takes the last step out; `None` where there is none.
+    /// The numbers that come first.
+    pub fn first(&self) -> Interval
+        ensures { result ≡ self.now.numbers.first }
+    {
+        self.first
+    }
+
+    /// All numbers that are looked for.
+    pub fn all(&self) -> &[Interval]
+        ensures { result.now ≡ self.now.numbers.all }
+    {
+        &self.all
+    }
+
+    /// The numbers that are looked for without the ones that come first.
+    pub fn others(&self) -> &[Interval]
+        ensures { result.now ≡ self.now.numbers.others }
+    {
+        &self.others
+    }
+
+    /// Takes the last step out; `None` if there is none.
     pub fn pop(&mut self) -> Option<Step>
         ensures { MatchOption result ((self.old.steps ≡ []) × (self.new ≡ self.old))
             (λ step. self.old ≡ with_step step self.new) }
@@ -82,22 +158,6 @@ impl<A: Allocator> Steps<A> {
         self.steps.push(Step::Check(test))
     }
 
-    /// Adds a step: whether a field is one of the numbers.
-    pub fn put_among_all(&mut self, field: MaskedField) -> Result<(), AllocError>
-        ensures { OnOk result (IsPut (Among field self.old.numbers) self.old self.new) }
-    {
-        self.steps.push(Step::AmongAll(field))
-    }
-
-    /// Adds a step: whether a field is one of the numbers, of which `first` is left out once,
-    /// unless there is only one number.
-    pub fn put_among_others(&mut self, field: MaskedField, first: u32) -> Result<(), AllocError>
-        ensures { OnOk result
-            (IsPut (Among field (remaining first self.old.numbers)) self.old self.new) }
-    {
-        self.steps.push(Step::AmongOthers(field, first))
-    }
-
     /// Adds a step: an operator between the last two formulas, whose steps are there.
     pub fn put_join(&mut self, join: Join) -> Result<(), AllocError>
         ensures { OnOk result (IsJoined join self.old self.new) }
@@ -105,7 +165,8 @@ impl<A: Allocator> Steps<A> {
         self.steps.push(Step::Joined(join))
     }
 
-    /// Adds the steps of some tests that all have to hold; of no tests, a step that always matches.
+    /// Adds the steps of some tests that all have to hold; for no tests, a step that always
+    /// matches.
     pub fn put_tests(&mut self, tests: &[Elementary]) -> Result<(), AllocError>
         ensures { OnOk result (IsPut (all_of tests.now) self.old self.new) }
     {
@@ -142,27 +203,36 @@ impl<A: Allocator> Steps<A> {
         }
     }
 
-    /// Adds the steps that look for the numbers on a side, or on either. The source is compared
-    /// with the first number alone before the destination is looked at, as by tests of one number
-    /// after the other.
+    /// Adds the steps that look for the numbers on a side, or on either, under a mask if not all
+    /// bits count. The source is compared with only the first numbers before the destination is
+    /// looked at, as by tests of one after the other.
     pub fn put_among_sides(
         &mut self,
         direction: Direction,
         at: Sides,
-        first: u32,
+        mask: Option<u32>,
     ) -> Result<(), AllocError>
         ensures { OnOk result
-            (IsPut (any_sides direction at first self.old.numbers) self.old self.new) }
+            (IsPut (any_sides direction at mask self.old.numbers) self.old self.new) }
     {
-        let source = whole_field(at.source, at.width);
-        let destination = whole_field(at.destination, at.width);
+        let width = at.width;
+        let source = MaskedField {
+            offset: at.source,
+            width,
+            mask,
+        };
+        let destination = MaskedField {
+            offset: at.destination,
+            width,
+            mask,
+        };
         match direction {
-            Direction::One(Side::Source) => self.put_among_all(source),
-            Direction::One(Side::Destination) => self.put_among_all(destination),
+            Direction::One(Side::Source) => self.steps.push(Step::AmongAll(source)),
+            Direction::One(Side::Destination) => self.steps.push(Step::AmongAll(destination)),
             Direction::Both(Join::Or) => {
-                self.put_test(compares_at(at.source, at.width, Comparison::Equal, first))?;
-                self.put_among_all(destination)?;
-                self.put_among_others(source, first)?;
+                self.steps.push(Step::AmongFirst(source))?;
+                self.steps.push(Step::AmongAll(destination))?;
+                self.steps.push(Step::AmongOthers(source))?;
                 self.put_join(Join::Or)?;
                 self.put_join(Join::Or)
             }
@@ -177,7 +247,9 @@ impl<A: Allocator + Clone> Steps<A> {
     /// comes before each formula. An error is an allocator that cannot be cloned.
     pub fn new(alloc: A) -> Result<Self, AllocError> {
         Ok(Steps {
-            numbers: Vec::new(alloc.clone()?),
+            first: Interval { low: 0, high: 0 },
+            all: Vec::new(alloc.clone()?),
+            others: Vec::new(alloc.clone()?),
             steps: Stack::new(alloc),
         })
     }

@@ -68,7 +68,7 @@ impl<A: Allocator> Steps<A> {
     }
 
     /// Adds the steps of a value with its qualifiers. What doesn't fit them was refused before, and
-    /// is no here where the table has no row for it.
+    /// isn't one here if the table has no row for it.
     pub fn put_value(
         &mut self,
         link: Link,

@@ -28,11 +28,11 @@ pub enum Waiting {
     Left(u32),
 }
 
-/// What the last node leaves to the next one.
+/// What the last node hands on to the next one.
 #[derive(Clone, Copy)]
 pub enum Pending {
     Nothing,
-    /// It was an `or`, whose right operand is next. Where that is a host or port, it waits for the
+    /// It was an `or`, whose right operand is next. If that is a host or port, it waits for the
     /// left one, and both are looked for together.
     Or,
 }
@@ -73,8 +73,8 @@ fn leave_out<A: Allocator>(
     protocols.push(latest)
 }
 
-/// Adds the protocol of an accessor as the latest. Those that are there are of the accessors on its
-/// right: if one of them has the same protocol, that entry goes, since its tests stand once, where
+/// Adds the protocol of an accessor as the latest. The earlier ones are of the accessors on its
+/// right: if one of them has the same protocol, that entry goes, since its tests come once, at
 /// the leftmost accessor is.
 pub fn add_accessor<A: Allocator>(
     protocols: &mut Stack<Protocol, A>,

@@ -49,7 +49,7 @@ use flt_words::{Comparison, Join, Operator, Protocol, Size};
 use std::alloc::{AllocError, Allocator};
 use std::marker::Model;
 
-/// What a program returns where it keeps a packet: the default snap length of tcpdump, in bytes, as
+/// What a program returns if it keeps a packet: the default snap length of tcpdump, in bytes, as
 /// its programs do.
 const KEEP: u32 = 262_144;
 
@@ -58,7 +58,7 @@ const KEEP: u32 = 262_144;
 pub struct Walk<A: Allocator> {
     code: Code<A>,
     /// The targets of the next truth (a part of the expression that is yes or no); in the end both
-    /// are where the program begins, if there was a node.
+    /// are the beginning of the program, if there was a node.
     to: Targets,
     /// The word for the next left operand.
     slot: u32,
@@ -108,7 +108,7 @@ impl<A: Allocator + Clone> Walk<A> {
             truths: Stack::new(alloc.clone()?),
             numbers: Stack::new(alloc.clone()?),
             accessors: Stack::new(alloc.clone()?),
-            group: Group::new(alloc),
+            group: Group::new(alloc)?,
             pending: Pending::Nothing,
         })
     }
@@ -138,7 +138,7 @@ impl<A: Allocator + Clone> Walk<A> {
         Ok(())
     }
 
-    /// Emits a node and the one before it at once, where that is its right operand and a constant
+    /// Emits a node and the one before it at once, if that is its right operand and a constant
     /// that its instruction may have. `false`: it isn't, and nothing is emitted.
     fn emit_both_nodes(
         &mut self,
@@ -238,7 +238,7 @@ impl<A: Allocator + Clone> Walk<A> {
 
     /// Emits a value with all its qualifiers. A host or port that goes with the group of those
     /// after it joins it: as the right operand of an `or` it waits there for one more; else the
-    /// group is emitted. Any other value is emitted alone, after the group that waits.
+    /// group is emitted. Any other value is emitted by itself, after the group that waits.
     fn emit_value(
         &mut self,
         link: Link,
@@ -257,7 +257,7 @@ impl<A: Allocator + Clone> Walk<A> {
             return self.emit_group(link, steps);
         }
         self.flush_group(link, steps)?;
-        steps.begin(&[])?;
+        steps.begin_alone();
         steps.put_value(link, qualifiers, value)?;
         self.emit_steps(steps)
     }
@@ -275,12 +275,12 @@ impl<A: Allocator + Clone> Walk<A> {
     {
         match node {
             Node::Check(protocol) => {
-                steps.begin(&[])?;
+                steps.begin_alone();
                 steps.put_check(link, *protocol)?;
                 self.emit_steps(steps)
             }
             Node::Cast(protocol, cast) => {
-                steps.begin(&[])?;
+                steps.begin_alone();
                 steps.put_cast(link, *protocol, *cast)?;
                 self.emit_steps(steps)
             }
@@ -337,14 +337,14 @@ impl<A: Allocator + Clone> Walk<A> {
     }
 
     /// Emits the code of the group that waits, if it has members: another operand of an `or` stands
-    /// in front of it. That operand is next, and goes on at the group's code where it doesn't
+    /// in front of it. That operand is next, and goes on at the group's code if it doesn't
     /// match. Before that, if the last node was an `or`, its left operand begins to wait
     /// (`begin_right`).
     fn flush_group(&mut self, link: Link, steps: &mut Steps<A>) -> Result<(), AllocError>
         ensures { OnOk result (self.new ≡ flush_group link self.old) }
     {
         self.begin_right()?;
-        if self.group.numbers().is_empty() {
+        if self.group.is_empty() {
             self.group.clear();
             return Ok(());
         }
@@ -353,12 +353,12 @@ impl<A: Allocator + Clone> Walk<A> {
         self.emit_group(link, steps)
     }
 
-    /// Emits the code of the group, which has members, and leaves it empty.
+    /// Emits the code of the group, which has members, and empties it.
     fn emit_group(&mut self, link: Link, steps: &mut Steps<A>) -> Result<(), AllocError>
         ensures { OnOk result (self.new ≡ finish_formula link (group_formula link self.old.group)
             (record self.old { group = no_group })) }
     {
-        steps.begin(self.group.numbers())?;
+        self.group.begin_steps(steps)?;
         self.group.put_members(link, steps)?;
         self.group.clear();
         self.emit_steps(steps)
@@ -374,11 +374,9 @@ impl<A: Allocator + Clone> Walk<A> {
             let to = self.to;
             let entry = match step {
                 Step::Check(test) => self.code.emit_elementary(test, to)?,
-                Step::AmongAll(field) => self.code.emit_among(field, steps.numbers(), to)?,
-                Step::AmongOthers(field, first) => {
-                    self.code
-                        .emit_among_others(field, first, steps.numbers(), to)?
-                }
+                Step::AmongFirst(field) => self.code.emit_among(field, &[steps.first()], to)?,
+                Step::AmongAll(field) => self.code.emit_among(field, steps.all(), to)?,
+                Step::AmongOthers(field) => self.code.emit_among(field, steps.others(), to)?,
                 Step::Joined(join) => {
                     self.truths.push(LeftTruth { join, to })?;
                     continue;
@@ -448,7 +446,7 @@ impl<A: Allocator + Clone> Walk<A> {
     }
 
     /// A number's code is emitted: the accessors whose index it is are complete, and then the left
-    /// operand that waits is next. Where none waits, the relation is complete.
+    /// operand that waits is next. If none waits, the relation is complete.
     fn finish_number(&mut self, link: Link) -> Result<(), AllocError>
         ensures { OnOk result (self.new ≡ finish_number link self.old.numbers self.old) }
     {
@@ -485,7 +483,7 @@ impl<A: Allocator + Clone> Walk<A> {
 }
 
 impl<A: Allocator> Walk<A> {
-    /// The instructions from where the program begins, once no node is left.
+    /// The instructions from the beginning of the program, once no node is left.
     pub fn into_insns(self) -> Vec<Wide, A>
         ensures { result.items ≡ insns_of self }
     {

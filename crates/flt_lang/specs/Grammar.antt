@@ -16,9 +16,9 @@ use Rattle.flt_ast.specs.declared.qualifiers.Qualifiers.{Qualifiers}
 use Rattle.flt_lang.specs.Values.{ReadsQualifiers, is_written, ReadsValue}
 use Rattle.flt_ast.specs.Tree.{NumberTree, literal, len, named, load, negated, applied, TruthTree, check, cast, sized, bare, valued, compared, denied, joined, Expression, empty, truth}
 
--- the level of an operator, lowest where it binds most tightly. The levels are capkit's own: `|`,
+-- the level of an operator, lowest if it binds most tightly. The levels are capkit's own: `|`,
 -- `&` and `^` are equal and bind most loosely, and `%` is as `*`. An operator's operands are of
--- lower levels, but for that on its left, which may be a chain of operators of its level.
+-- lower levels, except that on its left, which may be a chain of operators of its level.
 abbrev pub level : Operator → ℕ
 level operator.Multiply = 0
 level operator.Divide = 0

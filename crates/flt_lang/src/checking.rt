@@ -12,7 +12,7 @@ use std::alloc::Allocator;
 /// Checks a tree as `resolve` returns it. It takes no memory.
 ///
 /// `DivisionByZero` is reported where some divisor is the number 0 as it is written, else
-/// `TooManyWords` where the arithmetic needs more than 16 words, else `ProgramTooLong` where its
+/// `TooManyWords` if the arithmetic needs more than 16 words, else `ProgramTooLong` if its
 /// bound is over 32,768 instructions.
 pub fn check<A: Allocator>(expr: Expr<A>) -> Result<Checked<A>, ExprFault>
     requires { IsResolved expr }

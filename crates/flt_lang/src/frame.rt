@@ -141,7 +141,7 @@ pub fn token_precedence(token: TokenKind) -> u8
 }
 
 /// The precedence of the loosest operand that the latest frame takes, by the table above; that of a
-/// whole expression where no frame waits.
+/// whole expression if no frame waits.
 pub fn operand_precedence(frames: &[Frame]) -> u8
     ensures { result ≡ operand_precedence (reverse frames.now) }
 {

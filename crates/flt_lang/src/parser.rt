@@ -14,8 +14,8 @@ use std::alloc::Allocator;
 
 /// Reads the tokens of a whole expression.
 ///
-/// `NestedTooDeep` is reported before anything else is looked at, `NotAnExpression` where the
-/// tokens have no tree. `Memory` comes in place of the result where the nodes, or what waits for an
+/// `NestedTooDeep` is reported before anything else is looked at, `NotAnExpression` if the
+/// tokens have no tree. `Memory` comes instead of the result if the nodes, or what waits for an
 /// operand, cannot be kept, or the allocator cannot be cloned.
 pub fn parse<A: Allocator + Clone>(alloc: A, tokens: &[Token]) -> Result<Expr<A>, ExprFault>
     ensures deep { (result ≡ Err ExprFault.NestedTooDeep) ↔ IsTooDeep tokens.now }
@@ -31,7 +31,7 @@ pub fn parse<A: Allocator + Clone>(alloc: A, tokens: &[Token]) -> Result<Expr<A>
     read_tree(alloc, tokens)
 }
 
-/// The tree of tokens, however deep they nest; `NotAnExpression` where they have none.
+/// The tree of tokens, however deep they nest; `NotAnExpression` if they have none.
 #[tactic(auto, using(crate::proofs::Parsing::no_tree))]
 fn read_tree<A: Allocator + Clone>(alloc: A, tokens: &[Token]) -> Result<Expr<A>, ExprFault>
     ensures ok { IfOk result (λ tree. IsReadAs (kinds_of tokens.now) tree) }

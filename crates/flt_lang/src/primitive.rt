@@ -21,7 +21,7 @@ pub fn kind_at(tokens: &[Token], index: usize) -> Option<TokenKind>
     Some(tokens.get(index)?.kind)
 }
 
-/// The protocol with which tokens begin, and how many tokens it takes: 1, or 0 where there is none.
+/// The protocol with which tokens begin, and how many tokens it takes: 1, or 0 if there is none.
 fn read_protocol(tokens: &[Token]) -> (Option<Protocol>, usize)
     ensures value { result.0 ≡ (protocol_of (kinds_of tokens.now)).0 }
     ensures rest { kinds_of (drop result.1 tokens.now) ≡ (protocol_of (kinds_of tokens.now)).1 }
@@ -135,7 +135,7 @@ fn read_prefix_len(tokens: &[Token]) -> (Option<u32>, usize)
 }
 
 /// The value that begins with the token `first`, with the mask after it, and how many of the tokens
-/// `rest` after `first` it takes. `None` where no value begins with it.
+/// `rest` after `first` it takes. `None` if no value begins with it.
 fn value_from(first: TokenKind, rest: &[Token]) -> Option<(Value, usize)>
     ensures some { IfSome result (λ r.
         value_of (first ∷ kinds_of rest.now) ≡ Some (r.0, kinds_of (drop r.1 rest.now))) }
@@ -162,7 +162,7 @@ fn value_from(first: TokenKind, rest: &[Token]) -> Option<(Value, usize)>
 }
 
 /// The value with which tokens begin, with the mask after it, and how many tokens it takes: 3 at
-/// most. `None` where they begin with none.
+/// most. `None` if they begin with none.
 #[tactic(auto, using(crate::proofs::Fronts::value_found, crate::proofs::Fronts::no_value_found))]
 pub fn read_value(tokens: &[Token]) -> Option<(Value, usize)>
     ensures some { IfSome result (λ r.
@@ -179,7 +179,7 @@ pub fn read_value(tokens: &[Token]) -> Option<(Value, usize)>
 }
 
 /// A value with what stands before it, if anything does, and how many tokens more than one they
-/// are, as `Reader` counts them in a step. `None` where no value follows the qualifiers.
+/// are, as `Reader` counts them in a step. `None` if no value follows the qualifiers.
 pub fn read_value_with_qualifiers(tokens: &[Token]) -> Option<(Qualifiers, Value, usize)>
     ensures value { result ≡ valued_of (kinds_of tokens.now) }
     ensures within { IfSome result (λ r. r.2 < length tokens.now) }

@@ -51,7 +51,7 @@ impl<A: Allocator> Model for Reader<A> {
 // What is read in a step is a pair: how many tokens after the first one (`step` itself counts that
 // too), and the operand if it is complete. If it isn't, a frame waits for the rest of it.
 //
-// Of `not tcp[13] = 2` these are the frames, latest last, and the operand that was just read, where
+// Of `not tcp[13] = 2` these are the frames, latest last, and the operand that was just read, when
 // the token to the right comes next:
 //
 //     frames                        operand    next
@@ -100,7 +100,7 @@ impl<A: Allocator> Reader<A> {
     }
 
     /// The precedence of the loosest operand that the latest frame takes, by the table in `frame`;
-    /// that of a whole expression where no frame waits.
+    /// that of a whole expression if no frame waits.
     fn operand_precedence(&self) -> u8
         ensures { result ≡ operand_precedence self.now.frames }
     {
@@ -116,7 +116,7 @@ impl<A: Allocator> Reader<A> {
         self.frames.pop()
     }
 
-    /// Takes the latest frame off if it binds at least as tightly as `limit`. `None` where it binds
+    /// Takes the latest frame off if it binds at least as tightly as `limit`. `None` if it binds
     /// more loosely, or none waits.
     fn pop_tight_frame(&mut self, limit: u8) -> Option<Frame>
         ensures some { IfSome result (λ f. self.old.frames ≡ f ∷ self.new.frames) }
@@ -131,8 +131,8 @@ impl<A: Allocator> Reader<A> {
         }
     }
 
-    /// The expression of the nodes that were read, which have to be those of a tree, as `read`
-    /// leaves them.
+    /// The expression of the nodes that were read, which must be those of a tree, as they are
+    /// after `read`.
     pub fn into_expr(self) -> Expr<A>
         requires { IsTree (reverse self.nodes) }
         ensures { result ≡ tree_of (reverse self.nodes) }
@@ -141,10 +141,10 @@ impl<A: Allocator> Reader<A> {
         Expr { nodes }
     }
 
-    // ---- where an operand begins
+    // ---- the beginning of an operand
 
-    /// Reads the tokens where an operand begins, of which `first` is the first: how many more than
-    /// one are used up, and the operand, if that is all of it. `NotAnExpression` where none begins.
+    /// Reads the tokens at the beginning of an operand, of which `first` is the first: how many more than
+    /// one are used up, and the operand, if that is all of it. `NotAnExpression` if none begins.
     fn begin_operand(
         &mut self,
         first: TokenKind,
@@ -173,7 +173,7 @@ impl<A: Allocator> Reader<A> {
             | TokenKind::Range { .. } => self.write_primitive(read_bare_value(tokens)),
             TokenKind::Len => self.write_number_word(Node::Len),
             TokenKind::Name(number) => self.write_number_word(Node::Named(number)),
-            // 6 is its precedence. It is refused where the latest frame takes numbers: in
+            // 6 is its precedence. It is refused if the latest frame takes numbers: in
             // arithmetic, a comparison or brackets.
             TokenKind::Not if self.operand_precedence() >= 6 => self.shift_prefix(Frame::Not),
             TokenKind::Operator(Operator::Subtract) => self.shift_prefix(Frame::Negate),
@@ -226,8 +226,8 @@ impl<A: Allocator> Reader<A> {
 
     /// Reads an operand that begins with a protocol: an accessor as `tcp[` up to its bracket, a
     /// cast as `ether broadcast`, or another primitive. `tokens` has the protocol first.
-    /// `NotAnExpression` where this protocol may not stand before the bracket or the cast that
-    /// follows it, or where neither follows and no primitive begins with it, as with `ether` alone.
+    /// `NotAnExpression` if this protocol may not stand before the bracket or the cast that
+    /// follows it, or if neither follows and no primitive begins with it, as with a single `ether`.
     fn begin_with_protocol(
         &mut self,
         protocol: Protocol,
@@ -278,7 +278,7 @@ impl<A: Allocator> Reader<A> {
 
     // ---- after an operand
 
-    /// Makes an operand a number: adds its nodes after the others, unless they are there already.
+    /// Makes an operand a number: adds its nodes after the others, unless it has them already.
     /// `NotAnExpression` for a truth.
     fn write_number(&mut self, operand: Operand) -> Result<(), ExprFault>
         ensures ok { OnOk result (as_number operand self.old.nodes ≡ Some self.new.nodes) }
@@ -301,7 +301,7 @@ impl<A: Allocator> Reader<A> {
         }
     }
 
-    /// Makes an operand a truth: adds its node after the others, unless it is there already.
+    /// Makes an operand a truth: adds its node after the others, unless it has it already.
     /// `NotAnExpression` for what can only be a number.
     fn write_truth(&mut self, operand: Operand) -> Result<(), ExprFault>
         ensures ok { OnOk result (as_truth operand self.old.nodes ≡ Some self.new.nodes) }
@@ -357,7 +357,7 @@ impl<A: Allocator> Reader<A> {
     }
 
     /// Completes frames and takes them off, the latest first, up to the first one that binds more
-    /// loosely than `limit`. Returns what they make of the operand. `NotAnExpression` where one of
+    /// loosely than `limit`. Returns what they make of the operand. `NotAnExpression` if one of
     /// them can't be completed, as in `fill_frame`.
     #[tactic(auto, using(crate::proofs::Reducing::reducing))]
     fn reduce(&mut self, operand: Operand, limit: u8) -> Result<Operand, ExprFault>
@@ -374,7 +374,7 @@ impl<A: Allocator> Reader<A> {
         Ok(operand)
     }
 
-    /// Lets a frame whose left operand was read wait for its right one. `NotAnExpression` where the
+    /// Lets a frame whose left operand was read wait for its right one. `NotAnExpression` if the
     /// left one is of the other sort, or the latest frame takes nothing that binds as loosely:
     /// `tcp[len = 1]`.
     fn shift_operator(
@@ -397,8 +397,8 @@ impl<A: Allocator> Reader<A> {
         Ok((0, None))
     }
 
-    /// Closes a parenthesis: `NotAnExpression` where the latest frame isn't one, or no frame waits.
-    /// A plain number in it, also one with `/ N`, may still become either sort.
+    /// Closes a parenthesis: `NotAnExpression` if the latest frame isn't one, or no frame waits.
+    /// A plain number in it, even one with `/ N`, may still become either sort.
     fn close_parenthesis(&mut self, operand: Operand) -> Result<(usize, Option<Operand>), ExprFault>
         ensures ok { IfOk result (λ r. after_close self.old.frames operand self.old.nodes
             ≡ Some (r.0, (self.new.frames, r.1, self.new.nodes))) }
@@ -414,7 +414,7 @@ impl<A: Allocator> Reader<A> {
     }
 
     /// Closes a bracket: the accessor that waits takes its index, and reads `size` bytes there.
-    /// `more` tokens more than one are used up. `NotAnExpression` where no accessor waits, or the
+    /// `more` tokens more than one are used up. `NotAnExpression` if no accessor waits, or the
     /// index is a truth.
     fn close_bracket(
         &mut self,
@@ -441,9 +441,9 @@ impl<A: Allocator> Reader<A> {
 
     /// Reads the token `first` after an operand that no tighter frame takes: an operator, whose
     /// frame waits for its right operand, or what closes a parenthesis or a bracket, with the size
-    /// of an accessor where it is its colon. Returns how many tokens more than this one are used
+    /// of an accessor if it is its colon. Returns how many tokens more than this one are used
     /// up, and the operand, if one is complete. `NotAnExpression` for other tokens, and where
-    /// `shift_operator`, `close_parenthesis` or `close_bracket` refuses this one, or where no size
+    /// `shift_operator`, `close_parenthesis` or `close_bracket` refuses this one, or if no size
     /// and bracket follow the colon.
     fn shift_or_close(
         &mut self,
@@ -497,7 +497,7 @@ impl<A: Allocator> Reader<A> {
             ≡ None }
         ensures err { IfErr result IsReadFault }
     {
-        // Where the latest frame doesn't take a quotient (precedence 1), as in `6 * 10/8`, the `/`
+        // If the latest frame doesn't take a quotient (precedence 1), as in `6 * 10/8`, the `/`
         // is an operator after what that frame makes of the number.
         match number_with_prefix(operand, first, rest) {
             Some((number, len)) if self.operand_precedence() >= 1 => {
@@ -511,8 +511,8 @@ impl<A: Allocator> Reader<A> {
     }
 
     /// Reads at least one token: how many, and the operand that was read last, if it is complete.
-    /// `operand` is what the step before returned of it. `NotAnExpression` where no expression goes
-    /// on so.
+    /// `operand` is what the step before returned of it. `NotAnExpression` if no expression goes
+    /// on like this.
     fn step(
         &mut self,
         operand: Option<Operand>,
@@ -544,9 +544,9 @@ impl<A: Allocator> Reader<A> {
         }
     }
 
-    /// After the last token, where the end is as a closing one (precedence 8): the frames that wait
-    /// are completed, and one truth has to be left. `NotAnExpression` where none is, or what can
-    /// only be a number, where a frame can't be completed, or a parenthesis or bracket is open.
+    /// After the last token, when the end acts as a closing one (precedence 8): the frames that wait
+    /// are completed, and one truth has to be left. `NotAnExpression` if none is, or what can
+    /// only be a number, if a frame can't be completed, or a parenthesis or bracket is open.
     fn finish(&mut self, operand: Option<Operand>) -> Result<(), ExprFault>
         ensures ok { OnOk result (finish operand self.old.frames self.old.nodes
             ≡ Some self.new.nodes) }
@@ -565,7 +565,7 @@ impl<A: Allocator> Reader<A> {
     }
 
     /// Reads the tokens of a whole expression into a reader that has read nothing. It has the nodes
-    /// of their tree then, and none where there are no tokens. `NotAnExpression` where they have no
+    /// of their tree then, and none if there are no tokens. `NotAnExpression` if they have no
     /// tree.
     pub fn read(&mut self, tokens: &[Token]) -> Result<(), ExprFault>
         requires frames { self.old.frames ≡ [] }
@@ -590,7 +590,7 @@ impl<A: Allocator> Reader<A> {
 }
 
 /// The node of `less N` or `greater N` with which tokens begin, and how many tokens more than one
-/// it takes; `None` where they don't.
+/// it takes; `None` if they don't.
 fn read_length_test(tokens: &[Token]) -> Option<(Node, usize)>
     ensures value { (nodes : List Node) →
         one_node nodes result ≡ sized_of (kinds_of tokens.now) nodes }
@@ -605,7 +605,7 @@ fn read_length_test(tokens: &[Token]) -> Option<(Node, usize)>
 }
 
 /// The node of a value with what stands before it, or else of a protocol that may stand alone, with
-/// which tokens begin, and how many tokens more than one it takes; `None` where they begin with
+/// which tokens begin, and how many tokens more than one it takes; `None` if they begin with
 /// neither.
 fn read_primitive(tokens: &[Token]) -> Option<(Node, usize)>
     ensures value { (nodes : List Node) →
@@ -624,7 +624,7 @@ fn read_primitive(tokens: &[Token]) -> Option<(Node, usize)>
 }
 
 /// The node of a value with nothing before it, with which tokens begin, and how many tokens more
-/// than one it takes; `None` where they begin with none.
+/// than one it takes; `None` if they begin with none.
 fn read_bare_value(tokens: &[Token]) -> Option<(Node, usize)>
     ensures value { (nodes : List Node) →
         one_node nodes result ≡ bare_of (kinds_of tokens.now) nodes }
@@ -644,7 +644,7 @@ fn prefix_mask(len: Option<u32>) -> NetMask
     }
 }
 
-/// A plain number and the `N` of `/ N`, where that stands after it: a network with the length of
+/// A plain number and the `N` of `/ N`, if that follows it: a network with the length of
 /// its prefix, or a division. `None` for other operands or tokens.
 fn number_with_prefix(operand: Operand, first: TokenKind, rest: &[Token]) -> Option<(u32, u32)>
     ensures value { result ≡ number_with_prefix operand (first ∷ kinds_of rest.now) }
@@ -661,7 +661,7 @@ fn number_with_prefix(operand: Operand, first: TokenKind, rest: &[Token]) -> Opt
 }
 
 /// The size in bytes of an accessor, after its colon and before its bracket, in any range; `None`
-/// where no number and bracket are there.
+/// if no number and bracket follow.
 fn read_accessor_size(tokens: &[Token]) -> Option<u32>
     ensures value { result ≡ accessor_size (kinds_of tokens.now) }
     ensures within { IfSome result (λ _. 1 < length tokens.now) }

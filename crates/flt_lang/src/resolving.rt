@@ -18,8 +18,8 @@ use std::alloc::Allocator;
 /// dst`.
 ///
 /// `QualifiersDoNotFit` is reported where some value has qualifiers that do not go with it, or
-/// `broadcast` has `ip` or `ip6` before it, else `ValueOutOfRange` where a number of a value or the
-/// size of an accessor is out of range, else `BitsPastMask` where a network has bits set that its
+/// `broadcast` has `ip` or `ip6` before it, else `ValueOutOfRange` if a number of a value or the
+/// size of an accessor is out of range, else `BitsPastMask` if a network has bits set that its
 /// mask leaves out.
 pub fn resolve<A: Allocator>(expr: Expr<A>) -> Result<Expr<A>, ExprFault>
     ensures ok { IfOk result (λ tree. tree ≡ fill_expression expr) }
@@ -37,7 +37,7 @@ pub fn resolve<A: Allocator>(expr: Expr<A>) -> Result<Expr<A>, ExprFault>
 }
 
 /// Gives each bare value the qualifiers of the nearest value to its left that has some written, or
-/// `host` where there is none: the nodes are in the order of the text, as far as values go.
+/// `host` if there is none: the nodes are in the order of the text, as far as values go.
 fn inherit_qualifiers<A: Allocator>(nodes: &mut Vec<Node, A>)
     ensures { nodes.new.items ≡ inherited_nodes only_host nodes.old.items }
 {

@@ -43,7 +43,7 @@ fn sum_of_arithmetic_nodes(nodes: &[Node]) -> u128
     sum
 }
 
-/// The most numbers that wait at once to be operands; 1 where none does, since `words_in` subtracts
+/// The most numbers that wait at once to be operands; 1 if none does, since `words_in` subtracts
 /// 1.
 fn most_waiting(nodes: &[Node]) -> usize
     ensures { result ≡ (fold climb (0, 1) nodes.now).1 }

@@ -71,16 +71,9 @@ within_if k following e = below (nat_lt k following) refl e
 emitted_sound : (op : Option Operation) (i : Insn) (l : PlacedCode) (following : ℕ) → operation_of i.code ≡ op → fault_if_known op i following ≡ None → HasTargets l following → IsFaultless l.code → IsFaultless (with_insn op i l)
 unfolding with_test
 emitted_sound None i l following e none h sound = cc
-emitted_sound (Some (LoadAbsolute width)) i l following e none h sound = plain_sound _ i l.code e refl sound
-emitted_sound (Some (LoadIndirect width)) i l following e none h sound = plain_sound _ i l.code e refl sound
-emitted_sound (Some (Load register Immediate)) i l following e none h sound = plain_sound _ i l.code e refl sound
 emitted_sound (Some (Load register Memory)) i l following e none h sound = plain_sound _ i l.code e none sound
-emitted_sound (Some (Load register Length)) i l following e none h sound = plain_sound _ i l.code e refl sound
-emitted_sound (Some LoadHeaderLength) i l following e none h sound = plain_sound _ i l.code e refl sound
 emitted_sound (Some (Store register)) i l following e none h sound = plain_sound _ i l.code e none sound
 emitted_sound (Some (Compute operator Constant)) i l following e none h sound = plain_sound _ i l.code e none sound
-emitted_sound (Some (Compute operator IndexRegister)) i l following e none h sound = plain_sound _ i l.code e refl sound
-emitted_sound (Some Negate) i l following e none h sound = plain_sound _ i l.code e refl sound
 emitted_sound (Some Jump) i l following e none h sound = jump_sound _ l.code (h.inside i.k (within_if i.k following none)) sound
 emitted_sound (Some (JumpIf t o)) i l following e none h sound = tests (nat_lt i.jt following) (nat_lt i.jf following) refl refl none
   where
@@ -91,10 +84,7 @@ emitted_sound (Some (JumpIf t o)) i l following e none h sound = tests (nat_lt i
         reached_sound _ i t o _ _ l.code e (near_inside l following i.jt h yes_in) (near_inside l following i.jf h no_in) sound
     tests true false ea eb none' = cc
     tests false b ea eb none' = cc
-emitted_sound (Some ReturnConstant) i l following e none h sound = plain_sound _ i l.code e refl sound
-emitted_sound (Some ReturnAccumulator) i l following e none h sound = plain_sound _ i l.code e refl sound
-emitted_sound (Some CopyToIndex) i l following e none h sound = plain_sound _ i l.code e refl sound
-emitted_sound (Some CopyToAccumulator) i l following e none h sound = plain_sound _ i l.code e refl sound
+emitted_sound _ i l following e none h sound = plain_sound _ i l.code e refl sound
 
 targets_of : (wide : List Insn) → HasTargets (placed_code wide) (length wide)
 targets_of wide = record {

@@ -146,7 +146,7 @@ impl<A: Allocator> Layout<A> {
     }
 
     /// The offset to a place from an instruction that is put in front: how many it skips. No place
-    /// is greater than the first instruction's, so nothing is lost where the difference stops at 0.
+    /// is greater than the first instruction's, so nothing is lost if the difference stops at 0.
     fn distance(&self, place: usize) -> usize
         ensures { result ≡ length self.now.code - place }
     {
@@ -154,7 +154,7 @@ impl<A: Allocator> Layout<A> {
     }
 
     /// The offset to a place from a test that has a jump after it: it skips that one too. Neither
-    /// is there yet.
+    /// is present yet.
     fn distance_over_jump(&self, place: usize) -> usize
         requires { length self.now.code < 2 ^ 32 }
         ensures { result ≡ length self.now.code + 1 - place }
@@ -225,7 +225,7 @@ impl<A: Allocator> Layout<A> {
     }
 
     /// Puts a test in front that goes on at one of two places, and right after it the jumps that it
-    /// needs: three instructions at most, for which the clause leaves room in 32 bits.
+    /// needs: three instructions at most, which fit 32 bits by the clause.
     #[tactic(auto, unfolding(crate::specs::inside::Layout::with_test))]
     fn emit_test(&mut self, insn: Wide, to: Targets) -> Result<(), AllocError>
         requires { length self.old.code + 3 < 2 ^ 32 }
@@ -255,7 +255,7 @@ impl<A: Allocator> Layout<A> {
         self.emit(with_offsets(insn, jt as u8, jf as u8))
     }
 
-    /// Notes the place of the wide instruction that was laid out last: where the code begins now.
+    /// Notes the place of the wide instruction that was laid out last: the beginning of the code now.
     fn push_place(&mut self) -> Result<(), AllocError>
         ensures { OnOk result (self.new ≡ with_entry self.old.code self.old.jumps self.old) }
     {
@@ -322,7 +322,7 @@ impl<A: Allocator + Clone> Layout<A> {
 /// instructions past the one after its test is reached by a jump (`ja`), so a test costs at most
 /// two of them. Jumps of the wide code itself are kept. With fewer than 2^30 wide instructions the
 /// number of any jump fits its 32 bits. Code that breaks no rule breaks none once it is laid out,
-/// but for that on the length: it may have grown.
+/// except that on the length: it may have grown.
 ///
 /// An error is a failed allocation, or an allocator that cannot be cloned.
 pub fn laid_out<A: Allocator + Clone>(alloc: A, wide: &[Wide]) -> Result<Vec<Insn, A>, AllocError>

@@ -3,8 +3,7 @@
 ghost use Rattle.std.specs.Prelude.{◌<◌};
 
 use crate::laid_out;
-use flt_bpf::program::run_any;
-use flt_bpf::{Insn, Wide};
+use flt_bpf::{Insn, Program, Wide, check, run};
 use std::alloc::{AllocError, Global};
 use std::test::Fail;
 
@@ -48,6 +47,17 @@ fn with_returns(alloc: Global, tests: &[Wide]) -> Result<Vec<Insn>, Fail> {
     Ok(laid_out(alloc, &wide)?)
 }
 
+/// The program that the code is.
+fn program_of(code: Vec<Insn>) -> Result<Program<Global>, Fail> {
+    Ok(check(code).ok().ok_or("not valid")?)
+}
+
+/// The answer on a packet of a length, and how many instructions the run met.
+fn run_on(program: &mut Program<Global>, len: u32) -> (u32, usize) {
+    let (answer, count) = run(program, &[], len);
+    (answer, count as usize)
+}
+
 /// One test, and by how many jumps its targets are reached.
 #[derive(Clone, Copy)]
 struct Row {
@@ -85,9 +95,10 @@ fn one_test(rt: HostRuntime) -> Result<(), Fail> {
         let code = with_returns(rt.alloc(), &[has_length(1, row.yes, row.no)])?;
         let jumps = row.jumps_if_yes.saturating_add(row.jumps_if_no);
         assert!(rt; code.len() == RETURNS.saturating_add(2).saturating_add(jumps));
-        let (yes, no) = (run_any(&code, &[], 1), run_any(&code, &[], 2));
-        assert!(rt; yes == Some((row.yes, row.jumps_if_yes.saturating_add(3))));
-        assert!(rt; no == Some((row.no, row.jumps_if_no.saturating_add(3))));
+        let mut program = program_of(code)?;
+        let (yes, no) = (run_on(&mut program, 1), run_on(&mut program, 2));
+        assert!(rt; yes == (row.yes, row.jumps_if_yes.saturating_add(3)));
+        assert!(rt; no == (row.no, row.jumps_if_no.saturating_add(3)));
     }
     Ok(())
 }
@@ -98,9 +109,10 @@ fn two_tests(rt: HostRuntime) -> Result<(), Fail> {
     let tests = [has_length(1, 255, 0), has_length(2, 256, 270)];
     let code = with_returns(rt.alloc(), &tests)?;
     assert!(rt; code.len() == RETURNS + 3 + 3);
-    assert!(rt; run_any(&code, &[], 1) == Some((254, 4)));
-    assert!(rt; run_any(&code, &[], 2) == Some((256, 5)));
-    assert!(rt; run_any(&code, &[], 3) == Some((270, 5)));
+    let mut program = program_of(code)?;
+    assert!(rt; run_on(&mut program, 1) == (254, 4));
+    assert!(rt; run_on(&mut program, 2) == (256, 5));
+    assert!(rt; run_on(&mut program, 3) == (270, 5));
     Ok(())
 }
 
@@ -123,11 +135,12 @@ fn shared_jumps(rt: HostRuntime) -> Result<(), Fail> {
     for (returns, jumps) in [(1, 1), (4, 4), (5, 200)] {
         let code = with_returns(rt.alloc(), &tests_by_turns(rt.alloc(), returns)?)?;
         assert!(rt; code.len() == RETURNS.saturating_add(201).saturating_add(jumps));
+        let mut program = program_of(code)?;
         for length in 1..TESTS + 1 {
             let answer = 299u32.saturating_sub(length % returns);
-            assert!(rt; run_any(&code, &[], length) == Some((answer, length as usize + 3)));
+            assert!(rt; run_on(&mut program, length) == (answer, length as usize + 3));
         }
-        assert!(rt; run_any(&code, &[], TESTS + 1) == Some((0, 202)));
+        assert!(rt; run_on(&mut program, TESTS + 1) == (0, 202));
     }
     Ok(())
 }

@@ -1,11 +1,13 @@
 -- What is known holds of the packet and of the registers.
 use Rattle.std.proofs.Common.{◌≡◌, ℕ, zero, suc, ◌+◌, ◌%◌, ◌^◌, List, [], ◌∷◌, Bool, true, false, Option, Some, None, refl, sym, ap, ◌∙◌, subst, arith, ◌⊎◌, inl, inr}
-use Rattle.std.specs.Prelude.{◌==◌, ◌&&◌, ◌||◌, not, if◌then◌else◌, map, replicate, slice_set, bit_and}
-use Rattle.std.specs.Option.{option_map}
+use Rattle.std.specs.Prelude.{◌==◌, ◌&&◌, not, if◌then◌else◌, map, replicate, slice_set, bit_and}
+use Rattle.std.specs.Option.{option_map, option_or}
 use Rattle.std.proofs.lemmas.Bool.Decides.{nat_tests}
 use Rattle.flt_bpf.specs.declared.machine.State.{State}
 use Rattle.flt_bpf.specs.declared.operation.Operation.{Operation}
-use Rattle.flt_bpf.specs.declared.operation.Operation.TheVariants.{LoadAbsolute, LoadIndirect, JumpIf}
+use Rattle.flt_bpf.specs.declared.operation.Operation.TheVariants.{LoadAbsolute, LoadIndirect, Load, JumpIf}
+use Rattle.flt_bpf.specs.declared.operation.Register.TheVariants.{Accumulator}
+use Rattle.flt_bpf.specs.declared.operation.Source.TheVariants.{Length}
 use Rattle.flt_bpf.specs.declared.operation.Test.{Test}
 use Rattle.flt_bpf.specs.declared.operation.Test.TheVariants.{Equal}
 use Rattle.flt_bpf.specs.declared.operation.Operand.{Operand}
@@ -21,23 +23,25 @@ use Rattle.flt_short.specs.declared.facts.Fact.{Fact}
 use Rattle.flt_short.specs.declared.facts.Held.{Held}
 use Rattle.flt_short.specs.declared.facts.Held.TheVariants as held
 use Rattle.flt_short.specs.declared.facts.Known.{Known}
-use Rattle.flt_short.specs.inside.Facts.{nothing_claimed, nothing_known, same_optional, same_field, claims_nothing, allows, entails_some, entails, one_of_two, joined_claim, joined_with_any, joined_fact, joined_held, common_header, joined_by, joined, outcome_by_claim, first_said, decided, the_two, two_numbers_of, with_fact, captures, any_captures, holds_field, is_captured, claim_after, known_by, known_by_test}
-use Rattle.flt_short.proofs.Basics.{by_test, both_true, either_true}
+use Rattle.flt_short.specs.inside.Facts.{nothing_claimed, nothing_known, same_optional, same_field, claims_nothing, allows, entails_some, entails, one_of_two, joined_claim, joined_with_any, joined_fact, joined_held, common_header, joined_by, joined, outcome_by_claim, decided, the_two, two_numbers_of, with_fact, captures, any_captures, holds_field, is_captured, claim_after, known_by, known_by_test}
+use Rattle.std.proofs.lemmas.Bool.{and_parts, or_cases}
+use Rattle.flt_short.proofs.Basics.{by_test}
 
--- what a field is
-abbrev pub loaded : Option Operation → List ℕ → ℕ → Option ℕ
-loaded (Some (LoadAbsolute w)) p k = field p k w
-loaded _ p k = None
+-- what a field of a packet p of original length n is
+abbrev pub loaded : Option Operation → List ℕ → ℕ → ℕ → Option ℕ
+loaded (Some (LoadAbsolute w)) p n k = field p k w
+loaded (Some (Load Accumulator Length)) p n k = Some n
+loaded _ p n k = None
 
 abbrev pub masked : Option ℕ → Option ℕ → Option ℕ
 masked None v = v
 masked (Some m) v = option_map (λ n. bit_and n m) v
 
-abbrev pub value_at : List ℕ → ℕ → ℕ → Option ℕ → Option ℕ
-value_at p code k mask = masked mask (loaded (operation_of code) p k)
+abbrev pub value_at : List ℕ → ℕ → ℕ → ℕ → Option ℕ → Option ℕ
+value_at p n code k mask = masked mask (loaded (operation_of code) p n k)
 
-abbrev pub value_of : List ℕ → Field → Option ℕ
-value_of p f = value_at p f.code f.k f.mask
+abbrev pub value_of : List ℕ → ℕ → Field → Option ℕ
+value_of p n f = value_at p n f.code f.k f.mask
 
 -- what a load at X puts into A
 abbrev pub loaded_at : Option Operation → List ℕ → ℕ → ℕ → Option ℕ
@@ -61,13 +65,13 @@ same_masks (Some a) (Some b) e = ap Some (numbers a b e)
 same_masks None (Some b) e = cc
 same_masks (Some a) None e = cc
 
-pub same_value : (p : List ℕ) (f g : Field) → same_field f g ≡ true → value_of p f ≡ value_of p g
-same_value p f g e =
-    let q = both_true (f.code == g.code && f.k == g.k) (same_optional f.mask g.mask) e in
-    let r = both_true (f.code == g.code) (f.k == g.k) q.0 in
-    ap (λ c. value_at p c f.k f.mask) (numbers f.code g.code r.0)
-    ∙ ap (λ k. value_at p g.code k f.mask) (numbers f.k g.k r.1)
-    ∙ ap (value_at p g.code g.k) (same_masks f.mask g.mask q.1)
+pub same_value : (p : List ℕ) (n : ℕ) (f g : Field) → same_field f g ≡ true → value_of p n f ≡ value_of p n g
+same_value p n f g e =
+    let q : (f.code ≡ g.code) × (f.k ≡ g.k) × (same_optional f.mask g.mask ≡ true) = grind (arith, nat_tests) in
+    let code = q.0 in
+    let k = q.1 in
+    let mask = same_masks f.mask g.mask q.2 in
+    cc
 
 nothing_allows : (c : Claim) (n : ℕ) → claims_nothing c ≡ true → allows c n ≡ true
 nothing_allows Nothing n e = refl
@@ -81,19 +85,16 @@ silent : (c : Claim) (o : Option ℕ) → claims_nothing c ≡ true → is_said 
 silent c None e = e
 silent c (Some n) e = nothing_allows c n e
 
-not_also : (a b n : ℕ) → (b == a) ≡ true → not (n == a) ≡ true → not (n == b) ≡ true
-not_also a b n e h = subst (λ m. not (n == m) ≡ true) (sym (numbers b a e)) h
-
 some_entails : (c d : Claim) (n : ℕ) → entails_some c d ≡ true → allows c n ≡ true → allows d n ≡ true
 some_entails Nothing d n e h = cc
 some_entails (Is a) d n e h = subst (λ m. allows d m ≡ true) (sym (numbers n a h)) e
-some_entails (IsNot a) (IsNot b) n e h = not_also a b n e h
+some_entails (IsNot a) (IsNot b) n e h = grind (arith, nat_tests)
 some_entails (IsNot a) Nothing n e h = cc
 some_entails (IsNot a) (Is b) n e h = cc
 some_entails (IsNot a) (IsOneOf b b') n e h = cc
 some_entails (IsOneOf a b) d n e h =
-    let q = both_true (allows d a) (allows d b) e in
-    elim (either_true (n == a) (n == b) h) [
+    let q = and_parts (allows d a) (allows d b) e in
+    elim (or_cases (n == a) (n == b) h) [
       | inl i ↦ subst (λ m. allows d m ≡ true) (sym (numbers n a i)) q.0
       | inr i ↦ subst (λ m. allows d m ≡ true) (sym (numbers n b i)) q.1
     ]
@@ -105,98 +106,63 @@ some_of_nothing (IsNot a) d e h = cc
 some_of_nothing (IsOneOf a b) d e h = cc
 
 entailed : (c d : Claim) (o : Option ℕ) → entails c d ≡ true → is_said c o ≡ true → is_said d o ≡ true
-entailed c d None e h = elim (either_true (claims_nothing d) (entails_some c d) e) [ inl i ↦ i | inr i ↦ some_of_nothing c d i h ]
-entailed c d (Some n) e h = elim (either_true (claims_nothing d) (entails_some c d) e) [ inl i ↦ nothing_allows d n i | inr i ↦ some_entails c d n i h ]
+entailed c d None e h = elim (or_cases (claims_nothing d) (entails_some c d) e) [ inl i ↦ i | inr i ↦ some_of_nothing c d i h ]
+entailed c d (Some n) e h = elim (or_cases (claims_nothing d) (entails_some c d) e) [ inl i ↦ nothing_allows d n i | inr i ↦ some_entails c d n i h ]
 
-first_true : (a b : Bool) → a ≡ true → (a || b) ≡ true
-first_true a b e = ap (λ z. z || b) e
+one_of_both : (c d : Claim) (o : Option ℕ) → (is_said c o ≡ true) ⊎ (is_said d o ≡ true) → is_said (one_of_two c d) o ≡ true
+one_of_both (Is a) (Is b) None h = elim h [ inl e ↦ cc | inr e ↦ cc ]
+one_of_both (Is a) (Is b) (Some n) h = elim h [ inl e ↦ grind (arith, nat_tests) | inr e ↦ grind (arith, nat_tests) ]
+one_of_both _ _ o h = nothing_said o
 
-second_true : (a b : Bool) → b ≡ true → (a || b) ≡ true
-second_true true b e = refl
-second_true false b e = e
-
-two_left : (c d : Claim) (o : Option ℕ) → is_said c o ≡ true → is_said (one_of_two c d) o ≡ true
-two_left (Is a) (Is b) None h = cc
-two_left (Is a) (Is b) (Some n) h = first_true (n == a) (n == b) h
-two_left _ _ o h = nothing_said o
-
-two_right : (c d : Claim) (o : Option ℕ) → is_said d o ≡ true → is_said (one_of_two c d) o ≡ true
-two_right (Is a) (Is b) None h = cc
-two_right (Is a) (Is b) (Some n) h = second_true (n == a) (n == b) h
-two_right _ _ o h = nothing_said o
-
-joined_left : (c d : Claim) (o : Option ℕ) → is_said c o ≡ true → is_said (joined_claim c d) o ≡ true
-joined_left c d o h =
+-- a joined claim holds if one of both does
+joins_claims : (c d : Claim) (o : Option ℕ) → (is_said c o ≡ true) ⊎ (is_said d o ≡ true) → is_said (joined_claim c d) o ≡ true
+joins_claims c d o h =
     by_test (λ z. is_said z o ≡ true) (entails c d) _ _
-    (λ e. entailed c d o e h)
-    (λ _. by_test (λ z. is_said z o ≡ true) (entails d c) c (one_of_two c d) (λ _. h) (λ _. two_left c d o h))
-
-joined_right : (c d : Claim) (o : Option ℕ) → is_said d o ≡ true → is_said (joined_claim c d) o ≡ true
-joined_right c d o h =
-    by_test (λ z. is_said z o ≡ true) (entails c d) _ _
-    (λ _. h)
-    (λ _. by_test (λ z. is_said z o ≡ true) (entails d c) c (one_of_two c d) (λ e. entailed d c o e h) (λ _. two_right c d o h))
+    (λ e. elim h [ inl x ↦ entailed c d o e x | inr x ↦ x ])
+    (λ _. by_test (λ z. is_said z o ≡ true) (entails d c) c (one_of_two c d)
+    (λ e. elim h [ inl x ↦ x | inr x ↦ entailed d c o e x ])
+    (λ _. one_of_both c d o h))
 
 -- what a claim says of a test
-not_allowed : (c : Claim) (n v : ℕ) (b : Bool) → allows c v ≡ true → (if allows c n then None else Some false) ≡ Some b → (v == n) ≡ b
-not_allowed c n v b h =
-    by_test (λ z. z ≡ Some b → (v == n) ≡ b) (allows c n) None (Some false)
-    (λ _. λ e. cc)
-    (λ other. λ e.
-    let is_b : false ≡ b = cc in
-    by_test (λ (z : Bool). (v == n) ≡ z → (v == n) ≡ b) (v == n) true false
-    (λ yes. λ _. let same = numbers v n yes in let both : allows c n ≡ true = subst (λ m. allows c m ≡ true) same h in absurd (let clash : true ≡ false = sym both ∙ other in cc))
-    (λ none. λ _. none ∙ is_b)
-    (by_test (λ (z : Bool). (v == n) ≡ z) (v == n) true false (λ yes. yes) (λ none. none)))
-
 says_right : (c : Claim) (n v : ℕ) (b : Bool) → allows c v ≡ true → outcome_by_claim c n ≡ Some b → (v == n) ≡ b
 says_right (Is a) n v b h e =
     let is_b : (a == n) ≡ b = cc in
     ap (λ m. m == n) (numbers v a h) ∙ is_b
-says_right Nothing n v b h e = not_allowed Nothing n v b h e
-says_right (IsNot a) n v b h e = not_allowed (IsNot a) n v b h e
-says_right (IsOneOf a a') n v b h e = not_allowed (IsOneOf a a') n v b h e
+says_right Nothing n v b h e = cc
+says_right (IsNot a) n v b h e = grind (arith, nat_tests)
+says_right (IsOneOf a a') n v b h e = grind (arith, nat_tests)
 
-module _ (p : List ℕ) where
+module _ (p : List ℕ) (len : ℕ) where
   abbrev pub Says : Fact → Type 0
-  Says x = is_said x.claim (value_of p x.field) ≡ true
+  Says x = is_said x.claim (value_of p len x.field) ≡ true
 
   abbrev pub AllSay : List Fact → Type 0
   AllSay [] = Unit {0}
   AllSay (x ∷ xs) = Says x × AllSay xs
 
-  some_left : (x : Fact) (ys : List Fact) → Says x → Says (joined_with_any x ys)
-  some_left x [] h = nothing_said (value_of p nothing_claimed.field)
-  some_left x (y ∷ ys) h =
+  -- what is left of facts holds if they do, or if all of the others do
+  joins_any : (x : Fact) (ys : List Fact) → Says x ⊎ AllSay ys → Says (joined_with_any x ys)
+  joins_any x [] h = nothing_said (value_of p len nothing_claimed.field)
+  joins_any x (y ∷ ys) h =
       by_test Says (same_field x.field y.field && not (claims_nothing (joined_claim x.claim y.claim))) _ (joined_with_any x ys)
-      (λ _. joined_left x.claim y.claim (value_of p x.field) h)
-      (λ _. some_left x ys h)
+      (λ t. let same = (and_parts (same_field x.field y.field) (not (claims_nothing (joined_claim x.claim y.claim))) t).0 in
+      joins_claims x.claim y.claim (value_of p len x.field) (elim h [
+        | inl e ↦ inl e
+        | inr e ↦ inr (subst (λ o. is_said y.claim o ≡ true) (sym (same_value p len x.field y.field same)) e.0)
+      ]))
+      (λ _. joins_any x ys (elim h [ inl e ↦ inl e | inr e ↦ inr e.1 ]))
 
-  some_right : (x : Fact) (ys : List Fact) → AllSay ys → Says (joined_with_any x ys)
-  some_right x [] h = nothing_said (value_of p nothing_claimed.field)
-  some_right x (y ∷ ys) h =
-      by_test Says (same_field x.field y.field && not (claims_nothing (joined_claim x.claim y.claim))) _ (joined_with_any x ys)
-      (λ t. let same = (both_true (same_field x.field y.field) (not (claims_nothing (joined_claim x.claim y.claim))) t).0 in
-      joined_right x.claim y.claim (value_of p x.field) (subst (λ o. is_said y.claim o ≡ true) (sym (same_value p x.field y.field same)) h.0))
-      (λ _. some_right x ys h.1)
+  joins_fact : (x : Fact) (ys : List Fact) → Says x ⊎ AllSay ys → Says (joined_fact x ys)
+  joins_fact x ys h = by_test Says (claims_nothing x.claim) x (joined_with_any x ys) (λ e. silent x.claim (value_of p len x.field) e) (λ _. joins_any x ys h)
 
-  fact_left : (x : Fact) (ys : List Fact) → Says x → Says (joined_fact x ys)
-  fact_left x ys h = by_test Says (claims_nothing x.claim) x (joined_with_any x ys) (λ _. h) (λ _. some_left x ys h)
-
-  fact_right : (x : Fact) (ys : List Fact) → AllSay ys → Says (joined_fact x ys)
-  fact_right x ys h = by_test Says (claims_nothing x.claim) x (joined_with_any x ys) (λ e. silent x.claim (value_of p x.field) e) (λ _. some_right x ys h)
-
-  facts_left : (xs ys : List Fact) → AllSay xs → AllSay (map (λ x. joined_fact x ys) xs)
-  facts_left [] ys h = tt
-  facts_left (x ∷ xs) ys h = (fact_left x ys h.0, facts_left xs ys h.1)
-
-  facts_right : (xs ys : List Fact) → AllSay ys → AllSay (map (λ x. joined_fact x ys) xs)
-  facts_right [] ys h = tt
-  facts_right (x ∷ xs) ys h = (fact_right x ys h, facts_right xs ys h)
+  joins_facts : (xs ys : List Fact) → AllSay xs ⊎ AllSay ys → AllSay (map (λ x. joined_fact x ys) xs)
+  joins_facts [] ys h = tt
+  joins_facts (x ∷ xs) ys (inl h) = (joins_fact x ys (inl h.0), joins_facts xs ys (inl h.1))
+  joins_facts (x ∷ xs) ys (inr h) = (joins_fact x ys (inr h), joins_facts xs ys (inr h))
 
   pub nothing_says : (n : ℕ) → AllSay (replicate n nothing_claimed)
   nothing_says zero = tt
-  nothing_says (suc n) = (nothing_said (value_of p nothing_claimed.field), nothing_says n)
+  nothing_says (suc n) = (nothing_said (value_of p len nothing_claimed.field), nothing_says n)
 
   set_says : (xs : List Fact) (at : ℕ) (y : Fact) → AllSay xs → Says y → AllSay (slice_set xs at y)
   set_says [] at y h s = tt
@@ -204,14 +170,14 @@ module _ (p : List ℕ) where
   set_says (x ∷ xs) (suc at) y h s = (h.0, set_says xs at y h.1 s)
 
   -- of a field that is this number
-  of_value : (x : Fact) (f : Field) (v : ℕ) → same_field x.field f ≡ true → value_of p f ≡ Some v → Says x → allows x.claim v ≡ true
-  of_value x f v same is h = subst (λ o. is_said x.claim o ≡ true) (same_value p x.field f same ∙ is) h
+  of_value : (x : Fact) (f : Field) (v : ℕ) → same_field x.field f ≡ true → value_of p len f ≡ Some v → Says x → allows x.claim v ≡ true
+  of_value x f v same is h = subst (λ o. is_said x.claim o ≡ true) (same_value p len x.field f same ∙ is) h
 
-  first_right : (o later : Option Bool) (b : Bool) (P : Type 0) → (o ≡ Some b → P) → (later ≡ Some b → P) → first_said o later ≡ Some b → P
+  first_right : (o later : Option Bool) (b : Bool) (P : Type 0) → (o ≡ Some b → P) → (later ≡ Some b → P) → option_or o later ≡ Some b → P
   first_right (Some c) later b P f g e = f e
   first_right None later b P f g e = g e
 
-  pub decided_right : (xs : List Fact) (f : Field) (v n : ℕ) (b : Bool) → AllSay xs → value_of p f ≡ Some v → decided xs f n ≡ Some b → (v == n) ≡ b
+  pub decided_right : (xs : List Fact) (f : Field) (v n : ℕ) (b : Bool) → AllSay xs → value_of p len f ≡ Some v → decided xs f n ≡ Some b → (v == n) ≡ b
   decided_right [] f v n b h is = λ e. cc
   decided_right (x ∷ xs) f v n b h is =
       by_test (λ z. z ≡ Some b → (v == n) ≡ b) (same_field x.field f) _ _
@@ -221,16 +187,16 @@ module _ (p : List ℕ) where
   -- a field is one of two numbers
   record IsEither (f : Field) (a b : ℕ) : Type 0 where
     pub number : ℕ
-    pub is : value_of p f ≡ Some number
+    pub is : value_of p len f ≡ Some number
     pub either : (number ≡ a) ⊎ (number ≡ b)
 
   said_two : (o : Option ℕ) (a b : ℕ) → is_said (IsOneOf a b) o ≡ true → (v : ℕ) × ((o ≡ Some v) × ((v ≡ a) ⊎ (v ≡ b)))
   said_two None a b h = cc
-  said_two (Some v) a b h = (v, (refl, elim (either_true (v == a) (v == b) h) [ inl i ↦ inl (numbers v a i) | inr i ↦ inr (numbers v b i) ]))
+  said_two (Some v) a b h = (v, (refl, elim (or_cases (v == a) (v == b) h) [ inl i ↦ inl (numbers v a i) | inr i ↦ inr (numbers v b i) ]))
 
-  the_two_right : (c : Claim) (f : Field) (later : Option (ℕ × ℕ)) (two : ℕ × ℕ) → is_said c (value_of p f) ≡ true → (later ≡ Some two → IsEither f two.0 two.1) → the_two c later ≡ Some two → IsEither f two.0 two.1
+  the_two_right : (c : Claim) (f : Field) (later : Option (ℕ × ℕ)) (two : ℕ × ℕ) → is_said c (value_of p len f) ≡ true → (later ≡ Some two → IsEither f two.0 two.1) → the_two c later ≡ Some two → IsEither f two.0 two.1
   the_two_right (IsOneOf a b) f later two h g e =
-      let q = said_two (value_of p f) a b h in
+      let q = said_two (value_of p len f) a b h in
       let pair : (a, b) ≡ two = cc in
       subst (λ (t : ℕ × ℕ). IsEither f t.0 t.1) pair (record { number = q.0; is = q.1.0; either = q.1.1 })
   the_two_right _ f later two h g e = g e
@@ -239,41 +205,40 @@ module _ (p : List ℕ) where
   one_of_right [] f two h = λ e. cc
   one_of_right (x ∷ xs) f two h =
       by_test (λ z. z ≡ Some two → IsEither f two.0 two.1) (same_field x.field f) _ _
-      (λ same. the_two_right x.claim f (two_numbers_of xs f) two (subst (λ o. is_said x.claim o ≡ true) (same_value p x.field f same) h.0) (one_of_right xs f two h.1))
+      (λ same. the_two_right x.claim f (two_numbers_of xs f) two (subst (λ o. is_said x.claim o ≡ true) (same_value p len x.field f same) h.0) (one_of_right xs f two h.1))
       (λ _. one_of_right xs f two h.1)
 
   -- what is captured
-  there : (c : Claim) (mask o : Option ℕ) → not (claims_nothing c) ≡ true → is_said c (masked mask o) ≡ true → (v : ℕ) × (o ≡ Some v)
-  there c mask (Some v) n h = (v, refl)
-  there Nothing None None n h = cc
-  there (Is a) None None n h = cc
-  there (IsNot a) None None n h = cc
-  there (IsOneOf a b) None None n h = cc
-  there Nothing (Some m) None n h = cc
-  there (Is a) (Some m) None n h = cc
-  there (IsNot a) (Some m) None n h = cc
-  there (IsOneOf a b) (Some m) None n h = cc
+  said_some : (c : Claim) (o : Option ℕ) → not (claims_nothing c) ≡ true → is_said c o ≡ true → (v : ℕ) × (o ≡ Some v)
+  said_some c (Some v) n h = (v, refl)
+  said_some c None n h = absurd (let clash : ⊥ = grind (arith, nat_tests) in clash)
+
+  held_there : (mask o : Option ℕ) (a : ℕ) → masked mask o ≡ Some a → (v : ℕ) × (o ≡ Some v)
+  held_there mask (Some v) a e = (v, refl)
+  held_there None None a e = cc
+  held_there (Some m) None a e = cc
 
   -- the bytes of a load are captured
   abbrev pub IsThere : ℕ → ℕ → Type 0
-  IsThere code k = (v : ℕ) × (loaded (operation_of code) p k ≡ Some v)
+  IsThere code k = (v : ℕ) × (loaded (operation_of code) p len k ≡ Some v)
 
   there_by : (x : Fact) (code k : ℕ) → Says x → captures x code k ≡ true → IsThere code k
   there_by x code k h e =
-      let q = both_true (x.field.code == code && x.field.k == k) (not (claims_nothing x.claim)) e in
-      let r = both_true (x.field.code == code) (x.field.k == k) q.0 in
-      let t = there x.claim x.field.mask (loaded (operation_of x.field.code) p x.field.k) q.1 h in
-      (t.0, ap (λ m. loaded (operation_of m) p k) (sym (numbers x.field.code code r.0)) ∙ ap (loaded (operation_of x.field.code) p) (sym (numbers x.field.k k r.1)) ∙ t.1)
+      let q = and_parts (x.field.code == code && x.field.k == k) (not (claims_nothing x.claim)) e in
+      let r = and_parts (x.field.code == code) (x.field.k == k) q.0 in
+      let said = said_some x.claim (value_of p len x.field) q.1 h in
+      let t = held_there x.field.mask (loaded (operation_of x.field.code) p len x.field.k) said.0 said.1 in
+      (t.0, ap (λ m. loaded (operation_of m) p len k) (sym (numbers x.field.code code r.0)) ∙ ap (loaded (operation_of x.field.code) p len) (sym (numbers x.field.k k r.1)) ∙ t.1)
 
   any_there : (xs : List Fact) (code k : ℕ) → AllSay xs → any_captures xs code k ≡ true → IsThere code k
   any_there [] code k h e = cc
-  any_there (x ∷ xs) code k h e = elim (either_true (captures x code k) (any_captures xs code k) e) [ inl i ↦ there_by x code k h.0 i | inr i ↦ any_there xs code k h.1 i ]
+  any_there (x ∷ xs) code k h e = elim (or_cases (captures x code k) (any_captures xs code k) e) [ inl i ↦ there_by x code k h.0 i | inr i ↦ any_there xs code k h.1 i ]
 
   -- A and X
   abbrev pub HeldHolds : Held → State → Type 0
   HeldHolds held.Unreached s = ⊥
   HeldHolds held.Unknown s = Unit {0}
-  HeldHolds (held.Field f) s = value_of p f ≡ Some s.accumulator
+  HeldHolds (held.Field f) s = value_of p len f ≡ Some s.accumulator
   HeldHolds (held.AtIndex code k) s = loaded_at (operation_of code) p s.index k ≡ Some s.accumulator
 
   abbrev pub IndexHolds : Option ℕ → ℕ → Type 0
@@ -285,65 +250,56 @@ module _ (p : List ℕ) where
     pub x : IndexHolds k.index s.index
     pub facts : AllSay k.facts
 
-  held_left : (one other : Held) (s : State) → HeldHolds one s → HeldHolds (joined_held one other) s
-  held_left held.Unreached other s x = absurd x
-  held_left h held.Unreached s x = x
-  held_left (held.Field f) (held.Field g) s x = by_test (λ h. HeldHolds h s) (same_field f g) _ _ (λ _. x) (λ _. tt)
-  held_left (held.AtIndex c k) (held.AtIndex d j) s x = by_test (λ h. HeldHolds h s) (c == d && k == j) _ _ (λ _. x) (λ _. tt)
-  held_left _ _ s x = tt
-
-  held_right : (one other : Held) (s : State) → HeldHolds other s → HeldHolds (joined_held one other) s
-  held_right held.Unreached other s x = x
-  held_right h held.Unreached s x = absurd x
-  held_right (held.Field f) (held.Field g) s x = by_test (λ h. HeldHolds h s) (same_field f g) _ _ (λ e. same_value p f g e ∙ x) (λ _. tt)
-  held_right (held.AtIndex c k) (held.AtIndex d j) s x =
-      by_test (λ h. HeldHolds h s) (c == d && k == j) _ _
-      (λ e. let q = both_true (c == d) (k == j) e in ap (λ m. loaded_at (operation_of m) p s.index k) (numbers c d q.0) ∙ ap (loaded_at (operation_of d) p s.index) (numbers k j q.1) ∙ x)
+  joins_held : (one other : Held) (s : State) → HeldHolds one s ⊎ HeldHolds other s → HeldHolds (joined_held one other) s
+  joins_held held.Unreached other s (inl x) = absurd x
+  joins_held held.Unreached other s (inr x) = x
+  joins_held h held.Unreached s (inl x) = x
+  joins_held h held.Unreached s (inr x) = absurd x
+  joins_held (held.Field f) (held.Field g) s h =
+      by_test (λ h. HeldHolds h s) (same_field f g) _ _
+      (λ e. elim h [ inl x ↦ x | inr x ↦ same_value p len f g e ∙ x ])
       (λ _. tt)
-  held_right _ _ s x = tt
+  joins_held (held.AtIndex c k) (held.AtIndex d j) s h =
+      by_test (λ h. HeldHolds h s) (c == d && k == j) _ _
+      (λ e. let q : (c ≡ d) × (k ≡ j) = grind (arith, nat_tests) in
+      elim h [ inl x ↦ x | inr x ↦ ap (λ m. loaded_at (operation_of m) p s.index k) q.0 ∙ ap (loaded_at (operation_of d) p s.index) q.1 ∙ x ])
+      (λ _. tt)
+  joins_held _ _ s h = tt
 
-  index_left : (a b : Option ℕ) (n : ℕ) → IndexHolds a n → IndexHolds (common_header a b) n
-  index_left a b n x = by_test (λ o. IndexHolds o n) (same_optional a b) a None (λ _. x) (λ _. tt)
+  joins_index : (a b : Option ℕ) (n : ℕ) → IndexHolds a n ⊎ IndexHolds b n → IndexHolds (common_header a b) n
+  joins_index a b n h =
+      by_test (λ o. IndexHolds o n) (same_optional a b) a None
+      (λ e. elim h [ inl x ↦ x | inr x ↦ subst (λ o. IndexHolds o n) (sym (same_masks a b e)) x ])
+      (λ _. tt)
 
-  index_right : (a b : Option ℕ) (n : ℕ) → IndexHolds b n → IndexHolds (common_header a b) n
-  index_right a b n x = by_test (λ o. IndexHolds o n) (same_optional a b) a None (λ e. subst (λ o. IndexHolds o n) (sym (same_masks a b e)) x) (λ _. tt)
+  joins_by : (h : Held) (k came : Known) (s : State) → (HeldHolds h s × Holds k s) ⊎ Holds came s → Holds (joined_by h k came) s
+  joins_by held.Unreached k came s (inl x) = absurd x.0
+  joins_by held.Unreached k came s (inr y) = y
+  joins_by h k came s (inl x) = record { a = joins_held h came.held s (inl x.0); x = joins_index k.index came.index s.index (inl x.1.x); facts = joins_facts k.facts came.facts (inl x.1.facts) }
+  joins_by h k came s (inr y) = record { a = joins_held h came.held s (inr y.a); x = joins_index k.index came.index s.index (inr y.x); facts = joins_facts k.facts came.facts (inr y.facts) }
 
-  by_left : (h : Held) (k came : Known) (s : State) → HeldHolds h s → Holds k s → Holds (joined_by h k came) s
-  by_left held.Unreached k came s x y = absurd x
-  by_left h k came s x y = record { a = held_left h came.held s x; x = index_left k.index came.index s.index y.x; facts = facts_left k.facts came.facts y.facts }
-
-  by_right : (h : Held) (k came : Known) (s : State) → Holds came s → Holds (joined_by h k came) s
-  by_right held.Unreached k came s y = y
-  by_right h k came s y = record { a = held_right h came.held s y.a; x = index_right k.index came.index s.index y.x; facts = facts_right k.facts came.facts y.facts }
-
-  pub joins_left : (k came : Known) (s : State) → Holds k s → Holds (joined k came) s
-  joins_left k came s y = by_left k.held k came s y.a y
-
-  pub joins_right : (k came : Known) (s : State) → Holds came s → Holds (joined k came) s
-  joins_right k came s y = by_right k.held k came s y
+  -- what is known where two ways meet holds on both
+  pub joins : (k came : Known) (s : State) → Holds k s ⊎ Holds came s → Holds (joined k came) s
+  joins k came s (inl y) = joins_by k.held k came s (inl (y.a, y))
+  joins k came s (inr y) = joins_by k.held k came s (inr y)
 
   pub nothing_holds : (s : State) → Holds nothing_known s
   nothing_holds s = record { a = tt; x = tt; facts = nothing_says 5 }
 
-  fact_holds : (k : Known) (f : Field) (c : Claim) (s : State) → Holds k s → is_said c (value_of p f) ≡ true → Holds (with_fact k f c) s
+  fact_holds : (k : Known) (f : Field) (c : Claim) (s : State) → Holds k s → is_said c (value_of p len f) ≡ true → Holds (with_fact k f c) s
   fact_holds k f c s y h = record { a = y.a; x = y.x; facts = set_says k.facts _ _ y.facts h }
-
-  held_there : (mask o : Option ℕ) (a : ℕ) → masked mask o ≡ Some a → (v : ℕ) × (o ≡ Some v)
-  held_there mask (Some v) a e = (v, refl)
-  held_there None None a e = cc
-  held_there (Some m) None a e = cc
 
   field_there : (h : Held) (code k : ℕ) (s : State) → HeldHolds h s → holds_field h code k ≡ true → IsThere code k
   field_there (held.Field f) code k s x e =
-      let q = both_true (f.code == code) (f.k == k) e in
-      let t = held_there f.mask (loaded (operation_of f.code) p f.k) s.accumulator x in
-      (t.0, ap (λ m. loaded (operation_of m) p k) (sym (numbers f.code code q.0)) ∙ ap (loaded (operation_of f.code) p) (sym (numbers f.k k q.1)) ∙ t.1)
+      let q = and_parts (f.code == code) (f.k == k) e in
+      let t = held_there f.mask (loaded (operation_of f.code) p len f.k) s.accumulator x in
+      (t.0, ap (λ m. loaded (operation_of m) p len k) (sym (numbers f.code code q.0)) ∙ ap (loaded (operation_of f.code) p len) (sym (numbers f.k k q.1)) ∙ t.1)
   field_there held.Unreached code k s x e = absurd x
   field_there held.Unknown code k s x e = cc
   field_there (held.AtIndex c j) code k s x e = cc
 
   pub captured_there : (k : Known) (code at : ℕ) (s : State) → Holds k s → is_captured k code at ≡ true → IsThere code at
-  captured_there k code at s y e = elim (either_true (holds_field k.held code at) (any_captures k.facts code at) e) [ inl i ↦ field_there k.held code at s y.a i | inr i ↦ any_there k.facts code at y.facts i ]
+  captured_there k code at s y e = elim (or_cases (holds_field k.held code at) (any_captures k.facts code at) e) [ inl i ↦ field_there k.held code at s y.a i | inr i ↦ any_there k.facts code at y.facts i ]
 
   -- what the outcome of a test says
   clash : (v n a : ℕ) → (n == a) ≡ true → v ≡ a → (v == n) ≡ false → ⊥
@@ -357,7 +313,7 @@ module _ (p : List ℕ) where
       (λ e. elim either [ inl i ↦ same_number v a i | inr i ↦ absurd (clash v n b e i other) ])
       (λ _. ap not other))
 
-  claimed : (outcome : Bool) (v n : ℕ) (f : Field) (o : Option (ℕ × ℕ)) → value_of p f ≡ Some v → ((two : ℕ × ℕ) → o ≡ Some two → IsEither f two.0 two.1) → (v == n) ≡ outcome → is_said (claim_after outcome n o) (Some v) ≡ true
+  claimed : (outcome : Bool) (v n : ℕ) (f : Field) (o : Option (ℕ × ℕ)) → value_of p len f ≡ Some v → ((two : ℕ × ℕ) → o ≡ Some two → IsEither f two.0 two.1) → (v == n) ≡ outcome → is_said (claim_after outcome n o) (Some v) ≡ true
   claimed true v n f o is g e = e
   claimed false v n f None is g e = ap not e
   claimed false v n f (Some two) is g e =
@@ -365,7 +321,7 @@ module _ (p : List ℕ) where
       let same : q.number ≡ v = cc in
       two_said v n two.0 two.1 (subst (λ m. (m ≡ two.0) ⊎ (m ≡ two.1)) same q.either) e
 
-  pub tested_field : (k : Known) (f : Field) (v n : ℕ) (outcome : Bool) (s : State) → Holds k s → value_of p f ≡ Some v → (v == n) ≡ outcome → Holds (known_by k f n outcome) s
+  pub tested_field : (k : Known) (f : Field) (v n : ℕ) (outcome : Bool) (s : State) → Holds k s → value_of p len f ≡ Some v → (v == n) ≡ outcome → Holds (known_by k f n outcome) s
   tested_field k f v n outcome s y is e =
       fact_holds k f _ s y (subst (λ o. is_said (claim_after outcome n (two_numbers_of k.facts f)) o ≡ true) (sym is) (claimed outcome v n f (two_numbers_of k.facts f) is (λ two. λ g. one_of_right k.facts f two y.facts g) e))
 

@@ -1,6 +1,5 @@
 pub mod Arriving
 pub mod Basics
-pub mod Flow
 pub mod Knowing
 pub mod Walks
 pub mod Threading

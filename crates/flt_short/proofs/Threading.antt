@@ -1,7 +1,7 @@
 -- Threaded code returns the same, and keeps its length, its tests and what breaks no rule.
 use Rattle.std.proofs.Common.{◌≡◌, ℕ, zero, suc, ◌+◌, ◌%◌, ◌^◌, ◌<◌, List, [], ◌∷◌, length, count_by, get_or, cond, Bool, true, false, Option, Some, None, refl, sym, ap, ◌∙◌, subst, arith}
 use Rattle.std.specs.Prelude.{nat_lt, ◌&&◌, if◌then◌else◌, slice_get}
-use Rattle.std.specs.Option.{option_map}
+use Rattle.std.specs.Option.{option_map, option_map_or}
 use Rattle.std.proofs.lemmas.Bool.Decides.{nat_tests}
 use Rattle.std.proofs.lemmas.List.Sums.{sum_by-cons}
 use Rattle.flt_bpf.specs.declared.insn.Insn.{Insn}
@@ -11,11 +11,11 @@ use Rattle.flt_bpf.specs.declared.operation.Operation.{Operation}
 use Rattle.flt_bpf.specs.declared.operation.Operation.TheVariants.{LoadAbsolute, LoadIndirect, Load, LoadHeaderLength, Store, Compute, Negate, Jump, JumpIf, ReturnConstant, ReturnAccumulator, CopyToIndex, CopyToAccumulator}
 use Rattle.flt_bpf.specs.declared.operation.Register.TheVariants.{Accumulator, Index}
 use Rattle.flt_bpf.specs.declared.operation.Source.TheVariants.{Immediate, Memory, Length}
-use Rattle.flt_bpf.specs.declared.operation.Operand.TheVariants.{Constant, IndexRegister}
+use Rattle.flt_bpf.specs.declared.operation.Operand.TheVariants.{Constant}
 use Rattle.flt_bpf.specs.declared.operation.AluOperation.TheVariants as arithmetic
 use Rattle.flt_bpf.specs.declared.operation.Width.TheVariants.{Byte}
 use Rattle.flt_bpf.specs.Instructions.{operation_of}
-use Rattle.flt_bpf.specs.Machine.{Next, Goes, Lost, does_if_known, into, word_into, with_register, test_holds, operand_value, field, compute, header_length, start}
+use Rattle.flt_bpf.specs.Machine.{Next, does_if_known, test_holds, operand_value, field, compute, header_length, start}
 use Rattle.flt_bpf.specs.Answer.{answer_of, answer_after}
 use Rattle.flt_bpf.specs.Check.{unless, fault_of, fault_if_known, ends_in_return, IsFaultless}
 use Rattle.flt_bpf.specs.Layout.{is_branch}
@@ -24,90 +24,81 @@ use Rattle.flt_short.specs.declared.facts.Held.{Held}
 use Rattle.flt_short.specs.declared.facts.Held.TheVariants as held_variant
 use Rattle.flt_short.specs.declared.facts.Known.{Known}
 use Rattle.flt_short.specs.inside.Arrivals.{at_start, known_at, arrived}
-use Rattle.flt_short.specs.inside.Facts.{masked_by, masked_held, held_if_some, held_without_index, known_after, known_by_test}
-use Rattle.flt_short.specs.inside.Threads.{threaded_offset, threaded_by, threaded_if, threaded_insn, with_arrivals_by, with_arrivals_if, with_arrivals, flow}
-use Rattle.flt_short.proofs.Basics.{both_true}
+use Rattle.flt_short.specs.inside.Facts.{masked_by, masked_held, held_without_index, known_after, known_by_test}
+use Rattle.flt_short.specs.inside.Threads.{threaded_offset, threaded_by, threaded_insn, is_reached, with_arrivals_by, with_arrivals, flow}
+use Rattle.std.proofs.lemmas.Bool.{and_parts}
+use Rattle.flt_short.proofs.Basics.{by_test, known_step, into_both, word_both, stored_both}
 use Rattle.flt_short.proofs.Arriving.{HoldsAt, start_holds, raised_at, raised_keeps}
-use Rattle.flt_short.proofs.Flow.{by_code, threaded_code}
 use Rattle.flt_short.proofs.Knowing.{loaded, masked, value_at, loaded_at, HeldHolds, Holds, tested}
-use Rattle.flt_short.proofs.Walks.{known_step, moved_same, moved_inside}
+use Rattle.flt_short.proofs.Walks.{moved_same, moved_inside}
+
+by_code : (op : Option Operation) (k : Known) (i : Insn) (c : List Insn) → (threaded_by op k i c).code ≡ i.code
+by_code (Some (JumpIf t o)) k i c = refl
+by_code _ k i c = refl
+
+threaded_code : (op : Option Operation) (k : Known) (i : Insn) (c : List Insn) → (threaded_insn op k i c).code ≡ i.code
+threaded_code op k i c = by_test (λ (j : Insn). j.code ≡ i.code) (is_reached k.held) (threaded_by op k i c) i (λ _. by_code op k i c) (λ _. refl)
 
 module _ (p : List ℕ) (n : ℕ) where
   -- what was known holds still
-  by_keeps : (op : Option Operation) (from : ℕ) (k : Known) (i : Insn) (seen : List Known) (q : ℕ) (s : State) → HoldsAt p seen q s → HoldsAt p (with_arrivals_by from op k i seen) q s
+  by_keeps : (op : Option Operation) (from : ℕ) (k : Known) (i : Insn) (seen : List Known) (q : ℕ) (s : State) → HoldsAt p n seen q s → HoldsAt p n (with_arrivals_by from op k i seen) q s
   by_keeps (Some (JumpIf t o)) from k i seen q s x =
-      raised_keeps p (arrived seen (from + i.jt) (known_by_test (Some (JumpIf t o)) k.held k i.k true)) (from + i.jf) _ q s (raised_keeps p seen (from + i.jt) _ q s x)
-  by_keeps (Some Jump) from k i seen q s x = raised_keeps p seen (from + i.k) k q s x
+      raised_keeps p n (arrived seen (from + i.jt) (known_by_test (Some (JumpIf t o)) k.held k i.k true)) (from + i.jf) _ q s (raised_keeps p n seen (from + i.jt) _ q s x)
+  by_keeps (Some Jump) from k i seen q s x = raised_keeps p n seen (from + i.k) k q s x
   by_keeps (Some ReturnConstant) from k i seen q s x = x
   by_keeps (Some ReturnAccumulator) from k i seen q s x = x
-  by_keeps op from k i seen q s x = raised_keeps p seen from (known_after op k i) q s x
+  by_keeps op from k i seen q s x = raised_keeps p n seen from (known_after op k i) q s x
 
-  if_keeps : (h : Held) (op : Option Operation) (from : ℕ) (k : Known) (i : Insn) (seen : List Known) (q : ℕ) (s : State) → HoldsAt p seen q s → HoldsAt p (with_arrivals_if h from op k i seen) q s
-  if_keeps held_variant.Unreached op from k i seen q s x = x
-  if_keeps h op from k i seen q s x = by_keeps op from k i seen q s x
+  keeps : (op : Option Operation) (from : ℕ) (k : Known) (i : Insn) (seen : List Known) (q : ℕ) (s : State) → HoldsAt p n seen q s → HoldsAt p n (with_arrivals from op k i seen) q s
+  keeps op from k i seen q s x = by_test (λ z. HoldsAt p n z q s) (is_reached k.held) (with_arrivals_by from op k i seen) seen (λ _. by_keeps op from k i seen q s x) (λ _. x)
 
   -- the code after an instruction has the same answers wherever that is known
   abbrev Alike : ℕ → List Insn → List Insn → List Known → Type 0
-  Alike from c d seen = (m : ℕ) (t : State) → HoldsAt p seen (from + m) t → answer_of c p n m t ≡ answer_of d p n m t
+  Alike from c d seen = (m : ℕ) (t : State) → HoldsAt p n seen (from + m) t → answer_of c p n m t ≡ answer_of d p n m t
 
   module _ (c d : List Insn) where
-    abbrev Same : Next → Type 0
-    Same o = answer_after (answer_of c p n) o ≡ answer_after (answer_of d p n) o
-
-    abbrev Next0 : State → Type 0
-    Next0 t = answer_of c p n 0 t ≡ answer_of d p n 0 t
-
-    into_same : (r : _) (o : Option ℕ) (s : State) → ((v : ℕ) → o ≡ Some v → Next0 (with_register r v s)) → Same (into r o s)
-    into_same r None s f = refl
-    into_same r (Some v) s f = f v refl
-
-    word_same : (r : _) (o : Option ℕ) (s : State) → ((v : ℕ) → o ≡ Some v → Next0 (with_register r v s)) → Same (word_into r o s)
-    word_same r None s f = refl
-    word_same r (Some v) s f = f v refl
-
-    stored_same : (b : Bool) (t : State) → Next0 t → Same (if b then Goes 0 t else Lost)
-    stored_same true t f = f
-    stored_same false t f = refl
+    abbrev Same : Next → Next → Type 0
+    Same u v = answer_after (answer_of c p n) u ≡ answer_after (answer_of d p n) v
 
     way_same : (b : Bool) (v w x y : ℕ) (s : State) → (b ≡ true → answer_of c p n v s ≡ answer_of d p n x s) → (b ≡ false → answer_of c p n w s ≡ answer_of d p n y s) → answer_of c p n (if b then v else w) s ≡ answer_of d p n (if b then x else y) s
     way_same true v w x y s f g = f refl
     way_same false v w x y s f g = g refl
 
   -- A where X is another number
-  without : (h : Held) (s : State) (x : ℕ) → HeldHolds p h s → HeldHolds p (held_without_index h) (record s { index = x })
+  without : (h : Held) (s : State) (x : ℕ) → HeldHolds p n h s → HeldHolds p n (held_without_index h) (record s { index = x })
   without held_variant.Unreached s x y = y
   without held_variant.Unknown s x y = tt
   without (held_variant.Field f) s x y = y
   without (held_variant.AtIndex code k) s x y = tt
 
-  masks : (h : Held) (m v : ℕ) (s : State) → HeldHolds p h s → compute arithmetic.And s.accumulator m ≡ Some v → HeldHolds p (masked_held h m) (record s { accumulator = v })
+  masks : (h : Held) (m v : ℕ) (s : State) → HeldHolds p n h s → compute arithmetic.And s.accumulator m ≡ Some v → HeldHolds p n (masked_held h m) (record s { accumulator = v })
   masks held_variant.Unreached m v s x e = tt
   masks held_variant.Unknown m v s x e = tt
   masks (held_variant.AtIndex code k) m v s x e = tt
   masks (held_variant.Field f) m v s x e = by f.mask refl
     where
-      by : (o : Option ℕ) → f.mask ≡ o → HeldHolds p (held_if_some (masked_by o f m)) (record s { accumulator = v })
+      by : (o : Option ℕ) → f.mask ≡ o → HeldHolds p n (option_map_or held_variant.Field (masked_by o f m) held_variant.Unknown) (record s { accumulator = v })
       by (Some old) q = tt
-      by None q = ap (masked (Some m)) (ap (value_at p f.code f.k) (sym q) ∙ x) ∙ e
+      by None q = ap (masked (Some m)) (ap (value_at p n f.code f.k) (sym q) ∙ x) ∙ e
 
-  module _ (from : ℕ) (k : Known) (i : Insn) (is d : List Insn) (seen : List Known) (s : State) (x : Holds p k s) where
-    plain : (op : Option Operation) (t : State) → Alike from d is (arrived seen from (known_after op k i)) → Holds p (known_after op k i) t → answer_of d p n 0 t ≡ answer_of is p n 0 t
+  module _ (from : ℕ) (k : Known) (i : Insn) (is d : List Insn) (seen : List Known) (s : State) (x : Holds p n k s) where
+    plain : (op : Option Operation) (t : State) → Alike from d is (arrived seen from (known_after op k i)) → Holds p n (known_after op k i) t → answer_of d p n 0 t ≡ answer_of is p n 0 t
     plain op t f h =
         let none : from ≡ from + 0 = omega arith in
-        f 0 t (subst (λ q. HoldsAt p (arrived seen from (known_after op k i)) q t) none (raised_at p seen from (known_after op k i) t h))
+        f 0 t (subst (λ q. HoldsAt p n (arrived seen from (known_after op k i)) q t) none (raised_at p n seen from (known_after op k i) t h))
 
     -- A is another number, of which nothing is known
-    anyhow : (op : Option Operation) (v : ℕ) → known_after op k i ≡ record { held = held_variant.Unknown; index = k.index; facts = k.facts } → Holds p (known_after op k i) (record s { accumulator = v })
-    anyhow op v e = subst (λ g. Holds p g (record s { accumulator = v })) (sym e) (record { a = tt; x = x.x; facts = x.facts })
+    anyhow : (op : Option Operation) (v : ℕ) → known_after op k i ≡ record { held = held_variant.Unknown; index = k.index; facts = k.facts } → Holds p n (known_after op k i) (record s { accumulator = v })
+    anyhow op v e = subst (λ g. Holds p n g (record s { accumulator = v })) (sym e) (record { a = tt; x = x.x; facts = x.facts })
 
     -- X is
-    elsewhere : (v : ℕ) → Holds p (record { held = held_without_index k.held; index = None; facts = k.facts }) (record s { index = v })
+    elsewhere : (v : ℕ) → Holds p n (record { held = held_without_index k.held; index = None; facts = k.facts }) (record s { index = v })
     elsewhere v = record { a = without k.held s v x.a; x = tt; facts = x.facts }
 
-    stays : (m : List ℕ) → Holds p (record { held = k.held; index = k.index; facts = k.facts }) (record s { memory = m })
+    stays : (m : List ℕ) → Holds p n (record { held = k.held; index = k.index; facts = k.facts }) (record s { memory = m })
     stays m = by k.held x.a
       where
-        by : (h : Held) → HeldHolds p h s → Holds p (record { held = h; index = k.index; facts = k.facts }) (record s { memory = m })
+        by : (h : Held) → HeldHolds p n h s → Holds p n (record { held = h; index = k.index; facts = k.facts }) (record s { memory = m })
         by held_variant.Unreached y = absurd y
         by held_variant.Unknown y = record { a = tt; x = x.x; facts = x.facts }
         by (held_variant.Field f) y = record { a = y; x = x.x; facts = x.facts }
@@ -121,34 +112,25 @@ module _ (p : List ℕ) (n : ℕ) where
         let a = threaded_offset yes is i.jt in
         let b = threaded_offset other is i.jf in
         way_same d is (test_holds t s.accumulator (operand_value o i.k s.index)) a b i.jt i.jf s
-        (λ g. let h = tested p t o k i true s x g in
-        f a s (raised_keeps p (arrived seen (from + a) yes) (from + b) other (from + a) s (raised_at p seen (from + a) yes s h)) ∙ moved_same p n is yes i.jt s h)
-        (λ g. let h = tested p t o k i false s x g in
-        f b s (raised_at p (arrived seen (from + a) yes) (from + b) other s h) ∙ moved_same p n is other i.jf s h)
-    here (Some Jump) e f = f i.k s (raised_at p seen (from + i.k) k s x)
-    here (Some (LoadAbsolute w)) e f = into_same d is Accumulator (field p i.k w) s (λ v g. plain (Some (LoadAbsolute w)) (record s { accumulator = v }) f (record { a = ap (λ o. loaded o p i.k) e ∙ g; x = x.x; facts = x.facts }))
-    here (Some (LoadIndirect w)) e f = into_same d is Accumulator (field p ((s.index + i.k) % 2 ^ 32) w) s (λ v g. plain (Some (LoadIndirect w)) (record s { accumulator = v }) f (record { a = ap (λ o. loaded_at o p s.index i.k) e ∙ g; x = x.x; facts = x.facts }))
+        (λ g. let h = tested p n t o k i true s x g in
+        f a s (raised_keeps p n (arrived seen (from + a) yes) (from + b) other (from + a) s (raised_at p n seen (from + a) yes s h)) ∙ moved_same p n is yes i.jt s h)
+        (λ g. let h = tested p n t o k i false s x g in
+        f b s (raised_at p n (arrived seen (from + a) yes) (from + b) other s h) ∙ moved_same p n is other i.jf s h)
+    here (Some Jump) e f = f i.k s (raised_at p n seen (from + i.k) k s x)
+    here (Some (LoadAbsolute w)) e f = into_both p n (Same d is) refl refl Accumulator (field p i.k w) s s (λ v g. plain (Some (LoadAbsolute w)) (record s { accumulator = v }) f (record { a = ap (λ o. loaded o p n i.k) e ∙ g; x = x.x; facts = x.facts }))
+    here (Some (LoadIndirect w)) e f = into_both p n (Same d is) refl refl Accumulator (field p ((s.index + i.k) % 2 ^ 32) w) s s (λ v g. plain (Some (LoadIndirect w)) (record s { accumulator = v }) f (record { a = ap (λ o. loaded_at o p s.index i.k) e ∙ g; x = x.x; facts = x.facts }))
     here (Some ReturnConstant) e f = refl
     here (Some ReturnAccumulator) e f = refl
     here (Some (Load Accumulator Immediate)) e f = plain (Some (Load Accumulator Immediate)) _ f (anyhow (Some (Load Accumulator Immediate)) i.k refl)
-    here (Some (Load Accumulator Length)) e f = plain (Some (Load Accumulator Length)) _ f (anyhow (Some (Load Accumulator Length)) n refl)
-    here (Some (Load Accumulator Memory)) e f = word_same d is Accumulator (slice_get s.memory i.k) s (λ v g. plain (Some (Load Accumulator Memory)) _ f (anyhow (Some (Load Accumulator Memory)) v refl))
+    here (Some (Load Accumulator Length)) e f = plain (Some (Load Accumulator Length)) (record s { accumulator = n }) f (record { a = ap (λ o. loaded o p n i.k) e; x = x.x; facts = x.facts })
+    here (Some (Load Accumulator Memory)) e f = word_both p n (Same d is) refl refl Accumulator (slice_get s.memory i.k) s s (λ v g. plain (Some (Load Accumulator Memory)) _ f (anyhow (Some (Load Accumulator Memory)) v refl))
     here (Some (Load Index Immediate)) e f = plain (Some (Load Index Immediate)) _ f (elsewhere i.k)
     here (Some (Load Index Length)) e f = plain (Some (Load Index Length)) _ f (elsewhere n)
-    here (Some (Load Index Memory)) e f = word_same d is Index (slice_get s.memory i.k) s (λ v g. plain (Some (Load Index Memory)) _ f (elsewhere v))
-    here (Some LoadHeaderLength) e f = into_same d is Index (option_map header_length (field p i.k Byte)) s (λ v g. plain (Some LoadHeaderLength) (record s { index = v }) f (record { a = without k.held s v x.a; x = g; facts = x.facts }))
-    here (Some (Store r)) e f = stored_same d is (nat_lt i.k (length s.memory)) _ (plain (Some (Store r)) _ f (stays _))
-    here (Some (Compute arithmetic.And Constant)) e f = into_same d is Accumulator (compute arithmetic.And s.accumulator i.k) s (λ v g. plain (Some (Compute arithmetic.And Constant)) (record s { accumulator = v }) f (record { a = masks k.held i.k v s x.a g; x = x.x; facts = x.facts }))
-    here (Some (Compute arithmetic.And IndexRegister)) e f = into_same d is Accumulator (compute arithmetic.And s.accumulator s.index) s (λ v g. plain (Some (Compute arithmetic.And IndexRegister)) _ f (anyhow (Some (Compute arithmetic.And IndexRegister)) v refl))
-    here (Some (Compute arithmetic.Add o)) e f = into_same d is Accumulator (compute arithmetic.Add s.accumulator (operand_value o i.k s.index)) s (λ v g. plain (Some (Compute arithmetic.Add o)) _ f (anyhow (Some (Compute arithmetic.Add o)) v refl))
-    here (Some (Compute arithmetic.Subtract o)) e f = into_same d is Accumulator (compute arithmetic.Subtract s.accumulator (operand_value o i.k s.index)) s (λ v g. plain (Some (Compute arithmetic.Subtract o)) _ f (anyhow (Some (Compute arithmetic.Subtract o)) v refl))
-    here (Some (Compute arithmetic.Multiply o)) e f = into_same d is Accumulator (compute arithmetic.Multiply s.accumulator (operand_value o i.k s.index)) s (λ v g. plain (Some (Compute arithmetic.Multiply o)) _ f (anyhow (Some (Compute arithmetic.Multiply o)) v refl))
-    here (Some (Compute arithmetic.Divide o)) e f = into_same d is Accumulator (compute arithmetic.Divide s.accumulator (operand_value o i.k s.index)) s (λ v g. plain (Some (Compute arithmetic.Divide o)) _ f (anyhow (Some (Compute arithmetic.Divide o)) v refl))
-    here (Some (Compute arithmetic.Or o)) e f = into_same d is Accumulator (compute arithmetic.Or s.accumulator (operand_value o i.k s.index)) s (λ v g. plain (Some (Compute arithmetic.Or o)) _ f (anyhow (Some (Compute arithmetic.Or o)) v refl))
-    here (Some (Compute arithmetic.ShiftLeft o)) e f = into_same d is Accumulator (compute arithmetic.ShiftLeft s.accumulator (operand_value o i.k s.index)) s (λ v g. plain (Some (Compute arithmetic.ShiftLeft o)) _ f (anyhow (Some (Compute arithmetic.ShiftLeft o)) v refl))
-    here (Some (Compute arithmetic.ShiftRight o)) e f = into_same d is Accumulator (compute arithmetic.ShiftRight s.accumulator (operand_value o i.k s.index)) s (λ v g. plain (Some (Compute arithmetic.ShiftRight o)) _ f (anyhow (Some (Compute arithmetic.ShiftRight o)) v refl))
-    here (Some (Compute arithmetic.Remainder o)) e f = into_same d is Accumulator (compute arithmetic.Remainder s.accumulator (operand_value o i.k s.index)) s (λ v g. plain (Some (Compute arithmetic.Remainder o)) _ f (anyhow (Some (Compute arithmetic.Remainder o)) v refl))
-    here (Some (Compute arithmetic.ExclusiveOr o)) e f = into_same d is Accumulator (compute arithmetic.ExclusiveOr s.accumulator (operand_value o i.k s.index)) s (λ v g. plain (Some (Compute arithmetic.ExclusiveOr o)) _ f (anyhow (Some (Compute arithmetic.ExclusiveOr o)) v refl))
+    here (Some (Load Index Memory)) e f = word_both p n (Same d is) refl refl Index (slice_get s.memory i.k) s s (λ v g. plain (Some (Load Index Memory)) _ f (elsewhere v))
+    here (Some LoadHeaderLength) e f = into_both p n (Same d is) refl refl Index (option_map header_length (field p i.k Byte)) s s (λ v g. plain (Some LoadHeaderLength) (record s { index = v }) f (record { a = without k.held s v x.a; x = g; facts = x.facts }))
+    here (Some (Store r)) e f = stored_both p n (Same d is) refl refl (nat_lt i.k (length s.memory)) _ _ (plain (Some (Store r)) _ f (stays _))
+    here (Some (Compute arithmetic.And Constant)) e f = into_both p n (Same d is) refl refl Accumulator (compute arithmetic.And s.accumulator i.k) s s (λ v g. plain (Some (Compute arithmetic.And Constant)) (record s { accumulator = v }) f (record { a = masks k.held i.k v s x.a g; x = x.x; facts = x.facts }))
+    here (Some (Compute operator o)) e f = into_both p n (Same d is) refl refl Accumulator (compute operator s.accumulator (operand_value o i.k s.index)) s s (λ v g. plain (Some (Compute operator o)) _ f (anyhow (Some (Compute operator o)) v refl))
     here (Some Negate) e f = plain (Some Negate) _ f (anyhow (Some Negate) _ refl)
     here (Some CopyToIndex) e f = plain (Some CopyToIndex) _ f (elsewhere s.accumulator)
     here (Some CopyToAccumulator) e f = plain (Some CopyToAccumulator) _ f (anyhow (Some CopyToAccumulator) s.index refl)
@@ -159,46 +141,37 @@ module _ (p : List ℕ) (n : ℕ) where
         ∙ here (operation_of i.code) refl f
         ∙ sym (ap (answer_after (answer_of is p n)) (known_step p n i (operation_of i.code) s refl))
 
-  reached : (h : Held) (from : ℕ) (op : Option Operation) (k : Known) (j : Insn) (seen : List Known) (s : State) → HeldHolds p h s → with_arrivals_if h from op k j seen ≡ with_arrivals_by from op k j seen
-  reached held_variant.Unreached from op k j seen s x = absurd x
-  reached held_variant.Unknown from op k j seen s x = refl
-  reached (held_variant.Field f) from op k j seen s x = refl
-  reached (held_variant.AtIndex code m) from op k j seen s x = refl
-
-  reached_insn : (h : Held) (op : Option Operation) (k : Known) (i : Insn) (is : List Insn) (s : State) → HeldHolds p h s → threaded_by op k i is ≡ threaded_if h op k i is
-  reached_insn held_variant.Unreached op k i is s x = absurd x
-  reached_insn held_variant.Unknown op k i is s x = refl
-  reached_insn (held_variant.Field f) op k i is s x = refl
-  reached_insn (held_variant.AtIndex code m) op k i is s x = refl
+  reached : (h : Held) (s : State) → HeldHolds p n h s → is_reached h ≡ true
+  reached held_variant.Unreached s x = absurd x
+  reached _ s x = refl
 
   -- the code has the same answers where what is known holds
-  answers_same : (is : List Insn) (at : ℕ) (seen : List Known) (m : ℕ) (s : State) → HoldsAt p seen (at + m) s → answer_of (flow at seen is) p n m s ≡ answer_of is p n m s
+  answers_same : (is : List Insn) (at : ℕ) (seen : List Known) (m : ℕ) (s : State) → HoldsAt p n seen (at + m) s → answer_of (flow at seen is) p n m s ≡ answer_of is p n m s
   answers_same [] at seen m s x = refl
   answers_same (i ∷ is) at seen (suc m) s x =
       let op = operation_of i.code in
       let k = known_at seen at in
       let j = threaded_insn op k i is in
-      let there : at + suc m ≡ suc at + m = omega arith in
-      answers_same is (suc at) (with_arrivals (suc at) op k j seen) m s (if_keeps k.held op (suc at) k j seen (suc at + m) s (subst (λ q. HoldsAt p seen q s) there x))
+      let there : at + suc m ≡ at + 1 + m = omega arith in
+      answers_same is (at + 1) (with_arrivals (at + 1) op k j seen) m s (keeps op (at + 1) k j seen (at + 1 + m) s (subst (λ q. HoldsAt p n seen q s) there x))
   answers_same (i ∷ is) at seen zero s x =
       let op = operation_of i.code in
       let k = known_at seen at in
-      let j = threaded_by op k i is in
       let here : at + 0 ≡ at = omega arith in
-      let holds : Holds p k s = subst (λ q. HoldsAt p seen q s) here x in
-      let after = with_arrivals (suc at) op k j seen in
-      subst (λ (t : Insn). answer_of (t ∷ flow (suc at) (with_arrivals (suc at) op k t seen) is) p n 0 s ≡ answer_of (i ∷ is) p n 0 s) (reached_insn k.held op k i is s holds.a)
-      (at_top (suc at) k i is (flow (suc at) after is) seen s holds
-      (λ m t y. answers_same is (suc at) after m t (subst (λ gs. HoldsAt p gs (suc at + m) t) (sym (reached k.held (suc at) op k j seen s holds.a)) y)))
+      let holds : Holds p n k s = subst (λ q. HoldsAt p n seen q s) here x in
+      let comes = sym (reached k.held s holds.a) in
+      subst (λ b. answer_of (let j = if b then threaded_by op k i is else i in j ∷ flow (at + 1) (if b then with_arrivals_by (at + 1) op k j seen else seen) is) p n 0 s ≡ answer_of (i ∷ is) p n 0 s) comes
+      (let j = threaded_by op k i is in
+      at_top (at + 1) k i is (flow (at + 1) (with_arrivals_by (at + 1) op k j seen) is) seen s holds (λ m t y. answers_same is (at + 1) (with_arrivals_by (at + 1) op k j seen) m t y))
 
   threaded_answers : (is : List Insn) (places : ℕ) (s : State) → answer_of (flow 0 (at_start places) is) p n 0 s ≡ answer_of is p n 0 s
-  threaded_answers is places s = answers_same is 0 (at_start places) 0 s (start_holds p places s)
+  threaded_answers is places s = answers_same is 0 (at_start places) 0 s (start_holds p n places s)
 
 length_flow : (at : ℕ) (seen : List Known) (is : List Insn) → length (flow at seen is) ≡ length is
 length_flow at seen [] = refl
 length_flow at seen (i ∷ is) =
     let k = known_at seen at in
-    ap suc (length_flow (suc at) (with_arrivals (suc at) (operation_of i.code) k (threaded_insn (operation_of i.code) k i is) seen) is)
+    ap suc (length_flow (at + 1) (with_arrivals (at + 1) (operation_of i.code) k (threaded_insn (operation_of i.code) k i is) seen) is)
 
 -- faults
 passes : (b : Bool) (f : CheckFault) → unless b f ≡ None → b ≡ true
@@ -213,16 +186,15 @@ is_moved_inside k is to l =
 
 both_inside : (k g : Known) (i : Insn) (is : List Insn) (f : CheckFault) → unless (nat_lt i.jt (length is) && nat_lt i.jf (length is)) f ≡ None → unless (nat_lt (threaded_offset k is i.jt) (length is) && nat_lt (threaded_offset g is i.jf) (length is)) f ≡ None
 both_inside k g i is f e =
-    let q = both_true (nat_lt i.jt (length is)) (nat_lt i.jf (length is)) (passes _ f e) in
+    let q = and_parts (nat_lt i.jt (length is)) (nat_lt i.jf (length is)) (passes _ f e) in
     ap (λ x. unless (x && nat_lt (threaded_offset g is i.jf) (length is)) f) (is_moved_inside k is i.jt q.0) ∙ ap (λ x. unless x f) (is_moved_inside g is i.jf q.1)
 
 moved_fault : (op : Option Operation) (k : Known) (i : Insn) (is : List Insn) → fault_if_known op i (length is) ≡ None → fault_if_known op (threaded_by op k i is) (length is) ≡ None
 moved_fault (Some (JumpIf t o)) k i is e = both_inside _ _ i is _ e
 moved_fault _ k i is e = e
 
-threaded_fault : (h : Held) (op : Option Operation) (k : Known) (i : Insn) (is : List Insn) → fault_if_known op i (length is) ≡ None → fault_if_known op (threaded_if h op k i is) (length is) ≡ None
-threaded_fault held_variant.Unreached op k i is e = e
-threaded_fault _ op k i is e = moved_fault op k i is e
+threaded_fault : (op : Option Operation) (k : Known) (i : Insn) (is : List Insn) → fault_if_known op i (length is) ≡ None → fault_if_known op (threaded_insn op k i is) (length is) ≡ None
+threaded_fault op k i is e = by_test (λ j. fault_if_known op j (length is) ≡ None) (is_reached k.held) (threaded_by op k i is) i (λ _. moved_fault op k i is e) (λ _. e)
 
 fault_is : (i : Insn) (op : Option Operation) (m : ℕ) → operation_of i.code ≡ op → fault_of i m ≡ fault_if_known op i m
 unfolding fault_of
@@ -234,11 +206,11 @@ faultless_flow at seen (i ∷ is) f =
     let op = operation_of i.code in
     let k = known_at seen at in
     let j = threaded_insn op k i is in
-    let bs = with_arrivals (suc at) op k j seen in (
-      ap (fault_of j) (length_flow (suc at) bs is)
+    let bs = with_arrivals (at + 1) op k j seen in (
+      ap (fault_of j) (length_flow (at + 1) bs is)
           ∙ fault_is j op (length is) (ap operation_of (threaded_code op k i is))
-          ∙ threaded_fault k.held op k i is (sym (fault_is i op (length is) refl) ∙ f.0),
-      faultless_flow (suc at) bs is f.1,
+          ∙ threaded_fault op k i is (sym (fault_is i op (length is) refl) ∙ f.0),
+      faultless_flow (at + 1) bs is f.1,
     )
 
 -- the end, the tests and the jumps
@@ -254,9 +226,9 @@ ends_flow at seen (i ∷ j ∷ is) =
     let op = operation_of i.code in
     let k = known_at seen at in
     let t = threaded_insn op k i (j ∷ is) in
-    let bs = with_arrivals (suc at) op k t seen in
-    let long = length_flow (suc at) bs (j ∷ is) in
-    ends_after t (flow (suc at) bs (j ∷ is)) (omega arith) ∙ ends_flow (suc at) bs (j ∷ is)
+    let bs = with_arrivals (at + 1) op k t seen in
+    let long = length_flow (at + 1) bs (j ∷ is) in
+    ends_after t (flow (at + 1) bs (j ∷ is)) (omega arith) ∙ ends_flow (at + 1) bs (j ∷ is)
 
 tests_flow : (at : ℕ) (seen : List Known) (is : List Insn) → count_by (λ i. is_branch (operation_of i.code)) (flow at seen is) ≡ count_by (λ i. is_branch (operation_of i.code)) is
 tests_flow at seen [] = refl
@@ -264,19 +236,19 @@ tests_flow at seen (i ∷ is) =
     let op = operation_of i.code in
     let k = known_at seen at in
     let j = threaded_insn op k i is in
-    let rest = flow (suc at) (with_arrivals (suc at) op k j seen) is in
+    let rest = flow (at + 1) (with_arrivals (at + 1) op k j seen) is in
     let test = λ (m : Insn). cond (is_branch (operation_of m.code)) 1 0 in
     let new : count_by (λ m. is_branch (operation_of m.code)) (j ∷ rest) ≡ test j + count_by (λ m. is_branch (operation_of m.code)) rest = sum_by-cons test j rest in
     let old : count_by (λ m. is_branch (operation_of m.code)) (i ∷ is) ≡ test i + count_by (λ m. is_branch (operation_of m.code)) is = sum_by-cons test i is in
     let same : test j ≡ test i = ap (λ c. cond (is_branch (operation_of c)) 1 0) (threaded_code op k i is) in
-    new ∙ ap (λ m. m + count_by (λ m'. is_branch (operation_of m'.code)) rest) same ∙ ap (λ m. test i + m) (tests_flow (suc at) (with_arrivals (suc at) op k j seen) is) ∙ sym old
+    new ∙ ap (λ m. m + count_by (λ m'. is_branch (operation_of m'.code)) rest) same ∙ ap (λ m. test i + m) (tests_flow (at + 1) (with_arrivals (at + 1) op k j seen) is) ∙ sym old
 
 code_at : (at : ℕ) (seen : List Known) (is : List Insn) (m : ℕ) (e : Insn) → (get_or (flow at seen is) m e).code ≡ (get_or is m e).code
 code_at at seen [] m e = refl
 code_at at seen (i ∷ is) zero e = threaded_code (operation_of i.code) (known_at seen at) i is
 code_at at seen (i ∷ is) (suc m) e =
     let k = known_at seen at in
-    code_at (suc at) (with_arrivals (suc at) (operation_of i.code) k (threaded_insn (operation_of i.code) k i is) seen) is m e
+    code_at (at + 1) (with_arrivals (at + 1) (operation_of i.code) k (threaded_insn (operation_of i.code) k i is) seen) is m e
 
 pub threads : (new old : List Insn) (seen : List Known) (places : ℕ) → seen ≡ at_start places → new ≡ flow 0 seen old → Threads new old
 threads new old seen places f e = subst (λ c. Threads c old) (sym (e ∙ ap (λ gs. flow 0 gs old) f)) (record {

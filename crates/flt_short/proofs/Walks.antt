@@ -1,7 +1,8 @@
 -- A run may go on where a walk ends in place of where it began.
 use Rattle.std.proofs.Common.{◌≡◌, ℕ, zero, suc, ◌+◌, ◌%◌, ◌^◌, ◌<◌, List, [], ◌∷◌, length, Bool, true, false, Option, Some, None, refl, sym, ap, ◌∙◌, subst, arith, inl, inr}
 use Rattle.std.specs.Prelude.{◌==◌, nat_lt, ◌&&◌, ◌||◌, if◌then◌else◌, slice_get, bit_and}
-use Rattle.std.specs.Option.{is_none, option_map}
+use Rattle.std.specs.Option.{is_none, option_map, option_map_or, option_and_then}
+use Rattle.std.proofs.lemmas.Option.{option_and_then_some}
 use Rattle.std.proofs.lemmas.Bool.Decides.{nat_tests}
 use Rattle.flt_bpf.specs.declared.insn.Insn.{Insn}
 use Rattle.flt_bpf.specs.declared.machine.State.{State}
@@ -14,7 +15,7 @@ use Rattle.flt_bpf.specs.declared.operation.Test.TheVariants as test
 use Rattle.flt_bpf.specs.declared.operation.AluOperation.TheVariants as arithmetic
 use Rattle.flt_bpf.specs.declared.operation.Width.TheVariants.{Byte}
 use Rattle.flt_bpf.specs.Instructions.{operation_of}
-use Rattle.flt_bpf.specs.Machine.{Next, Goes, Ends, Lost, step as does_step, does_if_known, into, word_into, field, header_length}
+use Rattle.flt_bpf.specs.Machine.{Next, Goes, Ends, Lost, step as does_step, does_if_known, into, field, header_length}
 use Rattle.flt_bpf.specs.Answer.{answer_of, answer_after}
 use Rattle.flt_short.specs.declared.facts.Field.{Field}
 use Rattle.flt_short.specs.declared.facts.Held.{Held}
@@ -22,16 +23,13 @@ use Rattle.flt_short.specs.declared.facts.Held.TheVariants as held
 use Rattle.flt_short.specs.declared.facts.Known.{Known}
 use Rattle.flt_short.specs.declared.thread.Spot.{Spot}
 use Rattle.flt_short.specs.declared.thread.Reached.{Reached}
-use Rattle.flt_short.specs.inside.Facts.{same_field, decided, known_by, is_captured, masked_field, masked_by}
-use Rattle.flt_short.specs.inside.Threads.{field_at, other_field, spot_at, past_decided, past_test_of, past_masked, past_mask_of, holds_load, holds_header, past_insn, ignores_accumulator, ignores_accumulator_if_there, is_free_by, is_free_at, is_free, can_stop, step_if_there, walk_on, walk, FUEL, walk_from, number_at, target_by, target, threaded_offset}
-use Rattle.flt_short.proofs.Basics.{by_test, both_true, either_true}
-use Rattle.flt_short.proofs.Knowing.{loaded, masked, value_at, value_of, loaded_at, numbers, same_value, HeldHolds, IndexHolds, Holds, captured_there, decided_right, tested_field}
+use Rattle.flt_short.specs.inside.Facts.{same_field, same_optional, decided, known_by, is_captured, field_of, masked_field, masked_by}
+use Rattle.flt_short.specs.inside.Threads.{field_at, other_field, spot_at, holds_load, past_insn, ignores_accumulator, is_free_by, is_free, can_stop, walk_on, walk, FUEL, walk_from, number_at, target_by, target, threaded_offset}
+use Rattle.std.proofs.lemmas.Bool.{and_parts, or_cases}
+use Rattle.flt_short.proofs.Basics.{by_test, known_step, into_both, word_both}
+use Rattle.flt_short.proofs.Knowing.{loaded, masked, value_at, value_of, loaded_at, numbers, same_masks, same_value, HeldHolds, IndexHolds, Holds, captured_there, decided_right, tested_field}
 
 module _ (p : List ℕ) (n : ℕ) where
-  pub known_step : (j : Insn) (op : Option Operation) (s : State) → operation_of j.code ≡ op → does_step j p n s ≡ does_if_known op j p n s
-  unfolding does_step
-  known_step j op s e = ap (λ o. does_if_known o j p n s) e
-
   -- the answer from a place on, by the instruction there
   pub at_step : (c : List Insn) (place : ℕ) (i : Insn) (s : State) → slice_get c place ≡ Some i → answer_of c p n place s ≡ answer_after (λ far w. answer_of c p n (place + 1 + far) w) (does_step i p n s)
   at_step [] place i s g = cc
@@ -54,66 +52,54 @@ module _ (p : List ℕ) (n : ℕ) where
   abbrev with_a : State → ℕ → State
   with_a s a = record s { accumulator = a }
 
+  -- what the answer is after one or after the other
+  abbrev Same : (ℕ → State → Option ℕ) → Next → Next → Type 0
+  Same rest u v = answer_after rest u ≡ answer_after rest v
+
   module _ (c : List Insn) where
     -- an operation that puts something into A
     sets_does : (op : Option Operation) (rest : ℕ → State → Option ℕ) (i : Insn) (s : State) (a : ℕ) → ignores_accumulator op ≡ true → answer_after rest (does_if_known op i p n (with_a s a)) ≡ answer_after rest (does_if_known op i p n s)
-    sets_does (Some (LoadAbsolute w)) rest i s a e = puts (field p i.k w)
-      where
-        puts : (o : Option ℕ) → answer_after rest (into Accumulator o (with_a s a)) ≡ answer_after rest (into Accumulator o s)
-        puts None = refl
-        puts (Some v) = refl
-    sets_does (Some (LoadIndirect w)) rest i s a e = puts (field p ((s.index + i.k) % 2 ^ 32) w)
-      where
-        puts : (o : Option ℕ) → answer_after rest (into Accumulator o (with_a s a)) ≡ answer_after rest (into Accumulator o s)
-        puts None = refl
-        puts (Some v) = refl
+    sets_does (Some (LoadAbsolute w)) rest i s a e = into_both p n (Same rest) refl refl Accumulator (field p i.k w) (with_a s a) s (λ v g. refl)
+    sets_does (Some (LoadIndirect w)) rest i s a e = into_both p n (Same rest) refl refl Accumulator (field p ((s.index + i.k) % 2 ^ 32) w) (with_a s a) s (λ v g. refl)
     sets_does (Some (Load Accumulator Immediate)) rest i s a e = refl
     sets_does (Some (Load Accumulator Length)) rest i s a e = refl
-    sets_does (Some (Load Accumulator Memory)) rest i s a e = puts (slice_get s.memory i.k)
-      where
-        puts : (o : Option ℕ) → answer_after rest (word_into Accumulator o (with_a s a)) ≡ answer_after rest (word_into Accumulator o s)
-        puts None = refl
-        puts (Some v) = refl
+    sets_does (Some (Load Accumulator Memory)) rest i s a e = word_both p n (Same rest) refl refl Accumulator (slice_get s.memory i.k) (with_a s a) s (λ v g. refl)
     sets_does (Some ReturnConstant) rest i s a e = refl
     sets_does (Some CopyToAccumulator) rest i s a e = refl
     sets_does _ rest i s a e = cc
 
-    sets_same : (place : ℕ) (o : Option Insn) (s : State) (a : ℕ) → slice_get c place ≡ o → ignores_accumulator_if_there o ≡ true → answer_of c p n place (with_a s a) ≡ answer_of c p n place s
+    sets_same : (place : ℕ) (o : Option Insn) (s : State) (a : ℕ) → slice_get c place ≡ o → option_map_or (λ i. ignores_accumulator (operation_of i.code)) o false ≡ true → answer_of c p n place (with_a s a) ≡ answer_of c p n place s
     sets_same place None s a g e = cc
     sets_same place (Some i) s a g e =
         let rest = λ (far : ℕ) (w : State). answer_of c p n (place + 1 + far) w in
         at_step c place i (with_a s a) g
-        ∙ ap (answer_after rest) (known_step i (operation_of i.code) (with_a s a) refl)
+        ∙ ap (answer_after rest) (known_step p n i (operation_of i.code) (with_a s a) refl)
         ∙ sets_does (operation_of i.code) rest i s a e
-        ∙ sym (ap (answer_after rest) (known_step i (operation_of i.code) s refl))
+        ∙ sym (ap (answer_after rest) (known_step p n i (operation_of i.code) s refl))
         ∙ sym (at_step c place i s g)
 
     free_by : (op : Option Operation) (place : ℕ) (i : Insn) (s : State) (a : ℕ) → slice_get c place ≡ Some i → operation_of i.code ≡ op → is_free_by op c place ≡ true → answer_of c p n place (with_a s a) ≡ answer_of c p n place s
     free_by (Some LoadHeaderLength) place i s a g k e =
         let rest = λ (far : ℕ) (w : State). answer_of c p n (place + 1 + far) w in
         at_step c place i (with_a s a) g
-        ∙ ap (answer_after rest) (known_step i (Some LoadHeaderLength) (with_a s a) k)
-        ∙ puts (option_map header_length (field p i.k Byte))
-        ∙ sym (ap (answer_after rest) (known_step i (Some LoadHeaderLength) s k))
+        ∙ ap (answer_after rest) (known_step p n i (Some LoadHeaderLength) (with_a s a) k)
+        ∙ into_both p n (Same rest) refl refl Index (option_map header_length (field p i.k Byte)) (with_a s a) s (λ v f.
+        let none : place + 1 + 0 ≡ place + 1 = omega arith in
+        ap (λ m. answer_of c p n m (with_a (record s { index = v }) a)) none
+        ∙ sets_same (place + 1) (slice_get c (place + 1)) (record s { index = v }) a refl e
+        ∙ sym (ap (λ m. answer_of c p n m (record s { index = v })) none))
+        ∙ sym (ap (answer_after rest) (known_step p n i (Some LoadHeaderLength) s k))
         ∙ sym (at_step c place i s g)
-      where
-        puts : (o : Option ℕ) → answer_after (λ far w. answer_of c p n (place + 1 + far) w) (into Index o (with_a s a)) ≡ answer_after (λ far w. answer_of c p n (place + 1 + far) w) (into Index o s)
-        puts None = refl
-        puts (Some v) =
-            let none : place + 1 + 0 ≡ place + 1 = omega arith in
-            ap (λ m. answer_of c p n m (with_a (record s { index = v }) a)) none
-            ∙ sets_same (place + 1) (slice_get c (place + 1)) (record s { index = v }) a refl e
-            ∙ sym (ap (λ m. answer_of c p n m (record s { index = v })) none)
     free_by op place i s a g k e = sets_same place (Some i) s a g (subst (λ o. ignores_accumulator o ≡ true) (sym k) e)
 
-    free_same : (place : ℕ) (o : Option Insn) (s : State) (a : ℕ) → slice_get c place ≡ o → is_free_at o c place ≡ true → answer_of c p n place (with_a s a) ≡ answer_of c p n place s
+    free_same : (place : ℕ) (o : Option Insn) (s : State) (a : ℕ) → slice_get c place ≡ o → option_map_or (λ i. is_free_by (operation_of i.code) c place) o false ≡ true → answer_of c p n place (with_a s a) ≡ answer_of c p n place s
     free_same place None s a g e = cc
     free_same place (Some i) s a g e = free_by (operation_of i.code) place i s a g refl e
 
     -- what A would hold on a walk
     abbrev AtSpot : State → Option Field → ℕ → Type 0
     AtSpot s None a = a ≡ s.accumulator
-    AtSpot s (Some f) a = value_of p f ≡ Some a
+    AtSpot s (Some f) a = value_of p n f ≡ Some a
 
     -- a run that would stand where the walk began may stand there
     record Walks (s : State) (from : ℕ) (spot : Spot) : Type 0 where
@@ -122,7 +108,7 @@ module _ (p : List ℕ) (n : ℕ) where
       same : answer_of c p n spot.place (with_a s a) ≡ answer_of c p n from s
 
     stops : (s : State) (from : ℕ) (spot : Spot) → Walks s from spot → (is_none spot.other || is_free c spot.place) ≡ true → answer_of c p n spot.place s ≡ answer_of c p n from s
-    stops s from spot w e = elim (either_true (is_none spot.other) (is_free c spot.place) e) [
+    stops s from spot w e = elim (or_cases (is_none spot.other) (is_free c spot.place) e) [
       | inl i ↦ sym (ap (λ m. answer_of c p n spot.place (with_a s m)) (own spot.other w.is i)) ∙ w.same
       | inr i ↦ sym (free_same spot.place (slice_get c spot.place) s w.a refl i) ∙ w.same
     ]
@@ -132,23 +118,23 @@ module _ (p : List ℕ) (n : ℕ) where
         own (Some f) x i = cc
 
     -- the field in A
-    field_is : (h : Held) (other : Option Field) (f : Field) (s : State) (a : ℕ) → HeldHolds p h s → AtSpot s other a → field_at h other ≡ Some f → value_of p f ≡ Some a
-    field_is h (Some g) f s a x y e = let same : g ≡ f = cc in subst (λ z. value_of p z ≡ Some a) same y
-    field_is (held.Field g) None f s a x y e = let same : g ≡ f = cc in subst (λ z. value_of p z ≡ Some a) same (x ∙ ap Some (sym y))
+    field_is : (h : Held) (other : Option Field) (f : Field) (s : State) (a : ℕ) → HeldHolds p n h s → AtSpot s other a → field_at h other ≡ Some f → value_of p n f ≡ Some a
+    field_is h (Some g) f s a x y e = let same : g ≡ f = cc in subst (λ z. value_of p n z ≡ Some a) same y
+    field_is (held.Field g) None f s a x y e = let same : g ≡ f = cc in subst (λ z. value_of p n z ≡ Some a) same (x ∙ ap Some (sym y))
     field_is held.Unreached None f s a x y e = cc
     field_is held.Unknown None f s a x y e = cc
     field_is (held.AtIndex code k) None f s a x y e = cc
 
-    away_is : (h : Held) (f : Field) (s : State) (a : ℕ) → HeldHolds p h s → value_of p f ≡ Some a → AtSpot s (other_field h f) a
+    away_is : (h : Held) (f : Field) (s : State) (a : ℕ) → HeldHolds p n h s → value_of p n f ≡ Some a → AtSpot s (other_field h f) a
     away_is (held.Field g) f s a x y =
         by_test (λ o. AtSpot s o a) (same_field g f) None (Some f)
-        (λ e. (let both : Some a ≡ Some s.accumulator = sym y ∙ sym (same_value p g f e) ∙ x in cc))
+        (λ e. (let both : Some a ≡ Some s.accumulator = sym y ∙ sym (same_value p n g f e) ∙ x in cc))
         (λ _. y)
     away_is held.Unreached f s a x y = y
     away_is held.Unknown f s a x y = y
     away_is (held.AtIndex code k) f s a x y = y
 
-    module _ (k : Known) (s : State) (holds : Holds p k s) (from : ℕ) where
+    module _ (k : Known) (s : State) (holds : Holds p n k s) (from : ℕ) where
       abbrev rest : ℕ → ℕ → State → Option ℕ
       rest place far w = answer_of c p n (place + 1 + far) w
 
@@ -159,7 +145,7 @@ module _ (p : List ℕ) (n : ℕ) where
         is = at;
         same =
             ap (λ m. answer_of c p n m (with_a s b)) to
-            ∙ sym (at_step c spot.place i (with_a s w.a) g ∙ ap (answer_after (rest spot.place)) (known_step i op (with_a s w.a) o ∙ d))
+            ∙ sym (at_step c spot.place i (with_a s w.a) g ∙ ap (answer_after (rest spot.place)) (known_step p n i op (with_a s w.a) o ∙ d))
             ∙ w.same;
       }
 
@@ -169,28 +155,33 @@ module _ (p : List ℕ) (n : ℕ) where
       none_further : (place : ℕ) → place + 1 ≡ place + 1 + 0
       none_further place = omega arith
 
-      masks : (f g : Field) (m v : ℕ) → masked_field f m ≡ Some g → value_of p f ≡ Some v → value_of p g ≡ Some (bit_and v m)
+      masks : (f g : Field) (m v : ℕ) → masked_field f m ≡ Some g → value_of p n f ≡ Some v → value_of p n g ≡ Some (bit_and v m)
       masks f g m v e is = by f.mask refl
         where
-          by : (o : Option ℕ) → f.mask ≡ o → value_of p g ≡ Some (bit_and v m)
+          by : (o : Option ℕ) → f.mask ≡ o → value_of p n g ≡ Some (bit_and v m)
           by None e' =
               let one : masked_by None f m ≡ Some g = ap (λ z. masked_by z f m) (sym e') ∙ e in
               let same : record f { mask = Some m } ≡ g = cc in
-              let plain : loaded (operation_of f.code) p f.k ≡ Some v = ap (λ z. value_at p f.code f.k z) (sym e') ∙ is in
-              subst (λ z. value_of p z ≡ Some (bit_and v m)) same (ap (masked (Some m)) plain)
+              let plain : loaded (operation_of f.code) p n f.k ≡ Some v = ap (λ z. value_at p n f.code f.k z) (sym e') ∙ is in
+              subst (λ z. value_of p n z ≡ Some (bit_and v m)) same (ap (masked (Some m)) plain)
           by (Some old) e' = let one : masked_by (Some old) f m ≡ Some g = ap (λ z. masked_by z f m) (sym e') ∙ e in cc
 
       step_good : (op : Option Operation) (i : Insn) (spot next : Spot) → slice_get c spot.place ≡ Some i → operation_of i.code ≡ op → past_insn op k i spot ≡ Some next → Walks s from spot → Walks s from next
       step_good (Some (LoadAbsolute w)) i spot next g o e r =
           by_test (λ z. z ≡ Some next → Walks s from next) (is_captured k i.code i.k) _ None
           (λ t. λ e'.
-          let there = captured_there p k i.code i.k s holds t in
-          let f : Field = record { code = i.code; k = i.k; mask = None } in
+          let there = captured_there p n k i.code i.k s holds t in
+          let f = field_of i in
           let same : spot_at (spot.place + 1) (other_field k.held f) ≡ next = cc in
-          let loads : field p i.k w ≡ Some there.0 = ap (λ z. loaded z p i.k) (sym o) ∙ there.1 in
+          let loads : field p i.k w ≡ Some there.0 = ap (λ z. loaded z p n i.k) (sym o) ∙ there.1 in
           subst (Walks s from) same (moves spot i (Some (LoadAbsolute w)) r 0 there.0 (spot_at (spot.place + 1) (other_field k.held f)) g o (by_field (field p i.k w) (with_a s r.a) there.0 loads) (away_is k.held f s there.0 holds.a there.1) (none_further spot.place)))
           (λ _. λ e'. cc)
           e
+      step_good (Some (Load Accumulator Length)) i spot next g o e r =
+          let to = other_field k.held (field_of i) in
+          let same : spot_at (spot.place + 1) to ≡ next = cc in
+          let is : value_of p n (field_of i) ≡ Some n = ap (λ z. loaded z p n i.k) o in
+          subst (Walks s from) same (moves spot i (Some (Load Accumulator Length)) r 0 n (spot_at (spot.place + 1) to) g o refl (away_is k.held (field_of i) s n holds.a is) (none_further spot.place))
       step_good (Some (LoadIndirect w)) i spot next g o e r =
           by_test (λ z. z ≡ Some next → Walks s from next) (holds_load k.held i) _ None
           (λ t. λ e'.
@@ -199,49 +190,40 @@ module _ (p : List ℕ) (n : ℕ) where
           (λ _. λ e'. cc)
           e
         where
-          load_is : (h : Held) (j : Insn) → HeldHolds p h s → holds_load h j ≡ true → loaded_at (operation_of j.code) p s.index j.k ≡ Some s.accumulator
+          load_is : (h : Held) (j : Insn) → HeldHolds p n h s → holds_load h j ≡ true → loaded_at (operation_of j.code) p s.index j.k ≡ Some s.accumulator
           load_is (held.AtIndex code m) j x t =
-              let q = both_true (code == j.code) (m == j.k) t in
+              let q = and_parts (code == j.code) (m == j.k) t in
               ap (λ z. loaded_at (operation_of z) p s.index j.k) (sym (numbers code j.code q.0)) ∙ ap (loaded_at (operation_of code) p s.index) (sym (numbers m j.k q.1)) ∙ x
           load_is held.Unreached j x t = cc
           load_is held.Unknown j x t = cc
           load_is (held.Field f) j x t = cc
-      step_good (Some (Compute arithmetic.And Constant)) i spot next g o e r = by_mask (field_at k.held spot.other) refl e
+      step_good (Some (Compute arithmetic.And Constant)) i spot next g o e r = option_and_then_some _ (field_at k.held spot.other) next e (λ f q e'. masked_on f (masked_field f i.k) q refl e')
         where
-          masked_on : (f : Field) (m : Option Field) → field_at k.held spot.other ≡ Some f → masked_field f i.k ≡ m → past_masked m k spot ≡ Some next → Walks s from next
+          masked_on : (f : Field) (m : Option Field) → field_at k.held spot.other ≡ Some f → masked_field f i.k ≡ m → option_map (λ h. spot_at (spot.place + 1) (other_field k.held h)) m ≡ Some next → Walks s from next
           masked_on f None q u e' = cc
           masked_on f (Some h) q u e' =
               let same : spot_at (spot.place + 1) (other_field k.held h) ≡ next = cc in
               let is = field_is k.held spot.other f s r.a holds.a r.is q in
               subst (Walks s from) same (moves spot i (Some (Compute arithmetic.And Constant)) r 0 (bit_and r.a i.k) (spot_at (spot.place + 1) (other_field k.held h)) g o refl (away_is k.held h s (bit_and r.a i.k) holds.a (masks f h i.k r.a u is)) (none_further spot.place))
-
-          by_mask : (m : Option Field) → field_at k.held spot.other ≡ m → past_mask_of m k i.k spot ≡ Some next → Walks s from next
-          by_mask None q e' = cc
-          by_mask (Some f) q e' = masked_on f (masked_field f i.k) q refl e'
       step_good (Some LoadHeaderLength) i spot next g o e r =
-          by_test (λ z. z ≡ Some next → Walks s from next) (holds_header k.index i.k) _ None
+          by_test (λ z. z ≡ Some next → Walks s from next) (same_optional k.index (Some i.k)) _ None
           (λ t. λ e'.
           let same : spot_at (spot.place + 1) spot.other ≡ next = cc in
           subst (Walks s from) same (moves spot i (Some LoadHeaderLength) r 0 r.a (spot_at (spot.place + 1) spot.other) g o (ap (λ z. into Index z (with_a s r.a)) (header_is k.index holds.x t)) r.is (none_further spot.place)))
           (λ _. λ e'. cc)
           e
         where
-          header_is : (x : Option ℕ) → IndexHolds p x s.index → holds_header x i.k ≡ true → option_map header_length (field p i.k Byte) ≡ Some s.index
-          header_is None x t = cc
-          header_is (Some m) x t = ap (λ z. option_map header_length (field p z Byte)) (sym (numbers m i.k t)) ∙ x
-      step_good (Some (JumpIf test.Equal Constant)) i spot next g o e r = by_fields (field_at k.held spot.other) refl e
+          header_is : (x : Option ℕ) → IndexHolds p n x s.index → same_optional x (Some i.k) ≡ true → option_map header_length (field p i.k Byte) ≡ Some s.index
+          header_is x y t = subst (λ o. IndexHolds p n o s.index) (same_masks x (Some i.k) t) y
+      step_good (Some (JumpIf test.Equal Constant)) i spot next g o e r = option_and_then_some _ (field_at k.held spot.other) next e (λ f q e'. decided_on f (decided k.facts f i.k) q refl e')
         where
-          decided_on : (f : Field) (d : Option Bool) → field_at k.held spot.other ≡ Some f → decided k.facts f i.k ≡ d → past_decided d i spot ≡ Some next → Walks s from next
+          decided_on : (f : Field) (d : Option Bool) → field_at k.held spot.other ≡ Some f → decided k.facts f i.k ≡ d → option_map (λ outcome. spot_at (spot.place + 1 + (if outcome then i.jt else i.jf)) spot.other) d ≡ Some next → Walks s from next
           decided_on f None q u e' = cc
           decided_on f (Some b) q u e' =
               let same : spot_at (spot.place + 1 + (if b then i.jt else i.jf)) spot.other ≡ next = cc in
               let is = field_is k.held spot.other f s r.a holds.a r.is q in
-              let outcome = decided_right p k.facts f r.a i.k b holds.facts is u in
+              let outcome = decided_right p n k.facts f r.a i.k b holds.facts is u in
               subst (Walks s from) same (moves spot i (Some (JumpIf test.Equal Constant)) r (if b then i.jt else i.jf) r.a (spot_at (spot.place + 1 + (if b then i.jt else i.jf)) spot.other) g o (ap (λ z. Goes (if z then i.jt else i.jf) (with_a s r.a)) outcome) r.is refl)
-
-          by_fields : (m : Option Field) → field_at k.held spot.other ≡ m → past_test_of m k i spot ≡ Some next → Walks s from next
-          by_fields None q e' = cc
-          by_fields (Some f) q e' = decided_on f (decided k.facts f i.k) q refl e'
       step_good _ i spot next g o e r = cc
 
       -- the last place where a run may go on
@@ -251,14 +233,14 @@ module _ (p : List ℕ) (n : ℕ) where
       best_same : (spot : Spot) (best : ℕ) → Walks s from spot → IsSame best → IsSame (if can_stop c spot then spot.place else best)
       best_same spot best w e =
           by_test IsSame (can_stop c spot) spot.place best
-          (λ t. stops s from spot w (both_true (nat_lt spot.place (length c)) (is_none spot.other || is_free c spot.place) t).1)
+          (λ t. stops s from spot w (and_parts (nat_lt spot.place (length c)) (is_none spot.other || is_free c spot.place) t).1)
           (λ _. e)
 
       -- so the walk is right, and where it is a run may be
       abbrev IsRight : Reached → Type 0
       IsRight r = Walks s from r.spot × IsSame r.best
 
-      walk_next : (go_on : Reached → Reached) (r : Reached) → IsRight r → ((q : Reached) → IsRight q → IsRight (go_on q)) → IsRight (walk_on go_on c r (step_if_there (slice_get c r.spot.place) k r.spot))
+      walk_next : (go_on : Reached → Reached) (r : Reached) → IsRight r → ((q : Reached) → IsRight q → IsRight (go_on q)) → IsRight (walk_on go_on c r (option_and_then (λ i. past_insn (operation_of i.code) k i r.spot) (slice_get c r.spot.place)))
       walk_next go_on r w later = there (slice_get c r.spot.place) refl
         where
           go : (i : Insn) (o : Option Spot) → slice_get c r.spot.place ≡ Some i → past_insn (operation_of i.code) k i r.spot ≡ o → IsRight (walk_on go_on c r o)
@@ -267,7 +249,7 @@ module _ (p : List ℕ) (n : ℕ) where
               let next = step_good (operation_of i.code) i r.spot spot g refl q w.0 in
               later (record { spot = spot; best = if can_stop c spot then spot.place else r.best }) (next, best_same spot r.best next w.1)
 
-          there : (o : Option Insn) → slice_get c r.spot.place ≡ o → IsRight (walk_on go_on c r (step_if_there o k r.spot))
+          there : (o : Option Insn) → slice_get c r.spot.place ≡ o → IsRight (walk_on go_on c r (option_and_then (λ i. past_insn (operation_of i.code) k i r.spot) o))
           there None g = w
           there (Some i) g = go i (past_insn (operation_of i.code) k i r.spot) g refl
 
@@ -283,7 +265,7 @@ module _ (p : List ℕ) (n : ℕ) where
     best_inside : (spot : Spot) (best : ℕ) → best < length c → (if can_stop c spot then spot.place else best) < length c
     best_inside spot best l =
         by_test (λ m. m < length c) (can_stop c spot) spot.place best
-        (λ t. (let q = (both_true (nat_lt spot.place (length c)) (is_none spot.other || is_free c spot.place) t).0 in grind (arith, nat_tests)))
+        (λ t. (let q = (and_parts (nat_lt spot.place (length c)) (is_none spot.other || is_free c spot.place) t).0 in grind (arith, nat_tests)))
         (λ _. l)
 
     next_inside : (go_on : Reached → Reached) (r : Reached) (o : Option Spot) → r.best < length c → ((q : Reached) → q.best < length c → (go_on q).best < length c) → (walk_on go_on c r o).best < length c
@@ -293,7 +275,7 @@ module _ (p : List ℕ) (n : ℕ) where
     walk_inside : (fuel : ℕ) (k : Known) (r : Reached) → r.best < length c → (walk fuel k c r).best < length c
     unfolding walk
     walk_inside zero k r l = l
-    walk_inside (suc fuel) k r l = next_inside (walk fuel k c) r (step_if_there (slice_get c r.spot.place) k r.spot) l (λ q m. walk_inside fuel k q m)
+    walk_inside (suc fuel) k r l = next_inside (walk fuel k c) r (option_and_then (λ i. past_insn (operation_of i.code) k i r.spot) (slice_get c r.spot.place)) l (λ q m. walk_inside fuel k q m)
 
     walked_inside : (k : Known) (from : ℕ) → from < length c → (walk_from k c from).best < length c
     walked_inside k from l = walk_inside FUEL k (record { spot = spot_at from None; best = from }) l
@@ -310,7 +292,7 @@ module _ (p : List ℕ) (n : ℕ) where
             (λ _. walked_inside (known_by k f v true) from l)
             (λ _. walked_inside k from l)
 
-    target_same : (k : Known) (from : ℕ) (s : State) → Holds p k s → answer_of c p n (target k c from) s ≡ answer_of c p n from s
+    target_same : (k : Known) (from : ℕ) (s : State) → Holds p n k s → answer_of c p n (target k c from) s ≡ answer_of c p n from s
     target_same k from s h = by (field_at k.held end.spot.other) refl (number_at c end.spot.place)
       where
         end : Reached
@@ -327,9 +309,9 @@ module _ (p : List ℕ) (n : ℕ) where
             let second = walk_from (known_by k f v false) c from in
             let a = right.0.a in
             let is = field_is k.held end.spot.other f s a h.a right.0.is q in
-            let by_outcome : (b : Bool) → (a == v) ≡ b → answer_of c p n (walk_from (known_by k f v b) c from).best s ≡ answer_of c p n from s = λ b e. (walked_right (known_by k f v b) s (tested_field p k f a v b s h is e) from).1 in
+            let by_outcome : (b : Bool) → (a == v) ≡ b → answer_of c p n (walk_from (known_by k f v b) c from).best s ≡ answer_of c p n from s = λ b e. (walked_right (known_by k f v b) s (tested_field p n k f a v b s h is e) from).1 in
             by_test (λ m. answer_of c p n m s ≡ answer_of c p n from s) (nat_lt end.best first.best && first.best == second.best) _ _
-            (λ t. let one = numbers first.best second.best (both_true (nat_lt end.best first.best) (first.best == second.best) t).1 in
+            (λ t. let one = numbers first.best second.best (and_parts (nat_lt end.best first.best) (first.best == second.best) t).1 in
             either_way (a == v) (by_outcome (a == v) refl) one)
             (λ _. right.1)
           where
@@ -337,7 +319,7 @@ module _ (p : List ℕ) (n : ℕ) where
             either_way true e one = e
             either_way false e one = ap (λ m. answer_of c p n m s) one ∙ e
 
-    pub moved_same : (k : Known) (from : ℕ) (s : State) → Holds p k s → answer_of c p n (threaded_offset k c from) s ≡ answer_of c p n from s
+    pub moved_same : (k : Known) (from : ℕ) (s : State) → Holds p n k s → answer_of c p n (threaded_offset k c from) s ≡ answer_of c p n from s
     moved_same k from s h =
         by_test (λ m. answer_of c p n m s ≡ answer_of c p n from s) (nat_lt (target k c from) (2 ^ 32)) _ _
         (λ _. target_same k from s h)

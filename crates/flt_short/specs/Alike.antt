@@ -15,9 +15,9 @@ pub record Comes (prog : List Insn) (p : List ℕ) (n answer most : ℕ) : Type 
   pub upper_bound : count ≤ most
   pub inside : count ≤ length prog
 
--- a program in place of an old one: it is no longer, has no more tests, and on each packet on which
+-- a program instead of an old one: it is no longer, has no more tests, and on each packet on which
 -- the old one returns it returns the same, in no more instructions; it is valid if the old one
--- is, and has no `ja` that isn't needed, or none, if that is so of the old one
+-- is, and has no `ja` that isn't needed, or none, if that is true of the old one
 pub record Shortens (new old : List Insn) : Type 0 where
   pub shorter : length new ≤ length old
   pub fewer : count_by (λ i. is_branch (operation_of i.code)) new

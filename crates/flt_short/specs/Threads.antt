@@ -7,7 +7,7 @@ use Rattle.flt_bpf.specs.Instructions.{operation_of}
 use Rattle.flt_bpf.specs.Layout.{is_branch, HasNoJump}
 use Rattle.flt_bpf.specs.Machine.{start}
 
--- code in place of old code: it has as many instructions and tests, it returns the same on each
+-- code instead of old code: it has as many instructions and tests, it returns the same on each
 -- packet; if the old code breaks no rule but perhaps that on the length, nor does it, and if that
 -- has no jump, it has none
 pub record Threads (new old : List Insn) : Type 0 where

@@ -1,5 +1,5 @@
 -- What no promise rests on: it helps the crate's own functions and proofs, and those of crates
--- beside it.
+-- next to it.
 pub mod Alike
 pub mod Arrivals
 pub mod Facts

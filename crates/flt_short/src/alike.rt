@@ -1,29 +1,28 @@
 //! Whether a program does what an old one does: instruction by instruction, with what is read.
 //! `old` is an instruction of the old program, `after` are those after it, `following` the landings
-//! of these, and `new` is the instruction of the new program where that of `old` lands.
+//! of these, and `new` is the instruction of the new program if that of `old` lands.
 //!
 //! Clauses cite definitions of the same names (without `is_`), which look as the code does; what
 //! follows from them is `Shortens`, the contract of `replaces`.
 
 ghost use Rattle.std.specs.Prelude.{◌≡◌, ◌≢◌, ◌↔◌, ◌+◌, ◌-◌, ◌%◌, ◌^◌, ◌==◌, ◌&&◌, nat_lt, length};
 ghost use Rattle.std.specs.Prelude.{IsTrue, All, true, false};
+ghost use Rattle.std.specs.Option.{option_map_or};
 ghost use Rattle.flt_bpf.specs.Instructions.{operation_of};
 ghost use Rattle.flt_short.specs.Alike.{Shortens};
-ghost use Rattle.flt_short.specs.inside.Alike.{implies, landing_fits};
-ghost use Rattle.flt_short.specs.inside.Alike.{goes_on};
-ghost use Rattle.flt_short.specs.inside.Alike.{same_step, one_test, direct_code, is_code};
-ghost use Rattle.flt_short.specs.inside.Alike.{direct_load};
-ghost use Rattle.flt_short.specs.inside.Alike.{is_indirect, adds_header, loads_alike, header_load};
-ghost use Rattle.flt_short.specs.inside.Alike.{rejects, is_sure, goes_on_or_rejects};
-ghost use Rattle.flt_short.specs.inside.Alike.{code_from, are_copies, lands_at, left_out};
-ghost use Rattle.flt_short.specs.inside.Alike.{stands, are_alike, begins, MASK, EQUAL, ANY_BIT};
+ghost use Rattle.flt_short.specs.inside.Alike.{implies, landing_fits, goes_on, same_step, ANY_BIT};
+ghost use Rattle.flt_short.specs.inside.Alike.{is_masked_test, one_test, direct_code, direct_load};
+ghost use Rattle.flt_short.specs.inside.Alike.{puts_number_into_index, is_indirect, adds_header};
+ghost use Rattle.flt_short.specs.inside.Alike.{loads_alike, header_load, rejects, is_sure, begins};
+ghost use Rattle.flt_short.specs.inside.Alike.{goes_on_or_rejects, code_from, are_copies, lands_at};
+ghost use Rattle.flt_short.specs.inside.Alike.{left_out, stands, are_alike};
 ghost use Rattle.flt_bpf.specs.Layout.{JUMP};
 
 use crate::valid::{count_tests, is_valid_unless_long};
 use flt_bpf::operation::{AluOperation, Operand, Operation, Register, Source, Test, decode};
 use flt_bpf::{Wide, reads_accumulator, reads_index, sets_accumulator, sets_index};
 
-/// Where a new program does what the old one does from an instruction on.
+/// The place from which on a new program does what the old one does from an instruction on.
 #[derive(Clone, Copy)]
 pub struct Landing {
     /// The number of instructions of the new program from there to its end, or 0 for nowhere.
@@ -41,41 +40,37 @@ fn implies(one: bool, other: bool) -> bool
     if one { other } else { true }
 }
 
-/// How far a way leads in both programs, from an instruction of each.
-#[derive(Clone, Copy)]
-struct Way {
-    /// How many instructions it skips in the old program: an index of the landings after that one.
-    pub old: usize,
-    /// How many it skips in the new program.
-    pub new: usize,
-    /// The place of the new program's instruction.
-    pub place: usize,
+/// Whether an instruction at a place of the new program that skips `skipped` others goes on at the
+/// place `to`, which is one: 0 is nowhere.
+fn leads_to(place: usize, skipped: usize, to: usize) -> bool
+    ensures { result ≡ ((nat_lt 0 to && nat_lt to place) && place - to - 1 == skipped) }
+{
+    (0 < to && to < place) && place - to - 1 == skipped
 }
 
-/// Whether the way in the new program leads to a place, which is one: 0 is nowhere.
-fn leads_to_place(way: Way, place: usize) -> bool
-    ensures { result ≡ ((nat_lt 0 place && nat_lt place way.place)
-        && way.place - place - 1 == way.new) }
+/// Whether a way from a place of the new program, which skips `new` instructions there and `old` in
+/// the old program, leads to the landing of the instruction there, and what is read from there on is
+/// the same in both programs. `accumulator` and `index` are whether A and X are the same.
+fn landing_fits(
+    following: &[Landing],
+    old: usize,
+    new: usize,
+    place: usize,
+    accumulator: bool,
+    index: bool,
+) -> bool
+    ensures { result ≡ landing_fits following.now old new place accumulator index }
 {
-    (0 < place && place < way.place) && way.place - place - 1 == way.new
-}
-
-/// Whether a way leads to where the old program's instruction lands in the new one, and what is
-/// read from there on is the same in both programs. `accumulator` and `index` are whether A and X
-/// are the same.
-fn landing_fits(following: &[Landing], way: Way, accumulator: bool, index: bool) -> bool
-    ensures { result ≡ landing_fits following.now way.old way.new way.place accumulator index }
-{
-    match following.get(way.old) {
+    match following.get(old) {
         None => false,
         Some(landing) => {
-            leads_to_place(way, landing.place)
+            leads_to(place, new, landing.place)
                 && (implies(landing.accumulator, accumulator) && implies(landing.index, index))
         }
     }
 }
 
-/// Whether both programs go on alike after an instruction that both have, here with this operation:
+/// Whether both programs go on the same way after an instruction that both have, here with this operation:
 /// all its ways lead to landings that fit.
 fn goes_on(
     operation: Operation,
@@ -94,35 +89,21 @@ fn goes_on(
     match operation {
         Operation::Jump => false,
         Operation::JumpIf(_, _) => {
-            let yes = Way {
-                old: old.yes as usize,
-                new: new.yes as usize,
-                place,
-            };
-            let no = Way {
-                old: old.no as usize,
-                new: new.no as usize,
-                place,
-            };
-            landing_fits(following, yes, accumulator, index)
-                && landing_fits(following, no, accumulator, index)
+            let (yes, no) = (old.yes as usize, old.no as usize);
+            landing_fits(following, yes, new.yes as usize, place, accumulator, index)
+                && landing_fits(following, no, new.no as usize, place, accumulator, index)
         }
         Operation::ReturnConstant | Operation::ReturnAccumulator => true,
-        _ => landing_fits(
-            following,
-            Way {
-                old: 0,
-                new: 0,
-                place,
-            },
-            sets_accumulator(operation) || accumulator,
-            sets_index(operation) || index,
-        ),
+        _ => {
+            let same_a = sets_accumulator(operation) || accumulator;
+            let same_x = sets_index(operation) || index;
+            landing_fits(following, 0, 0, place, same_a, same_x)
+        }
     }
 }
 
-/// Whether the instruction of the new program is that of the old one but for the offsets, what it
-/// reads is the same in both, and both go on alike.
+/// Whether the instruction of the new program is that of the old one except the offsets, what it
+/// reads is the same in both, and both go on the same way.
 #[tactic(auto, unfolding(crate::specs::inside::Alike::same_step))]
 fn is_same_step(new: Wide, landing: Landing, old: Wide, following: &[Landing]) -> bool
     ensures { result ≡ same_step (operation_of old.code) new landing old following.now }
@@ -138,17 +119,23 @@ fn is_same_step(new: Wide, landing: Landing, old: Wide, following: &[Landing]) -
     }
 }
 
-/// Whether `new` is a test of bits that asks what a mask and a test of what is left for 0 do: it
-/// holds where that test fails.
-fn is_bits_test(new: Wide, mask: Wide, test: Wide) -> bool
-    ensures { result ≡ ((mask.code == MASK && test.code == EQUAL)
-        && (test.k == 0 && (new.code == ANY_BIT && mask.k == new.k))) }
+/// Whether two instructions are a mask, and a test of what is left for 0.
+pub fn is_masked_test(mask: Wide, test: Wide) -> bool
+    ensures { result ≡ is_masked_test mask test }
 {
     (mask.code == Operation::Compute(AluOperation::And, Operand::Constant).code()
         && test.code == Operation::JumpIf(Test::Equal, Operand::Constant).code())
-        && (test.k == 0
-            && (new.code == Operation::JumpIf(Test::AnyBit, Operand::Constant).code()
-                && mask.k == new.k))
+        && test.k == 0
+}
+
+/// Whether `new` is a test of bits that asks what a mask and a test of what is left for 0 do: it
+/// holds if that test fails.
+fn is_bits_test(new: Wide, mask: Wide, test: Wide) -> bool
+    ensures { result ≡ (is_masked_test mask test && (new.code == ANY_BIT && mask.k == new.k)) }
+{
+    is_masked_test(mask, test)
+        && (new.code == Operation::JumpIf(Test::AnyBit, Operand::Constant).code()
+            && mask.k == new.k)
 }
 
 /// Whether the new program has one test of bits (`69 k`) for a mask and a test of what is left for
@@ -166,33 +153,43 @@ fn is_one_test(
     match after {
         [] => false,
         [test, ..] => {
-            let place = landing.place;
-            let zero = Way {
-                old: 1 + test.yes as usize,
-                new: new.no as usize,
-                place,
-            };
-            let other = Way {
-                old: 1 + test.no as usize,
-                new: new.yes as usize,
-                place,
-            };
+            let (place, index) = (landing.place, landing.index);
+            let (zero, other) = (1 + test.yes as usize, 1 + test.no as usize);
             is_bits_test(new, old, *test)
                 && (landing.accumulator
-                    && (landing_fits(following, zero, false, landing.index)
-                        && landing_fits(following, other, false, landing.index)))
+                    && (landing_fits(following, zero, new.no as usize, place, false, index)
+                        && landing_fits(following, other, new.yes as usize, place, false, index)))
         }
     }
 }
 
-/// Whether `code` is that of the load at a fixed place that takes as many bytes as the load at X
-/// whose code is `indirect`.
-fn is_direct_code(indirect: u16, code: u16) -> bool
-    ensures { result ≡ is_code (direct_code (operation_of indirect)) code }
+/// The code of the load at a fixed place that takes as many bytes as the load at X whose code is
+/// `indirect`. `None`: that is another instruction's code.
+pub fn direct_code(indirect: u16) -> Option<u16>
+    ensures { result ≡ direct_code (operation_of indirect) }
 {
     match decode(indirect) {
-        Some(Operation::LoadIndirect(width)) => Operation::LoadAbsolute(width).code() == code,
-        _ => false,
+        Some(Operation::LoadIndirect(width)) => Some(Operation::LoadAbsolute(width).code()),
+        _ => None,
+    }
+}
+
+/// Whether two instructions put a number into A and copy it to X.
+pub fn puts_number_into_index(number: Wide, copy: Wide) -> bool
+    ensures { result ≡ puts_number_into_index number copy }
+{
+    number.code == Operation::Load(Register::Accumulator, Source::Immediate).code()
+        && copy.code == Operation::CopyToIndex.code()
+}
+
+/// Whether `new` is a load at a fixed place of the bytes that `load` takes if X is this number.
+fn is_direct(new: Wide, number: u32, load: Wide) -> bool
+    ensures { result ≡ (option_map_or (λ code. code == new.code)
+        (direct_code (operation_of load.code)) false && (number + load.k) % 2 ^ 32 == new.k) }
+{
+    match direct_code(load.code) {
+        None => false,
+        Some(code) => code == new.code && number.wrapping_add(load.k) == new.k,
     }
 }
 
@@ -209,18 +206,10 @@ fn is_direct_load(
 ) -> bool
     ensures { result ≡ direct_load new landing old after.now following.now }
 {
-    let number = Operation::Load(Register::Accumulator, Source::Immediate).code();
-    let copy = Operation::CopyToIndex.code();
     match after {
         [to_index, load, ..] => {
-            let way = Way {
-                old: 2,
-                new: 0,
-                place: landing.place,
-            };
-            (old.code == number && to_index.code == copy)
-                && (is_direct_code(load.code, new.code) && old.k.wrapping_add(load.k) == new.k)
-                && landing_fits(following, way, true, false)
+            (puts_number_into_index(old, *to_index) && is_direct(new, old.k, *load))
+                && landing_fits(following, 2, 0, landing.place, true, false)
         }
         _ => false,
     }
@@ -239,7 +228,7 @@ pub fn adds_header(number: Wide, length: Wide, add: Wide, to_index: Wide) -> boo
 
 /// Whether two pairs of instructions have the same first one, for the length of a header, and then
 /// load equally many bytes at X, each at its own `k`. (That it loads a header's length,
-/// `adds_header` tells.)
+/// `adds_header` shows.)
 fn loads_alike(old_length: Wide, new_length: Wide, old_load: Wide, new_load: Wide) -> bool
     ensures { result ≡ loads_alike old_length new_length old_load new_load }
 {
@@ -277,18 +266,14 @@ fn is_header_load(
     }
 }
 
-/// Whether the `k` of a load at X is the sum of a number and that of the load it is in place of,
+/// Whether the `k` of a load at X is the sum of a number and that of the load it is instead of,
 /// and what is read after it is the same in both programs. It is in front of the landing's place.
 fn is_sum_loaded(number: u32, old_k: u32, new_k: u32, place: usize, following: &[Landing]) -> bool
     ensures { result ≡ ((number + old_k) % 2 ^ 32 == new_k
         && landing_fits following.now 4 0 (place - 1) true false) }
 {
-    let way = Way {
-        old: 4,
-        new: 0,
-        place: place.saturating_sub(1),
-    };
-    number.wrapping_add(old_k) == new_k && landing_fits(following, way, true, false)
+    let second = place.saturating_sub(1);
+    number.wrapping_add(old_k) == new_k && landing_fits(following, 4, 0, second, true, false)
 }
 
 /// Whether an instruction returns 0.
@@ -328,15 +313,11 @@ pub fn goes_on_or_rejects(operation: Operation) -> bool
     )
 }
 
-/// The code from a place on; none if it has fewer instructions.
+/// The code from a place on; all of it if it has fewer instructions.
 fn code_from(code: &[Wide], place: usize) -> &[Wide]
     ensures { result.now ≡ code_from code.now place }
 {
-    if place <= code.len() {
-        &code[code.len() - place..]
-    } else {
-        &[]
-    }
+    &code[code.len().saturating_sub(place)..]
 }
 
 /// Whether two ends of the same code begin with the same instructions, up to a return, or to a test
@@ -366,9 +347,9 @@ fn are_copies(one: &[Wide], other: &[Wide]) -> bool
     }
 }
 
-/// Whether the landing of a way is at a place, or at a copy of the code there, and what is read from
-/// there on is the same in both programs. `accumulator` and `index` are whether A and X are the
-/// same.
+/// Whether the landing of a way is at a place, or at a copy of the code there, and what is read
+/// from there on is the same in both programs. `accumulator` and `index` are whether A and X are
+/// the same.
 fn lands_at(
     code: &[Wide],
     following: &[Landing],
@@ -390,7 +371,7 @@ fn lands_at(
     }
 }
 
-/// Whether the new program leaves an instruction out: all its ways land where it lands; and it does
+/// Whether the new program omits an instruction: all its ways land if it lands; and it does
 /// nothing that is seen from there on, or the packet is rejected there.
 #[tactic(auto, unfolding(crate::specs::inside::Alike::left_out))]
 fn is_left_out(code: &[Wide], new: Wide, landing: Landing, old: Wide, following: &[Landing]) -> bool
@@ -429,6 +410,9 @@ fn stands(code: &[Wide], landing: Landing, old: Wide, after: &[Wide], following:
     if landing.place == 0 {
         return true;
     }
+    if landing.place > code.len() {
+        return false;
+    }
     let from = code_from(code, landing.place);
     match from {
         [] => false,
@@ -460,7 +444,7 @@ fn are_alike(code: &[Wide], old: &[Wide], landings: &[Landing]) -> bool
     true
 }
 
-/// Whether the first instruction of the old code lands where the new code, of this length, begins:
+/// Whether the first instruction of the old code lands if the new code, of this length, begins:
 /// as many instructions from its end as it has. Code without instructions has no beginning.
 fn begins(landings: &[Landing], len: usize) -> bool
     ensures { result ≡ begins landings.now len }

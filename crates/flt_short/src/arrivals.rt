@@ -1,7 +1,6 @@
-//! What is known at each place where runs go on. Here a place is the index of an instruction from the
-//! beginning of the code, not a distance to its end as in `shorten.rt`. Clauses cite definitions of
-//! the same names, or of a function that changes what is known, the one that says what comes of it;
-//! that what they give is known to be so in each run is shown in the proofs.
+//! The abstract state at each place. Here a place is the index of an instruction from the beginning
+//! of the code, not a distance to its end as in `shorten.rt`. Clauses cite definitions of the same
+//! names; the proofs show that what is known by them holds in each run.
 
 ghost use Rattle.std.specs.Prelude.{IfOk, ◌≡◌};
 ghost use Rattle.flt_short.specs.inside.Arrivals.{known_at, arrived, at_start};
@@ -9,8 +8,8 @@ ghost use Rattle.flt_short.specs.inside.Arrivals.{known_at, arrived, at_start};
 use crate::facts::{Known, join, nothing_known, unreached};
 use std::alloc::{AllocError, Allocator};
 
-/// How many instructions code has at most for which what is known lies on the stack, so that threading
-/// it takes no memory: some 170 bytes for each.
+/// The most instructions of code whose states lie on the stack, so that threading it takes no
+/// memory: about 170 bytes for each.
 pub const FEW: usize = 16;
 
 /// What is known at a place; past the code's end, nothing.

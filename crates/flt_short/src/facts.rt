@@ -1,35 +1,30 @@
-//! What is known of a packet, and of A and X, where a run reaches an instruction. Clauses cite
-//! definitions of the same names, or of a function that changes what is known, the one that says
-//! what comes of it: the proofs show that what is known by these is so in each run.
+//! The abstract state at an instruction: what is known of the packet, of A and of X in each run
+//! that reaches it, and the join of two such states. Clauses cite definitions of the same names, or
+//! of a function that changes what is known, the one that says its effect: the proofs show that what
+//! is known by these holds in each run.
 //!
 //! `code` and `k` are those of a load: together they say which bytes of the packet it takes.
 
 ghost use Rattle.std.specs.Prelude.{◌≡◌, ◌≤◌, length, map};
 ghost use Rattle.flt_bpf.specs.Instructions.{operation_of};
-ghost use Rattle.flt_short.specs.inside.Facts.{same_optional, same_field, claims_nothing};
-ghost use Rattle.flt_short.specs.inside.Facts.{allows, denies};
-ghost use Rattle.flt_short.specs.inside.Facts.{entails};
-ghost use Rattle.flt_short.specs.inside.Facts.{joined_claim, nothing_claimed, joined_with_any};
-ghost use Rattle.flt_short.specs.inside.Facts.{joined_fact};
-ghost use Rattle.flt_short.specs.inside.Facts.{joined_held};
-ghost use Rattle.flt_short.specs.inside.Facts.{common_header, joined, outcome_by_claim};
-ghost use Rattle.flt_short.specs.inside.Facts.{decided, two_numbers_of};
-ghost use Rattle.flt_short.specs.inside.Facts.{gives_way};
-ghost use Rattle.flt_short.specs.inside.Facts.{place_for, with_fact, captures, any_captures};
-ghost use Rattle.flt_short.specs.inside.Facts.{holds_field};
-ghost use Rattle.flt_short.specs.inside.Facts.{is_captured, masked_field, masked_held};
-ghost use Rattle.flt_short.specs.inside.Facts.{held_without_index};
+ghost use Rattle.flt_short.specs.inside.Facts.{same_optional, same_field, claims_nothing, allows};
+ghost use Rattle.flt_short.specs.inside.Facts.{denies, entails, joined_claim, nothing_claimed};
+ghost use Rattle.flt_short.specs.inside.Facts.{joined_with_any, joined_fact, joined_held, joined};
+ghost use Rattle.flt_short.specs.inside.Facts.{common_header, outcome_by_claim, decided, gives_way};
+ghost use Rattle.flt_short.specs.inside.Facts.{two_numbers_of, place_for, with_fact, captures};
+ghost use Rattle.flt_short.specs.inside.Facts.{any_captures, holds_field, is_captured, field_of};
+ghost use Rattle.flt_short.specs.inside.Facts.{masked_field, masked_held, held_without_index};
 ghost use Rattle.flt_short.specs.inside.Facts.{held_after, index_after, known_after, claim_after};
 ghost use Rattle.flt_short.specs.inside.Facts.{known_by, known_by_test, nothing_known, unreached};
 
 use flt_bpf::Wide;
-use flt_bpf::operation::{AluOperation, Operand, Operation, Register, Test, decode};
+use flt_bpf::operation::{AluOperation, Operand, Operation, Register, Source, Test, decode};
 
 /// How many facts are kept at a place. One more takes the place of another (`place_for`).
 pub const MOST_FACTS: usize = 5;
 
-/// A number of the packet: what the load at a fixed place with this code and this `k` puts into A,
-/// and of that the bits of a mask, if there is one.
+/// A number of the packet: what the load with this code and this `k` puts into A, at a fixed place
+/// or of the packet's length, and of that the bits of a mask, if there is one.
 #[derive(Clone, Copy)]
 pub struct Field {
     pub code: u16,
@@ -115,7 +110,7 @@ pub fn unreached() -> Known
 }
 
 /// Whether two numbers that may be missing are the same or both missing: masks, or headers.
-fn same_optional(one: Option<u32>, other: Option<u32>) -> bool
+pub fn same_optional(one: Option<u32>, other: Option<u32>) -> bool
     ensures { result ≡ same_optional one other }
 {
     match (one, other) {
@@ -194,7 +189,7 @@ fn joined_claim(claim: Claim, other: Claim) -> Claim
 }
 
 /// What holds of a fact's field on two ways, on one of which the fact holds, which claims
-/// something, and on the other one all of `others`: by the first of these that leaves a claim, or
+/// something, and on the other one all of `others`: by the first of these that keeps a claim, or
 /// nothing.
 fn joined_with_any(fact: &Fact, others: &[Fact]) -> Fact
     ensures { result ≡ joined_with_any fact.now others.now }
@@ -276,7 +271,7 @@ fn common_header(one: Option<u32>, other: Option<u32>) -> Option<u32>
 }
 
 /// Changes what is known at a place to what holds in one more run as well, of which `came` is
-/// known. Where no run came before, it is what is known of that one.
+/// known. If no run came before, it is what is known of that one.
 pub fn join(known: &mut Known, came: &Known)
     ensures { known.new ≡ joined known.old came.now }
 {
@@ -352,7 +347,7 @@ fn gives_way(old: Fact, fact: Fact) -> bool
         || (same_field(old.field, fact.field) && entails(fact.claim, old.claim))
 }
 
-/// The index of the fact whose place one more fact takes: of the first that gives way to it, or
+/// The index of the fact whose place one more fact takes: for the first that gives way to it, or
 /// else of the last.
 fn place_for(facts: &[Fact], fact: &Fact) -> usize
     ensures place { result ≡ place_for facts.now fact.now }
@@ -417,6 +412,17 @@ pub fn is_captured(known: &Known, code: u16, k: u32) -> bool
     holds_field(known.held, code, k) || any_captures(&known.facts, code, k)
 }
 
+/// The field that a load puts into A.
+pub fn field_of(load: Wide) -> Field
+    ensures { result ≡ field_of load }
+{
+    Field {
+        code: load.code,
+        k: load.k,
+        mask: None,
+    }
+}
+
 /// A field with a mask. `None`: it has one already, and two aren't kept.
 pub fn masked_field(field: Field, mask: u32) -> Option<Field>
     ensures { result ≡ masked_field field mask }
@@ -455,17 +461,14 @@ fn held_without_index(held: Held) -> Held
     }
 }
 
-/// What A holds after an instruction that isn't a test, by what it held. What a load from the
-/// packet or a mask leaves may be known; all else that sets A leaves `Unknown`.
+/// What A holds after an instruction that isn't a test, by what it held. What a load of the packet
+/// or of its length, or a mask, puts there may be known; after all else it is `Unknown`.
 fn held_after(held: Held, insn: Wide) -> Held
     ensures { result ≡ held_after (operation_of insn.code) held insn }
 {
     match decode(insn.code) {
-        Some(Operation::LoadAbsolute(_)) => Held::Field(Field {
-            code: insn.code,
-            k: insn.k,
-            mask: None,
-        }),
+        Some(Operation::LoadAbsolute(_) | Operation::Load(Register::Accumulator, Source::Length)) =>
+            Held::Field(field_of(insn)),
         Some(Operation::LoadIndirect(_)) => Held::AtIndex(insn.code, insn.k),
         Some(Operation::Compute(AluOperation::And, Operand::Constant)) => {
             masked_held(held, insn.k)
@@ -501,7 +504,7 @@ pub fn pass_insn(known: &mut Known, insn: Wide)
     known.index = index_after(known.index, insn);
 }
 
-/// What may be claimed of a field by the outcome of the test whether it is a number. Where it is
+/// What may be claimed of a field by the outcome of the test whether it is a number. If it is
 /// known to be one of two numbers, and isn't the one, it is the other.
 fn claim_by_outcome(facts: &[Fact], field: &Field, number: u32, outcome: bool) -> Claim
     ensures { result ≡ claim_after outcome number (two_numbers_of facts.now field.now) }

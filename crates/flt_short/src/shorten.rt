@@ -1,5 +1,6 @@
-//! The same code with fewer instructions: those that no run reaches are left out, a block that
-//! is there already isn't emitted again, and one instruction replaces several that do the same.
+//! The same code with fewer instructions, by peephole rules and tail merging: those that no run
+//! reaches are omitted, a block that exists already isn't emitted again, and one instruction
+//! replaces several that do the same.
 //! `at` is an index of the old code; `place` counts from the end of the new code, 0 is nowhere. A
 //! *landing* (`alike.rt`) is such a place, and whether A and X are read from there on.
 //!
@@ -12,9 +13,10 @@ ghost use Rattle.std.specs.Option.{IfSome};
 ghost use Rattle.flt_short.specs.Alike.{Shortens};
 
 use crate::alike::{
-    Landing, adds_header, goes_on_or_rejects, is_indirect, is_rejection, is_sure, replaces,
+    Landing, adds_header, direct_code, goes_on_or_rejects, is_indirect, is_masked_test,
+    is_rejection, is_sure, puts_number_into_index, replaces,
 };
-use flt_bpf::operation::{AluOperation, Operand, Operation, Register, Source, Test, decode};
+use flt_bpf::operation::{Operand, Operation, Register, Source, Test, decode};
 use flt_bpf::{Wide, reads_accumulator, reads_index, sets_accumulator, sets_index};
 use std::alloc::{AllocError, Allocator};
 
@@ -28,7 +30,7 @@ const NOWHERE: Landing = Landing {
     index: false,
 };
 
-/// What the new code's space holds where no instruction is written yet.
+/// What the new code's space holds if no instruction is written yet.
 const EMPTY: Wide = Wide {
     code: 0,
     yes: 0,
@@ -97,28 +99,6 @@ fn with_farther_targets(insn: Wide, farther: usize) -> Option<Wide> {
     }
 }
 
-/// Whether two instructions are a mask, and a test of what is left for 0.
-fn is_masked_test(mask: Wide, test: Wide) -> bool {
-    mask.code == Operation::Compute(AluOperation::And, Operand::Constant).code()
-        && test.code == Operation::JumpIf(Test::Equal, Operand::Constant).code()
-        && test.k == 0
-}
-
-/// Whether two instructions put a number into A and copy it to X.
-fn puts_number_into_index(number: Wide, copy: Wide) -> bool {
-    number.code == Operation::Load(Register::Accumulator, Source::Immediate).code()
-        && copy.code == Operation::CopyToIndex.code()
-}
-
-/// The code of the load at a fixed place that takes as many bytes as the load at X whose code is
-/// `indirect`. `None`: that is another instruction's code.
-fn direct_code(indirect: u16) -> Option<u16> {
-    match decode(indirect) {
-        Some(Operation::LoadIndirect(width)) => Some(Operation::LoadAbsolute(width).code()),
-        _ => None,
-    }
-}
-
 /// How many entries the table of tests has for code of a length: a power of two, and more than the
 /// code has tests.
 fn table_len(len: usize) -> usize {
@@ -133,7 +113,7 @@ fn table_len(len: usize) -> usize {
 }
 
 /// Code that grows from its end to its beginning, while the old code is read in that order too.
-/// Where a target is too far or there is no room, an instruction lands nowhere, and so do those
+/// If a target is too far or there is no room, an instruction lands nowhere, and so do those
 /// that go on there; or it lands where other code stands. Either way the new code isn't taken.
 #[derive(Drop)]
 struct Shortening<'a> {
@@ -147,7 +127,7 @@ struct Shortening<'a> {
     backwards: &'a mut [Wide],
     /// How many instructions the new code has.
     len: usize,
-    /// The places of the new code's tests, each at the first free entry from the one on where it is
+    /// The places of the new code's tests, each at the first free entry from the one on if it is
     /// looked for first (`first_entry`). 0 is free.
     tests: &'a mut [usize],
 }
@@ -165,7 +145,7 @@ impl Shortening<'_> {
         }
     }
 
-    /// The entry of the table where a test with these targets is looked for first.
+    /// The entry of the table if a test with these targets is looked for first.
     fn first_entry(&self, insn: Wide, yes: usize, no: usize) -> usize {
         let mut mixed = usize::from(insn.code);
         for part in [insn.k as usize, yes, no] {
@@ -201,7 +181,7 @@ impl Shortening<'_> {
         self.insns.get(at).copied()
     }
 
-    /// Where the instruction of the old code at an index lands; past its end nowhere.
+    /// The place where the instruction of the old code at an index lands; past its end nowhere.
     fn landing_at(&self, at: usize) -> Landing {
         self.landings.get(at).copied().unwrap_or(NOWHERE)
     }
@@ -251,7 +231,7 @@ impl Shortening<'_> {
         }
     }
 
-    /// One test of bits (`69 k`) in place of the mask at `at` and the test for 0 after it (`84 k`,
+    /// One test of bits (`69 k`) instead of the mask at `at` and the test for 0 after it (`84 k`,
     /// `21 0`), if these are there and A isn't read after them.
     fn bits_test_at(&self, at: usize) -> Option<Wide> {
         let [mask, test, ..] = self.insns_from(at) else {
@@ -265,7 +245,7 @@ impl Shortening<'_> {
         if zero.accumulator || other.accumulator || zero.place == other.place {
             return None;
         }
-        // It holds where a bit is left, so the targets are swapped.
+        // It holds if a bit is left, so the targets are swapped.
         Some(Wide {
             code: Operation::JumpIf(Test::AnyBit, Operand::Constant).code(),
             yes: test.no,
@@ -274,7 +254,7 @@ impl Shortening<'_> {
         })
     }
 
-    /// One load at a fixed place (`40 i + k`) in place of the number at `at` and of what puts it
+    /// One load at a fixed place (`40 i + k`) instead of the number at `at` and of what puts it
     /// into X and loads at X (`0 i`, `7`, `72 k`), if these are there and X isn't read after them.
     fn direct_load_at(&self, at: usize) -> Option<Wide> {
         let [number, copy, load, ..] = self.insns_from(at) else {
@@ -289,7 +269,7 @@ impl Shortening<'_> {
         Some(Wide { code, k, ..*load })
     }
 
-    /// A header's length in X and a load at X (`177 L`, `80 i + k`) in place of the number at `at`
+    /// A header's length in X and a load at X (`177 L`, `80 i + k`) instead of the number at `at`
     /// and of what adds it to that length and loads there (`0 i`, `177 L`, `12`, `7`, `80 k`), if
     /// these are there and X isn't read after them.
     fn header_load_at(&self, at: usize) -> Option<(Wide, Wide)> {
@@ -365,7 +345,7 @@ impl Shortening<'_> {
     }
 
     /// The place of a test in the new code that is as this one and has these targets, if there is
-    /// one. Of several it is one after the same instruction as this one is after (`is_front_at`),
+    /// one. For several it is one after the same instruction as this one is after (`is_front_at`),
     /// if there is such a one, since that instruction can be shared too.
     fn find_same_test(&self, at: usize, insn: Wide, yes: usize, no: usize) -> Option<usize> {
         let mut found = None;
@@ -390,7 +370,7 @@ impl Shortening<'_> {
         found
     }
 
-    /// The place of a test with these targets in the new code: one that is there already, or else
+    /// The place of a test with these targets in the new code: one that is present already, or else
     /// it is put in front. `None`: a target is nowhere, or too far.
     fn place_test(&mut self, at: usize, insn: Wide, yes: usize, no: usize) -> Option<usize> {
         if yes == 0 || no == 0 {
@@ -406,7 +386,7 @@ impl Shortening<'_> {
     }
 
     /// Emits a test for the instruction at `at`, and notes its landing. The offsets count from the
-    /// instruction at `last` of the old code, the last one that it is in place of.
+    /// instruction at `last` of the old code, the last one that it is instead of.
     fn emit_test(&mut self, at: usize, insn: Wide, last: usize) {
         let yes = self.landing_at(index_after(last, insn.yes as usize));
         let no = self.landing_at(index_after(last, insn.no as usize));
@@ -458,7 +438,7 @@ impl Shortening<'_> {
     }
 
     /// Notes that the instructions of a block of the old code, from the one at `from` to the last,
-    /// land `farther` instructions in front of where they did.
+    /// land `farther` instructions in front of their earlier places.
     fn move_block(&mut self, from: usize, farther: usize) {
         for at in from..self.insns.len() {
             let landing = self.landing_at(at);
@@ -474,7 +454,7 @@ impl Shortening<'_> {
     }
 
     /// Whether an instruction with this code and this `k` stands right in front of a place of the
-    /// new code; of a test, one with any targets.
+    /// new code; for a test, one with any targets.
     fn stands_before(&self, place: usize, insn: Wide) -> bool {
         match self.backwards.get(place) {
             Some(other) => other.code == insn.code && other.k == insn.k,
@@ -499,8 +479,8 @@ impl Shortening<'_> {
             || self.rejects(next.place) && goes_on_or_rejects(operation)
     }
 
-    /// Emits an instruction that is no test and no return for the one at `at`, and notes its
-    /// landing. After it the run goes on where the instruction at `next` of the old code lands. If
+    /// Emits an instruction that isn't a test and no return for the one at `at`, and notes its
+    /// landing. After it the run goes on if the instruction at `next` of the old code lands. If
     /// the same instruction is in front of that already, none is put; if another one is, the block
     /// is put again.
     fn emit_plain(&mut self, at: usize, insn: Wide, next: usize) {
@@ -540,7 +520,7 @@ impl Shortening<'_> {
         }
     }
 
-    /// Emits an instruction of the old code, joined to those after it where that is shorter.
+    /// Emits an instruction of the old code, joined to those after it if that is shorter.
     fn emit(&mut self, at: usize) {
         if let Some(test) = self.bits_test_at(at) {
             self.emit_test(at, test, index_after(at, 0));
@@ -593,7 +573,7 @@ fn shorten(
     shortening.read_all()
 }
 
-/// Leaves out what stands in front of where the new code begins: what landed there lands nowhere.
+/// Leaves out what stands in front of the new code: what landed there lands nowhere.
 /// Returns how many instructions are left of `len`.
 fn leave_out_front(landings: &mut [Landing], len: usize) -> usize {
     let entry = match landings.first() {
@@ -623,7 +603,7 @@ fn replacement<A: Allocator>(
     replaces(&backwards, insns, landings).then_some(backwards)
 }
 
-/// Code that replaces the old one: it gives the same answers, in no more instructions. Where it
+/// Code that replaces the old one: it gives the same answers, in no more instructions. If it
 /// can't be made, as for code in which a run reaches a jump (`ja`), it is the old code. An error is
 /// a failed allocation, or an allocator that cannot be cloned.
 pub fn shortened<A: Allocator + Clone>(

@@ -1,5 +1,5 @@
 //! Jump threading. From each target of a test a walk goes on as far as what is known there decides;
-//! the test then goes to the last place on this way where a run may go on in place of the target.
+//! the test's new target is the last place on this way at which a run may go on instead.
 //!
 //! In a walk a place is an index of the code that follows the test. Clauses cite definitions of the
 //! same names; what follows from these is `Threads`, the contract of `threaded`.
@@ -7,40 +7,39 @@
 ghost use Rattle.std.specs.Prelude.{IfOk, ◌≡◌, ◌<◌, ◌^◌, nat_lt, if◌then◌else◌, length};
 ghost use Rattle.flt_bpf.specs.Instructions.{operation_of};
 ghost use Rattle.flt_short.specs.Threads.{Threads};
-ghost use Rattle.flt_short.specs.inside.Threads.{field_at, other_field, past_test, past_mask};
-ghost use Rattle.flt_short.specs.inside.Threads.{holds_load, holds_header, past_insn, is_free};
-ghost use Rattle.flt_short.specs.inside.Threads.{ignores_accumulator, ignores_accumulator_at};
-ghost use Rattle.flt_short.specs.inside.Facts.{known_by};
 ghost use Rattle.flt_short.specs.inside.Arrivals.{at_start};
-ghost use Rattle.flt_short.specs.inside.Threads.{can_stop, walk, walk_from, number_at};
-ghost use Rattle.flt_short.specs.inside.Threads.{target, threaded_offset};
-ghost use Rattle.flt_short.specs.inside.Threads.{threaded_test, threaded_insn};
-ghost use Rattle.flt_short.specs.inside.Threads.{with_ways, with_arrivals, flow};
+ghost use Rattle.flt_short.specs.inside.Facts.{known_by};
+ghost use Rattle.flt_short.specs.inside.Threads.{field_at, other_field, past_test, past_mask};
+ghost use Rattle.flt_short.specs.inside.Threads.{holds_load, past_insn, is_free};
+ghost use Rattle.flt_short.specs.inside.Threads.{ignores_accumulator, ignores_accumulator_at, walk};
+ghost use Rattle.flt_short.specs.inside.Threads.{can_stop, walk_from, number_at, target, flow};
+ghost use Rattle.flt_short.specs.inside.Threads.{threaded_offset, threaded_test, threaded_insn};
+ghost use Rattle.flt_short.specs.inside.Threads.{with_ways, with_arrivals};
 
 use crate::arrivals::{FEW, arrive, at_start, few_at_start, known_at};
 use crate::facts::{
-    Field, Held, Known, decided, is_captured, learn, learn_number, masked_field, pass_insn,
-    same_field,
+    Field, Held, Known, decided, field_of, is_captured, learn, learn_number, masked_field,
+    pass_insn, same_field, same_optional,
 };
 use flt_bpf::Wide;
-use flt_bpf::operation::{AluOperation, Operand, Operation, Register, Test, decode};
+use flt_bpf::operation::{AluOperation, Operand, Operation, Register, Source, Test, decode};
 use std::alloc::{AllocError, Allocator};
 
 /// How many instructions a walk passes at most, so that it ends soon.
 const FUEL: usize = 128;
 
-/// The most instructions of code of which it is first asked whether a load is there twice
+/// The most instructions of code of which it is first asked whether a load occurs twice
 /// (`repeats_a_load`). That takes time by the square of the length, so longer code is threaded
 /// without asking.
 const SHORT_CODE: usize = 64;
 
-/// Where a walk is. A run that goes on there in place of where the walk began has in A what A held
-/// at the beginning; a run that goes the whole way may have another field in A.
+/// The position of a walk. A run that goes on there instead of at the walk's start has in A what A
+/// held at the start; a run that goes the whole way may have another field in A.
 #[derive(Clone, Copy)]
 pub struct Spot {
     /// An index of the code after the test.
     pub place: usize,
-    /// The field that A would hold after the whole way. `None`: it would be as it was where the
+    /// The field that A would hold after the whole way. `None`: it would be as it was if the
     /// walk began.
     pub other: Option<Field>,
 }
@@ -48,14 +47,14 @@ pub struct Spot {
 /// How far a walk is.
 #[derive(Clone, Copy)]
 pub struct Reached {
-    /// Where it is.
+    /// The current position.
     pub spot: Spot,
-    /// The last place on its way where a run may go on in place of the one where the walk began.
+    /// The last place on its way if a run may go on instead of the one if the walk began.
     pub best: usize,
 }
 
-/// The field that A would hold where a walk is, if it would hold one: `other` of the spot, or what
-/// A holds where the walk began, `held`.
+/// The field that A would hold if a walk is, if it would hold one: `other` of the spot, or what
+/// A holds if the walk began, `held`.
 fn field_at(held: Held, other: Option<Field>) -> Option<Field>
     ensures { result ≡ field_at held other }
 {
@@ -66,7 +65,7 @@ fn field_at(held: Held, other: Option<Field>) -> Option<Field>
     }
 }
 
-/// What `other` of a spot is where A would hold this field: `None` if that is what A holds where
+/// What `other` of a spot is if A would hold this field: `None` if that is what A holds at the place where
 /// the walk began, `held`.
 fn other_field(held: Held, field: Field) -> Option<Field>
     ensures { result ≡ other_field held field }
@@ -83,7 +82,7 @@ fn other_field(held: Held, field: Field) -> Option<Field>
     }
 }
 
-/// Where a walk is past a test for equality, if what is known decides the test.
+/// The position past a test for equality, if what is known decides the test.
 fn past_test(known: &Known, insn: Wide, spot: Spot) -> Option<Spot>
     requires { spot.place < 2 ^ 63 }
     ensures { result ≡ past_test known.now insn spot }
@@ -103,7 +102,7 @@ fn past_test(known: &Known, insn: Wide, spot: Spot) -> Option<Spot>
     }
 }
 
-/// Where a walk is past a mask, if A would hold a field without one.
+/// The position past a mask, if A would hold a field without one.
 fn past_mask(known: &Known, mask: u32, spot: Spot) -> Option<Spot>
     requires { spot.place < 2 ^ 63 }
     ensures { result ≡ past_mask known.now mask spot }
@@ -130,17 +129,7 @@ fn holds_load(held: Held, insn: Wide) -> bool
     }
 }
 
-/// Whether X holds this header's length.
-fn holds_header(index: Option<u32>, header: u32) -> bool
-    ensures { result ≡ holds_header index header }
-{
-    match index {
-        Some(known) => known == header,
-        None => false,
-    }
-}
-
-/// Where a walk is past one instruction. `None`: what is known doesn't decide what it does, so the
+/// The position past one instruction. `None`: what is known doesn't decide what it does, so the
 /// walk ends in front of it.
 fn past_insn(known: &Known, insn: Wide, spot: Spot) -> Option<Spot>
     requires { spot.place < 2 ^ 63 }
@@ -152,12 +141,11 @@ fn past_insn(known: &Known, insn: Wide, spot: Spot) -> Option<Spot>
             if !is_captured(known, insn.code, insn.k) {
                 return None;
             }
-            let field = Field {
-                code: insn.code,
-                k: insn.k,
-                mask: None,
-            };
-            let other = other_field(known.held, field);
+            let other = other_field(known.held, field_of(insn));
+            Some(Spot { place, other })
+        }
+        Some(Operation::Load(Register::Accumulator, Source::Length)) => {
+            let other = other_field(known.held, field_of(insn));
             Some(Spot { place, other })
         }
         Some(Operation::LoadIndirect(_)) => {
@@ -170,7 +158,7 @@ fn past_insn(known: &Known, insn: Wide, spot: Spot) -> Option<Spot>
             past_mask(known, insn.k, spot)
         }
         Some(Operation::LoadHeaderLength) => {
-            if !holds_header(known.index, insn.k) {
+            if !same_optional(known.index, Some(insn.k)) {
                 return None;
             }
             let other = spot.other;
@@ -221,7 +209,7 @@ fn is_free(code: &[Wide], place: usize) -> bool
     }
 }
 
-/// Whether a run may go on where a walk is, in place of where the walk began: A is as it would be
+/// Whether a run may go on if a walk is, instead of the walk's beginning: A is as it would be
 /// after the whole way, or it doesn't matter what A holds.
 fn can_stop(code: &[Wide], spot: Spot) -> bool
     ensures { result ≡ can_stop code.now spot }
@@ -283,7 +271,7 @@ fn number_at(code: &[Wide], place: usize) -> Option<u32>
     }
 }
 
-/// The last place where a run may go on in place of the place `from`, if the test whether a field
+/// The last place where a run may go on instead of the place `from`, if the test whether a field
 /// is a number has this outcome.
 fn target_after(
     known: &Known,
@@ -300,7 +288,7 @@ fn target_after(
     walk_from(&known, code, from).best
 }
 
-/// The last place where a run may go on in place of the place `from`. Where the walk ends at a test
+/// The last place where a run may go on instead of the place `from`. If the walk ends at a test
 /// whether a field is a number, it is where both outcomes lead, if that is one place further on.
 /// Places are indices of the code after the test.
 fn target(known: &Known, code: &[Wide], from: usize) -> usize
@@ -338,7 +326,7 @@ fn threaded_offset(known: &Known, following: &[Wide], skipped: u32) -> u32
 
 /// The test with each target as far on as what is known decides. Notes what is known at both. The
 /// instruction after the test is at the place `from` of the whole code. What is known `here`
-/// changes to what is known where the test fails.
+/// changes to what is known if the test fails.
 fn thread_test(
     seen: &mut [Known],
     from: usize,
@@ -365,7 +353,7 @@ fn thread_test(
 }
 
 /// The instruction with each target as far on as what is known decides, if a run comes there. Notes
-/// what is known where the run goes on. The next instruction is at the place `from` of the whole
+/// what is known at the place where the run goes on. The next instruction is at the place `from` of the whole
 /// code. What is known `here` may change, and isn't needed any more.
 fn thread_insn(
     seen: &mut [Known],
@@ -428,16 +416,21 @@ fn threaded_few<A: Allocator>(insns: Vec<Wide, A>) -> Vec<Wide, A>
     threaded_insns(&mut few_at_start(), insns)
 }
 
-/// Whether an instruction is a load from the packet, into A or of a header's length into X.
+/// Whether an instruction is a load of the packet or of a length of it.
 fn is_load(insn: Wide) -> bool {
     matches!(
         decode(insn.code),
-        Some(Operation::LoadAbsolute(_) | Operation::LoadIndirect(_) | Operation::LoadHeaderLength)
+        Some(
+            Operation::LoadAbsolute(_)
+                | Operation::LoadIndirect(_)
+                | Operation::Load(_, Source::Length)
+                | Operation::LoadHeaderLength
+        )
     )
 }
 
-/// Whether some load is there twice. Otherwise threading seldom decides anything; a wrong answer
-/// would only take time or leave code as it is, so there is no clause. It calls itself for each
+/// Whether some load occurs twice. Otherwise threading seldom decides anything; a wrong answer
+/// would only take time or keep code as it is, so there is no clause. It calls itself for each
 /// instruction: the code is short.
 fn repeats_a_load(insns: &[Wide]) -> bool {
     match insns {
@@ -459,7 +452,7 @@ fn is_among(insns: &[Wide], insn: Wide) -> bool {
 }
 
 /// The same code, in which each test goes on as far as what is known there decides. It returns the
-/// same on each packet. Short code in which no load is there twice stays as it is, since hardly
+/// same on each packet. Short code in which no load occurs twice stays as it is, since hardly
 /// anything is decided in it. An error is a failed allocation.
 pub fn threaded<A: Allocator>(alloc: A, insns: Vec<Wide, A>) -> Result<Vec<Wide, A>, AllocError>
     ensures { IfOk result (λ new. Threads new.items insns.items) }

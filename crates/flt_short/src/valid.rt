@@ -1,5 +1,5 @@
 //! Whether code whose tests may skip any number of instructions breaks a rule, and how many tests
-//! it has. The rules are those of `flt_bpf::check`, but for that on the length. A yes is proved; a
+//! it has. The rules are those of `flt_bpf::check`, except that on the length. A yes is proved; a
 //! no says nothing.
 
 ghost use Rattle.std.specs.Prelude.{◌≡◌, None, true, IsTrue, count_by};

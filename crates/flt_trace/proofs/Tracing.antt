@@ -7,8 +7,9 @@ use Rattle.flt_bpf.specs.Machine.{Next, Goes, Ends, Lost, Stands, step, step_if_
 use Rattle.flt_bpf.specs.Valid.{IsValid}
 use Rattle.flt_bpf.proofs.Checking.{parts}
 use Rattle.flt_bpf.proofs.Steps.{goes_inside, run_ends, run_goes}
-use Rattle.flt_trace.specs.declared.steps.Step.{Step}
-use Rattle.flt_trace.specs.Trace.{IsAfter, Traces, step_state}
+use Rattle.flt_trace.specs.declared.walk.Step.{Step}
+use Rattle.flt_trace.specs.Trace.{IsAfter, Traces}
+use Rattle.flt_trace.specs.inside.Trace.{step_at}
 
 -- an instruction that a run is before, and the next one
 pub run_more : (prog : List Insn) (p : List ℕ) (n t place count : ℕ) (s : State) (at : ℕ) (s' : State) (i : Insn) (k : ℕ) (s'' : State) → run_from prog p n t place s count ≡ Stands at s' → slice_get prog at ≡ Some i → step i p n s' ≡ Goes k s'' → run_from prog p n (suc t) place s count ≡ Stands (at + 1 + k) s''
@@ -49,12 +50,12 @@ pub record Written (prog : List Insn) (p : List ℕ) (n : ℕ) (old now : List S
   pub each : (t : ℕ) → t < count → t < length old → IsSomeAnd (slice_get now t) (IsAfter prog p n t)
   pub others : (t : ℕ) → count ≤ t → slice_get now t ≡ slice_get old t
 
--- a run is before the instruction of a step, after a count of them
-pub record Standing (prog : List Insn) (p : List ℕ) (n : ℕ) (s : Step) (count : ℕ) : Type 0 where
-  pub counted : count ≤ s.place
-  pub inside : s.place < length prog
-  pub here : IsAfter prog p n count s
-  pub same : machine prog p n (length prog) ≡ run_from prog p n (length prog - count) s.place (step_state s) count
+-- a run is before the instruction at a place, in a state, after a count of them
+pub record Standing (prog : List Insn) (p : List ℕ) (n place : ℕ) (s : State) (count : ℕ) : Type 0 where
+  pub counted : count ≤ place
+  pub inside : place < length prog
+  pub here : IsAfter prog p n count (step_at place s)
+  pub same : machine prog p n (length prog) ≡ run_from prog p n (length prog - count) place s count
 
 pub written_none : (prog : List Insn) (p : List ℕ) (n : ℕ) (old : List Step) → Written prog p n old old 0
 written_none prog p n old = record {
@@ -81,37 +82,37 @@ written_more prog p n old now next s count was here e = record {
     last inside = subst (λ o. IsSomeAnd o (IsAfter prog p n count)) (sym (get_set_same now count s (omega (arith, inside, was.room)))) here
 
 -- the first step
-pub standing_first : (prog : List Insn) (p : List ℕ) (n : ℕ) (s : Step) → IsValid prog → s.place ≡ 0 → step_state s ≡ start → Standing prog p n s 0
-standing_first prog p n s valid place state = record {
+pub standing_first : (prog : List Insn) (p : List ℕ) (n : ℕ) → IsValid prog → Standing prog p n 0 start 0
+standing_first prog p n valid = record {
   counted = omega arith;
-  inside = omega (arith, place, (parts prog valid).some);
-  here = ap (Stands 0) (sym state) ∙ ap (λ m. Stands m (step_state s)) (sym place);
-  same = ap (λ m. run_from prog p n m 0 start 0) whole ∙ ap (λ z. run_from prog p n (length prog - 0) 0 z 0) (sym state) ∙ ap (λ m. run_from prog p n (length prog - 0) m (step_state s) 0) (sym place);
+  inside = (parts prog valid).some;
+  here = refl;
+  same = ap (λ m. run_from prog p n m 0 start 0) whole;
 }
   where
     whole : length prog ≡ length prog - 0
     whole = omega arith
 
 -- the next step
-pub standing_next : (prog : List Insn) (p : List ℕ) (n : ℕ) (s s' : Step) (count k : ℕ) (i : Insn) → IsValid prog → Standing prog p n s count → slice_get prog s.place ≡ Some i → step i p n (step_state s) ≡ Goes k (step_state s') → s'.place ≡ s.place + (1 + k) → Standing prog p n s' (count + 1)
-standing_next prog p n s s' count k i valid at there leads place =
+pub standing_next : (prog : List Insn) (p : List ℕ) (n place : ℕ) (s s' : State) (count k : ℕ) (i : Insn) → IsValid prog → Standing prog p n place s count → slice_get prog place ≡ Some i → step i p n s ≡ Goes k s' → Standing prog p n (place + (1 + k)) s' (count + 1)
+standing_next prog p n place s s' count k i valid at there leads =
     let below : count < length prog = omega (arith, at.counted, at.inside) in
-    let on : s.place + 1 + k ≡ s'.place = omega (arith, place) in
-    let inside = goes_inside prog s.place i p n (step_state s) (step_state s') k valid there leads in
+    let on : place + 1 + k ≡ place + (1 + k) = omega arith in
+    let inside = goes_inside prog place i p n s s' k valid there leads in
     let more : count + 1 ≡ suc count = omega arith in
     record {
-      counted = omega (arith, at.counted, place);
+      counted = omega (arith, at.counted);
       inside = omega (arith, inside, on);
-      here = ap (λ t. machine prog p n t) more ∙ run_more prog p n count 0 0 start s.place (step_state s) i k (step_state s') at.here there leads ∙ ap (λ m. Stands m (step_state s')) on;
-      same = at.same ∙ run_goes prog p n s.place count (step_state s) (step_state s') i k below there leads ∙ ap (λ m. run_from prog p n (length prog - (count + 1)) m (step_state s') (count + 1)) on;
+      here = ap (λ t. machine prog p n t) more ∙ run_more prog p n count 0 0 start place s i k s' at.here there leads ∙ ap (λ m. Stands m s') on;
+      same = at.same ∙ run_goes prog p n place count s s' i k below there leads ∙ ap (λ m. run_from prog p n (length prog - (count + 1)) m s' (count + 1)) on;
     }
 
 -- the last step
-pub standing_last : (prog : List Insn) (p : List ℕ) (n : ℕ) (old now : List Step) (s : Step) (count a : ℕ) (i : Insn) → Standing prog p n s count → Written prog p n old now (count + 1) → slice_get prog s.place ≡ Some i → step i p n (step_state s) ≡ Ends a → Traces prog p n old now a (count + 1)
-standing_last prog p n old now s count a i at written there leads =
+pub standing_last : (prog : List Insn) (p : List ℕ) (n : ℕ) (old now : List Step) (place : ℕ) (s : State) (count a : ℕ) (i : Insn) → Standing prog p n place s count → Written prog p n old now (count + 1) → slice_get prog place ≡ Some i → step i p n s ≡ Ends a → Traces prog p n old now a (count + 1)
+standing_last prog p n old now place s count a i at written there leads =
     let below : count < length prog = omega (arith, at.counted, at.inside) in
     record {
-      answers = at.same ∙ run_ends prog p n s.place count (step_state s) i a below there leads;
+      answers = at.same ∙ run_ends prog p n place count s i a below there leads;
       each = written.each;
       others = written.others;
     }

@@ -68,7 +68,7 @@ operation_name ReturnAccumulator = codes "ret"
 operation_name CopyToIndex = codes "tax"
 operation_name CopyToAccumulator = codes "txa"
 
--- the constant of an operation of arithmetic: of and, or and exclusive or in hexadecimal, else in
+-- the constant of an operation of arithmetic: for and, or and exclusive or in hexadecimal, else in
 -- decimal
 abbrev pub constant_text : AluOperation → ℕ → List ℕ
 constant_text Or k = codes "#0x" ++ hex k
@@ -76,8 +76,8 @@ constant_text And k = codes "#0x" ++ hex k
 constant_text ExclusiveOr k = codes "#0x" ++ hex k
 constant_text _ k = codes "#" ++ signed_number k
 
--- what an operation with the number k works on, where it is at a place in a program: of `ja` the
--- place of its target; of negations, copies and the return of A nothing
+-- what an operation with the number k works on, if it is at a place in a program: of `ja` the
+-- place of its target; for negations, copies and the return of A nothing
 abbrev pub operand_text : Operation → ℕ → ℕ → List ℕ
 operand_text (LoadAbsolute width) k place = codes "[" ++ (signed_number k ++ codes "]")
 operand_text (LoadIndirect width) k place = codes "[x + " ++ (signed_number k ++ codes "]")

@@ -4,13 +4,13 @@ use Rattle.std.specs.Prelude.{◌≡◌, ℕ, ◌<◌, ◌≤◌, List, length, 
 use Rattle.flt_bpf.specs.declared.insn.Insn.{Insn}
 use Rattle.flt_bpf.specs.declared.machine.State.{State}
 use Rattle.flt_bpf.specs.Machine.{Stands, Answered, machine}
-use Rattle.flt_trace.specs.declared.steps.Step.{Step}
+use Rattle.flt_trace.specs.declared.walk.Step.{Step}
 
 -- the machine's state that a step shows: its registers and memory
 abbrev pub step_state : Step → State
 step_state s = record { accumulator = s.accumulator; index = s.index; memory = s.memory }
 
--- after t instructions the run of a program is where a step says, in the state that it shows
+-- after t instructions the run of a program is if a step says, in the state that it shows
 abbrev pub IsAfter : List Insn → List ℕ → ℕ → ℕ → Step → Type 0
 IsAfter prog p n t s = machine prog p n t ≡ Stands s.place (step_state s)
 

@@ -1,18 +1,17 @@
-//! What is shown of programs: their runs, instruction by instruction, and the instructions as
-//! `tcpdump -d` prints them.
+//! Runs that no program counts, step by step too, and instructions as `tcpdump -d` prints them.
 //!
-//! `steps` runs a program and keeps what is before each instruction; `text` makes the line of an
-//! instruction, with names and operands of `operand`, in a buffer of `line`. Nothing here takes
-//! memory.
+//! `walk` runs instructions; `text` makes the line of an instruction, with names and operands of
+//! `operand`, in a buffer of `line`. Nothing here takes memory.
 #![tactic(auto)]
 
+pub mod laws;
 mod line;
 mod operand;
-mod steps;
 #[cfg(test)]
 mod tests;
 mod text;
+mod walk;
 
 pub use line::Line;
-pub use steps::{Step, trace};
 pub use text::insn_text;
+pub use walk::{Step, run_any, run_insns, trace};

@@ -122,7 +122,7 @@ fn push_k_of_arithmetic(line: &mut Line, operator: AluOperation, k: u32)
     }
 }
 
-/// Appends what an operation works on: `[12]`, `#14`, `x`; nothing where its name says it all. Of
+/// Appends what an operation works on: `[12]`, `#14`, `x`; nothing if its name says it all. Of
 /// `ja` it is the place of the target in the program: `place` is that of the instruction, from 0.
 pub(crate) fn push_operand(line: &mut Line, operation: Operation, k: u32, place: u32)
     requires { length line.old + 21 ≤ 80 }

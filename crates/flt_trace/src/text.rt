@@ -65,7 +65,7 @@ fn line_front(place: u32, name: &str) -> Line
 }
 
 /// Appends to what `line_front` begins the operand of a conditional jump, in a column of 16 bytes,
-/// and the places of its two targets in the program, where the jump itself is at `place`.
+/// and the places of its two targets in the program, if the jump itself is at `place`.
 fn push_branch(line: &mut Line, operation: Operation, insn: &Insn, place: u32)
     requires { length line.old ≤ 22 }
     ensures { line.new ≡ line.old ++ branch_text (operand_text operation insn.now.k place)
@@ -86,7 +86,7 @@ fn push_branch(line: &mut Line, operation: Operation, insn: &Insn, place: u32)
 ///
 /// The line differs from that in four things. A load of the original length into X (code 0x81),
 /// which libpcap doesn't know, is `ldx #pktlen`. A load from 0xfffff000 on has no name here, since
-/// it is a load like others. The target of a jump past 2^31 is no negative number. A code without
+/// it is a load like others. The target of a jump past 2^31 isn't a negative number. A code without
 /// an operation has no targets.
 #[tactic(auto, unfolding(crate::specs::Text::insn_text))]
 pub fn insn_text(insn: &Insn, place: u32) -> Line

@@ -30,7 +30,7 @@ group_value group.Quad digits = digits_value 16 digits
 abbrev pub group_values : Group → List (List ℕ) → List ℕ
 group_values form groups = map (group_value form) groups
 
--- the text is these groups, joined by their form's separator; the empty text is no groups
+-- the text is these groups, joined by their form's separator; the empty text has no groups
 pub record AreGroups (form : Group) (text : List ℕ) (groups : List (List ℕ)) : Type 0 where
   pub joined : text ≡ join_with_byte (separator_of form) groups
   pub each : AllByRecursion (IsGroup form) groups

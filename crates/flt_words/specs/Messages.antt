@@ -20,14 +20,14 @@ text_of fault.TooManyWords = codes "more than 16 words"
 text_of fault.ProgramTooLong = codes "program too long"
 text_of fault.Memory = codes "no memory"
 
--- where a text is wrong, in bytes from 1, or none where the refusal has no place
+-- the place of a text's fault, in bytes from 1, or none if the refusal has no place
 abbrev pub place_of : ExprFault → Option ℕ
 place_of (fault.UnknownCharacter place) = Some place
 place_of (fault.UnknownWord place) = Some place
 place_of (fault.NumberTooLarge place) = Some place
 place_of _ = None
 
--- a text with its place, where it has one
+-- a text with its place, if it has one
 abbrev pub with_place : List ℕ → Option ℕ → List ℕ
 with_place text None = text
 with_place text (Some place) = text ++ (codes " at " ++ decimal place)

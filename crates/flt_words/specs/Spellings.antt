@@ -89,12 +89,12 @@ symbols =
     ∷ (codes "^", token.Operator operator.ExclusiveOr)
     ∷ []
 
--- the token of the keyword or name that a word is, or none where it is neither
+-- the token of the keyword or name that a word is, or none if it is neither
 abbrev pub keyword_of : List ℕ → Option TokenKind
 keyword_of word = look_up keywords word
 
--- the token of the symbol that these bytes are, or none where they are no symbol; the colon is a
--- token of its own inside brackets alone
+-- the token of the symbol that these bytes are, or none if they aren't a symbol; the colon is a
+-- token of its own only inside brackets
 abbrev pub symbol_of : Bool → List ℕ → Option TokenKind
 symbol_of inside piece =
     if inside && bytes_eq piece (codes ":") then Some token.Colon else look_up symbols piece

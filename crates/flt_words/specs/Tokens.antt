@@ -40,7 +40,7 @@ pub record IsToken (inside : Bool) (place : ℕ) (rest : List ℕ) (kind : Token
   pub longest : IsLongest inside rest n
   pub means : PieceMeans inside place (take n rest) (Ok kind)
 
--- what is left of a text from a place on is refused where it begins: no piece begins there, or the
+-- what is left of a text from a place on is refused at its beginning: no piece begins there, or the
 -- longest one is a word of no kind or has too large a number
 pub data IsRefused (inside : Bool) (place : ℕ) (rest : List ℕ) : ExprFault → Type 0 where
   no_piece : ((n : ℕ) → n ≤ length rest → IsPiece inside (take n rest) → ⊥)

@@ -52,7 +52,7 @@ impl Group {
         }
     }
 
-    /// The value of a group with these digits, or `None` where they are no group of this form.
+    /// The value of a group with these digits, or `None` if they aren't a group of this form.
     fn value(self, digits: &[u8]) -> Option<u32>
         ensures { MatchOption result (IsGroup self digits.now → ⊥)
             (λ n. IsGroup self digits.now × (n ≡ group_value self digits.now)) }
@@ -91,7 +91,7 @@ fn parse_hexadecimal(most: usize, digits: &[u8]) -> Option<u32>
 }
 
 /// Reads a text as groups of a form with its separator between them, eight at most: as many as an
-/// IPv6 address has. An empty text has none of them. `None` where a piece is no group of the form,
+/// IPv6 address has. An empty text has none of them. `None` if a piece isn't a group of the form,
 /// or there are more.
 fn parse_groups(form: Group, text: &[u8]) -> Option<JoinedGroups>
     ensures { ReadsGroups form text.now result }
@@ -155,8 +155,8 @@ pub(crate) fn parse_mac(word: &[u8]) -> Option<u64>
 }
 
 /// Reads a word as an IPv6 address: eight groups, or fewer with one `::` for the rest (RFC 4291,
-/// 2.2). `None` for other words: a second `::` is left in the text after the first one, where it is
-/// no group.
+/// 2.2). `None` for other words: a second `::` is left in the text after the first one, which
+/// isn't a group.
 pub(crate) fn parse_ip6(word: &[u8]) -> Option<u128>
     ensures { FindsAddress (IsIp6 word.now) result }
 {
@@ -178,7 +178,7 @@ fn parse_whole_ip6(word: &[u8]) -> Option<u128>
 }
 
 /// An IPv6 address by the groups before and after its `::`: seven at most, since `::` is one or
-/// more groups of 0. `None` where these texts are no such groups.
+/// more groups of 0. `None` if these texts aren't such groups.
 fn parse_shortened_ip6(front: &[u8], back: &[u8]) -> Option<u128>
     ensures { FindsAddress (AreIp6Ends front.now back.now) result }
 {
@@ -190,7 +190,7 @@ fn parse_shortened_ip6(front: &[u8], back: &[u8]) -> Option<u128>
     Some(value_with_zeros(Group::Quad, first, 8 - first.count) + last.value)
 }
 
-/// The index of the first `::` of a word; `None` where it has none.
+/// The index of the first `::` of a word; `None` if it has none.
 fn find_double_colon(word: &[u8]) -> Option<usize>
     ensures { MatchOption result ((k : ℕ) → IsDoubleColon word.now k → ⊥)
         (λ i. (i + 1 < length word.now) × IsDoubleColon word.now i

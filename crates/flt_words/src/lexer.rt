@@ -19,7 +19,7 @@ use std::alloc::Allocator;
 const LONGEST: usize = 65536;
 
 /// How many bytes the word has with which a text begins. `inside` is whether the text is in
-/// brackets. The word ends with the last byte that may end one: of `10.0.0.1-` the dash is no part
+/// brackets. The word ends with the last byte that may end one: the dash of `10.0.0.1-` isn't part
 /// of it.
 fn first_word_len(inside: bool, rest: &[u8]) -> usize
     requires { starts_word inside (slice_index rest.now 0) ≡ true }
@@ -37,7 +37,7 @@ fn first_word_len(inside: bool, rest: &[u8]) -> usize
     len
 }
 
-/// The symbol of `len` bytes with which a text begins, or `None` where it begins with none or is
+/// The symbol of `len` bytes with which a text begins, or `None` if it begins with none or is
 /// shorter.
 fn first_symbol_of_len(inside: bool, len: usize, rest: &[u8]) -> Option<TokenKind>
     ensures { MatchOption result
@@ -51,7 +51,7 @@ fn first_symbol_of_len(inside: bool, len: usize, rest: &[u8]) -> Option<TokenKin
 }
 
 /// The longest symbol with which a text begins that begins with no word, and its length in bytes:
-/// no symbol has more than 2. `None` where it begins with no symbol.
+/// no symbol has more than 2. `None` if it begins with no symbol.
 fn first_symbol(inside: bool, rest: &[u8]) -> Option<(TokenKind, usize)>
     requires { starts_word inside (slice_index rest.now 0) ≡ false }
     ensures { MatchOption result
@@ -66,7 +66,7 @@ fn first_symbol(inside: bool, rest: &[u8]) -> Option<(TokenKind, usize)>
     Some((kind, 1))
 }
 
-/// The token with which a text begins, and its length in bytes. `place` is where that text begins,
+/// The token with which a text begins, and its length in bytes. `place` is the place at which that text begins,
 /// from 1, and `inside` whether that is in brackets. An error is E2, E3 or E4 at this place.
 fn first_token(inside: bool, place: u32, rest: &[u8]) -> Result<(TokenKind, usize), ExprFault>
     requires { 0 < length rest.now }
@@ -88,7 +88,7 @@ fn first_token(inside: bool, place: u32, rest: &[u8]) -> Result<(TokenKind, usiz
 ///
 /// A text over 65,536 bytes is `TooLong` (E1). Else the leftmost of these is reported: a character
 /// that begins no token (E2), a word of no kind (E3), a number above 2^32 - 1 (E4). `Memory` is
-/// returned where a token in front of that, or of the end, cannot be kept; never for a text that is
+/// returned if a token in front of that, or of the end, cannot be kept; never for a text that is
 /// too long.
 pub fn lex<A: Allocator>(alloc: A, text: &str) -> Result<Vec<Token, A>, ExprFault>
     ensures ok { IfOk result (λ tokens. Tokens text.now (Ok tokens.items)) }

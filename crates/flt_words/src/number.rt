@@ -17,8 +17,8 @@ pub(crate) enum WordFault {
     TooLarge,
 }
 
-/// The number that digits of a radix write; leading zeros are allowed. `Unknown` where there is no
-/// digit or another byte, `TooLarge` where the number is above 2^32 - 1.
+/// The number that digits of a radix write; leading zeros are allowed. `Unknown` if there is no
+/// digit or another byte, `TooLarge` if the number is above 2^32 - 1.
 pub(crate) fn parse_digits(radix: u32, digits: &[u8]) -> Result<u32, WordFault>
     requires low { 2 ≤ radix }
     requires high { radix ≤ 16 }
@@ -60,7 +60,7 @@ pub(crate) fn parse_number(word: &[u8]) -> Result<u32, WordFault>
     }
 }
 
-/// The index of the first dash of a word; `None` where it has none.
+/// The index of the first dash of a word; `None` if it has none.
 fn find_dash(word: &[u8]) -> Option<usize>
     ensures { result ≡ position (λ b. b == 45) word.now }
 {

@@ -1,6 +1,6 @@
 //! What a text is cut into.
 
-/// A protocol, as it is named alone or before a value, `broadcast`, `multicast` or `[`.
+/// A protocol, named without a value or before a value, `broadcast`, `multicast` or `[`.
 #[derive(Clone, Copy, PartialEq, Eq)]
 pub enum Protocol {
     Ether,

@@ -1,8 +1,8 @@
 //! What a word means. Its colons, points and dashes show which kinds it may be of, in this order:
 //! a word with a colon is an address of MAC or IPv6 or nothing, whatever else it has.
 //!
-//! Each `kind_..` here returns the kind of the word's token, with its value; `Unknown` where the
-//! word means nothing, `TooLarge` where a number in it is above 2^32 - 1. In the clauses 58 is a
+//! Each `kind_..` here returns the kind of the word's token, with its value; `Unknown` if the
+//! word means nothing, `TooLarge` if a number in it is above 2^32 - 1. In the clauses 58 is a
 //! colon, 46 a point and 45 a dash.
 
 ghost use Rattle.std.specs.Prelude.{◌≡◌, None, false, true};

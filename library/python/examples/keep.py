@@ -22,9 +22,8 @@ def keep(expression: capkit.Expression, source: str, target: str) -> int:
     try:
         # The writer opens its file for the first packet.
         with capkit.Writer(target) as writer:
-            for packet in capkit.packets(source):
-                if expression.matches(packet):
-                    writer.write(packet)
+            for packet in capkit.packets(source, expression):
+                writer.write(packet)
     except (capkit.CaptureError, capkit.CompileError, capkit.WriteError) as error:
         report(f"{source}: {error}")
         return 1

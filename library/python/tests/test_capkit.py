@@ -3,13 +3,16 @@
 CAPKIT_SAMPLES names the folder of the samples, else it is that of the repository.
 """
 import io
+import multiprocessing
 import os
 import pathlib
+import pickle
 import struct
 import subprocess
 import sys
 import tempfile
 import threading
+import time
 import unittest
 
 import capkit
@@ -24,7 +27,12 @@ UDP = bytes(12) + b"\x08\x00\x45" + bytes(8) + b"\x11" + bytes(18)
 
 def packet(data=ARP, **fields):
     values = {"time": 1_700_000_000_123_456_789, "link_type": capkit.LINK_ETHERNET, "data": data}
-    return capkit.Packet(**{**values, "original_length": len(data), **fields})
+    return capkit.Packet(**{**values, **fields})
+
+
+def count_of(text):
+    """What a worker does: it takes an expression, and its error is given back."""
+    return sum(1 for _ in capkit.packets(SAMPLES / "day.pcap", text))
 
 
 def written(packets, format="pcapng"):
@@ -43,6 +51,11 @@ class FilterTest(unittest.TestCase):
         self.assertFalse(arp.matches(b""))
         for kind in (bytearray, memoryview):
             self.assertTrue(arp.matches(kind(ARP)))
+        # Its length is that of its bytes, whatever its items are.
+        self.assertTrue(capkit.Filter("len = 6", 1).matches(memoryview(b"abcdef").cast("H")))
+        for wrong in (packet(), "text", 7):
+            with self.assertRaisesRegex(TypeError, "data is bytes, not"):
+                arp.matches(wrong)
 
     def test_original_length(self):
         long = capkit.Filter("greater 1000", capkit.LINK_ETHERNET)
@@ -58,6 +71,36 @@ class FilterTest(unittest.TestCase):
         self.assertEqual(arp.listing, "4\n40 0 0 12\n21 0 1 2054\n6 0 0 262144\n6 0 0 0\n")
         self.assertEqual(arp.instructions[1], capkit.Instruction(21, 0, 1, 2054))
         self.assertTrue(arp.is_portable)
+        self.assertEqual(str(arp), arp.listing)
+
+    def test_values(self):
+        """Filters and expressions compare, are shown, and go to other processes, used or not."""
+        arp, text = capkit.Filter("arp", 1), capkit.Expression("tcp")
+        text.matches(packet())
+        self.assertEqual(arp, capkit.Filter.from_instructions(arp.instructions))
+        self.assertNotEqual(arp, capkit.Filter("udp", 1))
+        shown = (repr(text), str(text), repr(arp))
+        self.assertEqual(shown, ("Expression('tcp')", "tcp", "<Filter of 4 instructions>"))
+        for value in (arp, text):
+            self.assertEqual(pickle.loads(pickle.dumps(value)), value)
+            self.assertEqual(len({value, pickle.loads(pickle.dumps(value))}), 1)
+        self.assertNotEqual(text, "tcp")
+        for call in (capkit.Expression, capkit.explain, lambda text: capkit.Filter(text, 1)):
+            with self.assertRaisesRegex(TypeError, "an expression is a str, not bytes"):
+                call(b"tcp")
+
+    def test_errors_reach_other_processes(self):
+        program, capture = capkit.ProgramError(108, 3), capkit.CaptureError(202, 7, None)
+        for error in (capkit.CompileError(3, 5), program, capture, capkit.WriteError("why")):
+            again = pickle.loads(pickle.dumps(error))
+            self.assertEqual((str(again), vars(again)), (str(error), vars(error)))
+        with self.assertRaises(capkit.CaptureError) as caught:
+            list(capkit.packets(SAMPLES / "damaged.pcap"))
+        self.assertEqual(len(list(pickle.loads(pickle.dumps(caught.exception)).packets)), 30)
+        with multiprocessing.Pool(2) as pool:
+            self.assertEqual(pool.map(count_of, ["tcp", "arp"]), [34, 2])
+            with self.assertRaisesRegex(capkit.CompileError, "unknown word"):
+                pool.map(count_of, ["tcp prt 80"])
 
     def test_trace(self):
         arp = capkit.Filter("arp", capkit.LINK_ETHERNET)
@@ -94,6 +137,7 @@ class FilterTest(unittest.TestCase):
                 with self.assertRaisesRegex(capkit.CompileError, reason) as caught:
                     capkit.Expression(text)
                 self.assertEqual(caught.exception.place, place)
+        self.assertIs(caught.exception.status, capkit.Status.TOO_LONG)
 
     def test_explain(self):
         meaning = "((tcp src or dst port 80) or (tcp src or dst port 443)) and (src or dst host 10.0.0.1)"
@@ -182,17 +226,75 @@ class PacketsTest(unittest.TestCase):
             capkit.packets(SAMPLES)
 
     def test_each_loop_begins_anew(self):
-        capture = capkit.Capture(SAMPLES / "day.pcap")
-        first = iter(capture)
-        next(first)
-        self.assertEqual(len(list(capture)), 44)
-        self.assertEqual(len(list(first)), 43)
+        with capkit.Capture(SAMPLES / "day.pcap") as capture:
+            first = iter(capture)
+            next(first)
+            self.assertEqual(len(list(capture)), 44)
+            self.assertEqual(len(list(first)), 43)
+        with self.assertRaises(ValueError):
+            list(capture)
 
-    def test_pipe(self):
-        program = "import capkit; print(sum(1 for _ in capkit.packets('/dev/stdin')))"
-        capture = (SAMPLES / "day.pcap").read_bytes()
-        done = subprocess.run([sys.executable, "-c", program], input=capture, capture_output=True)
-        self.assertEqual(done.stdout.split(), [b"44"], done.stderr)
+    def test_sources(self):
+        path = SAMPLES / "comments.pcapng"
+        data, want = path.read_bytes(), list(capkit.packets(path))
+        for source in (str(path), data, bytearray(data), memoryview(data), io.BytesIO(data)):
+            self.assertEqual(list(capkit.packets(source)), want)
+        for buffering in (0, -1):
+            with open(path, "rb", buffering) as file:
+                self.assertEqual(list(capkit.packets(file)), want)
+        for source in (7, None):
+            with self.assertRaisesRegex(TypeError, "neither a path nor a file"):
+                capkit.packets(source)
+
+    def test_filtered(self):
+        """What packets takes is what matches takes, of several link types and in small pieces."""
+
+        class Drops(io.RawIOBase):
+            def readinto(self, view):
+                piece = self.bytes[: min(7, len(view))]
+                view[: len(piece)], self.bytes = piece, self.bytes[len(piece) :]
+                return len(piece)
+
+        links = [packet(UDP), packet(UDP[14:], link_type=capkit.LINK_RAW), packet(), packet(UDP)]
+        for source in [(SAMPLES / "day.pcap").read_bytes(), written(links)]:
+            udp, drops = capkit.Expression("udp"), Drops()
+            want = [p for p in capkit.packets(source) if udp.matches(p)]
+            self.assertTrue(want)
+            drops.bytes = source
+            for each in (source, io.BytesIO(source), drops):
+                self.assertEqual(list(capkit.packets(each, "udp")), want)
+        unknown = written([packet(link_type=276), packet(UDP)])
+        with self.assertRaises(capkit.CompileError):
+            list(capkit.packets(unknown, "udp"))
+        for blanks in ("", " \t"):
+            self.assertEqual(list(capkit.packets(unknown, blanks)), list(capkit.packets(unknown)))
+
+    def test_a_live_pipe_gives_each_packet_as_it_comes(self):
+        data, first = written([packet(), packet(UDP)]), len(written([packet()]))
+        read_end, write_end = os.pipe()
+        with open(read_end, "rb") as source, open(write_end, "wb", 0) as end:
+            end.write(data[: first + 20])
+            packets, start = capkit.packets(source), time.monotonic()
+            self.assertEqual(next(packets), packet())
+            self.assertLess(time.monotonic() - start, 0.2)
+            end.write(data[first + 20 :])
+            self.assertEqual(next(packets), packet(UDP))
+            end.write(data[first : first + 20])
+            end.close()
+            with self.assertRaises(capkit.CaptureError) as caught:
+                next(packets)
+        self.assertIsNone(caught.exception.packets)
+
+    def test_a_file_that_shrinks(self):
+        with tempfile.TemporaryDirectory() as folder:
+            path = pathlib.Path(folder, "large.pcap")
+            path.write_bytes(written([packet(bytes(60000))] * 20))
+            packets = capkit.packets(path)
+            next(packets)
+            os.truncate(path, 100)
+            with self.assertRaises(capkit.CaptureError) as caught:
+                list(packets)
+            self.assertIs(caught.exception.fault, capkit.Check.TRUNCATED)
 
     def test_a_file_of_3_gib(self):
         """A sparse one: a section, 3,072 blocks without packets, and another section."""
@@ -271,6 +373,23 @@ class WriterTest(unittest.TestCase):
             self.assertEqual(path.read_bytes(), written([packet()]))
             with self.assertRaises(ValueError):
                 writer.write(packet())
+
+    def test_a_capture_that_is_read_is_not_written(self):
+        with tempfile.TemporaryDirectory() as folder:
+            path = pathlib.Path(folder, "self.pcap")
+            path.write_bytes(written([packet()] * 2))
+            with self.assertRaisesRegex(capkit.WriteError, "is being read"):
+                with capkit.Writer(path) as writer:
+                    for each in capkit.packets(path):
+                        writer.write(each)
+            self.assertEqual(len(list(capkit.packets(path))), 2)
+
+    def test_arguments(self):
+        with capkit.Writer(io.BytesIO()) as writer:
+            writer.write(packet(bytearray(ARP)))
+            for name, value in [("data", "text"), ("comment", "text"), ("interface_name", 7), ("time", 1.5)]:
+                with self.assertRaisesRegex(TypeError, f"^{name} is "):
+                    writer.write(packet()._replace(**{name: value}))
 
     def test_formats(self):
         with self.assertRaisesRegex(ValueError, "pcapng, pcap, nsecpcap"):

@@ -2,7 +2,7 @@
 //!
 //! The statuses are those of capkit: 1 after a fault, which ends the capture, and 2 where the
 //! command line or the expression is refused.
-use capkit::{Capture, Expression};
+use capkit::{Expression, Packets, ReadError};
 use std::{env, error::Error, fmt::Display, process::ExitCode};
 
 fn fail(problem: impl Display, status: u8) -> ExitCode {
@@ -11,16 +11,15 @@ fn fail(problem: impl Display, status: u8) -> ExitCode {
 }
 
 /// Prints how many packets match, also of those before a fault.
-fn count(mut expression: Expression, name: &str) -> Result<(), Box<dyn Error>> {
-    // SAFETY: the capture isn't changed while this program reads it; its user sees to that.
-    let capture = unsafe { Capture::map(name)? };
+fn count(expression: Expression, name: &str) -> Result<(), Box<dyn Error>> {
     let (mut seen, mut matching, mut end) = (0, 0, Ok(()));
-    for packet in capture.packets() {
+    for packet in Packets::open(name)? {
         match packet {
             Ok(packet) => {
                 matching += u64::from(expression.matches(&packet)?);
                 seen += 1;
             }
+            Err(ReadError::Io(error)) => return Err(error.into()),
             Err(fault) => end = Err(fault.into()),
         }
     }

@@ -3,7 +3,7 @@
 //! The expression is checked, the capture opened and its first packet read before the output is
 //! touched, which may not be the capture itself. The statuses are those of capkit: 1 after a fault,
 //! before which the packets are written, and 2 where the command line or the expression is refused.
-use capkit::{Capture, Expression, Format, Writer};
+use capkit::{Expression, Format, Packets, Writer};
 use std::fs::{self, File};
 use std::os::unix::fs::MetadataExt;
 use std::{env, error::Error, fmt::Display, io::BufWriter, process::ExitCode};
@@ -21,31 +21,20 @@ fn is_same_file(one: &str, other: &str) -> bool {
 }
 
 /// Writes the packets that match, also those before a fault.
-fn keep(mut expression: Expression, name: &str, out: &str) -> Result<(), Box<dyn Error>> {
+fn keep(expression: Expression, name: &str, out: &str) -> Result<(), Box<dyn Error>> {
     let of_input = |error: &dyn Display| format!("{name}: {error}");
     let of_output = |error: &dyn Display| format!("{out}: {error}");
-    // SAFETY: the capture isn't changed while this program reads it; its user sees to that.
-    let capture = unsafe { Capture::map(name) }.map_err(|error| of_input(&error))?;
-    if let Some(first) = capture.packets().next() {
-        let first = first.map_err(|fault| of_input(&fault))?;
-        expression
-            .filter(first.link_type)
-            .map_err(|error| of_input(&error))?;
-    }
+    let packets = Packets::open(name).map_err(|error| of_input(&error))?;
+    let mut packets = packets.matching(&expression).map_err(|error| of_input(&error))?;
+    let mut next = packets.next().transpose().map_err(|error| of_input(&error))?;
     let file = File::create(out).map_err(|error| of_output(&error))?;
     let (mut writer, mut end) = (Writer::new(BufWriter::new(file), Format::Pcapng), Ok(()));
-    for packet in capture.packets() {
-        match packet {
-            Ok(packet) => {
-                if expression
-                    .matches(&packet)
-                    .map_err(|error| of_input(&error))?
-                {
-                    writer.write(&packet).map_err(|error| of_output(&error))?;
-                }
-            }
-            Err(fault) => end = Err(of_input(&fault).into()),
-        }
+    while let Some(packet) = next {
+        writer.write(&packet).map_err(|error| of_output(&error))?;
+        next = packets.next().transpose().unwrap_or_else(|error| {
+            end = Err(of_input(&error).into());
+            None
+        });
     }
     writer.finish().map_err(|error| of_output(&error))?;
     end

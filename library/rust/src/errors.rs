@@ -1,250 +1,130 @@
 use crate::ffi;
 use std::{error, fmt, io};
 
-/// Why an expression isn't compiled. Places are in bytes of the text, from 1.
+/// An enum of numbers of capkit.h, which are called as the library says.
+macro_rules! numbers {
+    ($(#[$doc:meta])* $name:ident { $($variant:ident = $number:literal),* $(,)? }) => {
+        $(#[$doc])*
+        #[derive(Clone, Copy, Debug, PartialEq, Eq, Hash)]
+        #[non_exhaustive]
+        #[repr(u32)]
+        pub enum $name {
+            $(#[allow(missing_docs)] $variant = $number,)*
+            /// A number that this version of the crate doesn't know.
+            Unknown = u32::MAX,
+        }
+
+        impl $name {
+            pub(crate) fn of(number: u32) -> $name {
+                match number {
+                    $($number => $name::$variant,)*
+                    _ => $name::Unknown,
+                }
+            }
+        }
+
+        impl fmt::Display for $name {
+            fn fmt(&self, f: &mut fmt::Formatter<'_>) -> fmt::Result {
+                f.write_str(&ffi::text(*self as u32))
+            }
+        }
+    };
+}
+
+numbers! {
+    /// Why an expression isn't compiled.
+    Status {
+        TooLong = 1, UnknownCharacter = 2, UnknownWord = 3, NumberTooLarge = 4,
+        NotAnExpression = 5, NestedTooDeep = 6, QualifiersDoNotFit = 7, ValueOutOfRange = 8,
+        BitsPastMask = 9, DivisionByZero = 10, TooManyWords = 11, ProgramTooLong = 12,
+        NoMemory = 13, NotUtf8 = 14, LinkType = 15,
+    }
+}
+
+numbers! {
+    /// The rules of programs.
+    Rule {
+        Empty = 101, TooMany = 102, UnknownCode = 103, JumpOut = 104, NoSuchWord = 105,
+        DivisionByZero = 106, ShiftTooFar = 107, NoReturn = 108,
+    }
+}
+
+numbers! {
+    /// The checks of a capture's units, and of packets that are written.
+    Check {
+        NotACaptureFile = 201, Truncated = 202, BadVersion = 203, TooLong = 204,
+        BadBlockLength = 205, BadByteOrderMagic = 206, UnknownInterface = 207, BadOption = 208,
+        BadBody = 209, TimeOutOfRange = 210, TooManyInterfaces = 211, BadTimeResolution = 212,
+        BadLinkTypeField = 213, ObsoletePacketBlock = 214, LinkTypesDiffer = 218,
+        TooManyOutputInterfaces = 221,
+    }
+}
+
+/// Why an expression isn't compiled, and where in the text the fault is, in bytes from 1, if it has a
+/// place.
 #[derive(Clone, Copy, Debug, PartialEq, Eq)]
-#[non_exhaustive]
-pub enum CompileError {
-    /// The text has more than 65,536 bytes.
-    TooLong,
-    UnknownCharacter {
-        at: usize,
-    },
-    UnknownWord {
-        at: usize,
-    },
-    NumberTooLarge {
-        at: usize,
-    },
-    NotAnExpression,
-    NestedTooDeep,
-    QualifiersDoNotFit,
-    ValueOutOfRange,
-    BitsPastMask,
-    DivisionByZero,
-    /// The expression needs more than the machine's 16 words of memory.
-    TooManyWords,
-    ProgramTooLong,
-    NoMemory,
-    /// No expression is compiled for this link type.
-    LinkType(u16),
-    /// A status that this version of the crate doesn't know.
-    Other(u32),
+pub struct CompileError {
+    /// Why.
+    pub status: Status,
+    /// Where.
+    pub place: Option<usize>,
 }
 
 impl CompileError {
-    pub(crate) fn new(status: u32, number: usize, link_type: u16) -> CompileError {
-        use CompileError::*;
-        match status {
-            1 => TooLong,
-            2 => UnknownCharacter { at: number },
-            3 => UnknownWord { at: number },
-            4 => NumberTooLarge { at: number },
-            5 => NotAnExpression,
-            6 => NestedTooDeep,
-            7 => QualifiersDoNotFit,
-            8 => ValueOutOfRange,
-            9 => BitsPastMask,
-            10 => DivisionByZero,
-            11 => TooManyWords,
-            12 => ProgramTooLong,
-            13 => NoMemory,
-            15 => LinkType(link_type),
-            _ => Other(status),
-        }
-    }
-
-    /// The number in `enum capkit_status`.
-    pub fn status(&self) -> u32 {
-        use CompileError::*;
-        match *self {
-            TooLong => 1,
-            UnknownCharacter { .. } => 2,
-            UnknownWord { .. } => 3,
-            NumberTooLarge { .. } => 4,
-            NotAnExpression => 5,
-            NestedTooDeep => 6,
-            QualifiersDoNotFit => 7,
-            ValueOutOfRange => 8,
-            BitsPastMask => 9,
-            DivisionByZero => 10,
-            TooManyWords => 11,
-            ProgramTooLong => 12,
-            NoMemory => 13,
-            LinkType(_) => 15,
-            Other(status) => status,
-        }
-    }
-
-    /// Where in the text the fault is, in bytes from 1, where it has a place.
-    pub fn place(&self) -> Option<usize> {
-        match *self {
-            CompileError::UnknownCharacter { at }
-            | CompileError::UnknownWord { at }
-            | CompileError::NumberTooLarge { at } => Some(at),
-            _ => None,
-        }
+    pub(crate) fn new(status: u32, number: usize) -> CompileError {
+        let place = matches!(status, 2..=4 | 14).then_some(number);
+        CompileError { status: Status::of(status), place }
     }
 }
 
 impl fmt::Display for CompileError {
-    fn fmt(&self, f: &mut fmt::Formatter) -> fmt::Result {
-        f.write_str(&ffi::text(self.status()))?;
-        match (self, self.place()) {
-            (CompileError::LinkType(link_type), _) => write!(f, " ({link_type})"),
-            (_, Some(at)) => write!(f, " (at byte {at})"),
-            _ => Ok(()),
-        }
+    fn fmt(&self, f: &mut fmt::Formatter<'_>) -> fmt::Result {
+        self.status.fmt(f)?;
+        self.place.map_or(Ok(()), |at| write!(f, " (at byte {at})"))
     }
 }
 
-impl error::Error for CompileError {}
-
-/// The first rule that instructions break. An index is that of an instruction, from 0.
+/// The first rule that instructions break, and the index of the instruction, from 0.
 #[derive(Clone, Copy, Debug, PartialEq, Eq)]
-#[non_exhaustive]
-pub enum ProgramError {
-    Empty,
-    TooMany,
-    UnknownCode {
-        index: usize,
-    },
-    JumpOut {
-        index: usize,
-    },
-    NoSuchWord {
-        index: usize,
-    },
-    DivisionByZero {
-        index: usize,
-    },
-    ShiftTooFar {
-        index: usize,
-    },
-    NoReturn,
-    /// A rule that this version of the crate doesn't know.
-    Other(u32),
-}
-
-impl ProgramError {
-    pub(crate) fn new(rule: u32, index: usize) -> ProgramError {
-        use ProgramError::*;
-        match rule {
-            101 => Empty,
-            102 => TooMany,
-            103 => UnknownCode { index },
-            104 => JumpOut { index },
-            105 => NoSuchWord { index },
-            106 => DivisionByZero { index },
-            107 => ShiftTooFar { index },
-            108 => NoReturn,
-            _ => Other(rule),
-        }
-    }
-
-    /// The number in `enum capkit_rule`, and the index where there is one.
-    fn rule(&self) -> (u32, Option<usize>) {
-        use ProgramError::*;
-        match *self {
-            Empty => (101, None),
-            TooMany => (102, None),
-            UnknownCode { index } => (103, Some(index)),
-            JumpOut { index } => (104, Some(index)),
-            NoSuchWord { index } => (105, Some(index)),
-            DivisionByZero { index } => (106, Some(index)),
-            ShiftTooFar { index } => (107, Some(index)),
-            NoReturn => (108, None),
-            Other(rule) => (rule, None),
-        }
-    }
+pub struct ProgramError {
+    /// The rule.
+    pub rule: Rule,
+    /// The index.
+    pub index: usize,
 }
 
 impl fmt::Display for ProgramError {
-    fn fmt(&self, f: &mut fmt::Formatter) -> fmt::Result {
-        let (rule, index) = self.rule();
-        f.write_str(&ffi::text(rule))?;
-        index.map_or(Ok(()), |index| write!(f, " (instruction {index})"))
+    fn fmt(&self, f: &mut fmt::Formatter<'_>) -> fmt::Result {
+        write!(f, "{} (instruction {})", self.rule, self.index)
     }
 }
 
-impl error::Error for ProgramError {}
-
-/// The first check that a unit of a capture fails, or for which a packet can't be written.
-#[derive(Clone, Copy, Debug, PartialEq, Eq)]
+/// Why a capture's packets end before its end.
+#[derive(Debug)]
 #[non_exhaustive]
-pub enum Check {
-    NotACaptureFile,
-    Truncated,
-    BadVersion,
-    TooLong,
-    BadBlockLength,
-    BadByteOrderMagic,
-    UnknownInterface,
-    BadOption,
-    BadBody,
-    TimeOutOfRange,
-    TooManyInterfaces,
-    BadTimeResolution,
-    BadLinkTypeField,
-    ObsoletePacketBlock,
-    TooManyOutputInterfaces,
-    /// A check that this version of the crate doesn't know.
-    Other(u32),
+pub enum ReadError {
+    /// The unit at this offset fails a check.
+    Fault {
+        /// Where the unit begins, in bytes.
+        offset: u64,
+        /// The check that it fails.
+        check: Check,
+    },
+    /// The source failed.
+    Io(io::Error),
+    /// No expression is compiled for a packet's link type.
+    Compile(CompileError),
 }
 
-/// The checks by their numbers in `enum capkit_found`.
-const CHECKS: [(u32, Check); 15] = [
-    (201, Check::NotACaptureFile),
-    (202, Check::Truncated),
-    (203, Check::BadVersion),
-    (204, Check::TooLong),
-    (205, Check::BadBlockLength),
-    (206, Check::BadByteOrderMagic),
-    (207, Check::UnknownInterface),
-    (208, Check::BadOption),
-    (209, Check::BadBody),
-    (210, Check::TimeOutOfRange),
-    (211, Check::TooManyInterfaces),
-    (212, Check::BadTimeResolution),
-    (213, Check::BadLinkTypeField),
-    (214, Check::ObsoletePacketBlock),
-    (221, Check::TooManyOutputInterfaces),
-];
-
-impl Check {
-    pub(crate) fn new(number: u32) -> Check {
-        let known = CHECKS.iter().find(|known| known.0 == number);
-        known.map_or(Check::Other(number), |known| known.1)
-    }
-
-    fn number(self) -> u32 {
-        match (self, CHECKS.iter().find(|known| known.1 == self)) {
-            (Check::Other(number), _) => number,
-            (_, known) => known.map_or(0, |known| known.0),
+impl fmt::Display for ReadError {
+    fn fmt(&self, f: &mut fmt::Formatter<'_>) -> fmt::Result {
+        match self {
+            ReadError::Fault { offset, check } => write!(f, "offset {offset}: {check}"),
+            ReadError::Io(error) => error.fmt(f),
+            ReadError::Compile(error) => error.fmt(f),
         }
     }
 }
-
-impl fmt::Display for Check {
-    fn fmt(&self, f: &mut fmt::Formatter) -> fmt::Result {
-        f.write_str(&ffi::text(self.number()))
-    }
-}
-
-/// Where a capture ends with a fault, and the check that its unit at this offset fails.
-#[derive(Clone, Copy, Debug, PartialEq, Eq)]
-pub struct Fault {
-    pub offset: usize,
-    pub check: Check,
-}
-
-impl fmt::Display for Fault {
-    fn fmt(&self, f: &mut fmt::Formatter) -> fmt::Result {
-        write!(f, "offset {}: {}", self.offset, self.check)
-    }
-}
-
-impl error::Error for Fault {}
 
 /// Why a packet isn't written.
 #[derive(Debug)]
@@ -252,32 +132,23 @@ impl error::Error for Fault {}
 pub enum WriteError {
     /// The format can't hold the packet; nothing of it was written.
     Refused(Check),
-    /// A pcap file has packets of the first one's link type; nothing of this one was written.
-    LinkTypesDiffer { first: u16, this: u16 },
     /// The output failed, and may hold a part of the packet.
     Io(io::Error),
 }
 
 impl fmt::Display for WriteError {
-    fn fmt(&self, f: &mut fmt::Formatter) -> fmt::Result {
+    fn fmt(&self, f: &mut fmt::Formatter<'_>) -> fmt::Result {
         match self {
             WriteError::Refused(check) => check.fmt(f),
-            WriteError::LinkTypesDiffer { first, this } => {
-                write!(f, "link types differ: {this} after {first}")
-            }
             WriteError::Io(error) => error.fmt(f),
         }
     }
 }
 
-impl error::Error for WriteError {
-    fn source(&self) -> Option<&(dyn error::Error + 'static)> {
-        match self {
-            WriteError::Io(error) => Some(error),
-            _ => None,
-        }
-    }
-}
+impl error::Error for CompileError {}
+impl error::Error for ProgramError {}
+impl error::Error for ReadError {}
+impl error::Error for WriteError {}
 
 impl From<io::Error> for WriteError {
     fn from(error: io::Error) -> WriteError {

@@ -1,11 +1,14 @@
 //! The calls of libcapkit, as capkit.h declares them.
 
 pub const OK: u32 = 0;
-pub const NO_ROOM_IN_BUFFER: u32 = 225;
 pub const PACKET: u32 = 0;
+pub const NOT_A_CAPTURE_FILE: u32 = 201;
+pub const TRUNCATED: u32 = 202;
 pub const END: u32 = 222;
-pub const NO_PACKET: u32 = 223;
+pub const NO_ROOM_IN_BUFFER: u32 = 225;
+pub const ANOTHER_LINK_TYPE: u32 = 226;
 pub const MOST_INTERFACES: usize = 256;
+pub const MOST_UNIT: usize = 1 << 20;
 
 #[repr(C)]
 #[derive(Clone, Copy, Default)]
@@ -32,14 +35,12 @@ pub struct Interface {
 }
 
 impl Interface {
-    pub const NONE: Interface = Interface {
-        units: 0,
-        offset: 0,
-        snap: 0,
-        link_type: 0,
-        name_length: 0,
-        name: [0; 255],
-    };
+    pub const NONE: Interface =
+        Interface { units: 0, offset: 0, snap: 0, link_type: 0, name_length: 0, name: [0; 255] };
+
+    pub fn name(&self) -> &[u8] {
+        &self.name[..self.name_length.into()]
+    }
 }
 
 #[repr(C)]
@@ -59,107 +60,57 @@ pub struct Packet {
 extern "C" {
     pub fn capkit_bound(text: *const u8, length: usize, number: *mut usize) -> u32;
     pub fn capkit_explain(
-        text: *const u8,
-        length: usize,
-        buffer: *mut u8,
-        room: usize,
-        number: *mut usize,
+        text: *const u8, length: usize, buffer: *mut u8, room: usize, number: *mut usize,
     ) -> u32;
     pub fn capkit_compile(
-        text: *const u8,
-        length: usize,
-        link_type: u16,
-        insns: *mut crate::Instruction,
-        room: usize,
-        number: *mut usize,
+        text: *const u8, length: usize, link_type: u16, insns: *mut crate::Instruction,
+        room: usize, number: *mut usize,
     ) -> u32;
     pub fn capkit_check(insns: *const crate::Instruction, count: usize, index: *mut usize) -> u32;
     pub fn capkit_matches(
-        insns: *const crate::Instruction,
-        count: usize,
-        packet: *const u8,
-        captured: usize,
+        insns: *const crate::Instruction, count: usize, packet: *const u8, captured: usize,
         original: u32,
     ) -> u32;
     pub fn capkit_trace(
-        insns: *const crate::Instruction,
-        count: usize,
-        packet: *const u8,
-        captured: usize,
-        original: u32,
-        steps: *mut crate::Step,
-        room: usize,
+        insns: *const crate::Instruction, count: usize, packet: *const u8, captured: usize,
+        original: u32, steps: *mut crate::Step, room: usize,
     ) -> usize;
     pub fn capkit_insn_text(
-        insn: *const crate::Instruction,
-        index: u32,
-        buffer: *mut u8,
-        room: usize,
+        insn: *const crate::Instruction, index: u32, buffer: *mut u8, room: usize,
     ) -> usize;
     pub fn capkit_line(
-        link_type: u16,
-        time: u64,
-        original: u32,
-        packet: *const u8,
-        captured: usize,
-        with_link: u32,
-        buffer: *mut u8,
-        room: usize,
+        link_type: u16, time: u64, original: u32, packet: *const u8, captured: usize,
+        with_link: u32, buffer: *mut u8, room: usize,
     ) -> usize;
-    pub fn capkit_is_portable(insns: *const crate::Instruction, count: usize) -> u32;
+    pub fn capkit_portability(insns: *const crate::Instruction, count: usize) -> u32;
     pub fn capkit_next(
-        reader: *mut Reader,
-        interfaces: *mut Interface,
-        room: usize,
-        capture: *const u8,
-        size: usize,
-        packet: *mut Packet,
+        reader: *mut Reader, interfaces: *mut Interface, room: usize, capture: *const u8,
+        size: usize, packet: *mut Packet,
     ) -> u32;
     pub fn capkit_comment(
-        reader: *const Reader,
-        capture: *const u8,
-        size: usize,
-        packet: *const Packet,
-        buffer: *mut u8,
-        room: usize,
+        reader: *const Reader, capture: *const u8, size: usize, packet: *const Packet,
+        buffer: *mut u8, room: usize,
     ) -> usize;
+    pub fn capkit_next_match(
+        reader: *mut Reader, interfaces: *mut Interface, room: usize, capture: *const u8,
+        size: usize, insns: *const crate::Instruction, count: usize, link_type: u16,
+        packet: *mut Packet,
+    ) -> u32;
     pub fn capkit_write_file_header(
-        nanoseconds: u32,
-        link_type: u16,
-        buffer: *mut u8,
-        room: usize,
-        length: *mut usize,
+        nanoseconds: u32, link_type: u16, buffer: *mut u8, room: usize, length: *mut usize,
     ) -> u32;
     pub fn capkit_write_record(
-        nanoseconds: u32,
-        time: u64,
-        original: u32,
-        packet: *const u8,
-        captured: usize,
-        buffer: *mut u8,
-        room: usize,
-        length: *mut usize,
+        nanoseconds: u32, time: u64, original: u32, packet: *const u8, captured: usize,
+        buffer: *mut u8, room: usize, length: *mut usize,
     ) -> u32;
     pub fn capkit_write_section(buffer: *mut u8, room: usize, length: *mut usize) -> u32;
     pub fn capkit_write_interface(
-        link_type: u16,
-        snap: u32,
-        name: *const u8,
-        name_length: usize,
-        buffer: *mut u8,
-        room: usize,
-        length: *mut usize,
+        link_type: u16, snap: u32, name: *const u8, name_length: usize, buffer: *mut u8,
+        room: usize, length: *mut usize,
     ) -> u32;
     pub fn capkit_write_packet(
-        interface: u32,
-        time: u64,
-        original: u32,
-        packet: *const u8,
-        captured: usize,
-        comment: *const u8,
-        comment_length: usize,
-        buffer: *mut u8,
-        room: usize,
+        interface: u32, time: u64, original: u32, packet: *const u8, captured: usize,
+        comment: *const u8, comment_length: usize, buffer: *mut u8, room: usize,
         length: *mut usize,
     ) -> u32;
     pub fn capkit_text(number: u32, buffer: *mut u8, room: usize) -> usize;
@@ -174,6 +125,9 @@ pub fn text_by(call: impl Fn(*mut u8, usize) -> usize) -> String {
 
 /// What a number is called.
 pub fn text(number: u32) -> String {
+    if number == 218 {
+        return "link types differ".into(); // which no call returns
+    }
     // SAFETY: the buffer has as many bytes as the call is told.
     text_by(|buffer, room| unsafe { capkit_text(number, buffer, room) })
 }
@@ -183,8 +137,7 @@ pub fn text(number: u32) -> String {
 ///
 /// The call writes no more than the room, and `*length` bytes where it returns `OK`.
 pub fn unit(
-    buffer: &mut Vec<u8>,
-    call: impl Fn(*mut u8, usize, *mut usize) -> u32,
+    buffer: &mut Vec<u8>, call: impl Fn(*mut u8, usize, *mut usize) -> u32,
 ) -> Result<&[u8], u32> {
     let mut length = 0;
     let mut written = call(buffer.as_mut_ptr(), buffer.len(), &mut length);

@@ -1,6 +1,9 @@
+use crate::errors::Rule;
 use crate::{ffi, CompileError, Packet, ProgramError};
 use std::collections::HashMap;
 use std::fmt;
+use std::str::FromStr;
+use std::sync::{Arc, Mutex};
 
 /// An instruction of a program, with the codes of classic BPF. Its layout is that of `struct
 /// bpf_insn` of libpcap and of `struct sock_filter` of Linux.
@@ -43,10 +46,10 @@ impl Filter {
     /// Compiles an expression.
     ///
     /// ```
-    /// use capkit::{CompileError, Filter};
+    /// use capkit::{Filter, Status};
     ///
     /// let error = Filter::new("tcp prt 80", capkit::LINK_ETHERNET).unwrap_err();
-    /// assert_eq!(error, CompileError::UnknownWord { at: 5 });
+    /// assert_eq!((error.status, error.place), (Status::UnknownWord, Some(5)));
     /// assert_eq!(error.to_string(), "unknown word (at byte 5)");
     /// ```
     pub fn new(expression: &str, link_type: u16) -> Result<Filter, CompileError> {
@@ -64,20 +67,20 @@ impl Filter {
             )
         };
         if status != ffi::OK {
-            return Err(CompileError::new(status, number, link_type));
+            return Err(CompileError::new(status, number));
         }
         insns.truncate(number);
         Ok(Filter(insns))
     }
 
-    /// A program from elsewhere, where it is valid.
+    /// A program from elsewhere, if it is valid.
     ///
     /// ```
-    /// use capkit::{Filter, Instruction, ProgramError};
+    /// use capkit::{Filter, Instruction, Rule};
     ///
     /// let length = Instruction { code: 128, ..Default::default() };
     /// let error = Filter::from_instructions(vec![length]).unwrap_err();
-    /// assert_eq!(error, ProgramError::NoReturn);
+    /// assert_eq!(error.rule, Rule::NoReturn);
     /// ```
     pub fn from_instructions(instructions: Vec<Instruction>) -> Result<Filter, ProgramError> {
         let mut index = 0;
@@ -85,7 +88,7 @@ impl Filter {
         let rule =
             unsafe { ffi::capkit_check(instructions.as_ptr(), instructions.len(), &mut index) };
         if rule != ffi::OK {
-            return Err(ProgramError::new(rule, index));
+            return Err(ProgramError { rule: Rule::of(rule), index });
         }
         Ok(Filter(instructions))
     }
@@ -151,20 +154,24 @@ impl Filter {
         &self.0
     }
 
-    /// Whether libpcap and a Linux socket give the same answers, as far as `capkit_is_portable` can
-    /// say.
-    pub fn is_portable(&self) -> bool {
+    /// Where else the program gives the same answers, as far as `capkit_portability` can say: on
+    /// libpcap, and on a Linux socket.
+    pub fn runs_on(&self) -> (bool, bool) {
         // SAFETY: the program is valid, and the pointer and the length are its.
-        unsafe { ffi::capkit_is_portable(self.0.as_ptr(), self.0.len()) != 0 }
+        let bits = unsafe { ffi::capkit_portability(self.0.as_ptr(), self.0.len()) };
+        (bits & 1 != 0, bits & 2 != 0)
+    }
+
+    /// Whether libpcap and a Linux socket give the same answers.
+    pub fn is_portable(&self) -> bool {
+        self.runs_on() == (true, true)
     }
 }
 
 impl fmt::Display for Filter {
     fn fmt(&self, f: &mut fmt::Formatter) -> fmt::Result {
         writeln!(f, "{}", self.0.len())?;
-        self.0
-            .iter()
-            .try_for_each(|i| writeln!(f, "{} {} {} {}", i.code, i.jt, i.jf, i.k))
+        self.0.iter().try_for_each(|i| writeln!(f, "{} {} {} {}", i.code, i.jt, i.jf, i.k))
     }
 }
 
@@ -176,7 +183,7 @@ fn bound(expression: &str) -> Result<usize, CompileError> {
     if status == ffi::OK {
         Ok(number)
     } else {
-        Err(CompileError::new(status, number, 0))
+        Err(CompileError::new(status, number))
     }
 }
 
@@ -216,47 +223,66 @@ fn explain_into(expression: &str, buffer: &mut [u8]) -> Result<usize, CompileErr
     if status == ffi::OK {
         Ok(number)
     } else {
-        Err(CompileError::new(status, number, 0))
+        Err(CompileError::new(status, number))
     }
 }
 
-/// An expression, compiled for each link type when a packet has it first.
+/// An expression, compiled for each link type when a packet has it first. Its clones share the programs.
 ///
 /// ```
-/// let mut expression = capkit::Expression::new("arp")?;
+/// let expression: capkit::Expression = "arp".parse()?;
 /// let arp = [&[0; 12][..], &[8, 6], &[0; 28]].concat();
-/// assert!(expression.matches(&capkit::Packet::new(0, capkit::LINK_ETHERNET, &arp))?);
+/// assert!(expression.matches(&capkit::Packet::new(0, capkit::LINK_ETHERNET, arp))?);
 /// # Ok::<(), capkit::CompileError>(())
 /// ```
 #[derive(Clone, Debug)]
 pub struct Expression {
     text: String,
-    filters: HashMap<u16, Filter>,
+    filters: Arc<Mutex<HashMap<u16, Arc<Filter>>>>,
 }
 
 impl Expression {
     /// Checks an expression, which needs no link type.
     pub fn new(text: &str) -> Result<Expression, CompileError> {
         bound(text)?;
-        Ok(Expression {
-            text: text.to_owned(),
-            filters: HashMap::new(),
-        })
+        Ok(Expression { text: text.to_owned(), filters: Arc::default() })
     }
 
     /// The expression's filter for a link type.
-    pub fn filter(&mut self, link_type: u16) -> Result<&Filter, CompileError> {
-        if !self.filters.contains_key(&link_type) {
-            self.filters
-                .insert(link_type, Filter::new(&self.text, link_type)?);
+    pub fn filter(&self, link_type: u16) -> Result<Arc<Filter>, CompileError> {
+        let mut filters = self.filters.lock().unwrap_or_else(|poisoned| poisoned.into_inner());
+        if let Some(known) = filters.get(&link_type) {
+            return Ok(Arc::clone(known));
         }
-        Ok(&self.filters[&link_type])
+        let made = Arc::new(Filter::new(&self.text, link_type)?);
+        filters.insert(link_type, Arc::clone(&made));
+        Ok(made)
     }
 
-    /// Whether a packet matches. It is an error where no expression is compiled for its link type.
-    pub fn matches(&mut self, packet: &Packet) -> Result<bool, CompileError> {
-        Ok(self
-            .filter(packet.link_type)?
-            .matches(packet.data, packet.original_length))
+    /// Whether a packet matches. It is an error if no expression is compiled for its link type.
+    pub fn matches(&self, packet: &Packet) -> Result<bool, CompileError> {
+        Ok(self.filter(packet.link_type)?.matches(&packet.data, packet.original_length))
     }
 }
+
+impl FromStr for Expression {
+    type Err = CompileError;
+
+    fn from_str(text: &str) -> Result<Expression, CompileError> {
+        Expression::new(text)
+    }
+}
+
+impl fmt::Display for Expression {
+    fn fmt(&self, f: &mut fmt::Formatter<'_>) -> fmt::Result {
+        f.write_str(&self.text)
+    }
+}
+
+impl PartialEq for Expression {
+    fn eq(&self, other: &Expression) -> bool {
+        self.text == other.text
+    }
+}
+
+impl Eq for Expression {}

@@ -4,19 +4,13 @@
 //! and is tested. `build.rs` finds the library by pkg-config.
 //!
 //! ```no_run
-//! use capkit::{Capture, Expression, Format, Writer};
+//! use capkit::{Format, Packets, Writer};
 //! use std::{fs::File, io::BufWriter};
 //!
 //! # fn main() -> Result<(), Box<dyn std::error::Error>> {
-//! let mut expression = Expression::new("tcp port 80")?;
-//! // SAFETY: nothing changes the file.
-//! let capture = unsafe { Capture::map("day.pcap")? };
 //! let mut writer = Writer::new(BufWriter::new(File::create("web.pcapng")?), Format::Pcapng);
-//! for packet in capture.packets() {
-//!     let packet = packet?;
-//!     if expression.matches(&packet)? {
-//!         writer.write(&packet)?;
-//!     }
+//! for packet in Packets::open("day.pcap")?.matching(&"tcp port 80".parse()?)? {
+//!     writer.write(&packet?)?;
 //! }
 //! writer.finish()?;
 //! # Ok(())
@@ -38,12 +32,14 @@ mod filter;
 mod reading;
 mod writing;
 
-pub use errors::{Check, CompileError, Fault, ProgramError, WriteError};
+pub use errors::{Check, CompileError, ProgramError, ReadError, Rule, Status, WriteError};
 pub use filter::{explain, Expression, Filter, Instruction, Step};
-pub use reading::{Capture, Packet, Packets};
+pub use reading::{Packet, Packets};
 pub use writing::{Format, Writer};
 
-/// Link types for which expressions are compiled, as captures have them.
+/// Link types for which expressions are compiled, as captures have them: Ethernet,
 pub const LINK_ETHERNET: u16 = 1;
+/// raw IP,
 pub const LINK_RAW: u16 = 101;
+/// and Linux cooked captures.
 pub const LINK_COOKED: u16 = 113;

@@ -1,6 +1,7 @@
 use crate::errors::Check;
 use crate::{ffi, Packet, WriteError, LINK_ETHERNET};
 use std::collections::HashMap;
+use std::fmt;
 use std::io::{self, Write};
 
 /// How a capture is written.
@@ -20,14 +21,13 @@ pub enum Format {
 /// ```
 /// use capkit::{Format, Packet, Packets, Writer, LINK_ETHERNET};
 ///
-/// let mut packet = Packet::new(1_700_000_000_000_000_000, LINK_ETHERNET, &[0; 60]);
+/// let mut packet = Packet::new(1_700_000_000_000_000_000, LINK_ETHERNET, [0; 60]);
 /// packet.comment = b"look here".to_vec();
 /// let mut writer = Writer::new(Vec::new(), Format::Pcapng);
 /// writer.write(&packet)?;
 /// let capture = writer.finish()?;
 ///
-/// let packets: Result<Vec<_>, _> = Packets::new(&capture).collect();
-/// assert_eq!(packets, Ok(vec![packet]));
+/// assert_eq!(Packets::new(&capture[..]).next().unwrap().unwrap(), packet);
 /// # Ok::<(), capkit::WriteError>(())
 /// ```
 pub struct Writer<W> {
@@ -46,14 +46,7 @@ impl<W: Write> Writer<W> {
     /// Writes nothing yet: the file's header is written with the first packet.
     pub fn new(out: W, format: Format) -> Writer<W> {
         let (interfaces, buffer) = (HashMap::new(), vec![0; 4096]);
-        Writer {
-            out,
-            format,
-            link_type: None,
-            interfaces,
-            buffer,
-            failure: None,
-        }
+        Writer { out, format, link_type: None, interfaces, buffer, failure: None }
     }
 
     /// Appends a packet. After [`WriteError::Io`] every call fails.
@@ -108,10 +101,7 @@ impl<W: Write> Writer<W> {
     fn record(&mut self, packet: &Packet) -> Result<Vec<u8>, WriteError> {
         match self.link_type {
             Some(first) if first != packet.link_type => {
-                return Err(WriteError::LinkTypesDiffer {
-                    first,
-                    this: packet.link_type,
-                })
+                return Err(WriteError::Refused(Check::LinkTypesDiffer))
             }
             _ => {}
         }
@@ -133,11 +123,7 @@ impl<W: Write> Writer<W> {
 
     /// A packet's block, after that of its interface where it is the first of it.
     fn block(&mut self, packet: &Packet) -> Result<Vec<u8>, WriteError> {
-        let key = (
-            packet.link_type,
-            packet.snap_length,
-            packet.interface_name.clone(),
-        );
+        let key = (packet.link_type, packet.snap_length, packet.interface_name.clone());
         let known = self.interfaces.get(&key).copied();
         // There are fewer than 2^32: the 4,097th is refused.
         let number = known.unwrap_or(self.interfaces.len() as u32);
@@ -187,11 +173,16 @@ fn interface_block(buffer: &mut Vec<u8>, packet: &Packet) -> Result<Vec<u8>, Wri
 }
 
 fn unit(
-    buffer: &mut Vec<u8>,
-    call: impl Fn(*mut u8, usize, *mut usize) -> u32,
+    buffer: &mut Vec<u8>, call: impl Fn(*mut u8, usize, *mut usize) -> u32,
 ) -> Result<Vec<u8>, WriteError> {
     match ffi::unit(buffer, call) {
         Ok(unit) => Ok(unit.to_vec()),
-        Err(written) => Err(WriteError::Refused(Check::new(written))),
+        Err(written) => Err(WriteError::Refused(Check::of(written))),
+    }
+}
+
+impl<W> fmt::Debug for Writer<W> {
+    fn fmt(&self, f: &mut fmt::Formatter<'_>) -> fmt::Result {
+        f.debug_struct("Writer").field("format", &self.format).finish_non_exhaustive()
     }
 }

@@ -17,7 +17,7 @@ const RESOLUTIONS: [u16; 8] = [0, 3, 6, 7, 9, 12, 0x8a, 0xa0];
 /// Types of blocks that are skipped: names, statistics, journals, secrets, custom ones.
 const SKIPPED: [u16; 6] = [4, 5, 9, 10, 0xbad, 77];
 
-/// Bytes that are put one after another. Where memory runs out some are left out, and it is kept
+/// Bytes that are put one after another. If memory runs out some are left out, and it is kept
 /// that they were.
 #[derive(Drop)]
 pub struct Growing {

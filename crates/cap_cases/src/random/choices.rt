@@ -27,12 +27,12 @@ impl Random {
         self.generator.next_u32()
     }
 
-    /// A number below this one; 0 where it is 0.
+    /// A number below this one; 0 if it is 0.
     pub fn below(&mut self, end: u32) -> u32 {
         self.half().checked_rem(end).unwrap_or(0)
     }
 
-    /// A place among `count`; 0 where there are none.
+    /// A place among `count`; 0 if there are none.
     pub fn place(&mut self, count: usize) -> usize {
         self.below(u32::try_from(count).unwrap_or(u32::MAX)) as usize
     }

@@ -151,7 +151,7 @@ impl Frame {
         self.bytes.get(..self.size).unwrap_or_default()
     }
 
-    /// Leaves at most `size` bytes.
+    /// Keeps at most `size` bytes.
     pub fn cut(&mut self, size: usize) {
         self.size = self.size.min(size);
     }

@@ -241,7 +241,7 @@ struct Parts<'p> {
 }
 
 /// Whether packets are parted into those that match, those that match the contrary, and some that
-/// are rejected, which neither has; those that aren't rejected match either of the two. Where an
+/// are rejected, which neither has; those that aren't rejected match either of the two. If an
 /// end is asked for they are parted up to the first one whose link type isn't filtered.
 fn are_parted(all: &[Packet<'_>], parts: &Parts<'_>, (is_steady, has_end): (bool, bool)) -> bool {
     let (mut yes, mut no, mut either) = (0usize, 0usize, 0usize);
@@ -372,7 +372,7 @@ fn run_damaged(fuzzer: &mut Fuzzer<'_>, bytes: &[u8], listing: &Outcome) {
     }
 }
 
-/// Whether both have the same packets of a link type; the right one may have more where the left
+/// Whether both have the same packets of a link type; the right one may have more if the left
 /// one ended early.
 fn are_alike(left: &[Packet<'_>], right: &[Packet<'_>], link: u32, ends_early: bool) -> bool {
     let mut rest = left.iter().filter(|packet| packet.link() == link);

@@ -18,7 +18,7 @@ const MESSAGES: usize = 1_000;
 /// How many bytes of each side of a comparison are shown.
 const SHOWN: usize = 300;
 
-/// Why rounds end where memory runs out.
+/// Why rounds end if memory runs out.
 pub const MEMORY: &str = "out of memory";
 
 /// What is compared.
@@ -51,7 +51,7 @@ pub const NAMES: [&str; PROPERTIES] = [
     "ranges part the packets",
 ];
 
-/// What a run leaves.
+/// The result of a run.
 #[derive(Drop)]
 pub struct Outcome {
     pub status: u8,
@@ -141,7 +141,7 @@ impl<'r> Fuzzer<'r> {
         self.random = Random::new(seed);
     }
 
-    /// Tells the round of a comparison that differs, and both sides.
+    /// Shows the round of a comparison that differs, and both sides.
     fn tell(&mut self, place: usize, (left, right): (&[u8], &[u8])) {
         let name = NAMES.get(place).copied().unwrap_or("");
         let left = self.or_empty(shown(self.alloc, left));
@@ -153,7 +153,7 @@ impl<'r> Fuzzer<'r> {
         }
     }
 
-    /// Counts a comparison; where it differs its round is told, and both sides.
+    /// Counts a comparison; if it differs its round is printed, and both sides.
     pub fn compare(&mut self, property: Property, is_met: bool, sides: (&[u8], &[u8])) {
         let place = property as usize;
         if let Some(count) = self.counts.get_mut(place) {
@@ -177,7 +177,7 @@ impl<'r> Fuzzer<'r> {
         self.same(property, &[left.status], &[right.status]);
     }
 
-    /// The text; where memory ran out it is empty, and that is a failure.
+    /// The text; if memory ran out it is empty, and that is a failure.
     pub fn or_empty(&mut self, text: Result<String, AllocError>) -> String {
         match text {
             Ok(text) => text,
@@ -188,7 +188,7 @@ impl<'r> Fuzzer<'r> {
         }
     }
 
-    /// The packets of a file; none where memory runs out, which is a failure.
+    /// The packets of a file; none if memory runs out, which is a failure.
     pub fn packets<'b>(&mut self, bytes: &'b [u8]) -> Packets<'b> {
         match packets_of(self.alloc, bytes) {
             Ok(packets) => packets,
@@ -259,7 +259,7 @@ impl<'r> Fuzzer<'r> {
         }
     }
 
-    /// Runs an edit of these ranges: they are kept alone, or deleted.
+    /// Runs an edit of these ranges: only they are kept, or they are deleted.
     pub fn edit(
         &mut self,
         bytes: &[u8],
@@ -362,7 +362,7 @@ fn devices_of<'b>(alloc: Global, inputs: &[&'b [u8]]) -> Result<Vec<MemInput<'b>
     Ok(devices)
 }
 
-/// What a run leaves.
+/// The result of a run.
 fn outcome_of(
     alloc: Global,
     status: u8,

@@ -15,13 +15,13 @@ use Rattle.cap_io.specs.Sequence.{PacketOrder, InTurn, ByTime}
 use Rattle.cap_inputs.specs.Inputs.{InputView, IsInput, key_of}
 use Rattle.cap_inputs.specs.inside.Inputs.{IsLeast, IsOpen, IsReady, NoneEnded, NoneWaits, AllReady, waiting_count}
 
--- the schedule before anything is read: in turn it is the first input's turn; of a merge all are to
+-- the schedule before anything is read: in turn it is the first input's turn; in a merge all must
 -- be read
 abbrev pub first_schedule : PacketOrder → ℕ → Schedule
 first_schedule InTurn count = Turn 0
 first_schedule ByTime count = Merge 0 count
 
--- the schedule after an input was read on; where that failed nothing changes
+-- the schedule after an input was read on; if that failed nothing changes
 abbrev pub schedule_after : Schedule → ℕ → Result Bool Fault → Schedule
 schedule_after (Turn turn) i (Ok true) = Turn turn
 schedule_after (Turn turn) i (Ok false) = Turn (i + 1)
@@ -29,7 +29,7 @@ schedule_after (Turn turn) i (Err fault) = Turn turn
 schedule_after (Merge next last) i (Ok found) = Merge (i + 1) last
 schedule_after (Merge next last) i (Err fault) = Merge next last
 
--- the schedule after a packet of an input was decided: of a merge that input alone is to be read
+-- the schedule after a packet of an input was decided: in a merge only that input must be read
 -- on; in turn nothing changes
 abbrev pub schedule_after_decided : Schedule → ℕ → Schedule
 schedule_after_decided (Turn turn) i = Turn turn
@@ -41,7 +41,7 @@ IsTurnOf turn [] = Unit {0}
 IsTurnOf zero (h ∷ hs) = NoneEnded (h ∷ hs)
 IsTurnOf (suc turn) (h ∷ hs) = (h.source.phase ≡ Ended) × IsTurnOf turn hs
 
--- from `next` on and before `last` the inputs are to be read on; each other is ready
+-- from `next` on and before `last` the inputs must be read on; each other is ready
 abbrev pub AreToRead : ℕ → ℕ → List InputView → Type 0
 AreToRead next last [] = Unit {0}
 AreToRead zero zero (h ∷ hs) = AllReady (h ∷ hs)
@@ -65,8 +65,8 @@ abbrev pub waiting_total : List InputView → ℕ
 waiting_total [] = 0
 waiting_total (h ∷ hs) = waiting_count h.waiting + waiting_total hs
 
--- the queue of a merge has just the inputs whose packets wait, with their keys; the inputs that are
--- to be read on don't wait
+-- the queue of a merge has just the inputs whose packets wait, with their keys; the inputs that must
+-- be read on don't wait
 pub record IsQueued (cursors : List InputView) (next last : ℕ) (q : Queue) : Type 0 where
   pub entered : (key input : ℕ) → is_entered q.waiting key input ≡ waits_with cursors key input
   pub counted : length q.waiting ≡ waiting_total cursors
@@ -83,7 +83,7 @@ abbrev pub is_merge : Schedule → Bool
 is_merge (Turn turn) = false
 is_merge (Merge next last) = true
 
--- there is room for the entry of an input, and none of its own is there
+-- there is room for the entry of an input, and none of its own is in it
 abbrev pub HasPlaceFor : Queue → ℕ → Type 0
 HasPlaceFor q input = (length q.waiting < q.room) × All (λ w. w.input ≢ input) q.waiting
 
@@ -110,21 +110,21 @@ pub record IsAmong (cursors : List InputView) (i : ℕ) (waiting : Bool) : Type 
   pub among : IsInput cursors i cursor
   pub waits : cursor.waiting ≡ waiting
 
--- what is next where it is an input's turn; where all had theirs, nothing
+-- what is next if it is an input's turn; if all had theirs, nothing
 abbrev pub IsAtCursor : List InputView → ℕ → Next → Type 0
 IsAtCursor cursors turn (next.Read i) = (i ≡ turn) × IsAmong cursors i false
 IsAtCursor cursors turn (next.Decide i) = (i ≡ turn) × IsAmong cursors i true
 IsAtCursor cursors turn next.Finish = length cursors ≤ turn
 
--- this input is the next of those that are to be read on
+-- this input is the next of those that must be read on
 pub record IsReadOn (cursors : List InputView) (next last i : ℕ) : Type 0 where
   pub is : i ≡ next
   pub before : next < last
   pub cursor : InputView
   pub among : IsInput cursors i cursor
 
--- what is next of a merge: an input is read on, where some are to be; else the packet with the
--- least key is decided, where one waits; else nothing is
+-- what is next of a merge: an input is read on, where some must be; else the packet with the
+-- least key is decided, if one waits; else nothing is
 abbrev pub IsNextOfMerge : List InputView → ℕ → ℕ → Next → Type 0
 IsNextOfMerge cursors first last (next.Read i) = IsReadOn cursors first last i
 IsNextOfMerge cursors first last (next.Decide i) =

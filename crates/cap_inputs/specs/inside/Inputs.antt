@@ -36,12 +36,12 @@ first_declared_link (h ∷ hs) = option_or (first_link_of h.source.declared) (fi
 
 -- ---- what is next, part by part
 
--- where a packet waits, its key is over this
+-- if a packet waits, its key is over this
 abbrev pub KeysOver : ℕ → List InputView → Type 0
 KeysOver k [] = Unit {0}
 KeysOver k (h ∷ hs) = (h.waiting ≡ true → k < key_of h) × KeysOver k hs
 
--- where a packet waits, its key is at least this
+-- if a packet waits, its key is at least this
 abbrev pub KeysFrom : ℕ → List InputView → Type 0
 KeysFrom k [] = Unit {0}
 KeysFrom k (h ∷ hs) = (h.waiting ≡ true → k ≤ key_of h) × KeysFrom k hs
@@ -132,7 +132,7 @@ owed_by h = steps_owed h.waiting h.source.phase
 abbrev pub steps_left : InputsView → ℕ
 steps_left f = steps_left_in f.cursors
 
--- where the current unit of an input begins, or the next one where no packet is current; 0 of no
+-- if the current unit of an input begins, or the next one if no packet is current; 0 of no
 -- input
 abbrev pub offset_of : Option InputView → ℕ
 offset_of o = unwrap_or (option_map (λ (h : InputView). h.source.offset) o) 0

@@ -1,4 +1,4 @@
--- How a unit is read: which bytes came or are missing, and what a record or block leaves.
+-- How a unit is read: which bytes came or are missing, and the result of a record or block.
 use Rattle.std.specs.Prelude.{◌≡◌, ℕ, ◌+◌, ◌^◌, ◌<◌, ◌≤◌, ◌⊎◌, Bool, true, false, List, [], ◌∷◌, ◌++◌, length, take, drop, Option, None, Some, Result, Ok, Err, IfOk, IfErr, is_some, IsTrue, OnOk, OnErr}
 use Rattle.std.specs.List.{slice_get}
 use Rattle.cap_octet.specs.Packet.{Captured}
@@ -25,7 +25,7 @@ use Rattle.cap_io.specs.Capture.{Declared, Nothing, PcapFile, PcapngFile, IsUnit
 use Rattle.cap_io.specs.Reading.{most_in_unit, read_failures, IsTaken, TakesMemory, held_length, IsReason, declared_by, packet_in_unit}
 
 -- What reading a unit, or what follows its first `front` bytes, did to a device: with them `count`
--- bytes came, or at most `most` on an error. A failed read is told exactly where the device failed
+-- bytes came, or at most `most` on an error. A failed read is reported exactly if the device failed
 -- in this call.
 pub record Moves {I X : Type 0} (device : Ghosts I) (old new : I) (front : ℕ) (count : X → ℕ)
     (most : ℕ) (r : Result X Fault) : Type 0 where
@@ -110,13 +110,13 @@ HasInterface (PcapFile head) spans = Unit {0}
 HasInterface (PcapngFile first section) spans =
     is_some (slice_get section.interfaces spans.interface) ≡ true
 
--- where a unit has a packet, its interface is known
+-- if a unit has a packet, its interface is known
 abbrev pub HasInterfaceIfAny : Declared → PacketSpans → NextUnit → Type 0
 HasInterfaceIfAny declared spans (next_unit.Other size) = Unit {0}
 HasInterfaceIfAny declared spans next_unit.Packet = HasInterface declared spans
 HasInterfaceIfAny declared spans next_unit.End = Unit {0}
 
--- where the packet of a record lies, which has no options
+-- the place where the packet of a record lies, which has no options
 abbrev pub record_spans : RecordHead → PacketSpans
 record_spans found = record {
   size = 16 + found.captured;
@@ -168,7 +168,7 @@ pub record PacketCame (declared : Declared) (unread buffer : List ℕ) (spans : 
   pub same : declared' ≡ declared
   pub splits : unread ≡ take spans.size buffer ++ unread'
 
--- nothing is left where a unit could begin: the clean end
+-- nothing is left at a place where a unit could begin: the clean end
 pub record EndCame (declared : Declared) (unread : List ℕ) (declared' : Declared)
     (unread' : List ℕ) : Type 0 where
   pub ends : front_of declared [] ≡ NoUnit None
@@ -206,15 +206,15 @@ section_before (state.Pcap head) interfaces = None
 section_before (state.Pcapng order first) interfaces =
     Some (record { order = order; interfaces = interfaces })
 
--- these bytes begin a block: a section header where nothing was read, and any block after a
+-- these bytes begin a block: a section header if nothing was read, and any block after a
 -- section
 abbrev pub BeginsBlock : FileState → List ℕ → Type 0
 BeginsBlock state.Unknown front = is_section front ≡ true
 BeginsBlock (state.Pcap head) front = ⊥
 BeginsBlock (state.Pcapng order first) front = Unit {0}
 
--- What reading a unit whose first bytes had come did: to the device, to the buffer, to where a
--- packet lies in it, and to what is known of the file. A fault leaves what is known.
+-- What reading a unit whose first bytes had come did: to the device, to the buffer, to the place of a
+-- packet in it, and to what is known of the file. A fault doesn't change what is known.
 pub record ReadsUnit {I A : Type 0} (device : Ghosts I) (old : UnitReader I A) (front : List ℕ)
     (r : Result NextUnit Fault) (new : UnitReader I A) : Type 0 where
   pub moves : Moves device old.input new.input (length front) (unit_size new.spans) most_in_unit r
@@ -230,7 +230,7 @@ pub record ReadsUnit {I A : Type 0} (device : Ghosts I) (old : UnitReader I A) (
       → NoUnitCame (declared_by old.file old.table) (front ++ device.unread old.input)
       (device.unread new.input) fault)
   pub kept : OnErr r ((new.file ≡ old.file) × (new.table ≡ old.table))
-  -- the buffer has room for the unit, but for the file header of pcap, and never less than before;
+  -- the buffer has room for the unit, except the file header of pcap, and never less than before;
   -- it has no more than a unit may need, if it had no more before
   pub grown : length old.buffer.items ≤ length new.buffer.items
   pub bounded : length old.buffer.items ≤ most_in_unit → length new.buffer.items ≤ most_in_unit

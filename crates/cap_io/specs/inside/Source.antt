@@ -14,14 +14,14 @@ use Rattle.cap_io.specs.Reading.{most_in_unit, read_failures, declared_by}
 use Rattle.cap_io.specs.inside.Reading.{HasInterface, FitsBuffer, IsConsistent}
 use Rattle.cap_io.specs.Source.{SourceView, block_at, SkipsUnits, FindsPacket, FindsEnd, IsBroken, end_offset, Reading, Ended}
 
--- where a packet is current, its unit is in the buffer
+-- if a packet is current, its unit is in the buffer
 abbrev pub HoldsIfAny : Stage → PacketSpans → List ℕ → Type 0
 HoldsIfAny stage.Between spans buffer = Unit {0}
 HoldsIfAny stage.Current spans buffer = FitsBuffer spans buffer
 HoldsIfAny stage.Ended spans buffer = Unit {0}
 HoldsIfAny (stage.Failed fault) spans buffer = Unit {0}
 
--- where a packet is current, its interface is known
+-- if a packet is current, its interface is known
 abbrev pub HasInterfaceIfCurrent : Stage → PacketSpans → Declared → Type 0
 HasInterfaceIfCurrent stage.Between spans declared = Unit {0}
 HasInterfaceIfCurrent stage.Current spans declared = HasInterface declared spans
@@ -44,8 +44,8 @@ Continues old (Ok true) new = FindsPacket old new
 Continues old (Ok false) new = FindsEnd old new
 Continues old (Err fault) new = IsBroken old new fault
 
--- a source that has left its current unit, if there was one: its offset is where the next one
--- begins
+-- a source that has left its current unit, if there was one: its offset is the beginning of the next
+-- one
 abbrev pub past_unit : SourceView → SourceView
 past_unit s = record {
   phase = s.phase;

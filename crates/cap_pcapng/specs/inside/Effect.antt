@@ -1,4 +1,4 @@
--- What only the crate's own functions and proofs need beside specs/Effect.
+-- What only the crate's own functions and proofs need next to specs/Effect.
 use Rattle.std.specs.Prelude.{◌≡◌, ℕ, ◌+◌, ◌-◌, ◌^◌, ◌<◌, ◌≤◌, ◌⊎◌, List, length, take, drop, None, Some, true, is_some, if◌then◌else◌, nat_lt}
 use Rattle.std.specs.List.{slice_get}
 use Rattle.cap_octet.specs.Checks.{first_failing}
@@ -11,9 +11,9 @@ use Rattle.cap_pcapng.specs.Interface.{Described, most_interfaces}
 use Rattle.cap_pcapng.specs.Unit.{checks_among, packet_by}
 use Rattle.cap_pcapng.specs.declared.frames.Frame.{Frame}
 use Rattle.cap_pcapng.specs.declared.effect.PacketSpans.{PacketSpans}
-use Rattle.cap_pcapng.specs.Effect.{is_interface, held_packet, IsBlockFault}
+use Rattle.cap_pcapng.specs.Effect.{is_interface, held_packet, IsBlockFault, LieAsSaid}
 
--- Where the packet of a block of this size lies: its data begin at `start` in the block and are the
+-- The place of the packet of a block of this size: its data begin at `start` in the block and are the
 -- first bytes of what is left of the body (`rest`), in which its options lie too.
 pub record PacketFound (order : Order) (interfaces : List Described) (parts : Parts)
     (start size : ℕ) (rest : List ℕ) (spans : PacketSpans) : Type 0 where
@@ -29,6 +29,7 @@ pub record PacketFound (order : Order) (interfaces : List Described) (parts : Pa
   pub following : spans.bytes.start ≤ spans.options.start
   pub options : spans.options.start - spans.bytes.start + spans.options.length ≤ length rest
   pub time : spans.time < 2 ^ 63
+  pub lies : LieAsSaid parts spans
 
 -- a block that fails no check after those of its frame describes an interface
 pub record AddsInterface (frame : Frame) (interfaces : List Described)
@@ -44,7 +45,7 @@ IsEntryFault frame interfaces block fault =
     IsBlockFault frame interfaces block fault
     ⊎ ((fault ≡ NoMemory) × AddsInterface frame interfaces block)
 
--- The fault to report of a block whose own checks gave this one, after these interfaces: where
+-- The fault to report of a block whose own checks gave this one, after these interfaces: if
 -- there are as many as may be, that comes before a fault of options.
 abbrev pub fault_among : List Described → Fault → Fault
 fault_among interfaces BadOption =

@@ -10,6 +10,6 @@ use Rattle.cap_pcapng.specs.InterfaceOptions.{list_checks}
 abbrev pub value_for : ℕ → CodedValue → Option (List ℕ)
 value_for code option = if option.code == code then Some option.value else None
 
--- why a list of options can't be read: the first of their checks that fails; None where all pass
+-- why a list of options can't be read: the first of their checks that fails; None if all pass
 abbrev pub options_fault : Order → List ℕ → Option Fault
 options_fault order text = first_failing (list_checks [] (options_in order text))

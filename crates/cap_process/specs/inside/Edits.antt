@@ -5,7 +5,7 @@ use Rattle.cap_process.specs.Verdict.{Edit, EditRule}
 use Rattle.cap_process.specs.Outcome.{AsReports, no_progress, apply_events}
 use Rattle.cap_process.specs.Edits.{packets_selected, unique_after, coming}
 
--- where nothing is refused in writing, what passes of fewer than 2^63 packets is what is unique of
+-- if nothing is refused in writing, what passes of fewer than 2^63 packets is what is unique of
 -- what is selected
 abbrev pub PassesUnique : Type 0
 PassesUnique =

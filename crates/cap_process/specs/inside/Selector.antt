@@ -25,7 +25,7 @@ abbrev pub count_limit : Policy → Option ℕ
 count_limit (Filter rule count) = count
 count_limit policy = None
 
--- a verdict of the code, with the packet as it is to be written where it passes
+-- a verdict of the code, with the packet as it must be written if it passes
 abbrev pub verdict_of : code.Verdict → Captured → Verdict
 verdict_of code_verdict.Pass p = Pass p
 verdict_of code_verdict.PassLast p = PassLast p
@@ -37,7 +37,7 @@ verdict_if p true = PassLast p
 verdict_if p false = Pass p
 
 -- What a call returns of a packet with this judgement: the verdict, with the packet as it passes
--- and the state after it; or its refusal, where nothing is said of the state.
+-- and the state after it; or its refusal, if nothing is said of the state.
 abbrev pub IsVerdict : Judgement → Result code.Verdict Fault → Captured → SelectorState → Type 0
 IsVerdict j (Ok v) p state = (verdict_of v p ≡ j.verdict) × (state ≡ j.state)
 IsVerdict j (Err fault) p state = j.verdict ≡ Refuse fault
@@ -50,7 +50,7 @@ ReturnsVerdict count j (Ok false) p state = (j.verdict ≡ judged.Skip) × (j.st
 ReturnsVerdict count j (Ok true) p state = j ≡ counts count state p
 ReturnsVerdict count j (Err fault) p state = j.verdict ≡ Refuse fault
 
--- there is a window for n packets in a row, of n - 1 marks at most, where one is asked; else none
+-- there is a window for n packets in a row, of n - 1 marks at most, if one is asked; else none
 abbrev pub IsWindowFor : Option ℕ → Option WindowView → Type 0
 IsWindowFor None None = Unit {0}
 IsWindowFor None (Some w) = ⊥
@@ -67,11 +67,11 @@ GrowsByOne old new =
     (new.count ≤ old.count + 1) × (new.data_size ≤ old.data_size + 2 ^ 32)
     × (new.captured_size ≤ old.captured_size + most_in_unit)
 
--- the state of a selector that counts anew
+-- the state of a selector that counts again
 abbrev pub with_empty_tally : SelectorState → SelectorState
 with_empty_tally s = record { passed = s.passed; window = s.window; tally = nothing_counted }
 
--- what was counted is taken, and the tally begins anew, where reports are asked; else there is
+-- what was counted is taken, and the tally begins again, where reports are asked; else there is
 -- none, and nothing changes
 abbrev pub TakesTally : Bool → PolicyState → Option Tally → PolicyState → Type 0
 TakesTally false old r new = (r ≡ None) × (new ≡ old)

@@ -61,7 +61,7 @@ impl Course {
         );
     }
 
-    /// How many bytes the call of this turn is for, where there is room for that many.
+    /// How many bytes the call of this turn is for, if there is room for that many.
     pub fn size(&self, turn: usize, room: usize) -> usize
         ensures { result ≤ room }
     {
@@ -86,8 +86,8 @@ pub fn drawn_length(rt: &HostRuntime) -> Result<usize> {
 /// Capacity, piece, failing calls and the size of large ones.
 pub type LongCourse = (usize, usize, usize, usize);
 
-/// Long courses. In turn: every call goes through; large calls go past the buffer; small calls
-/// alone fill the program's buffer.
+/// Long courses. In turn: every call goes through; large calls go past the buffer; only small
+/// calls fill the program's buffer.
 pub const LONG: [LongCourse; 3] = [
     (0, 4096, 5, LARGEST),
     (8192, 1000, 7, LARGEST),

@@ -53,7 +53,7 @@ impl Counts {
 }
 
 /// What a call moves: at most `piece` bytes. Each call whose number is a multiple of `failing`
-/// fails by this kind of error, none where that is 0.
+/// fails by this kind of error, none if that is 0.
 #[derive(Clone, Copy)]
 pub struct Manner {
     pub piece: usize,

@@ -1,4 +1,4 @@
-//! Reads of the device over std's readers, each beside what the reader did in that call.
+//! Reads of the device over std's readers, each next to what the reader did in that call.
 use crate::devices::courses::{CAPACITIES, Course, FAILING, LARGEST, LONG, PIECES, drawn_length};
 use crate::devices::marked::{Counts, MarkedReader, are_marks};
 use cap_octet::{DeviceFault, Input, StdInput, read_full};
@@ -22,7 +22,7 @@ fn input_of<'a>(
     Ok(StdInput::new(buffered))
 }
 
-/// Whether what a read returned is what the reader did in that call: it was called where the device
+/// Whether what a read returned is what the reader did in that call: it was called once the device
 /// had given all of its bytes, and then once.
 fn is_the_readers(
     returned: Result<usize, DeviceFault>,
@@ -69,7 +69,7 @@ fn read_once(
     Some((returned.unwrap_or(0), returned == Ok(0)))
 }
 
-/// Whether these are zeros alone.
+/// Whether these are only zeros.
 fn are_zeros(bytes: &[u8]) -> bool {
     for byte in bytes {
         if *byte != 0 {
@@ -85,7 +85,7 @@ fn is_filled(buf: &[u8], given: usize, count: usize) -> bool {
 }
 
 /// A read that fills a buffer, if it returned what the reader did. A buffer is full but at the end,
-/// or where the reader failed: then it has all that the reader gave.
+/// or if the reader failed: then it has all that the reader gave.
 fn fill_once(
     input: &mut StdInput<MarkedReader<'_>>,
     counts: &Cell<Counts>,

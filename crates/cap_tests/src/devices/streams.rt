@@ -1,5 +1,5 @@
-//! What std's readers and writers give and take through capkit's devices, a few bytes a call and
-//! where they fail.
+//! What std's readers and writers give and take through capkit's devices, a few bytes per call and
+//! the places of failures.
 use cap_octet::{DeviceFault, Input, Output, StdInput, StdOutput, read_full, write_all};
 use std::alloc::Global;
 use std::io::{BufReader, BufWriter, Cursor, Error, ErrorKind, Read, Result, Write};
@@ -88,7 +88,7 @@ impl Write for Failing {
     }
 }
 
-/// Of several causes the last one is known.
+/// For several causes the last one is known.
 #[test]
 fn the_last_cause_is_kept(rt: HostRuntime) {
     for (writes, wanted) in [(1, ErrorKind::StorageFull), (2, ErrorKind::BrokenPipe)] {

@@ -1,5 +1,5 @@
 //! Times as printed dates and as read. The values are from Python's `datetime`.
-use cap_octet::{date_bytes, read_duration, read_timestamp};
+use cap_octet::{date_bytes, span_of, time_of};
 
 /// Times, and the dates that are printed of them.
 const PRINTED: &[(u64, &str)] = &[
@@ -26,7 +26,7 @@ fn dates_are_printed(rt: HostRuntime) {
     }
 }
 
-/// Texts, the times that they are as dates or seconds, and how many nanoseconds as seconds alone.
+/// Texts, the times that they are as dates or seconds, and how many nanoseconds only as seconds.
 const READ: &[(&str, Option<u64>, Option<u64>)] = &[
     ("1970-01-01T00:00:00Z", Some(0), None),
     ("1970-01-01T00:00:00.000000001Z", Some(1), None),
@@ -131,9 +131,6 @@ const READ: &[(&str, Option<u64>, Option<u64>)] = &[
 #[test]
 fn texts_are_read(rt: HostRuntime) {
     for (text, time, span) in READ {
-        assert!(rt;
-            read_timestamp(text) == *time && read_duration(text) == *span,
-            "{text}"
-        );
+        assert!(rt; time_of(text) == *time && span_of(text) == *span, "{text}");
     }
 }

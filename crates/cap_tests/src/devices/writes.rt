@@ -1,4 +1,4 @@
-//! Writes of the device over std's writers, each beside what the writer did in that call.
+//! Writes of the device over std's writers, each next to what the writer did in that call.
 use crate::devices::courses::{CAPACITIES, Course, FAILING, LARGEST, LONG, PIECES, drawn_length};
 use crate::devices::marked::{Counts, MarkedWriter, write_marks};
 use cap_octet::{DeviceFault, Output, StdOutput, write_all};

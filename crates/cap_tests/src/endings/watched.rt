@@ -1,4 +1,4 @@
-//! An input that is watched from outside, also where it is gone.
+//! An input that is watched from outside, even once it is gone.
 ghost use Rattle.std.specs.Prelude.{true};
 ghost use Rattle.std.proofs.Common.{rules};
 

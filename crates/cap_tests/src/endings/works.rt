@@ -9,7 +9,7 @@ use std::alloc::{AllocError, Global};
 use std::cell::Cell;
 use std::test::Fail;
 
-/// An allocator that refuses what it is told to.
+/// An allocator that refuses what a test asks it to.
 pub type Memory = Trial<Global>;
 
 /// The names of inputs and of an output.
@@ -196,7 +196,7 @@ fn command_of(memory: &Memory, task: Task) -> Result<Command<&Memory>, AllocErro
     })
 }
 
-/// Two names and that of an output; one and that of an output where the second file is empty.
+/// Two names and that of an output; one and that of an output if the second file is empty.
 fn names_of<'m>(memory: &'m Memory, files: &[Vec<u8>; 2]) -> Result<Names<'m>, AllocError> {
     let mut names = Vec::new(memory);
     names.push(String::from_str(memory, "a")?)?;
@@ -207,7 +207,7 @@ fn names_of<'m>(memory: &'m Memory, files: &[Vec<u8>; 2]) -> Result<Names<'m>, A
     Ok(names)
 }
 
-/// Inputs over the files, the second one where it isn't empty.
+/// Inputs over the files, the second one if it isn't empty.
 fn inputs_of<'d, 'm>(memory: &'m Memory, place: Place<'d>) -> Result<Inputs<'d, 'm>, AllocError> {
     let mut inputs = Vec::new(memory);
     let (files, asked) = (place.files, place.asked);

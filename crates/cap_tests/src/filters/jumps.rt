@@ -1,4 +1,4 @@
-//! Where the program of an expression has jumps (`ja`).
+//! The place where the program of an expression has jumps (`ja`).
 
 use cap_command::{Command, Compile};
 use cap_octet::{Link, MemInput, MemOutput};
@@ -91,8 +91,8 @@ fn bound(for_a_test: usize, tests: usize, nodes: usize) -> usize {
 }
 
 /// The jumps of a program are needed. With `times` comparisons after `ip` it is no longer
-/// than its bound: 2, and 6 for each test and node; where 2, 4 for each test and 6 for each node are
-/// at most 256, no longer than that, and without `ja`.
+/// than its bound: 2, and 6 for each test and node; where 2, 4 for each test and 6 for each node
+/// are at most 256, no longer than that, and without `ja`.
 fn meets_bounds(insns: &[Insn], times: usize) -> bool {
     let (tests, nodes) = (times.saturating_add(1), times.saturating_mul(2));
     let short = bound(4, tests, nodes);
@@ -101,7 +101,7 @@ fn meets_bounds(insns: &[Insn], times: usize) -> bool {
         && (short > 256 || count_jumps(insns) == 0 && insns.len() <= short)
 }
 
-/// `ip or len = 1` and so on, or with another number of the packet in place of the length, each time
+/// `ip or len = 1` and so on, or with another number of the packet instead of the length, each time
 /// compared with a value that is greater by `step`, 0 to 200 times. Returns how many jumps the
 /// longest program has.
 fn longest_has(alloc: Global, number: &str, step: usize) -> Result<usize, Fail> {
@@ -119,6 +119,13 @@ fn longest_has(alloc: Global, number: &str, step: usize) -> Result<usize, Fail> 
     Ok(jumps)
 }
 
+/// The same length is asked for once, whatever the text.
+#[test]
+fn one_length_again_and_again(rt: HostRuntime) -> Result<(), Fail> {
+    assert!(rt; longest_has(rt.alloc(), "len", 0)? == 0);
+    Ok(())
+}
+
 /// Whether two bytes have one value is asked once, whatever the text.
 #[test]
 fn one_value_again_and_again(rt: HostRuntime) -> Result<(), Fail> {
@@ -126,7 +133,6 @@ fn one_value_again_and_again(rt: HostRuntime) -> Result<(), Fail> {
     Ok(())
 }
 
-/// What is known of the length isn't kept: it is asked for each time.
 #[test]
 fn longer_and_longer(rt: HostRuntime) -> Result<(), Fail> {
     assert!(rt; longest_has(rt.alloc(), "len", 2)? > 0);

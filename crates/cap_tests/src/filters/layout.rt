@@ -1,4 +1,4 @@
-//! Code that is laid out where memory is refused.
+//! Code that is laid out if memory is refused.
 
 use cap_trial::Trial;
 use flt_bpf::Wide;

@@ -4,7 +4,7 @@ use flt_words::{Comparison, ExprFault, Join, Operator, Protocol, Token, TokenKin
 use std::alloc::Global;
 use std::test::Fail;
 
-/// What a token is, and its numbers: as much as tells those of the tables apart.
+/// What a token is, and its numbers: enough to distinguish those of the tables.
 type Shown = (&'static str, u128, u128);
 
 /// What a token is, in short.

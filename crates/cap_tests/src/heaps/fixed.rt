@@ -20,7 +20,7 @@ pub(crate) enum Work<'t> {
     Print(&'t str),
 }
 
-/// What a run leaves besides what it wrote.
+/// The result of a run besides what it wrote.
 #[derive(Drop)]
 pub(crate) struct Outcome {
     pub(crate) status: u8,

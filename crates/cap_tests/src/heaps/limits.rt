@@ -1,9 +1,9 @@
 //! In how small a heap commands end well.
 //!
 //! A heap gives memory in pieces of 16 bytes. A job takes, from the heap, its names (32 bytes and
-//! the name each), its inputs (24 bytes each), some 200 bytes of state for each input, in a list
+//! the name each), its inputs (24 bytes each), about 200 bytes of state for each input, in a list
 //! that begins with room for 4 and doubles, and the longest unit of each input, or 256 bytes. The
-//! sums below were also found by looking for the least heap; the heaps of the tests leave room for
+//! sums below were also found by looking for the least heap; the heaps of the tests have room for
 //! a few fields.
 
 use crate::heaps::captures::{capture, longest_blocks};
@@ -14,7 +14,7 @@ use std::test::Fail;
 /// its resolution, and the blocks.
 const MERGED: usize = 28 + 32 + 32 * 1_048_576;
 
-/// Two current blocks are 2 MiB, and a list that doubles has its earlier half beside it.
+/// Two current blocks are 2 MiB, and a list that doubles has its earlier half next to it.
 #[test]
 fn a_merge_holds_one_block_of_each_input(rt: HostRuntime) -> Result<(), Fail> {
     let bytes = longest_blocks(rt.alloc(), 16)?;

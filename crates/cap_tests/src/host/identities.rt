@@ -10,7 +10,7 @@ use std::alloc::Global;
 use std::os::unix::fs::symlink;
 use std::{fs, io};
 
-/// Whether the output of these words is a file that they read too. None if they are no line.
+/// Whether the output of these words is a file that they read too. None if they aren't a line.
 fn overwrites(alloc: Global, files: &impl Identify, words: &str) -> Option<bool> {
     let line = line_of(alloc, words)?;
     Some(overwrites_input(files, &line))
@@ -45,7 +45,7 @@ const FOLDER: [(&str, bool); 16] = [
     ("edit - ./-", false),
 ];
 
-/// Gives the file `in` a link and a second name, and puts others beside it.
+/// Gives the file `in` a link and a second name, and puts others next to it.
 fn enter_with_links(rt: &HostRuntime) -> io::Result<()> {
     enter(rt, "known")?;
     symlink(rt, "in", "link")?;
@@ -55,7 +55,7 @@ fn enter_with_links(rt: &HostRuntime) -> io::Result<()> {
 }
 
 /// A file is known again through a path that goes round, a link and a second name; others and new
-/// ones are no inputs.
+/// ones aren't inputs.
 #[test]
 fn one_file_under_two_names_is_known(rt: HostRuntime) {
     assert!(rt; enter_with_links(&rt).is_ok());
@@ -145,7 +145,7 @@ fn devices_are_waited_for(rt: HostRuntime) {
 }
 
 /// Whether the devices of these files are two, and a file of the other's device with the inode of
-/// the first would be a third. None where one is no plain file.
+/// the first would be a third. None if one isn't a plain file.
 fn are_told_apart(rt: &HostRuntime, name: &str, other: &str) -> Option<bool> {
     let file = rt.identity_of(name)?;
     let other = rt.identity_of(other)?;

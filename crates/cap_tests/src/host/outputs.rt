@@ -21,7 +21,7 @@ fn is_full(failure: Option<Error>) -> bool {
     matches!(failure, Some(error) if error.kind() == ErrorKind::StorageFull)
 }
 
-/// Whether a run of this status writes what is buffered at its end, and says so where it can't.
+/// Whether a run of this status writes what is buffered at its end, and says so if it can't.
 fn makes_last_write(rt: &HostRuntime, status: u8) -> io::Result<bool>
     requires { status ≤ 2 }
 {
@@ -37,7 +37,7 @@ fn makes_last_write(rt: &HostRuntime, status: u8) -> io::Result<bool>
     Ok(is_buffered && is_written && matches!(ended, Err(Stop::WriteFailed("out"))))
 }
 
-/// What is buffered at the end of a run is written, whatever its status; and where it can't be, the
+/// What is buffered at the end of a run is written, whatever its status; and if it can't be, the
 /// run says so.
 #[test]
 fn last_writes_are_made(rt: HostRuntime) {
@@ -62,8 +62,8 @@ fn is_written_in_time(rt: &HostRuntime, may_wait: bool) -> bool {
     is_buffered && is_awaited && is_failed && is_told && is_full(writer.flush().err())
 }
 
-/// Where a read may wait, an output is one that is written before each. What can't be written then
-/// is told, and stays.
+/// If a read may wait, an output is one that is written before each. What can't be written then
+/// is reported, and stays.
 #[test]
 fn failures_before_reads_are_told(rt: HostRuntime) {
     assert!(rt; is_written_in_time(&rt, true));
@@ -118,7 +118,7 @@ fn has_buffer(rt: &HostRuntime, row: Buffer) -> bool {
     }
 }
 
-/// A terminal gets each write at once, under a name too. `/dev/ptmx` is one where the machine has
+/// A terminal gets each write at once, under a name too. `/dev/ptmx` is one if the machine has
 /// it.
 #[test]
 fn terminals_are_known(rt: HostRuntime) {

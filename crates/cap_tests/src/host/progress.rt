@@ -42,7 +42,7 @@ fn shows(alloc: Global, progress: &Progress<'_>, row: Read) -> bool {
     is_shown && streams.have("", erasure)
 }
 
-/// The line is shown from second 2 on, once a second, and erased where it stands.
+/// The line is shown from second 2 on, once a second, and erased in place.
 #[test]
 fn progress_is_shown_once_a_second(rt: HostRuntime) {
     let known = Progress::since(&rt, None, 209_715_200);
@@ -61,7 +61,7 @@ const SIZES: [(&str, u64); 4] = [
     ("none in", 0),
 ];
 
-/// Whether inputs have this size, and progress over them is shown on a terminal alone.
+/// Whether inputs have this size, and progress over them is shown only on a terminal.
 fn has_size(rt: &HostRuntime, inputs: &str, size: u64) -> Result<bool, AllocError> {
     let names = words_of(rt.alloc(), inputs)?;
     let counts = Progress::new(rt, names.as_slice(), "new").is_counting();
@@ -76,7 +76,7 @@ const TERMINALS: [(bool, Option<&str>, bool); 4] = [
     (false, Some("xterm"), false),
 ];
 
-/// What the system tells of a process, and whether that is in the foreground of its terminal.
+/// What the system shows of a process, and whether that is in the foreground of its terminal.
 const STATUSES: [(&str, bool); 8] = [
     ("7 (capkit) R 6 7 6 34816 7 4194304 96", true),
     ("7 (capkit) R 6 7 6 34816 6 4194304 96", false),
@@ -88,7 +88,7 @@ const STATUSES: [(&str, bool); 8] = [
     ("", true),
 ];
 
-/// A process is in the foreground where its group has the terminal, whatever its name is.
+/// A process is in the foreground if its group has the terminal, whatever its name is.
 #[test]
 fn the_foreground_is_known(rt: HostRuntime) {
     for (status, wanted) in STATUSES {
@@ -96,7 +96,7 @@ fn the_foreground_is_known(rt: HostRuntime) {
     }
 }
 
-/// Progress is shown on a terminal that can be written over, where the output is a file, be it a
+/// Progress is shown on a terminal that can be written over, if the output is a file, be it a
 /// new one. The size of all inputs is known if they are plain files.
 #[test]
 fn progress_is_of_plain_files(rt: HostRuntime) {
@@ -158,8 +158,8 @@ fn counts_up_to_failed_write(rt: &HostRuntime) -> bool {
     is_begun && is_fault && is_erased && is_counted
 }
 
-/// A run counts what it reads, writes out what is waited for before it reads on, and erases the line
-/// that stands.
+/// A run counts what it reads, writes out what is waited for before it reads on, and erases the
+/// line that stands.
 #[test]
 fn runs_count_up_to_failed_writes(rt: HostRuntime) {
     assert!(rt; enter(&rt, "counted").is_ok());

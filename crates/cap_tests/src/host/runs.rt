@@ -10,7 +10,7 @@ use std::alloc::{AllocError, Global};
 use std::{fs, io};
 
 /// A run: its words, whether the capture is in `out` before, its status, and how many of the first
-/// bytes of `in` are in `out` after it; None where no `out` is there.
+/// bytes of `in` are in `out` after it; None if no `out` is present.
 type Run = (&'static str, bool, u8, Option<usize>);
 
 const RUNS: [Run; 17] = [
@@ -30,14 +30,14 @@ const RUNS: [Run; 17] = [
     ("print --code none -w out in", false, 1, None),
     ("print --code / -w out in", false, 1, None),
     ("edit none out", false, 1, None),
-    // An output in a folder that isn't there can't be created. A new one is there after a refusal
+    // An output in a folder that isn't there can't be created. A new one is present after a refusal
     // too. One that takes nothing is a fault, though the job reaches its end.
     ("edit in none/out", false, 1, None),
     ("print -w out in port", false, 2, Some(0)),
     ("edit in /dev/null", false, 0, None),
     ("edit in /dev/full", false, 1, None),
-    // A refused expression or listing leaves an output that was there. After another run only what
-    // it wrote is there, be it nothing.
+    // A refused expression or listing keeps an existing output. After another run only what
+    // it wrote is present, be it nothing.
     ("print -w out in port", true, 2, Some(84)),
     ("print --code in -w out in", true, 2, Some(84)),
     ("print --code /dev/null -w out in", true, 2, Some(84)),
@@ -111,7 +111,7 @@ fn is_read_as_listing(rt: &HostRuntime) -> io::Result<bool> {
     Ok(bytes.len() == LONG && bytes.get(..1_048_577) == Some(listing.as_slice()))
 }
 
-/// More than 1 MiB goes through the readers and writers of std unchanged. Of a listing one byte
+/// More than 1 MiB goes through the readers and writers of std unchanged. For a listing one byte
 /// more than it may have is read.
 #[test]
 fn long_files_are_copied(rt: HostRuntime) {
@@ -121,7 +121,7 @@ fn long_files_are_copied(rt: HostRuntime) {
     assert!(rt; leave(&rt).is_ok());
 }
 
-/// The words of a merge of 256 files into `out`, the second of which is no capture.
+/// The words of a merge of 256 files into `out`, the second of which isn't a capture.
 fn longest_merge(alloc: Global) -> Result<String, AllocError> {
     let mut words = String::from_str(alloc, "merge -a -F pcap -w out in")?;
     for _ in 0..255 {

@@ -87,7 +87,7 @@ impl Print for Streams {
         }
     }
 
-    /// Nothing is written so.
+    /// Nothing is written like this.
     fn println<D: Display + Drop>(&self, _value: D) -> io::Result<()> {
         Err(Error::from(ErrorKind::Unsupported))
     }

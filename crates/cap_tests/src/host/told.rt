@@ -1,4 +1,4 @@
-//! What is told to a user, and how.
+//! What is reported to a user, and how.
 
 use super::folder::words_of;
 use super::streams::{Streams, Written};
@@ -15,10 +15,11 @@ const FULL: Option<ErrorKind> = Some(ErrorKind::StorageFull);
 
 const CLOSED: Option<ErrorKind> = Some(ErrorKind::BrokenPipe);
 
-/// What a run tells of a name with a control character.
+/// What a run shows of a name with a control character.
 const TOLD: &str = "capkit: a\\x1b: truncated\n";
 
-/// The end of a run: why its writes failed and its last write did, its status, and what is told.
+/// The end of a run: why its writes failed and its last write did, its status, and what is
+/// reported.
 type Ending = (
     (Option<ErrorKind>, Option<ErrorKind>),
     Option<u8>,
@@ -44,7 +45,7 @@ fn is_ended(alloc: Global, row: Ending) -> bool {
     ended.ok() == status && is_told && errors.calls == usize::from(!told.is_empty())
 }
 
-/// The message of a run is told, but where its reader went away, with the numbers of its control
+/// The message of a run is reported, but if its reader went away, with the numbers of its control
 /// characters. No failed write is a success.
 #[test]
 fn messages_of_runs_are_told(rt: HostRuntime) {
@@ -54,10 +55,12 @@ fn messages_of_runs_are_told(rt: HostRuntime) {
 }
 
 /// Texts, and how they are shown.
-const SHOWN: [(&str, &str); 3] = [
+const SHOWN: [(&str, &str); 5] = [
     ("caf\u{e9} 1.pcap", "caf\u{e9} 1.pcap"),
     ("a\nb\x1b[31m", "a\\x0ab\\x1b[31m"),
     ("\x7f\u{9b}", "\\x7f\\x9b"),
+    ("a\u{202e}b\u{2066}\u{61c}", "a\\u{202e}b\\u{2066}\\u{61c}"),
+    ("\u{2027}\u{202f}\u{200d}", "\u{2027}\u{202f}\u{200d}"),
 ];
 
 /// Whether a text is shown so.
@@ -97,13 +100,14 @@ fn bytes_of_no_text_are_shown(rt: HostRuntime) {
     }
 }
 
-/// Why the words are no line. None where they are one, or memory ran out.
+/// Why the words aren't a line. None if they are one, or memory ran out.
 fn usage_of(alloc: Global, words: &str) -> Option<Usage> {
     let words = words_of(alloc, words).ok()?;
     command_of(alloc, words).err()
 }
 
-/// Whether clap's refusal of the words is told: why in the first line, and with a tip or without.
+/// Whether clap's refusal of the words is reported: why in the first line, and with a tip or
+/// without.
 fn is_refused(alloc: Global, words: &str, has_tip: bool) -> bool {
     let Some(Usage::Refused(error)) = usage_of(alloc, words) else {
         return false;
@@ -122,12 +126,12 @@ fn is_refused(alloc: Global, words: &str, has_tip: bool) -> bool {
 /// Advice that can be followed stays.
 #[test]
 fn advice_that_fails_is_left_out(rt: HostRuntime) {
-    assert!(rt; is_refused(rt.alloc(), "print -q in", false));
+    assert!(rt; is_refused(rt.alloc(), "print -K in", false));
     assert!(rt; is_refused(rt.alloc(), "edit --latter 5 in out", true));
 }
 
 /// Words of other tools, the option of them that clap doesn't know, and what does the same here.
-const HABITS: [(&str, &str, &str); 10] = [
+const HABITS: [(&str, &str, &str); 16] = [
     ("edit -t 3600 in out", "-t", "see --later, --earlier"),
     ("edit in out -t3600", "-t", "see --later, --earlier"),
     ("edit -C 14 in out", "-C", "see --chop-start, --chop-end"),
@@ -150,6 +154,24 @@ const HABITS: [(&str, &str, &str); 10] = [
     ("print -r in", "-r", "the file is named without -r"),
     ("print -nr in", "-n", "names are never looked up"),
     ("print -X in", "-X", "see -x"),
+    (
+        "print -w out -F pcap in",
+        "-F",
+        "see --format; for words in a file \"$(cat FILE)\"",
+    ),
+    ("edit --format pcap in out", "--format", "see -F"),
+    ("merge --format pcap -w out in", "--format", "see -F"),
+    ("print --count in", "--count", "count the lines: | wc -l"),
+    (
+        "infos -T in",
+        "-T",
+        "reports have one form; awk makes a table of them",
+    ),
+    (
+        "compile -ddd tcp",
+        "-d",
+        "a listing has the form of tcpdump -ddd",
+    ),
 ];
 
 /// Whether the refusal of these words begins so and has no other tip.
@@ -166,7 +188,7 @@ fn is_refused_so(alloc: Global, words: &str, wanted: &str) -> bool {
     }
 }
 
-/// Whether what does the same here is told of an option that clap doesn't know.
+/// Whether what does the same here is reported of an option that clap doesn't know.
 fn is_hinted(alloc: Global, words: &str, option: &str, hint: &str) -> bool {
     let (command, _) = words.split_once(" ").unwrap_or((words, ""));
     let wanted = format!(in alloc;
@@ -175,7 +197,7 @@ fn is_hinted(alloc: Global, words: &str, option: &str, hint: &str) -> bool {
     matches!(wanted, Ok(wanted) if is_refused_so(alloc, words, &wanted))
 }
 
-/// The beginning of what is told where no command is named.
+/// The beginning of what is reported if no command is named.
 const NO_COMMAND: &str = "error: 'capkit' requires a subcommand but one was not provided
 
 Commands:
@@ -188,8 +210,8 @@ Commands:
 Usage: capkit <COMMAND>
 ";
 
-/// A habit of other tools is told what does the same here, and who names no command what each is
-/// for.
+/// Habits of other tools get a hint at what does the same here, and a line without a command a list
+/// of them.
 #[test]
 fn habits_are_hinted_at(rt: HostRuntime) {
     for (words, option, hint) in HABITS {
@@ -207,7 +229,7 @@ const ANSWERS: [(Option<ErrorKind>, u8, &str); 3] = [
     (CLOSED, 1, ""),
 ];
 
-/// Whether the version is told, and what becomes of it where it can't be.
+/// Whether the version is reported, and what becomes of it if it can't be.
 fn is_answered(
     alloc: Global,
     failure: Option<ErrorKind>,
@@ -232,8 +254,9 @@ fn are_faults_told(alloc: Global) -> bool {
     are_statuses && streams.0.have("", errors) && streams.0.have_calls(3)
 }
 
-/// What a user asks for goes to standard output, and all else to standard error, each message by one
-/// call. An answer that can't be written is a fault, which is told but where its reader went away.
+/// What a user asks for goes to standard output, and all else to standard error, each message by
+/// one call. An answer that can't be written is a fault, which is reported but if its reader went
+/// away.
 #[test]
 fn faults_and_answers_are_told(rt: HostRuntime) {
     for (failure, status, errors) in ANSWERS {
@@ -251,14 +274,14 @@ const HELP: [(&str, &str); 4] = [
     ("", ""),
 ];
 
-/// Whether words are read so.
+/// Whether words are read like this.
 fn is_read_as(alloc: Global, words: &str, wanted: &str) -> Result<bool, AllocError> {
     let wanted = words_of(alloc, wanted)?;
     let words = words_of(alloc, words)?;
     Ok(with_help_option(alloc, words)? == wanted)
 }
 
-/// `help` is read as `--help` of the command that follows it, and of the program where none does.
+/// `help` is read as `--help` of the command that follows it, and of the program if none does.
 #[test]
 fn help_is_an_option(rt: HostRuntime) {
     for (words, wanted) in HELP {

@@ -51,7 +51,7 @@ pub(crate) fn joined(alloc: Global, pieces: &[&[u8]]) -> Result<Vec<u8>, AllocEr
     Ok(bytes)
 }
 
-/// What a source returned: the number of packets, the first result that was no packet, and the
+/// What a source returned: the number of packets, the first result that wasn't a packet, and the
 /// offset then.
 #[derive(Clone, Copy, PartialEq, Eq)]
 pub(crate) struct Seen {
@@ -60,7 +60,7 @@ pub(crate) struct Seen {
     pub(crate) offset: u64,
 }
 
-/// What a source is to return.
+/// What a source must return.
 pub(crate) fn returns(packets: u32, last: Result<bool, Fault>, offset: u64) -> Seen {
     Seen {
         packets,
@@ -69,7 +69,7 @@ pub(crate) fn returns(packets: u32, last: Result<bool, Fault>, offset: u64) -> S
     }
 }
 
-/// Reads to the first result that is no packet.
+/// Reads to the first result that isn't a packet.
 pub(crate) fn read_on<I: Input, A: Allocator>(source: &mut Source<I, A>) -> Seen {
     let mut packets = 0;
     let mut last = Ok(true);

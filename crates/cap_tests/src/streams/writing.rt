@@ -34,8 +34,8 @@ fn what_is_refused(rt: HostRuntime) -> Result<(), Fail> {
     Ok(())
 }
 
-/// Puts a packet of each of 4,096 interfaces, of one of them, and of two others. Whether the others
-/// alone are refused.
+/// Puts a packet of each of 4,096 interfaces, of one of them, and of two others. Whether only the
+/// others are refused.
 fn takes_most<O: Output>(sink: &mut Sink<O, Global>) -> bool {
     for snap in 0..4_096 {
         if sink.put(&packet(1, snap, 0, &[])) != Ok(()) {

@@ -31,7 +31,7 @@ fn written(alloc: Global, output: MemOutput<'_>) -> Option<MemOutput<'_>> {
     None
 }
 
-/// Whether the bytes are a capture of the packet alone.
+/// Whether the bytes are a capture of only the packet.
 fn is_read(alloc: Global, bytes: &[u8]) -> bool {
     let mut source: cap_io::Source<MemInput<'_>, Global> = cap_io::Source::new(
         alloc,

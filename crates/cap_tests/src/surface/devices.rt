@@ -92,8 +92,8 @@ fn numbers_and_times(rt: HostRuntime) {
     assert!(rt; short == 0x0403 && long == 0x0102_0304);
     let date: [u8; 29] = cap_octet::date_bytes(1_000_000_001);
     assert!(rt; date.as_slice() == b"1970-01-01 00:00:01.000000001".as_slice());
-    let time: Option<u64> = cap_octet::read_timestamp("1970-01-01T00:00:02Z");
-    let span: Option<u64> = cap_octet::read_duration("0.5");
+    let time: Option<u64> = cap_octet::time_of("1970-01-01T00:00:02Z");
+    let span: Option<u64> = cap_octet::span_of("0.5");
     assert!(rt; time == Some(2_000_000_000) && span == Some(500_000_000));
 }
 

@@ -17,17 +17,17 @@ const PACKET: Packet<'static> = Packet {
 
 #[test]
 fn heads_of_pcap(rt: HostRuntime) -> Result<(), Fail> {
-    let head: [u8; 24] = cap_pcap::file_header(Format::Pcap, 1);
-    let read: Result<cap_pcap::Head, Fault> = cap_pcap::read_file_header(&head);
-    let fits: Result<(), Fault> = cap_pcap::check_record_fits(Format::Pcap, &PACKET);
+    let head: [u8; 24] = cap_pcap::head_bytes(Format::Pcap, 1);
+    let read: Result<cap_pcap::Head, Fault> = cap_pcap::read_head(&head);
+    let fits: Result<(), Fault> = cap_pcap::fits(Format::Pcap, &PACKET);
     let Ok(read) = read else {
         return Err(Fail::from("no header"));
     };
     if fits.is_err() {
         return Err(Fail::from("no packet of pcap"));
     }
-    let record: [u8; 16] = cap_pcap::record_header(Format::Pcap, &PACKET);
-    let read: Result<cap_pcap::RecordHead, Fault> = cap_pcap::read_record_header(&read, &record);
+    let record: [u8; 16] = cap_pcap::record_bytes(Format::Pcap, &PACKET);
+    let read: Result<cap_pcap::RecordHead, Fault> = cap_pcap::read_record(&read, &record);
     assert!(rt; read.is_ok_and(|found| found.time == PACKET.time && found.captured == 1));
     Ok(())
 }
@@ -46,15 +46,12 @@ fn kind_of(block: &cap_pcapng::Block<'_>) -> &'static str {
 /// The kind of the block that the bytes begin with, after a little-endian section.
 fn kind_in(bytes: &[u8]) -> Option<&'static str> {
     let first: &[u8; 12] = bytes.first_chunk::<12>()?;
-    let frame: Result<cap_pcapng::Frame, Fault> = cap_pcapng::read_frame(
-        Some(Order::Little),
-        first,
-    );
-    let block: Result<cap_pcapng::Block<'_>, Fault> = cap_pcapng::read_block(&frame.ok()?, bytes);
+    let frame: Result<cap_pcapng::Frame, Fault> = cap_pcapng::frame(Some(Order::Little), first);
+    let block: Result<cap_pcapng::Block<'_>, Fault> = cap_pcapng::block(&frame.ok()?, bytes);
     Some(kind_of(&block.ok()?))
 }
 
-/// Writes an interface and the packet. Where the packet's block begins.
+/// Writes an interface and the packet. Returns the beginning of the packet's block.
 fn write_blocks(output: &mut MemOutput<'_>) -> Option<usize> {
     let interface: Result<(), Stopped> = cap_pcapng::write_interface(&PACKET, output);
     let begins = output.written().len();
@@ -81,8 +78,8 @@ fn blocks_of_pcapng(rt: HostRuntime) -> Result<(), Fail> {
 /// How many options the first block's interface has, and whether a table takes it as number 0.
 fn interface_in(alloc: Global, bytes: &[u8]) -> Option<(usize, bool)> {
     let first: &[u8; 12] = bytes.first_chunk::<12>()?;
-    let frame = cap_pcapng::read_frame(Some(Order::Little), first).ok()?;
-    let cap_pcapng::Block::Interface(block) = cap_pcapng::read_block(&frame, bytes).ok()? else {
+    let frame = cap_pcapng::frame(Some(Order::Little), first).ok()?;
+    let cap_pcapng::Block::Interface(block) = cap_pcapng::block(&frame, bytes).ok()? else {
         return None;
     };
     let options: cap_pcapng::Options<'_> = block.options;

@@ -24,7 +24,7 @@ steps_owed_in_all f = owed_in f.cursors
 abbrev pub IsPaid : InputsView → InputsView → Type 0
 IsPaid old new = steps_owed_in_all new + 1 + most_turns old ≤ steps_owed_in_all old + most_turns new
 
--- the steps that were made, with those that are owed, are no more than what was read pays for; of a
+-- the steps that were made, with those that are owed, are no more than what was read pays for; for a
 -- job that ended nothing is said
 abbrev pub HasFewTurns : Option ℕ → ℕ → InputsView → Type 0
 HasFewTurns None turns inputs = turns + steps_owed_in_all inputs ≤ most_turns inputs

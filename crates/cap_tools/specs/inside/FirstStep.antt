@@ -1,4 +1,4 @@
--- A job before its first step, and what a listing leaves.
+-- A job before its first step, and the result of a listing.
 use Rattle.std.specs.Prelude.{◌≡◌, ◌⊎◌, ℕ, ◌+◌, ◌<◌, Bool, List, [], length, None, Some}
 use Rattle.flt_bpf.specs.declared.insn.Insn.{Insn}
 use Rattle.cap_filter.specs.declared.refusal.Refusal.{Refusal}

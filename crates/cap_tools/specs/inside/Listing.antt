@@ -1,17 +1,17 @@
--- What the job leaves that writes a listing.
+-- The result of a job that writes a listing.
 use Rattle.std.specs.Prelude.{◌≡◌, ◌⊎◌, ℕ, ◌+◌, ◌<◌, Bool, List, [], ◌++◌, length, take}
 use Rattle.flt_bpf.specs.declared.insn.Insn.{Insn}
 use Rattle.flt_bpf.specs.Listing.{listing}
 use Rattle.cap_octet.specs.Views.{OutputView}
 use Rattle.cap_process.specs.Messages.{IsTold, write_failed_message}
 
--- what a run leaves that ends by some message, `tells` being whether the messages' device tells its
--- bytes
+-- the result of a run that ends by some message, `tells` being whether contracts know the bytes of the
+-- messages' device
 pub record Runs (leaves : List ℕ → Type 0) (tells : Bool) (err err' : OutputView) : Type 0 where
   pub message : List ℕ
   pub left : leaves message
   pub exact : IsTold tells err message err'
-  -- where there is nothing to report, the device isn't called
+  -- if there is nothing to report, the device isn't called
   pub quiet : message ≡ [] → err' ≡ err
 
 -- The output's device failed in this run, after a prefix of these bytes, not the whole.

@@ -1,4 +1,4 @@
--- What only the crate's own functions and proofs need beside specs/Packets.
+-- What only the crate's own functions and proofs need next to specs/Packets.
 use Rattle.std.specs.Prelude.{◌≡◌, ◌⊎◌, ℕ, ◌+◌, ◌≤◌, Bool, true, false, List, map, Option, None, Some, Result, Ok, Err}
 use Rattle.std.specs.List.{slice_get}
 use Rattle.cap_octet.specs.Packet.{Captured}
@@ -48,7 +48,7 @@ pub record Sieve : Type 0 where
 abbrev pub sieve : PolicyState → Target → Sieve
 sieve selector output = record { selector = selector; output = output }
 
--- the verdict on a packet, and what putting it answers where it passes
+-- the verdict on a packet, and what putting it answers if it passes
 pub record Judges (p : Captured) (number : ℕ) (old : Sieve) (verdict : code.Verdict)
     (put : Result (Unit {0}) Fault) (new : Sieve) : Type 0 where
   -- as it passes
@@ -64,7 +64,7 @@ pub record Rejects (p : Captured) (number : ℕ) (old : Sieve) (fault : Fault)
       (Err fault) p new.selector.state
   pub same : new.output ≡ old.output
 
--- A packet is judged, and written where it passes; or the write fails, or it is refused. There is a
+-- A packet is judged, and written if it passes; or the write fails, or it is refused. There is a
 -- current packet.
 abbrev pub DecidesPacket : Option Captured → ℕ → Sieve → Result code.Verdict Fault → Sieve
     → Type 0
@@ -86,12 +86,12 @@ Spends (Some p) old number new =
     (new.programs ≡ spent_by_verdict old.policy number p old.programs)
     × (spent_in new.programs ≤ spent_in old.programs + most_spent old.policy)
 
--- the job ends where its output failed, and else goes on
+-- the job ends if its output failed, and else goes on
 abbrev pub unless_failed : Result (Unit {0}) DeviceFault → Option JobEnd
 unless_failed (Ok done) = None
 unless_failed (Err fault) = Some end.OutputFailed
 
--- an input is reported, and the count begins anew
+-- an input is reported, and the count begins again
 pub record ReportsOn (names : List (List ℕ)) (input : ℕ) (cursor : InputView) (old : Sieve)
     (r : Option JobEnd) (new : Sieve) : Type 0 where
   pub answer : Result (Unit {0}) DeviceFault

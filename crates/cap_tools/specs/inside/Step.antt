@@ -1,4 +1,4 @@
--- What each step over the packets keeps and leaves, before its end is reported.
+-- The result of each step over the packets keeps and, before its end is reported.
 use Rattle.std.specs.Prelude.{◌≡◌, ◌+◌, ◌<◌, Bool, IsTrue, Some, Option, None}
 use Rattle.cap_octet.specs.Views.{OutputView}
 use Rattle.cap_tools.specs.declared.step.JobEnd.{JobEnd}
@@ -9,7 +9,7 @@ use Rattle.cap_tools.specs.Jobs.{JobView, end_status}
 use Rattle.cap_tools.specs.Bounds.{IsLight, StepReads}
 use Rattle.cap_tools.specs.inside.Bounds.{IsPaid, step_goes_on}
 
--- What a step leaves, where the inputs tell their bytes, and the output does; and what holds of any
+-- The result of a step, if the inputs show their bytes, and the output does; and what holds of any
 -- device. Messages and steps are not touched.
 pub record IsStep (inputs_tell output_tells : Bool) (old : JobView) (r : Option JobEnd)
     (new : JobView) : Type 0 where

@@ -1,4 +1,4 @@
--- How the index beside the window finds an equal mark: by a tree for each hash, with the newest
+-- How the index of the window finds an equal mark: by a tree for each hash, with the newest
 -- mark on top.
 use Rattle.std.specs.Prelude.{◌≡◌, ℕ, ◌+◌, ◌-◌, ◌/◌, ◌%◌, ◌^◌, ◌<◌, ◌≤◌, ◌==◌, ◌&&◌, Bool, true, false, not, nat_lt, if◌then◌else◌, List, [], length, slice_index, take, bit_and, IsTrue}
 use Rattle.std.specs.Int.{w32, from_le_bytes}
@@ -7,7 +7,7 @@ use Rattle.cap_window.specs.Marks.{is_same_mark}
 use Rattle.cap_window.specs.declared.links.Links.{Links}
 use Rattle.cap_window.specs.declared.mark.Mark.{Mark}
 
--- the bit of a mark at a depth: of its digest, from its last byte to its first, and then of its
+-- the bit of a mark at a depth: in its digest, from its last byte to its first, and then of its
 -- length; in each byte and in the length from the lowest bit on
 unfoldable pub mark_bit : Mark → ℕ → Bool
 mark_bit m depth =
@@ -32,7 +32,7 @@ but wanted top m = wanted m && not (is_same_mark m top)
 abbrev pub every : Mark → Bool
 every m = true
 
--- the mark at a place, and its links; of a place past the end, any
+-- the mark at a place, and its links; any at a place past the end
 abbrev pub mark_at : List Mark → ℕ → Mark
 mark_at marks i = slice_index_or marks i (record { length = 0; digest = [] })
 
@@ -63,7 +63,7 @@ pub data IsMarkTree (marks : List Mark) (links : List Links) : (class wanted : M
       (depth + 1) top (link_by_bit (links_at links top) bit))
       → IsMarkTree marks links class wanted depth limit d
 
--- below a mark hang those of the class that come before it and are wanted, but for those equal to
+-- below a mark hang those of the class that come before it and are wanted, except those equal to
 -- it
 abbrev pub IsOnTop : List Mark → List Links → (class wanted : Mark → Bool) → (depth place : ℕ)
     → Type 0
@@ -72,7 +72,7 @@ IsOnTop marks links class wanted depth place =
     → IsMarkTree marks links (marks_with_bit class depth bit) (but wanted (mark_at marks place))
     (depth + 1) place (link_by_bit (links_at links place) bit)
 
--- a mark of a class, and the tree of those of its class that come before it, but for those equal to
+-- a mark of a class, and the tree of those of its class that come before it, except those equal to
 -- it
 pub record IsHung (marks : List Mark) (links : List Links) (class : Mark → Bool)
     (place d : ℕ) : Type 0 where

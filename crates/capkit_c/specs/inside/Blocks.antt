@@ -5,9 +5,10 @@ use Rattle.std.specs.Option.{option_map}
 use Rattle.cap_octet.specs.Packet.{Captured}
 use Rattle.cap_pcapng.specs.Interface.{Described}
 use Rattle.cap_octet.specs.declared.number.Order.{Order}
-use Rattle.cap_pcapng.specs.Unit.{IsBlock, Section, interfaces_before, order_before, packets_in, section_after, unit_fault}
+use Rattle.cap_pcapng.specs.Unit.{IsBlock, Section, interfaces_before, order_before, packets_in, parts_after, section_after, unit_fault}
 use Rattle.cap_pcapng.specs.declared.frames.Frame.{Frame}
-use Rattle.cap_pcapng.specs.Effect.{Enters, FitsIfAny, IsBlockFault, held_packet, section_of}
+use Rattle.cap_pcapng.specs.Block.{Parts, parts_in}
+use Rattle.cap_pcapng.specs.Effect.{Enters, FitsIfAny, IsBlockFault, LieAsSaid, held_packet, section_of}
 use Rattle.cap_pcapng.specs.Effect.{span_bytes}
 use Rattle.cap_pcapng.specs.declared.effect.PacketSpans.{PacketSpans}
 use Rattle.capkit_c.specs.Layout.{first_interfaces}
@@ -18,7 +19,7 @@ use Rattle.capkit_c.specs.declared.memory.block.UnitPacket.{UnitPacket}
 use Rattle.capkit_c.specs.declared.memory.block.Refusal.{Refusal}
 use Rattle.capkit_c.specs.declared.memory.block.Refusal.TheVariants as refusal
 
--- where the parts of a packet lie in a unit of `size` bytes
+-- the place where the parts of a packet lie in a unit of `size` bytes
 abbrev pub spans_of : ℕ → UnitPacket → PacketSpans
 spans_of size p = record {
   size = size;
@@ -40,6 +41,11 @@ abbrev pub IsOfIfAny : List Described → Option UnitPacket → Type 0
 IsOfIfAny interfaces None = Unit {0}
 IsOfIfAny interfaces (Some p) = IsOf interfaces p
 
+-- if a block of these parts has a packet, it lies in it as the block says
+abbrev pub LiesIfAny : Parts → Option PacketSpans → Type 0
+LiesIfAny parts None = Unit {0}
+LiesIfAny parts (Some spans) = LieAsSaid parts spans
+
 -- the first check that a block fails; or that it declares an interface, and a table with this room
 -- is full
 abbrev pub IsRefusal : Frame → List Described → List ℕ → ℕ → Refusal → Type 0
@@ -57,6 +63,7 @@ pub record EntersTable (frame : Frame) (interfaces : List Described) (block : Li
   pub known : effect.interfaces ≤ length table'
   pub upper_bound : effect.interfaces ≤ 256
   pub of : IsOfIfAny interfaces effect.packet
+  pub lies : LiesIfAny (parts_in frame block) (option_map (spans_of frame.length) effect.packet)
 
 -- ---- a block that a text begins with
 
@@ -90,6 +97,7 @@ pub record BlockStands (before : Option Section) (text : List ℕ) (order : Orde
   pub fits : FitsIfAny (option_map (spans_of size) packet) size
   pub there : size ≤ length text
   pub some : 0 < size
+  pub lies : LiesIfAny (parts_after before text) (option_map (spans_of size) packet)
 
 -- the text begins with a block, read after a section of this byte order or after none
 pub record BlockIs (section : Option Order) (interfaces : List Described) (text : List ℕ)

@@ -1,4 +1,4 @@
--- Where a unit's parts lie in a buffer.
+-- The place where a unit's parts lie in a buffer.
 use Rattle.std.specs.Prelude.{◌≡◌, ℕ, ◌+◌, ◌<◌, ◌≤◌, List, [], ◌∷◌, length, take, drop, Option, Some, None, true}
 use Rattle.cap_octet.specs.Packet.{Captured}
 use Rattle.cap_pcapng.specs.Interface.{Described}
@@ -15,9 +15,10 @@ use Rattle.capkit_c.specs.declared.memory.layout.Interface.{Interface}
 use Rattle.capkit_c.specs.declared.memory.layout.Packet.{Packet}
 use Rattle.capkit_c.specs.declared.memory.layout.Reader.{Reader}
 use Rattle.capkit_c.specs.declared.memory.reader.ReadUnit.{ReadUnit}
-use Rattle.capkit_c.specs.Units.{comment_by, name_by, DeclaresOne}
+use Rattle.capkit_c.specs.Units.{comment_by, name_by, DeclaresOne, UnitHas}
+use Rattle.capkit_c.specs.inside.Blocks.{spans_of}
 
--- a packet of a unit of this size, which begins a text, and where its parts are in the unit
+-- a packet of a unit of this size, which begins a text, and the places of its parts in the unit
 pub record IsPlaced (declared : Declared) (text : List ℕ) (size : ℕ) (p : UnitPacket)
     (q : Captured) : Type 0 where
   pub link : q.link ≡ p.link_type
@@ -29,6 +30,7 @@ pub record IsPlaced (declared : Declared) (text : List ℕ) (size : ℕ) (p : Un
   pub within : p.start + p.length ≤ size
   pub comment : q.comment ≡ comment_by declared (take p.options_length (drop p.options_start text))
   pub options : p.options_start + p.options_length ≤ size
+  pub lies : UnitHas declared text (spans_of size p)
 
 -- these are the packets of a unit: one, as its parts lie in it, or none
 abbrev pub ArePlaced : Declared → List ℕ → ℕ → Option UnitPacket → List Captured → Type 0
@@ -68,13 +70,13 @@ Begins (form.Pcap head) section first interfaces text = ⊥
 Begins (form.Pcapng order link) section first interfaces text =
     (section ≡ Some order) × (first ≡ link) × (0 < length text)
 
--- where a unit was read before, something is left
+-- if a unit was read before, something is left
 abbrev pub IsSomeFor : FileState → List ℕ → Type 0
 IsSomeFor form.Unknown text = Unit {0}
 IsSomeFor (form.Pcap head) text = 0 < length text
 IsSomeFor (form.Pcapng order link) text = 0 < length text
 
--- where no unit was read, no interface is known
+-- if no unit was read, no interface is known
 abbrev pub IsBare : FileState → ℕ → Type 0
 IsBare form.Unknown count = count ≡ 0
 IsBare (form.Pcap head) count = Unit {0}
@@ -94,7 +96,7 @@ placed_packet at p = record {
   link_type = p.link_type;
 }
 
--- `count` interfaces are known, by the reader and the room of the table, where a unit was read
+-- `count` interfaces are known, by the reader and the room of the table, if a unit was read
 abbrev pub Counts : FileState → Reader → ℕ → ℕ → Type 0
 Counts form.Unknown r room count = Unit {0}
 Counts (form.Pcap head) r room count = count ≡ most_known r room

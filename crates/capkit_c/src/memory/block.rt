@@ -12,16 +12,16 @@ use crate::memory::layout::Interface;
 use cap_octet::{Fault, Order};
 use cap_pcapng::{
     BlockEffect as Effect, Frame, Interface as PcapngInterface, Interfaces, PacketSpans,
-    block_effect, read_frame,
+    block_effect, frame,
 };
 
-/// A packet, and where its parts are in its unit.
+/// A packet, and the places of its parts in its unit.
 #[derive(Clone, Copy)]
 pub(crate) struct UnitPacket {
-    /// Where its data begin in the unit, and how many bytes they are.
+    /// The place where its data begin in the unit, and how many bytes they are.
     pub(crate) start: u32,
     pub(crate) length: u32,
-    /// Where the options of its block begin in the unit, and how many bytes they are.
+    /// The place where the options of its block begin in the unit, and how many bytes they are.
     pub(crate) options_start: u32,
     pub(crate) options_length: u32,
     /// The number of its interface, from 0 in its section; 0 in pcap.
@@ -50,7 +50,7 @@ pub(crate) struct BlockEffect {
     pub(crate) packet: Option<UnitPacket>,
 }
 
-/// The interface with this number, from 0, among the first `count` of a table; `None` where there
+/// The interface with this number, from 0, among the first `count` of a table; `None` if there
 /// is none. It is the table's own entry; `KnownInterfaces::get` gives it as `cap_pcapng` has it.
 fn interface_by_number(table: &[Interface], count: usize, number: u32) -> Option<&Interface>
     requires { count ≤ length table.now }
@@ -63,7 +63,7 @@ fn interface_by_number(table: &[Interface], count: usize, number: u32) -> Option
     table.get(number as usize)
 }
 
-/// Puts an interface after the first `count` of a table, in place of what was there.
+/// Puts an interface after the first `count` of a table, instead of the entry there.
 fn append_interface(table: &mut [Interface], count: usize, interface: &PcapngInterface<'_>)
     requires { count < length table.old }
     ensures put { first_interfaces (count + 1) table.new
@@ -88,7 +88,7 @@ impl Interfaces for KnownInterfaces<'_> {
         self.count.min(self.entries.len())
     }
 
-    /// The interface with this number, from 0, with its name lent; `None` where there is none.
+    /// The interface with this number, from 0, with its name lent; `None` if there is none.
     fn get(&self, number: u32) -> Option<PcapngInterface<'_>> {
         if number as usize >= self.count {
             return None;
@@ -182,7 +182,7 @@ pub(crate) struct BlockRead {
     pub(crate) effect: BlockEffect,
 }
 
-/// Reads the block that a text begins with, in a section of this byte order or, where there is none
+/// Reads the block that a text begins with, in a section of this byte order or, if there is none
 /// yet, as the first block of a file, and adds the interface that it describes to the first `count`
 /// of a table. A refusal leaves the table unchanged.
 pub(crate) fn read_block(
@@ -205,7 +205,7 @@ pub(crate) fn read_block(
     let Some(first) = text.first_chunk::<12>() else {
         return Err(Refusal::Fault(Fault::Truncated));
     };
-    let frame = match read_frame(section, first) {
+    let frame = match frame(section, first) {
         Ok(frame) => frame,
         Err(fault) => return Err(Refusal::Fault(fault)),
     };

@@ -1,7 +1,10 @@
 //! What the caller keeps of a capture, in C's layout.
-ghost use Rattle.std.specs.Prelude.{◌≡◌, ◌≤◌, length};
+ghost use Rattle.std.specs.Prelude.{◌≡◌, ◌≤◌, [], length};
 ghost use Rattle.cap_pcapng.specs.Interface.{description_of};
-ghost use Rattle.capkit_c.specs.Layout.{described_of, reader_form, most_known, order_of_flag};
+ghost use Rattle.cap_io.specs.Capture.{first_link_of};
+ghost use Rattle.cap_io.specs.Reading.{declared_by};
+ghost use Rattle.capkit_c.specs.Layout.{HasLink, described_of, reader_form, most_known};
+ghost use Rattle.capkit_c.specs.Layout.{order_of_flag};
 
 use cap_io::FileState;
 use cap_octet::Order;
@@ -13,7 +16,7 @@ use cap_pcapng::{Clock, Interface as PcapngInterface, MOST_INTERFACES, MOST_NAME
 #[repr(C)]
 #[derive(Clone, Copy)]
 pub struct Reader {
-    /// Where the next unit begins, in bytes from the start.
+    /// The place where the next unit begins, in bytes from the start.
     pub offset: usize,
     /// The snapshot length of a pcap file, in bytes; 0 is none.
     pub snap: u32,
@@ -21,13 +24,13 @@ pub struct Reader {
     pub interfaces: u32,
     /// The first link type of the file, if one is declared.
     pub link_type: u16,
-    /// 1 where it is.
+    /// 1 if it is.
     pub has_link_type: u8,
-    /// 1 in pcap, 2 in pcapng, 0 where no unit was read.
+    /// 1 in pcap, 2 in pcapng, 0 if no unit was read.
     pub form: u8,
-    /// 1 where the numbers of the file, or of the current section, have their high byte first.
+    /// 1 if the numbers of the file, or of the current section, have their high byte first.
     pub big_endian: u8,
-    /// 1 where a pcap file has nanoseconds.
+    /// 1 if a pcap file has nanoseconds.
     pub nanoseconds: u8,
 }
 
@@ -53,9 +56,9 @@ pub struct Interface {
 pub struct Packet {
     /// Nanoseconds since 1970-01-01 00:00:00 UTC, below 2^63.
     pub time: u64,
-    /// Where its bytes begin in the capture.
+    /// The place where its bytes begin in the capture.
     pub at: usize,
-    /// Where the options of its block begin in the capture.
+    /// The place where the options of its block begin in the capture.
     pub options_at: usize,
     /// How many bytes were captured.
     pub captured: u32,
@@ -70,14 +73,14 @@ pub struct Packet {
     pub link_type: u16,
 }
 
-/// The byte order that a flag tells: 0 is little-endian, every other number big-endian.
+/// The byte order that a flag shows: 0 is little-endian, every other number big-endian.
 fn order_of_flag(flag: u8) -> Order
     ensures { result ≡ order_of_flag flag }
 {
     if flag == 0 { Order::Little } else { Order::Big }
 }
 
-/// The flag that tells a byte order.
+/// The flag that shows a byte order.
 fn flag_of_order(order: Order) -> u8
     ensures { order_of_flag result ≡ order }
 {
@@ -132,6 +135,7 @@ impl Reader {
         ensures offset { result.offset ≡ offset }
         ensures form { reader_form result ≡ form }
         ensures interfaces { result.interfaces ≡ interfaces }
+        ensures link { HasLink (first_link_of (declared_by form [])) result }
     {
         let mut reader = Reader {
             offset,

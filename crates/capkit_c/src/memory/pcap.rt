@@ -6,14 +6,14 @@ ghost use Rattle.cap_pcap.specs.Header.{header_fault, header_in};
 ghost use Rattle.cap_pcap.specs.Record.{record_fault, record_header_in};
 
 use cap_octet::Fault;
-use cap_pcap::{Head, RecordHead, read_file_header, read_magic, read_record_header};
+use cap_pcap::{Head, RecordHead, read_head, read_magic, read_record};
 
 /// The bytes of a record in front of its data.
 pub(crate) const RECORD_HEADER: u32 = 16;
 
 /// The file header that a text begins with. An error is the first check that fails:
 /// `NotACaptureFile` without a magic number in the first four bytes, `Truncated` where fewer than
-/// the header's 24 are there, and then those of the header (`read_file_header`).
+/// the header's 24 are there, and then those of the header (`read_head`).
 pub(crate) fn header_in(text: &[u8]) -> Result<Head, Fault>
     ensures { result ≡ checked (header_fault text.now) (header_in text.now) }
 {
@@ -23,12 +23,12 @@ pub(crate) fn header_in(text: &[u8]) -> Result<Head, Fault>
     let Some(bytes) = text.first_chunk::<24>() else {
         return Err(Fault::Truncated);
     };
-    read_file_header(bytes)
+    read_head(bytes)
 }
 
 /// The header of the record that a text begins with. An error is the first check that fails:
 /// `Truncated` where fewer than the header's 16 bytes are there, then those of the header
-/// (`read_record_header`), and `Truncated` where the data after it aren't all there.
+/// (`read_record`), and `Truncated` if the data after it aren't all there.
 pub(crate) fn record_header_in(head: &Head, text: &[u8]) -> Result<RecordHead, Fault>
     ensures { result ≡ checked (record_fault head.now text.now) (record_header_in head.now
         text.now) }
@@ -36,7 +36,7 @@ pub(crate) fn record_header_in(head: &Head, text: &[u8]) -> Result<RecordHead, F
     let Some(bytes) = text.first_chunk::<16>() else {
         return Err(Fault::Truncated);
     };
-    let record = read_record_header(head, bytes)?;
+    let record = read_record(head, bytes)?;
     if text.len() - 16 < record.captured as usize {
         return Err(Fault::Truncated);
     }

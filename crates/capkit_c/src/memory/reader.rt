@@ -6,7 +6,7 @@ ghost use Rattle.cap_pcapng.specs.Effect.{section_of};
 ghost use Rattle.cap_io.specs.Capture.{first_link_after, is_pcapng};
 ghost use Rattle.capkit_c.specs.Layout.{declared_in, first_interfaces};
 ghost use Rattle.capkit_c.specs.inside.Units.{Begins, Counts, IsBare, IsNoUnit, IsAtEnd, IsSomeFor};
-ghost use Rattle.capkit_c.specs.Units.{NextLeaves, comment_by};
+ghost use Rattle.capkit_c.specs.Units.{NextLeaves, PacketLeaves, comment_by};
 ghost use Rattle.capkit_c.specs.inside.Units.{BeginsWithUnit, placed_packet};
 ghost use Rattle.cap_io.specs.declared.file_state.FileState.TheVariants as form;
 
@@ -46,7 +46,7 @@ struct ReadUnit {
     packet: Option<UnitPacket>,
 }
 
-/// The bytes from a place on; none where it is past the end.
+/// The bytes from a place on; none if it is past the end.
 fn bytes_from(text: &[u8], at: usize) -> &[u8]
     ensures { result.now ≡ drop at text.now }
 {
@@ -68,7 +68,7 @@ fn is_pcapng(text: &[u8]) -> bool
 
 /// The first link type that a file has declared once a block is read: `first`, if one was known
 /// before the block, else that of the first of the `count` interfaces that the section has then;
-/// `None` where there is neither. The section's byte order doesn't matter, so the clause holds for
+/// `None` if there is neither. The section's byte order doesn't matter, so the clause holds for
 /// each. `cap_io` has the same over its `Table`.
 fn first_link_type(first: Option<u16>, table: &[Interface], count: usize) -> Option<u16>
     requires { count ≤ length table.now }
@@ -112,10 +112,10 @@ fn read_record_unit(head: &Head, text: &[u8], interfaces: usize) -> Result<ReadU
     }
 }
 
-/// Reads the block that a text begins with, in a section of this byte order or, where there is none
+/// Reads the block that a text begins with, in a section of this byte order or, if there is none
 /// yet, as the first block of a file. `first` is the file's first link type so far; the first
 /// `count` of `table` are the section's interfaces. `form`, what is declared before the block, is
-/// there for the contract alone. A refusal leaves the table unchanged.
+/// only for the contract. A refusal leaves the table unchanged.
 fn read_block_unit(
     form: FileState,
     section: Option<Order>,
@@ -149,7 +149,7 @@ fn read_block_unit(
 }
 
 /// Reads the unit that a text begins with, a file header, a record or a block, by what is declared
-/// of the file. The text isn't empty where a unit was read before. A refusal leaves the table
+/// of the file. The text isn't empty if a unit was read before. A refusal leaves the table
 /// unchanged.
 fn read_unit(
     form: FileState,
@@ -276,16 +276,35 @@ pub fn next_unit(
     }
 }
 
+/// Reads on to the next packet, past units without one: never `Unit` is found. The packet is where
+/// `packet` says; by any other result `packet` is unchanged.
+pub fn next_packet(
+    reader: &mut Reader,
+    table: &mut [Interface],
+    capture: &[u8],
+    packet: &mut Packet,
+) -> Found
+    ensures { PacketLeaves capture.now reader.old reader.new table.old table.new packet.old
+        packet.new result }
+{
+    loop {
+        match next_unit(reader, table, capture, packet) {
+            Found::Unit => {}
+            found => return found,
+        }
+    }
+}
+
 /// `length` bytes of a text from place `at` on, or fewer where fewer are there.
-fn bytes_at(text: &[u8], at: usize, length: u32) -> &[u8]
+pub(crate) fn bytes_at(text: &[u8], at: usize, length: u32) -> &[u8]
     ensures { result.now ≡ take length (drop at text.now) }
 {
     let rest = bytes_from(text, at);
     &rest[..rest.len().min(length as usize)]
 }
 
-/// The comment of the packet that this reader found last; empty if it has none. Of the reader it
-/// needs the form and the byte order alone, so the clause holds whatever the table of interfaces
+/// The comment of the packet that this reader found last; empty if it has none. For the reader it
+/// needs only the form and the byte order, so the clause holds whatever the table of interfaces
 /// is.
 pub fn comment_of<'a>(reader: &Reader, capture: &'a [u8], packet: &Packet) -> &'a [u8]
     ensures { (table : List Interface) → result.now ≡ comment_by (declared_in reader.now table)

@@ -13,7 +13,7 @@ ghost use Rattle.capkit_c.specs.Buffers.{written_packet, written_record_checks};
 
 use cap_octet::date::TIME_END;
 use cap_octet::{Fault, Format, Packet};
-use cap_pcap::{file_header, record_header};
+use cap_pcap::{head_bytes, record_bytes};
 use cap_pcapng::{
     MOST_NAME, interface_end, interface_header, option_header, packet_end, packet_header,
     padding_after, section_bytes,
@@ -31,7 +31,7 @@ const MOST_COMMENT: usize = 65535;
 /// The most interfaces that a file is given.
 const MOST_OUTPUT_INTERFACES: u32 = cap_io::MOST_OUTPUT_INTERFACES as u32;
 
-/// What became of bytes that were to be put into a buffer.
+/// What became of bytes that should be put into a buffer.
 #[derive(Clone, Copy)]
 pub enum Written {
     /// They are written: this many bytes are at the start of the buffer.
@@ -42,7 +42,7 @@ pub enum Written {
     Refused(Fault),
 }
 
-/// Puts parts, `size` bytes in all, one after another at the start of a buffer, or nothing where it
+/// Puts parts, `size` bytes in all, one after another at the start of a buffer, or nothing if it
 /// has no room for all of them.
 fn put_parts(parts: &[&[u8]], size: usize, buffer: &mut [u8]) -> Written
     requires { size ≡ length (flat_map (λ part. part.now) parts.now) }
@@ -60,7 +60,7 @@ fn put_parts(parts: &[&[u8]], size: usize, buffer: &mut [u8]) -> Written
     Written::Whole(size)
 }
 
-/// The pcap format that a flag tells: at 0 times are in microseconds, else in nanoseconds.
+/// The pcap format that a flag shows: at 0 times are in microseconds, else in nanoseconds.
 fn pcap_format(nanoseconds: u32) -> Format
     ensures form { IsPcap result }
     ensures resolution { resolution_of result ≡ resolution_by nanoseconds }
@@ -78,12 +78,12 @@ pub fn write_file_header(nanoseconds: u32, link_type: u16, buffer: &mut [u8]) ->
         buffer.new
         result }
 {
-    let head = file_header(pcap_format(nanoseconds), link_type);
+    let head = head_bytes(pcap_format(nanoseconds), link_type);
     put_parts(&[&head], head.len(), buffer)
 }
 
-/// Puts the record of a packet in a pcap file. It is refused where its time is 2^63 nanoseconds or
-/// more (`TimeOutOfRange`), and then as `cap_pcap::check_record_fits` says.
+/// Puts the record of a packet in a pcap file. It is refused if its time is 2^63 nanoseconds or
+/// more (`TimeOutOfRange`), and then as `cap_pcap::fits` says.
 pub fn write_record(
     nanoseconds: u32,
     time: u64,
@@ -109,9 +109,9 @@ pub fn write_record(
         comment: &[],
     };
     let format = pcap_format(nanoseconds);
-    match cap_pcap::check_record_fits(format, &packet) {
+    match cap_pcap::fits(format, &packet) {
         Ok(()) => {
-            let head = record_header(format, &packet);
+            let head = record_bytes(format, &packet);
             put_parts(&[&head, bytes], head.len() + bytes.len(), buffer)
         }
         Err(fault) => Written::Refused(fault),
@@ -171,9 +171,9 @@ fn put_interface(packet: &Packet<'_>, buffer: &mut [u8]) -> Written
 }
 
 /// Puts the enhanced packet block of a packet of the interface with this number; that its section
-/// and its interface were written before is the caller's to see to. It is refused where its time is
+/// and its interface were written before is the caller's to see to. It is refused if its time is
 /// 2^63 nanoseconds or more (`TimeOutOfRange`), its comment has over 65,535 bytes (`BadOption`), as
-/// `cap_pcapng::check_block_fits` says, and where the interface isn't among the first 4,096
+/// `cap_pcapng::check_block_fits` says, and if the interface isn't among the first 4,096
 /// (`TooManyOutputInterfaces`).
 pub fn write_packet(
     interface: u32,

@@ -1,7 +1,9 @@
 //! Captures that are read: one of each form, put together by the formats' drafts.
 
+use crate::matching::capkit_next_match;
 use crate::memory::{Interface, Packet, Reader};
-use crate::reading::{capkit_comment, capkit_next};
+use crate::reading::{capkit_comment, capkit_next, capkit_next_unit};
+use flt_bpf::Insn;
 use std::test::Fail;
 
 /// The start of a capture.
@@ -151,6 +153,7 @@ fn is_seen(seen: &Seen, reader: &Reader, capture: &[u8], packet: &Packet) -> boo
     (packet.time, packet.at) == place
         && (packet.captured, packet.original) == lengths
         && (packet.interface, packet.snap, packet.link_type) == interface
+        && (reader.form != 1 || packet.options_length == 0)
         && is_commented
         && is_kept
 }
@@ -159,7 +162,7 @@ fn is_seen(seen: &Seen, reader: &Reader, capture: &[u8], packet: &Packet) -> boo
 fn is_right(call: &Call, reader: &mut Reader, table: &mut [Interface; 2], capture: &[u8]) -> bool {
     let mut packet = NO_PACKET;
     let room = call.0.min(2);
-    let number = capkit_next(reader, &mut table[..room], capture, &mut packet);
+    let number = capkit_next_unit(reader, &mut table[..room], capture, &mut packet);
     number == call.1
         && match &call.2 {
             Some(seen) => is_seen(seen, reader, capture, &packet),
@@ -184,7 +187,7 @@ fn read_all(capture: &[u8], table: &mut [Interface]) -> (u32, Reader) {
     let (mut reader, mut packet) = (START, NO_PACKET);
     let mut number = 0;
     for _ in 0..300 {
-        number = capkit_next(&mut reader, table, capture, &mut packet);
+        number = capkit_next_unit(&mut reader, table, capture, &mut packet);
         if number != 0 && number != 223 {
             break;
         }
@@ -282,6 +285,45 @@ fn prefixes_are_truncated(rt: HostRuntime) -> Result<(), Fail> {
                 "{number} at {size}"
             );
         }
+    }
+    Ok(())
+}
+
+/// A capture, a program of one return, its link type, and what the search for packets returns.
+const SEARCHES: &[(&[u8], u32, u16, u32)] = &[
+    (MICROSECONDS, 1, 1, 0),
+    (MICROSECONDS, 0, 1, 222),
+    (MICROSECONDS, 1, 101, 226),
+    (NANOSECONDS, 7, 101, 0),
+    (&[], 1, 1, 201),
+];
+
+/// Packets are read without the units between them, and sought by a program.
+#[test]
+fn packets_are_sought(rt: HostRuntime) -> Result<(), Fail> {
+    for (capture, answer, link_type, expected) in SEARCHES {
+        let (mut reader, mut table, mut packet) = (START, [NO_INTERFACE; 2], NO_PACKET);
+        let found = capkit_next(&mut reader, &mut table, capture, &mut packet);
+        assert!(rt; found == if capture.is_empty() { 201 } else { 0 });
+        let insns = [Insn {
+            code: 6,
+            jt: 0,
+            jf: 0,
+            k: *answer,
+        }];
+        reader = START;
+        let found = capkit_next_match(
+            &mut reader,
+            &mut table,
+            capture,
+            &insns,
+            *link_type,
+            &mut packet,
+        );
+        assert!(rt; found == *expected, "{found}");
+        reader = START;
+        let found = capkit_next_match(&mut reader, &mut table, capture, &[], 1, &mut packet);
+        assert!(rt; found == 101 && reader.offset == 0);
     }
     Ok(())
 }

@@ -1,7 +1,7 @@
 //! Which programs are portable: what libpcap and Linux do otherwise is in none of them.
 
 use super::programs::{Row, UNWRITTEN, filled};
-use crate::portable::capkit_is_portable;
+use crate::portable::{capkit_is_portable, capkit_portability};
 use std::test::Fail;
 
 const RETURN: Row = (22, 0, 0, 0);
@@ -9,7 +9,7 @@ const RETURN: Row = (22, 0, 0, 0);
 /// 2^31.
 const HALF_OF_PLACES: u32 = 0x8000_0000;
 
-/// Instructions, and whether they run alike.
+/// Instructions, and whether they run the same way.
 const PROGRAMS: &[(&[Row], u32)] = &[
     // Loads below 2^31 and at it.
     (
@@ -32,7 +32,7 @@ const PROGRAMS: &[(&[Row], u32)] = &[
     (&[(0x28, 0, 0, HALF_OF_PLACES), RETURN], 0),
     (&[(0x30, 0, 0, HALF_OF_PLACES), RETURN], 0),
     (&[(0xb1, 0, 0, HALF_OF_PLACES), RETURN], 0),
-    // Indexed loads, where X is small, and where it may not be.
+    // Indexed loads, where X is small, and if it may not be.
     (
         &[
             (0x01, 0, 0, HALF_OF_PLACES - 1),
@@ -109,10 +109,17 @@ fn what_runs_alike(rt: HostRuntime) -> Result<(), Fail> {
         let mut place = [UNWRITTEN; 8];
         let insns = filled(rows, &mut place);
         assert!(rt; capkit_is_portable(insns) == *expected, "row {at}");
+        assert!(rt;
+            (capkit_portability(insns) == 3) == (*expected == 1),
+            "row {at}"
+        );
     }
     let most = vec![in rt.alloc(); UNWRITTEN; 4096]?;
     assert!(rt; capkit_is_portable(&most) == 1);
     let over = vec![in rt.alloc(); UNWRITTEN; 4097]?;
-    assert!(rt; capkit_is_portable(&over) == 0);
+    assert!(rt; capkit_is_portable(&over) == 0 && capkit_portability(&over) == 0);
+    // The packet's length is another one only on Linux.
+    let mut place = [UNWRITTEN; 8];
+    assert!(rt; capkit_portability(filled(&[(0x80, 0, 0, 0), RETURN], &mut place)) == 1);
     Ok(())
 }

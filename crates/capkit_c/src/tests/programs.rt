@@ -2,8 +2,12 @@
 
 use crate::bounding::capkit_bound;
 use crate::compiling::capkit_compile;
+use crate::listings::capkit_read_listing;
 use crate::portable::capkit_is_portable;
-use crate::running::{capkit_check, capkit_matches, capkit_run, capkit_run_any, capkit_trace};
+use crate::running::{
+    capkit_check, capkit_matches, capkit_matches_unchecked, capkit_run, capkit_run_any,
+    capkit_run_unchecked, capkit_trace,
+};
 use flt_bpf::Insn;
 use flt_trace::Step;
 use std::alloc::Global;
@@ -17,7 +21,7 @@ pub(super) const UNWRITTEN: Insn = Insn {
     k: 0xaaaa_aaaa,
 };
 
-/// An instruction: its code, how many a test skips where it holds and where not, its number.
+/// An instruction: its code, how many a test skips if it holds and where not, its number.
 pub(super) type Row = (u16, u8, u8, u32);
 
 /// Puts rows into a place for eight instructions, and gives these.
@@ -38,7 +42,7 @@ const IPV4: [Row; 4] = [
     (6, 0, 0, 0),
 ];
 
-/// A text, its link type, the room, and what a compilation returns beside which number.
+/// A text, its link type, the room, and what a compilation returns next to which number.
 type Refusal = (&'static [u8], u16, usize, (u32, usize));
 
 const REFUSALS: &[Refusal] = &[
@@ -81,7 +85,7 @@ fn refused_texts(rt: HostRuntime) -> Result<(), Fail> {
     Ok(())
 }
 
-/// What a program that passes the check returns on a packet, and after how many steps, where all
+/// What a program that passes the check returns on a packet, and after how many steps, if all
 /// runs agree in it.
 fn answer_of(insns: &[Insn], packet: &[u8]) -> Option<(u32, usize)> {
     let (mut index, mut steps, mut counted) = (77, 77, 77);
@@ -89,11 +93,13 @@ fn answer_of(insns: &[Insn], packet: &[u8]) -> Option<(u32, usize)> {
         return None;
     }
     let len = packet.len().min(60) as u32;
-    let answer = capkit_run(insns, packet, len, &mut steps);
+    let answer = capkit_run_unchecked(insns, packet, len, &mut steps);
     let same = capkit_run_any(insns, packet, len, &mut counted);
     let matches = capkit_matches(insns, packet, len);
+    let quick = capkit_matches_unchecked(insns, packet, len);
     let traced = capkit_trace(insns, packet, len, &mut []);
-    if (answer, steps) == (same, counted) && (matches, traced) == (same, counted) && index == 0 {
+    let is_same = (answer, steps) == (same, counted) && (matches, traced) == (same, counted);
+    if is_same && quick == same && index == 0 {
         Some((answer, steps))
     } else {
         None
@@ -120,7 +126,7 @@ fn a_short_text(rt: HostRuntime) -> Result<(), Fail> {
     Ok(())
 }
 
-/// A link type, and where its packets say by which byte that they are IPv4.
+/// A link type, and the byte of its packets which shows that they are IPv4.
 const LINK_TYPES: [(u16, usize, u8); 4] = [(1, 12, 8), (101, 0, 0x45), (12, 0, 0x45), (113, 14, 8)];
 
 #[test]
@@ -134,6 +140,32 @@ fn link_types(rt: HostRuntime) -> Result<(), Fail> {
         packet[at] = byte;
         let accepts = matches!(answer_of(program, &packet), Some((262_144, _)));
         assert!(rt; status == 0 && rejects && accepts, "link type {link_type}");
+    }
+    Ok(())
+}
+
+/// A text, a link type, the room for instructions, and the status with its number. All texts but the
+/// last ones are the empty expression; 14 and 147 are unknown link types.
+const BLANKS: &[(&[u8], u16, usize, (u32, usize))] = &[
+    (b"", 1, 2, (0, 1)),
+    (b"", 14, 1, (0, 1)),
+    (b" ", 147, 2, (0, 1)),
+    (b" \t\r\n", 12, 2, (0, 1)),
+    (b"\n\r\t ", 65_535, 2, (0, 1)),
+    (b" ", 14, 0, (16, 1)),
+    (b"\x0c", 14, 2, (15, 0)),
+    (b"\x0c", 1, 2, (2, 1)),
+];
+
+#[test]
+fn empty_expressions(rt: HostRuntime) -> Result<(), Fail> {
+    for (text, link_type, room, expected) in BLANKS {
+        let (mut insns, mut number) = ([UNWRITTEN; 2], 77);
+        let room = &mut insns[..(*room).min(2)];
+        let status = capkit_compile(rt.alloc(), text, *link_type, room, &mut number);
+        assert!(rt; (status, number) == *expected, "link type {link_type}");
+        let accepts = answer_of(&insns[..1], b"") == Some((262_144, 1));
+        assert!(rt; accepts == (status == 0), "link type {link_type}");
     }
     Ok(())
 }
@@ -236,6 +268,34 @@ fn any_instructions_run(rt: HostRuntime) -> Result<(), Fail> {
         let (mut place, mut steps) = ([UNWRITTEN; 8], 77);
         let answer = capkit_run_any(filled(rows, &mut place), &[7, 9], 60, &mut steps);
         assert!(rt; (answer, steps) == *expected, "{} in {steps}", answer);
+        let answer = capkit_run(filled(rows, &mut place), &[7, 9], 60, &mut steps);
+        assert!(rt; (answer, steps) == *expected, "{} in {steps}", answer);
+        assert!(rt; capkit_matches(filled(rows, &mut place), &[7, 9], 60) == expected.0);
     }
+    Ok(())
+}
+
+/// A text, and what reading it as a listing returns next to which number, with room for two.
+const LISTINGS: &[(&[u8], (u32, usize))] = &[
+    (b"2\n48 0 0 1\n22 0 0 0\n", (0, 2)),
+    (b"1\n48 0 0 1", (0, 1)),
+    (b"0\n", (0, 0)),
+    (b"", (17, 1)),
+    (b"2\n48 0 0 1\n22 0 256 0\n", (17, 3)),
+    (b"3\n6 0 0 0\n6 0 0 0\n6 0 0 0\n", (16, 3)),
+];
+
+#[test]
+fn listings_are_read(rt: HostRuntime) -> Result<(), Fail> {
+    for (text, expected) in LISTINGS {
+        let (mut insns, mut number) = ([UNWRITTEN; 2], 77);
+        let status = capkit_read_listing(rt.alloc(), text, &mut insns, &mut number);
+        assert!(rt; (status, number) == *expected, "{status} with {number}");
+        let is_written = status == 0 && number > 0;
+        assert!(rt; insns[0].code == if is_written { 48 } else { UNWRITTEN.code });
+    }
+    let row = [(22, 0, 0, 0)];
+    let mut place = [UNWRITTEN; 8];
+    assert!(rt; answer_of(filled(&row, &mut place), &[]) == Some((0, 1)));
     Ok(())
 }

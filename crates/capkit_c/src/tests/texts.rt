@@ -4,7 +4,7 @@ use crate::texts::{capkit_text, capkit_version};
 use std::test::Fail;
 
 /// By its number, from 0: what capkit_compile and capkit_bound return.
-const STATUSES: [&str; 17] = [
+const STATUSES: [&str; 18] = [
     "",
     "longer than 65536 bytes",
     "unknown character",
@@ -22,6 +22,7 @@ const STATUSES: [&str; 17] = [
     "not UTF-8",
     "link type not filtered",
     "no room for the program",
+    "not a listing",
 ];
 
 /// By its number less 100: what capkit_check returns.
@@ -37,9 +38,9 @@ const RULES: [&str; 9] = [
     "no return at the end",
 ];
 
-/// By its number less 200: what capkit_next and the writing calls return. None has 215 to 220,
-/// which need a device.
-const FOUND: [&str; 26] = [
+/// By its number less 200: what capkit_next and the writing calls return. None returns 215
+/// to 220; callers show 218 of a pcap file.
+const FOUND: [&str; 27] = [
     "",
     "not a capture file",
     "truncated",
@@ -58,7 +59,7 @@ const FOUND: [&str; 26] = [
     "",
     "",
     "",
-    "",
+    "link types differ",
     "",
     "",
     "too many output interfaces",
@@ -66,9 +67,10 @@ const FOUND: [&str; 26] = [
     "no packet",
     "no room for the interface",
     "no room in the buffer",
+    "another link type",
 ];
 
-/// Whether a number is named so in a buffer of 32 bytes, filled with `~`, with a NUL after.
+/// Whether a number is named like this in a buffer of 32 bytes, filled with `~`, with a NUL after.
 fn is_named(number: u32, name: &str) -> bool {
     let mut buffer = [b'~'; 32];
     let length = capkit_text(number, &mut buffer);

@@ -1,5 +1,5 @@
--- The code of a formula, which is emitted in front of the code that is there.
-use Rattle.std.specs.Prelude.{ℕ, zero, suc, ◌+◌, ◌-◌, ◌/◌, true, false, nat_lt, ◌==◌, ◌&&◌, ◌||◌, not, if◌then◌else◌, Bool, List, [], ◌∷◌, length, take, drop, get_or, Option, Some, None}
+-- The code of a formula, which is emitted in front of the code that is present.
+use Rattle.std.specs.Prelude.{ℕ, zero, suc, ◌+◌, ◌-◌, ◌/◌, true, false, nat_lt, ◌==◌, ◌&&◌, not, if◌then◌else◌, Bool, List, [], ◌∷◌, length, take, drop, Option, Some, None}
 use Rattle.flt_bpf.specs.declared.insn.Insn.{Insn}
 use Rattle.flt_bpf.specs.declared.operation.Width.{Width}
 use Rattle.flt_bpf.specs.declared.operation.Test.{Test}
@@ -18,6 +18,7 @@ use Rattle.flt_emit.specs.declared.elementary.Offset.{Offset}
 use Rattle.flt_emit.specs.declared.elementary.Offset.TheVariants.{Fixed, AfterHeader}
 use Rattle.flt_emit.specs.declared.elementary.FieldTest.{FieldTest}
 use Rattle.flt_emit.specs.declared.elementary.Elementary.{Elementary}
+use Rattle.flt_emit.specs.declared.elementary.Interval.{Interval}
 use Rattle.flt_emit.specs.declared.elementary.MaskedField.{MaskedField}
 use Rattle.flt_emit.specs.declared.elementary.Elementary.TheVariants.{Outcome, Field}
 use Rattle.flt_emit.specs.Elementary.{with}
@@ -62,13 +63,13 @@ takes_constant ShiftLeft k = nat_lt k 32
 takes_constant ShiftRight k = nat_lt k 32
 takes_constant _ k = true
 
--- the number that arithmetic is, or none where it is anything else
+-- the number that arithmetic is, or none if it is anything else
 abbrev pub constant : NumberTree → Option ℕ
 constant (literal k) = Some k
 constant (named k) = Some k
 constant _ = None
 
--- the right operand that goes into the operator's instruction, or none where it is no constant or
+-- the right operand that goes into the operator's instruction, or none if it isn't a constant or
 -- may not stand there
 abbrev pub constant_operand : Operator → NumberTree → Option ℕ
 constant_operand operator r = with (constant r) (λ k. if takes_constant operator k then Some k else None)
@@ -184,64 +185,56 @@ emit_elementary (Outcome true) hit miss c = block c hit
 emit_elementary (Outcome false) hit miss c = block c miss
 emit_elementary (Field t) hit miss c = at_top (emit_test t hit miss c)
 
--- whether A is one of some numbers, by one test after the other
-abbrev pub emit_chain : List ℕ → ℕ → ℕ → List Insn → Block
-emit_chain [] hit miss c = block c miss
-emit_chain (v ∷ vs) hit miss c =
-    let e = emit_chain vs hit miss c in
-    at_top (emit_branch test.Equal Constant v hit e.entry e.code)
+-- whether A is in an interval, if it may be known to be no lower
+abbrev pub emit_interval : Bool → Interval → ℕ → ℕ → List Insn → Block
+emit_interval is_above i hit miss c =
+    if i.low == i.high then at_top (emit_branch test.Equal Constant i.low hit miss c) else
+    (let e = at_top (emit_branch test.Greater Constant i.high miss hit c) in
+    if is_above then e else at_top (emit_branch test.AtLeast Constant i.low e.entry miss e.code))
+
+-- whether A is in some intervals, by one after the other. It may be known that A isn't lower than
+-- the first
+abbrev pub emit_chain : Bool → List Interval → ℕ → ℕ → List Insn → Block
+emit_chain is_above [] hit miss c = block c miss
+emit_chain is_above (i ∷ is) hit miss c =
+    let e = emit_chain false is hit miss c in emit_interval is_above i hit e.entry e.code
 
 -- a test in front of the code of both halves: is A in the upper one, which begins with this number
 abbrev pub emit_halves : ℕ → Block → ℕ → Block
 emit_halves pivot lower upper =
     at_top (emit_branch test.AtLeast Constant pivot upper lower.entry lower.code)
 
--- the number after an index is more than one above the number at it
-abbrev pub is_gap : List ℕ → ℕ → Bool
-is_gap vs at = nat_lt 1 (get_or vs (suc at) 0 - get_or vs at 0)
+-- one interval at most, or two numbers, which aren't halved: that would be one more test
+abbrev pub are_few : List Interval → Bool
+are_few [] = true
+are_few (i ∷ []) = true
+are_few (i ∷ j ∷ []) = i.low == i.high && j.low == j.high
+are_few _ = false
 
--- where numbers are parted: after the last gap at an index below `at` that leaves at most m numbers
--- in front, or else after the first one, or else at 0
-abbrev pub split_below : ℕ → List ℕ → ℕ → ℕ
-split_below m vs zero = 0
-split_below m vs (suc at) =
-    if is_gap vs at && (nat_lt at m || split_below m vs at == 0) then suc at
-    else split_below m vs at
+-- the place where the first interval begins
+abbrev pub low_of : List Interval → ℕ
+low_of [] = 0
+low_of (i ∷ is) = i.low
 
--- the index at which numbers are parted, after a gap; 0 if there is none
-unfoldable pub split : List ℕ → ℕ
-split vs = split_below (length vs / 2) vs (length vs - 1)
+-- whether A is in some intervals, which ascend: halved this often at most, and then one after the
+-- other. It may be known that A isn't lower than the first
+unfoldable pub emit_search : ℕ → Bool → List Interval → ℕ → ℕ → List Insn → Block
+emit_search zero is_above is hit miss c = emit_chain is_above is hit miss c
+emit_search (suc k) is_above is hit miss c =
+    if are_few is then emit_chain is_above is hit miss c else
+    (let half = length is / 2 in
+    let upper = emit_search k true (drop half is) hit miss c in
+    emit_halves (low_of (drop half is)) (emit_search k is_above (take half is) hit miss upper.code)
+    upper.entry)
 
--- whether A is from `low` to `high`, where it may be known to be no lower
-abbrev pub emit_range : Bool → ℕ → ℕ → ℕ → ℕ → List Insn → Block
-emit_range is_above low high hit miss c =
-    let e = at_top (emit_branch test.Greater Constant high miss hit c) in
-    if is_above then e else at_top (emit_branch test.AtLeast Constant low e.entry miss e.code)
+-- how often intervals are halved at most
+abbrev pub MOST_HALVINGS : ℕ
+MOST_HALVINGS = 16
 
--- whether A is one of some numbers, which follow one another without a gap
-abbrev pub emit_run : Bool → List ℕ → ℕ → ℕ → List Insn → Block
-emit_run is_above vs hit miss c =
-    emit_range is_above (get_or vs 0 0) (get_or vs (length vs - 1) 0) hit miss c
-
--- whether A is one of some numbers, which ascend: parted this often at most, and then one after the
--- other. It may be known that A is no less than the first one
-unfoldable pub emit_search : ℕ → Bool → List ℕ → ℕ → ℕ → List Insn → Block
-emit_search zero is_above vs hit miss c = emit_chain vs hit miss c
-emit_search (suc k) is_above vs hit miss c =
-    if nat_lt (length vs) 2 then emit_chain vs hit miss c else
-    (if split vs == 0 then emit_run is_above vs hit miss c else
-    (let upper = emit_search k true (drop (split vs) vs) hit miss c in
-    emit_halves (get_or vs (split vs) 0)
-    (emit_search k is_above (take (split vs) vs) hit miss upper.code) upper.entry))
-
--- how often numbers are parted at most: two alone aren't, since that would be one more test
-abbrev pub most_halvings : ℕ → ℕ
-most_halvings count = if nat_lt count 3 then 0 else 16
-
--- whether a field is one of some numbers, of which there is one at least
-abbrev pub emit_among : MaskedField → List ℕ → ℕ → ℕ → List Insn → Block
-emit_among f vs hit miss c =
-    at_top (emit_field f.offset f.width (emit_mask f.mask (emit_search (most_halvings (length vs)) false vs hit miss c).code))
+-- whether a field is in some intervals, of which there is one at least
+abbrev pub emit_among : MaskedField → List Interval → ℕ → ℕ → List Insn → Block
+emit_among f is hit miss c =
+    at_top (emit_field f.offset f.width (emit_mask f.mask (emit_search MOST_HALVINGS false is hit miss c).code))
 
 -- the code of a formula that goes on at one of two places
 abbrev pub emit_formula : Link → Formula → ℕ → ℕ → List Insn → Block
@@ -253,7 +246,7 @@ emit_formula link (Both a b) hit miss c =
 emit_formula link (Either a b) hit miss c =
     let e = emit_formula link b hit miss c in emit_formula link a hit e.entry e.code
 emit_formula link (Except a) hit miss c = emit_formula link a miss hit c
-emit_formula link (Among f vs) hit miss c = emit_among f vs hit miss c
+emit_formula link (Among f is) hit miss c = emit_among f is hit miss c
 
 -- the code of some tests that all have to hold, from the last to the first
 abbrev pub emit_all : List Elementary → ℕ → ℕ → List Insn → Block

@@ -1,10 +1,10 @@
--- What a call leaves that emits code in front of the code that is there.
+-- The result of a call that emits code in front of existing code.
 use Rattle.std.specs.Prelude.{◌≡◌, ℕ, List, Result, IfOk}
 use Rattle.std.specs.declared.alloc.AllocError.{AllocError}
 use Rattle.flt_bpf.specs.declared.insn.Insn.{Insn}
 use Rattle.flt_emit.specs.inside.Code.{Block, block}
 
--- if the call succeeds, the code is that of the block, which is entered where the call says;
+-- if the call succeeds, the code is that of the block, which is entered if the call says;
 -- nothing is said of a call that fails
 abbrev pub Emits : Result ℕ AllocError → Block → List Insn → Type 0
 Emits result e after = IfOk result (λ entry. e ≡ block after entry)

@@ -24,7 +24,7 @@ write_pending [] ts = record { pending = []; tokens = ts }
 write_pending (Front t ∷ ps) ts = write_pending ps (t ∷ ts)
 write_pending (Between t ∷ ps) ts = record { pending = ps; tokens = t ∷ ts }
 
--- what waits, and the `(` before it where a node is an operand
+-- what waits, and the `(` before it if a node is an operand
 abbrev pub parenthesis_before : Bool → List Pending → List Pending
 parenthesis_before true ps = Front token.Open ∷ ps
 parenthesis_before false ps = ps
@@ -66,7 +66,7 @@ abbrev pub is_more : List Node → Bool
 is_more [] = false
 is_more (n ∷ rest) = true
 
--- what waits and the tokens, once the nodes from a place on are written; the last one is no operand
+-- what waits and the tokens, once the nodes from a place on are written; the last one isn't an operand
 abbrev pub write_nodes : List Node → WriterState
 write_nodes [] = record { pending = []; tokens = [] }
 write_nodes (n ∷ rest) = write_node (is_more rest) n (write_nodes rest)

@@ -1,6 +1,7 @@
 -- How many words of memory, nodes of arithmetic and tests a formula has.
-use Rattle.std.specs.Prelude.{ℕ, ◌+◌, max, length}
+use Rattle.std.specs.Prelude.{ℕ, ◌+◌, ◌==◌, max, if◌then◌else◌, List, [], ◌∷◌, length}
 use Rattle.flt_ast.specs.Counts.{number_words, number_size}
+use Rattle.flt_emit.specs.declared.elementary.Interval.{Interval}
 use Rattle.flt_emit.specs.Formula.{Formula, Single, Compare, Both, Either, Except, Among}
 
 -- how many words of memory the code of a formula needs at most
@@ -10,7 +11,7 @@ words (Compare c l r) = max (number_words l) (1 + number_words r)
 words (Both a b) = max (words a) (words b)
 words (Either a b) = max (words a) (words b)
 words (Except a) = words a
-words (Among f vs) = 0
+words (Among f is) = 0
 
 -- how many nodes the arithmetic of a formula has
 abbrev pub nodes : Formula → ℕ
@@ -19,14 +20,19 @@ nodes (Compare c l r) = number_size l + number_size r
 nodes (Both a b) = nodes a + nodes b
 nodes (Either a b) = nodes a + nodes b
 nodes (Except a) = nodes a
-nodes (Among f vs) = 0
+nodes (Among f is) = 0
+
+-- one more if the first of some intervals is more than one number, since it has both ends
+abbrev pub first_ends : List Interval → ℕ
+first_ends [] = 0
+first_ends (i ∷ is) = if i.low == i.high then 0 else 1
 
 -- how many tests are counted of a formula: one of each test and of each comparison, and of several
--- numbers one of each
+-- intervals one of each, and of the first maybe two
 abbrev pub tests : Formula → ℕ
 tests (Single t) = 1
 tests (Compare c l r) = 1
 tests (Both a b) = tests a + tests b
 tests (Either a b) = tests a + tests b
 tests (Except a) = tests a
-tests (Among f vs) = max 1 (length vs)
+tests (Among f is) = max 1 (length is) + first_ends is

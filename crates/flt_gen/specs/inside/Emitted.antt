@@ -1,4 +1,4 @@
--- Formulas of which code is emitted, where they aren't those of the table: they read the same.
+-- Formulas of which code is emitted, if they aren't those of the table: they read the same.
 use Rattle.std.specs.Prelude.{ℕ, ◌+◌, ◌==◌, ◌&&◌, Bool, true, false, if◌then◌else◌, List, [], ◌∷◌, Option, Some, None}
 use Rattle.flt_words.specs.declared.token.Comparison.{Comparison}
 use Rattle.flt_words.specs.declared.token.Comparison.TheVariants.{AtLeast}
@@ -61,7 +61,7 @@ abbrev pub relation_formula : Link → Comparison → NumberTree → NumberTree 
 relation_formula link c l r =
     checked_formula link (protocols_of l (protocols_of r [])) (Compare c l r)
 
--- ---- a word of an IPv6 address of which no bit counts is loaded only where that decides
+-- ---- a word of an IPv6 address of which no bit counts is loaded only if that decides
 
 -- a mask of no bit
 abbrev pub is_empty : Option ℕ → Bool
@@ -75,7 +75,7 @@ is_idle (Outcome b) = false
 is_idle (Field t) = is_empty t.mask && t.value == 0
 
 -- the test of the same word that is yes wherever the word is captured, and else rejects; what the
--- link decides alone is unchanged
+-- link itself decides is unchanged
 abbrev pub capture_test : Elementary → Elementary
 capture_test (Outcome b) = Outcome b
 capture_test (Field t) = Field (record t { mask = None; comparison = AtLeast; value = 0 })
@@ -84,7 +84,7 @@ capture_test (Field t) = Field (record t { mask = None; comparison = AtLeast; va
 abbrev pub last_test : Elementary → Elementary
 last_test t = if is_idle t then capture_test t else t
 
--- the tests of words that decide, of those that stand one after the other. Where a word isn't
+-- the tests of words that decide, of those that come one after the other. If a word isn't
 -- captured, no later one is: so an idle test in front of another one is left out
 abbrev pub needed_tests : List Elementary → List Elementary
 needed_tests [] = []

@@ -1,4 +1,4 @@
--- Arithmetic of numbers alone is one number, where it has a value.
+-- Arithmetic of only numbers is one number, if it has a value.
 use Rattle.std.specs.Prelude.{ℕ, zero, suc, ◌-◌, ◌%◌, ◌^◌, List, [], ◌∷◌, Option, Some, None}
 use Rattle.flt_words.specs.declared.token.Operator.{Operator}
 use Rattle.flt_words.specs.declared.token.Join.{Join}
@@ -10,7 +10,7 @@ use Rattle.flt_emit.specs.Elementary.{with}
 use Rattle.flt_emit.specs.Numbers.{result_of}
 use Rattle.flt_emit.specs.inside.Code.{constant}
 
--- the negative of a number, modulo 2^32, or none where there is no number
+-- the negative of a number, modulo 2^32, or none if there is no number
 abbrev pub negated_constant : Option ℕ → Option ℕ
 negated_constant a = with a (λ x. Some ((2 ^ 32 - x) % 2 ^ 32))
 
@@ -25,7 +25,7 @@ abbrev pub number_or : Option ℕ → NumberTree → NumberTree
 number_or (Some k) a = literal k
 number_or None a = a
 
--- a negation, or the number that it gives where its operand is one
+-- a negation, or the number that it gives if its operand is one
 abbrev pub negated_number : NumberTree → NumberTree
 negated_number a = number_or (negated_constant (constant a)) (negated a)
 
@@ -34,14 +34,14 @@ abbrev pub applied_number : Operator → NumberTree → NumberTree → NumberTre
 applied_number operator a b =
     number_or (applied_constant operator (constant a) (constant b)) (applied operator a b)
 
--- arithmetic in which each part of numbers alone is one number, if it has a value
+-- arithmetic in which each part of only numbers is one number, if it has a value
 abbrev pub folded_number : NumberTree → NumberTree
 folded_number (load protocol size a) = load protocol size (folded_number a)
 folded_number (negated a) = negated_number (folded_number a)
 folded_number (applied operator a b) = applied_number operator (folded_number a) (folded_number b)
 folded_number a = a
 
--- `a and not b`: where a is a negation, or one follows in it after `and`, it is one of both by `or`
+-- `a and not b`: if a is a negation, or one follows in it after `and`, it is one of both by `or`
 abbrev pub and_denied : TruthTree → TruthTree → TruthTree
 and_denied (denied a) b = denied (joined Or a b)
 and_denied (joined And x (denied a)) b = joined And x (denied (joined Or a b))
@@ -52,7 +52,7 @@ abbrev pub joined_truth : Join → TruthTree → TruthTree → TruthTree
 joined_truth And a (denied b) = and_denied a b
 joined_truth j a b = joined j a b
 
--- a truth in whose arithmetic each part of numbers alone is one number, if it has a value, and in
+-- a truth in whose arithmetic each part of only numbers is one number, if it has a value, and in
 -- which negations between `and` are one
 abbrev pub folded_truth : TruthTree → TruthTree
 folded_truth (compared c a b) = compared c (folded_number a) (folded_number b)
@@ -73,7 +73,7 @@ node_constant (node.Literal k) = Some k
 node_constant (node.Named k) = Some k
 node_constant _ = None
 
--- the number that the latest node is, or none where it is no number
+-- the number that the latest node is, or none if it isn't a number
 abbrev pub latest_constant : List Node → Option ℕ
 latest_constant [] = None
 latest_constant (n ∷ ns) = node_constant n
@@ -136,7 +136,7 @@ abbrev pub with_conjunction : List Node → List Node
 with_conjunction (node.Not ∷ ns) = let h = hold 1 [] ns in with_held h.held h.rest
 with_conjunction ns = node.Join And ∷ ns
 
--- one more node, after its operands; arithmetic of numbers alone becomes one number, if it has a
+-- one more node, after its operands; arithmetic of only numbers becomes one number, if it has a
 -- value
 abbrev pub with_folded : List Node → Node → List Node
 with_folded ns node.Negate = with_negation ns

@@ -1,65 +1,98 @@
--- Hosts or ports that are looked for together, since they stand one after the other with `or`
+-- Addresses or ports that are looked for together, since they stand one after the other with `or`
 -- between them.
-use Rattle.std.specs.Prelude.{ℕ, nat_lt, Bool, true, false, ◌&&◌, if◌then◌else◌, List, [], ◌∷◌, length, Option, Some, None}
+use Rattle.std.specs.Prelude.{ℕ, ◌+◌, ◌-◌, ◌*◌, ◌^◌, ◌==◌, nat_lt, nat_le, min, max, bit_and, not, Bool, true, false, ◌&&◌, if◌then◌else◌, List, [], ◌∷◌, length, Option, Some, None}
 use Rattle.flt_words.specs.declared.token.Protocol.{Protocol}
 use Rattle.flt_words.specs.declared.token.Protocol.TheVariants.{Ip, Tcp, Udp}
 use Rattle.flt_words.specs.declared.token.Side.TheVariants.{Source, Destination}
 use Rattle.flt_words.specs.declared.token.Join.TheVariants.{And, Or}
 use Rattle.flt_words.specs.declared.token.ValueType.{ValueType}
-use Rattle.flt_words.specs.declared.token.ValueType.TheVariants.{Host, Port}
+use Rattle.flt_words.specs.declared.token.ValueType.TheVariants.{Host, Net, Port, PortRange}
 use Rattle.flt_ast.specs.declared.qualifiers.Direction.{Direction}
 use Rattle.flt_ast.specs.declared.qualifiers.Direction.TheVariants as direction
 use Rattle.flt_ast.specs.declared.qualifiers.CompleteQualifiers.{CompleteQualifiers}
 use Rattle.flt_ast.specs.declared.value.Value.{Value}
 use Rattle.flt_ast.specs.declared.value.Value.TheVariants as value
+use Rattle.flt_ast.specs.declared.value.NetMask.TheVariants as mask
+use Rattle.flt_ast.specs.declared.net.Ip4Net.{Ip4Net}
+use Rattle.flt_ast.specs.Nets.{first_bits, ip4_net}
 use Rattle.flt_ast.specs.Tree.{TruthTree, qualified, compared, denied, joined}
 use Rattle.cap_octet.specs.declared.link.Link.{Link}
-use Rattle.flt_gen.specs.declared.port.Ports.TheVariants.{One, Several}
+use Rattle.flt_emit.specs.declared.elementary.Interval.{Interval}
+use Rattle.flt_gen.specs.declared.group.Member.{Member}
+use Rattle.flt_gen.specs.declared.group.Entry.{Entry}
+use Rattle.flt_gen.specs.declared.port.Ports.TheVariants.{Several}
 use Rattle.flt_gen.specs.declared.address.Hosts.TheVariants as hosts
 use Rattle.flt_emit.specs.declared.elementary.Elementary.TheVariants.{Outcome}
-use Rattle.flt_emit.specs.Formula.{Formula, Single, Both, Either, Except}
-use Rattle.flt_gen.specs.Primitives.{net_test, net_formula, hosts_formula, port_test, port_formula}
+use Rattle.flt_emit.specs.Formula.{Formula, Single, Both, Either, Except, Numbers, no_interval}
+use Rattle.flt_gen.specs.Primitives.{partial_mask, hosts_formula, port_test, port_formula}
 use Rattle.flt_gen.specs.inside.Emitted.{relation_formula, qualified_needed}
+use Rattle.flt_gen.specs.inside.Intervals.{insert_ascending, sought}
 use Rattle.flt_gen.specs.Reading.{formula}
 
--- the type of its members, the protocol and the direction that are asked for; the address or port
--- that stands first, and those of all members, which ascend
+-- the qualifiers of the member that stands first, how many bits count at most, whether each member
+-- is one number, the numbers of the first, of all and of all but the first, which ascend, and the
+-- members, in the order of the expression
 pub record Group : Type 0 where
-  pub value_type : ValueType
-  pub protocol : Option Protocol
-  pub direction : Direction
-  pub first : ℕ
-  pub numbers : List ℕ
+  pub qualifiers : CompleteQualifiers
+  pub bits : ℕ
+  pub is_plain : Bool
+  pub first : Interval
+  pub all : List Interval
+  pub others : List Interval
+  pub entries : List Entry
 
--- a group without members
+-- a group without members; its qualifiers decide nothing
 abbrev pub no_group : Group
 no_group = record {
-  value_type = Host;
-  protocol = None;
-  direction = direction.Both Or;
-  first = 0;
-  numbers = [];
+  qualifiers = record { protocol = None; direction = direction.Both Or; value_type = Host };
+  bits = 0;
+  is_plain = true;
+  first = no_interval;
+  all = [];
+  others = [];
+  entries = [];
 }
 
--- a number is put among others that ascend
-abbrev pub insert_ascending : ℕ → List ℕ → List ℕ
-insert_ascending a [] = a ∷ []
-insert_ascending a (b ∷ bs) = if nat_lt b a then b ∷ insert_ascending a bs else a ∷ b ∷ bs
+-- what a value looks for: numbers, of which the first bits count
+abbrev pub found_member : ℕ → ℕ → ℕ → Member
+found_member bits low high = record { bits = bits; numbers = record { low = low; high = high } }
 
--- a group with one more member in front, which has these qualifiers and this number
-abbrev pub with_member : CompleteQualifiers → ℕ → Group → Group
-with_member q a group = record {
-  value_type = q.value_type;
-  protocol = q.protocol;
-  direction = q.direction;
-  first = a;
-  numbers = insert_ascending a group.numbers;
+-- a value as a member, with its qualifiers
+abbrev pub entry : CompleteQualifiers → Value → Entry
+entry q v = record { qualifiers = q; value = v }
+
+-- no members
+abbrev pub is_empty : List Entry → Bool
+is_empty [] = true
+is_empty (e ∷ es) = false
+
+-- the numbers of those that are no more the first are put among the others, if there are some
+abbrev pub others_with : List Entry → Interval → List Interval → List Interval
+others_with [] first others = others
+others_with (e ∷ es) first others = insert_ascending first others
+
+-- a group with one more member in front, which has these qualifiers and looks for this
+abbrev pub with_member : CompleteQualifiers → Value → Member → Group → Group
+with_member q v m group = record {
+  qualifiers = q;
+  bits = max group.bits m.bits;
+  is_plain = m.numbers.low == m.numbers.high && group.is_plain;
+  first = m.numbers;
+  all = insert_ascending m.numbers group.all;
+  others = others_with group.entries group.first group.others;
+  entries = entry q v ∷ group.entries;
 }
 
--- both are hosts, or both are ports
+-- both are addresses or networks of IPv4, or both are ports or ranges of them
 abbrev pub same_type : ValueType → ValueType → Bool
 same_type Host Host = true
+same_type Host Net = true
+same_type Net Host = true
+same_type Net Net = true
 same_type Port Port = true
+same_type Port PortRange = true
+same_type PortRange Port = true
+same_type PortRange PortRange = true
 same_type _ _ = false
 
 -- both have no protocol, or the same of ip, tcp and udp
@@ -81,68 +114,118 @@ same_direction _ _ = false
 abbrev pub MOST_TOGETHER : ℕ
 MOST_TOGETHER = 4096
 
--- a value with these qualifiers may join the members: any may if there are none; else one of hosts
--- or of ports with the type, the protocol and the direction of the group, if there is room
-abbrev pub goes_with : CompleteQualifiers → Group → List ℕ → Bool
-goes_with q group [] = true
-goes_with q group (a ∷ others) =
-    same_type q.value_type group.value_type
-    && (same_protocol q.protocol group.protocol
-    && (same_direction q.direction group.direction && nat_lt (length (a ∷ others)) MOST_TOGETHER))
+-- both say yes, or both say no
+abbrev pub agree : Bool → Bool → Bool
+agree true b = b
+agree false b = not b
 
--- the address of a host, whatever its parts and its mask, or the number of a port; none for other
--- types and values
-abbrev pub member_number : ValueType → Value → Option ℕ
-member_number Host (value.Dotted dotted mask) = Some dotted.address
-member_number Port (value.Number n mask) = Some n
-member_number _ _ = None
+-- a value with these qualifiers, of which this number of bits count, may join the members: any may if there
+-- are none; else one with the type, the protocol and the direction of the group, if there is room,
+-- and if of both all bits of an address count or of neither
+abbrev pub goes_with : CompleteQualifiers → ℕ → Group → List Entry → Bool
+goes_with q bits group [] = true
+goes_with q bits group (e ∷ es) =
+    same_type q.value_type group.qualifiers.value_type
+    && (same_protocol q.protocol group.qualifiers.protocol
+    && (same_direction q.direction group.qualifiers.direction
+    && (agree (nat_lt bits 32) (nat_lt group.bits 32) && nat_lt (length (e ∷ es)) MOST_TOGETHER)))
 
--- a group with one more member, if the value has a number and goes with the others, or none
-abbrev pub group_and : CompleteQualifiers → Group → Option ℕ → Option Group
-group_and q group None = None
-group_and q group (Some a) =
-    if goes_with q group group.numbers then Some (with_member q a group) else None
+-- the length of a network's prefix: none of one with `mask`, and of other values
+abbrev pub prefix_bits : Value → Option ℕ
+prefix_bits (value.Number n mask.Unwritten) = Some 8
+prefix_bits (value.Dotted d mask.Unwritten) = Some (8 * d.parts)
+prefix_bits (value.Number n (mask.Prefix bits)) = Some bits
+prefix_bits (value.Dotted d (mask.Prefix bits)) = Some bits
+prefix_bits _ = None
 
--- the group with one more in front, or none where the value does not go with it
+-- the addresses of a network whose address has no other bits than its mask
+abbrev pub net_numbers : ℕ → Ip4Net → Option Member
+net_numbers bits net =
+    if bit_and net.address net.mask == net.address
+    then Some (found_member bits net.address (net.address + (2 ^ 32 - 1 - net.mask)))
+    else None
+
+-- a network, by its prefix, if it has one
+abbrev pub net_by : Option ℕ → Option Ip4Net → Option Member
+net_by (Some bits) (Some net) = net_numbers bits net
+net_by _ _ = None
+
+-- a network as a member
+abbrev pub net_member : Value → Option Member
+net_member v = net_by (prefix_bits v) (ip4_net v)
+
+-- what a value looks for as a member: an address, whatever its parts and its mask, a network, a port
+-- or ports; none of other types and values
+abbrev pub member_of : ValueType → Value → Option Member
+member_of Net v = net_member v
+member_of Host (value.Dotted dotted m) = Some (found_member 32 dotted.address dotted.address)
+member_of Port (value.Number n m) = Some (found_member 32 n n)
+member_of PortRange (value.Range a b) = Some (found_member 32 (min a b) (max a b))
+member_of _ _ = None
+
+-- a group with one more member, if the value is one and goes with the others, or none
+abbrev pub group_and : CompleteQualifiers → Value → Group → Option Member → Option Group
+group_and q v group None = None
+group_and q v group (Some m) =
+    if goes_with q m.bits group group.entries then Some (with_member q v m group) else None
+
+-- the group with one more in front, or none if the value does not go with it
 abbrev pub larger_group : CompleteQualifiers → Value → Group → Option Group
-larger_group q v group = group_and q group (member_number q.value_type v)
+larger_group q v group = group_and q v group (member_of q.value_type v)
 
--- the host or port with this number
-abbrev pub one_formula : Link → ValueType → Option Protocol → Direction → ℕ → Formula
-one_formula link Host protocol direction n = net_formula link protocol (net_test direction None n)
-one_formula link Port protocol direction n =
-    port_formula link (port_test protocol direction (One n)) []
-one_formula link _ protocol direction n = Single (Outcome false)
+-- how many are looked for together at least where not each is one number
+abbrev pub FEWEST_RANGES : ℕ
+FEWEST_RANGES = 8
 
--- one of the hosts or ports with these numbers
-abbrev pub several_formula : Link → ValueType → Option Protocol → Direction → ℕ → List ℕ → Formula
-several_formula link Host protocol direction first numbers =
-    hosts_formula link protocol (hosts.Several direction first) numbers
-several_formula link Port protocol direction first numbers =
-    port_formula link (port_test protocol direction (Several first)) numbers
-several_formula link _ protocol direction first numbers = Single (Outcome false)
+-- the members are looked for together
+abbrev pub is_searched : Group → Bool
+is_searched group = nat_le (if group.is_plain then 2 else FEWEST_RANGES) (length group.entries)
 
--- one of the members, by whether there are several
-abbrev pub formula_by : Link → Group → List ℕ → Formula
-formula_by link group (n ∷ []) =
-    one_formula link group.value_type group.protocol group.direction group.first
-formula_by link group _ =
-    several_formula link group.value_type group.protocol group.direction group.first group.numbers
+-- the numbers that the members look for
+abbrev pub numbers_of : Group → Numbers
+numbers_of group = sought group.first group.all group.others
 
--- a packet has one of the hosts or ports of the group
+-- the mask of the longest prefix, or none if all bits count
+abbrev pub mask_of : ℕ → Option ℕ
+mask_of bits = partial_mask (first_bits 32 bits)
+
+-- one of several members with these numbers
+abbrev pub several_formula : Link → CompleteQualifiers → ℕ → ValueType → Numbers → Formula
+several_formula link q bits Host numbers =
+    hosts_formula link q.protocol (hosts.Several q.direction (mask_of bits)) numbers
+several_formula link q bits Net numbers =
+    hosts_formula link q.protocol (hosts.Several q.direction (mask_of bits)) numbers
+several_formula link q bits Port numbers =
+    port_formula link (port_test q.protocol q.direction Several) numbers
+several_formula link q bits PortRange numbers =
+    port_formula link (port_test q.protocol q.direction Several) numbers
+several_formula link q bits _ numbers = Single (Outcome false)
+
+-- one of the members, by one after the other
+abbrev pub rows_formula : Link → List Entry → Formula
+rows_formula link [] = Single (Outcome false)
+rows_formula link (e ∷ []) = qualified_needed link e.qualifiers e.value
+rows_formula link (e ∷ f ∷ es) =
+    Either (qualified_needed link e.qualifiers e.value) (rows_formula link (f ∷ es))
+
+-- a packet has one of the members
 abbrev pub group_formula : Link → Group → Formula
-group_formula link group = formula_by link group group.numbers
+group_formula link group =
+    if is_searched group
+    then several_formula link group.qualifiers group.bits group.qualifiers.value_type
+    (numbers_of group)
+    else rows_formula link group.entries
 
--- either of two formulas, or the first alone where there are no members
-abbrev pub or_any : Formula → Formula → List ℕ → Formula
+-- either of two formulas, or only the first if there are no members
+abbrev pub or_any : Formula → Formula → List Entry → Formula
 or_any f g [] = f
-or_any f g (a ∷ others) = Either f g
+or_any f g (e ∷ es) = Either f g
 
 -- a formula, or else one of the members, if there are some
 abbrev pub or_group : Link → Formula → Group → Formula
-or_group link f group = or_any f (group_formula link group) group.numbers
+or_group link f group = or_any f (group_formula link group) group.entries
 
--- the group with a truth as one more member, or none where it can be none
+-- the group with a truth as one more member, or none if it can be none
 abbrev pub truth_member : TruthTree → Group → Option Group
 truth_member (qualified q v) group = larger_group q v group
 truth_member _ group = None

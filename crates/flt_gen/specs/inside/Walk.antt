@@ -13,6 +13,7 @@ use Rattle.flt_ast.specs.declared.node.Node.{Node}
 use Rattle.flt_ast.specs.declared.node.Node.TheVariants as node
 use Rattle.cap_octet.specs.declared.link.Link.{Link}
 use Rattle.flt_emit.specs.declared.code.Targets.{Targets}
+use Rattle.flt_gen.specs.declared.group.Entry.{Entry}
 use Rattle.flt_gen.specs.declared.waiting.LeftTruth.{LeftTruth}
 use Rattle.flt_gen.specs.declared.waiting.Pending.{Pending}
 use Rattle.flt_gen.specs.declared.waiting.Pending.TheVariants as next
@@ -42,7 +43,7 @@ pub record Walk : Type 0 where
   pub numbers : List Waiting
   pub accessors : List Protocol
   -- hosts or ports that are tested in front of the code, and whose code isn't there yet; and what
-  -- the last node leaves to the next one
+  -- the last node hands on to the next one
   pub group : Group
   pub pending : Pending
 
@@ -50,12 +51,12 @@ pub record Walk : Type 0 where
 abbrev pub targets : ℕ → ℕ → Targets
 targets hit miss = record { yes = hit; no = miss }
 
--- where an operand goes on whose right neighbour is entered at a place
+-- the place where an operand goes on whose right neighbour is entered at a place
 abbrev pub left_targets : Join → Targets → ℕ → Targets
 left_targets And to entry = targets entry to.no
 left_targets Or to entry = targets to.yes entry
 
--- the targets after a truth that is entered at a place: of the left operand that waits; once none
+-- the targets after a truth that is entered at a place: for the left operand that waits; once none
 -- waits, the program begins there
 abbrev pub next_targets : List LeftTruth → ℕ → Targets
 next_targets [] entry = targets entry entry
@@ -108,7 +109,7 @@ begin_operands slot c w = record w {
 abbrev pub finish_formula : Link → Formula → Walk → Walk
 finish_formula link f w = finish_truth (emit_formula link f w.to.yes w.to.no w.code) w
 
--- one more part of a formula, the one before those that were emitted: of an operator the right
+-- one more part of a formula, the one before those that were emitted: for an operator the right
 -- operand comes next, and the left one waits
 abbrev pub emit_part : Link → Walk → Part → Walk
 emit_part link w (Leaf f) = finish_formula link f w
@@ -130,16 +131,16 @@ begin_right next.Or w = record w {
 }
 
 -- the code of the group is emitted, if it has members, as the right operand of an or
-abbrev pub flush_members : Link → Walk → List ℕ → Walk
+abbrev pub flush_members : Link → Walk → List Entry → Walk
 flush_members link w [] = record w { group = no_group }
-flush_members link w (a ∷ others) =
+flush_members link w (m ∷ ms) =
     let e = emit_formula link (group_formula link w.group) w.to.yes w.to.no w.code in
     record w { code = e.code; to = targets w.to.yes e.entry; group = no_group }
 
 -- the code of the group that waits is emitted, if it has members, and the group is empty then; if
 -- an or was the last node, its left operand waits
 abbrev pub flush_group : Link → Walk → Walk
-flush_group link w = flush_members link (begin_right w.pending w) w.group.numbers
+flush_group link w = flush_members link (begin_right w.pending w) w.group.entries
 
 -- a host or port and those after it: they wait for one more if it is the right operand of an or
 abbrev pub finish_group : Link → Walk → Group → Pending → Walk
@@ -200,7 +201,7 @@ emit_node link w (node.Compare comparison) =
     emit_truth_node link (flush_group link w) (node.Compare comparison)
 emit_node link w node.Not = emit_truth_node link (flush_group link w) node.Not
 
--- an operator with a constant as its right operand, and the left one is next; none where its
+-- an operator with a constant as its right operand, and the left one is next; none if its
 -- instruction may not have this constant
 abbrev pub emit_operator_with : Operator → ℕ → Walk → Option Walk
 emit_operator_with operator k w =
@@ -213,7 +214,7 @@ abbrev pub emit_comparison_with : Comparison → ℕ → Walk → Option Walk
 emit_comparison_with comparison k w =
     Some (with_insns (emit_comparison comparison Constant k w.to.yes w.to.no w.code) w)
 
--- an operator or a comparison and its right operand, a constant, at once; none where the nodes are
+-- an operator or a comparison and its right operand, a constant, at once; none if the nodes are
 -- others, or the instruction may not have this constant
 abbrev pub emit_both_nodes : Link → Walk → Node → Node → Option Walk
 emit_both_nodes link w (node.Apply operator) (node.Literal k) = emit_operator_with operator k w
@@ -234,7 +235,7 @@ is_number_node node.Negate = true
 is_number_node (node.Apply operator) = true
 is_number_node _ = false
 
--- a node of truths, but for values with all their qualifiers and for joins
+-- a node of truths, except values with all their qualifiers and for joins
 abbrev pub is_truth_node : Node → Bool
 is_truth_node (node.Check protocol) = true
 is_truth_node (node.Cast protocol c) = true
@@ -281,6 +282,6 @@ emit_nodes link w (node.Compare c ∷ node.Named k ∷ ns) =
     emit_nodes link (emit_pair link w (node.Compare c) (node.Named k)) ns
 emit_nodes link w (n ∷ ns) = emit_nodes link (emit_node link w n) ns
 
--- the instructions from where the program begins
+-- the instructions from the beginning of the program
 abbrev pub insns_of : Walk → List Insn
 insns_of w = drop (length w.code - w.to.yes) w.code

@@ -77,7 +77,7 @@ abbrev pub prefix_mask : Option ℕ → NetMask
 prefix_mask None = mask.Unwritten
 prefix_mask (Some m) = mask.Prefix m
 
--- the nodes once the operand is taken for a number, or none where it can't be one
+-- the nodes once the operand is taken for a number, or none if it can't be one
 abbrev pub as_number : Operand → List Node → Option (List Node)
 as_number operand.Truth d = None
 as_number operand.Number d = Some d
@@ -86,14 +86,14 @@ as_number (operand.Either n None) d = Some (node.Literal n ∷ d)
 as_number (operand.Either n (Some m)) d =
     Some (node.Apply Divide ∷ node.Literal m ∷ node.Literal n ∷ d)
 
--- the nodes once the operand is taken for a truth, or none where it can't be one
+-- the nodes once the operand is taken for a truth, or none if it can't be one
 abbrev pub as_truth : Operand → List Node → Option (List Node)
 as_truth operand.Truth d = Some d
 as_truth operand.Number d = None
 as_truth (operand.Plain n) d = Some (node.Bare (value.Number n mask.Unwritten) ∷ d)
 as_truth (operand.Either n m) d = Some (node.Bare (value.Number n (prefix_mask m)) ∷ d)
 
--- the nodes once the operand is taken for one of this sort, or none where it can't be
+-- the nodes once the operand is taken for one of this sort, or none if it can't be
 abbrev pub as_sort : Sort → Operand → List Node → Option (List Node)
 as_sort sort.Truth x d = as_truth x d
 as_sort sort.Number x d = as_number x d
@@ -102,7 +102,7 @@ as_sort sort.Number x d = as_number x d
 abbrev pub Read : Type 0
 Read = Operand × List Node
 
--- a node after those of its operands, which with it are the operand `y`; none where an operand was
+-- a node after those of its operands, which with it are the operand `y`; none if an operand was
 -- of the other sort
 abbrev pub after_node : Operand → Node → Option (List Node) → Option Read
 after_node y n o = o >>= λ e. Some (y, n ∷ e)
@@ -117,7 +117,7 @@ sort_of (frame.Join j) = sort.Truth
 sort_of frame.Open = sort.Truth
 sort_of (frame.Load p) = sort.Number
 
--- the node of a frame and the operand that it makes, or none where a token closes the frame
+-- the node of a frame and the operand that it makes, or none if a token closes the frame
 abbrev pub node_of : Frame → Option (Node × Operand)
 node_of frame.Negate = Some (node.Negate, operand.Number)
 node_of (frame.Apply o) = Some (node.Apply o, operand.Number)
@@ -128,7 +128,7 @@ node_of frame.Open = None
 node_of (frame.Load p) = None
 
 -- a frame is completed with its last operand: the operand that the two are together, and the nodes;
--- none where a token closes the frame, or the operand is of the other sort
+-- none if a token closes the frame, or the operand is of the other sort
 abbrev pub fill_frame : Frame → Operand → List Node → Option Read
 fill_frame f x d = node_of f >>= λ w. after_node w.1 w.0 (as_sort (sort_of f) x d)
 
@@ -137,7 +137,7 @@ abbrev pub Reduced : Type 0
 Reduced = List Frame × Operand × List Node
 
 -- the frames are completed, the latest first, as long as they bind at least as tightly as m; none
--- where one of these can't be
+-- if one of these can't be
 abbrev pub reduce : ℕ → List Frame → Operand → List Node → Option Reduced
 reduce m [] x d = Some ([], x, d)
 reduce m (f ∷ fs) x d =
@@ -149,7 +149,7 @@ abbrev pub IsLoose : ℕ → List Frame → Type 0
 IsLoose m [] = Unit {0}
 IsLoose m (f ∷ fs) = m < precedence f
 
--- the frames, the operand that was read, or none where one is to begin, and the nodes
+-- the frames, the operand that was read, or none if one must begin, and the nodes
 abbrev pub State : Type 0
 State = List Frame × Option Operand × List Node
 
@@ -162,7 +162,7 @@ abbrev pub enclosed_operand : Operand → Operand
 enclosed_operand (operand.Plain n) = operand.Either n None
 enclosed_operand x = x
 
--- a frame that waits for its right operand, after its left one of the same sort; none where the
+-- a frame that waits for its right operand, after its left one of the same sort; none if the
 -- left one is of the other sort, or the latest frame takes no operand that binds this loosely
 abbrev pub after_operator : Frame → List Frame → Operand → List Node → Option Begun
 after_operator f fs x d =
@@ -170,13 +170,13 @@ after_operator f fs x d =
     (as_sort (sort_of f) x d >>= λ e. Some (0, (f ∷ fs, None, e))) else None
 
 -- the load that is the latest frame takes its index and reads `size` bytes; `more` tokens more than
--- one are used up. None where that is another frame, or the index is no number
+-- one are used up. None if that is another frame, or the index isn't a number
 abbrev pub after_load : ℕ → ℕ → List Frame → Operand → List Node → Option Begun
 after_load more size (frame.Load p ∷ fs) x d =
     as_number x d >>= λ e. Some (more, (fs, Some operand.Number, node.Load p size ∷ e))
 after_load more size _ x d = None
 
--- the size of an accessor after its colon, or none where no number with `]` after it is there
+-- the size of an accessor after its colon, or none if no number with `]` after it follows
 abbrev pub accessor_size : List TokenKind → Option ℕ
 accessor_size (token.Number n ∷ token.CloseBracket ∷ ts) = Some n
 accessor_size _ = None
@@ -186,12 +186,12 @@ abbrev pub after_sized_load : Option ℕ → List Frame → Operand → List Nod
 after_sized_load (Some n) fs x d = after_load 2 n fs x d
 after_sized_load None fs x d = None
 
--- the parenthesis that is the latest frame is closed; none where that is another frame
+-- the parenthesis that is the latest frame is closed; none if that is another frame
 abbrev pub after_close : List Frame → Operand → List Node → Option Begun
 after_close (frame.Open ∷ fs) x d = Some (0, (fs, Some (enclosed_operand x), d))
 after_close _ x d = None
 
--- the state after a token that follows an operand, by the tokens after that token too; none where
+-- the state after a token that follows an operand, by the tokens after that token too; none if
 -- no such token may stand there
 abbrev pub after_token_at : TokenKind → List TokenKind → List Frame → Operand → List Node
     → Option Begun
@@ -212,30 +212,30 @@ after_token (t ∷ ts) fs x d = after_token_at t ts fs x d
 abbrev pub Primitive : Type 0
 Primitive = ℕ × Option Operand × List Node
 
--- a value with its qualifiers, and how many tokens more than one they are; none where no value
+-- a value with its qualifiers, and how many tokens more than one they are; none if no value
 -- comes after the qualifiers
 abbrev pub valued_of : List TokenKind → Option (Qualifiers × Value × ℕ)
 valued_of ts =
     let q = qualifiers_of ts in
     value_of q.1 >>= λ r. Some (q.0, r.0, length ts - length r.1 - 1)
 
--- a protocol alone, or none where it may not stand alone or there is none
+-- only a protocol, or none if it may not stand alone or there is none
 abbrev pub check_of : List TokenKind → List Node → Option Primitive
 check_of (token.Protocol p ∷ ts) d =
     if stands_alone p then Some (0, Some operand.Truth, node.Check p ∷ d) else None
 check_of _ d = None
 
--- this value with its qualifiers, or else a protocol alone
+-- this value with its qualifiers, or else only a protocol
 abbrev pub valued_or : Option (Qualifiers × Value × ℕ) → List TokenKind → List Node
     → Option Primitive
 valued_or (Some r) ts d = Some (r.2, Some operand.Truth, node.Valued r.0 r.1 ∷ d)
 valued_or None ts d = check_of ts d
 
--- a value with its qualifiers, or else a protocol alone
+-- a value with its qualifiers, or else only a protocol
 abbrev pub primitive : List TokenKind → List Node → Option Primitive
 primitive ts d = valued_or (valued_of ts) ts d
 
--- a value without qualifiers, or none where the tokens begin with none
+-- a value without qualifiers, or none if the tokens begin with none
 abbrev pub bare_of : List TokenKind → List Node → Option Primitive
 bare_of ts d =
     value_of ts >>= λ r. Some (length ts - length r.1 - 1, Some operand.Truth, node.Bare r.0 ∷ d)
@@ -255,7 +255,7 @@ protocol_role (t ∷ token.OpenBracket ∷ ts) = role.Bracket
 protocol_role (t ∷ token.Cast c ∷ ts) = role.Cast c
 protocol_role _ = role.Other
 
--- a protocol begins an operand: an accessor, a cast, or another primitive; none where it may not
+-- a protocol begins an operand: an accessor, a cast, or another primitive; none if it may not
 abbrev pub protocol_begins : Protocol → ProtocolRole → List TokenKind → List Frame → List Node
     → Option Begun
 protocol_begins p role.Bracket ts fs d =
@@ -276,8 +276,8 @@ abbrev pub sized_of : List TokenKind → List Node → Option Primitive
 sized_of (token.Size s ∷ token.Number n ∷ ts) d = Some (1, Some operand.Truth, node.Sized s n ∷ d)
 sized_of _ d = None
 
--- the state after the tokens where an operand begins, of which this one is the first; none where
--- none begins so
+-- the state after the tokens at the beginning of an operand, of which this one is the first; none if
+-- none begins like this
 abbrev pub begin_at : TokenKind → List TokenKind → List Frame → List Node → Option Begun
 begin_at (token.Protocol p) ts fs d = protocol_begins p (protocol_role ts) ts fs d
 begin_at (token.Side s) ts fs d = with_frames fs (primitive ts d)
@@ -297,12 +297,12 @@ begin_at (token.Operator Subtract) ts fs d = Some (0, (frame.Negate ∷ fs, None
 begin_at token.Open ts fs d = Some (0, (frame.Open ∷ fs, None, d))
 begin_at _ ts fs d = None
 
--- the state after the tokens where an operand begins, or none where none begins
+-- the state after the tokens at the beginning of an operand, or none if none begins
 abbrev pub begin : List TokenKind → List Frame → List Node → Option Begun
 begin [] fs d = None
 begin (t ∷ ts) fs d = begin_at t (t ∷ ts) fs d
 
--- a plain number, and the length of a prefix that is written after it, or none where one is missing
+-- a plain number, and the length of a prefix that is written after it, or none if one is missing
 abbrev pub number_with_prefix : Operand → List TokenKind → Option (ℕ × ℕ)
 number_with_prefix (operand.Plain n) (token.Operator Divide ∷ token.Number m ∷ ts) = Some (n, m)
 number_with_prefix _ _ = None
@@ -331,7 +331,7 @@ abbrev pub whole : List Frame → Operand → List Node → Option (List Node)
 whole [] x d = as_truth x d
 whole (f ∷ fs) x d = None
 
--- the nodes of the whole after the last token, or none where the tokens end too early or are no
+-- the nodes of the whole after the last token, or none if the tokens end too early or aren't a
 -- truth
 abbrev pub finish : Option Operand → List Frame → List Node → Option (List Node)
 finish None fs d = None
@@ -346,7 +346,7 @@ run (t ∷ ts) zero fs None d = begin (t ∷ ts) fs d >>= λ r. run ts r.0 r.1.0
 run (t ∷ ts) zero fs (Some x) d =
     after_operand (t ∷ ts) fs x d >>= λ r. run ts r.0 r.1.0 r.1.1 r.1.2
 
--- the nodes of the tree that tokens have, latest first, or none where they have no tree; no tokens
+-- the nodes of the tree that tokens have, latest first, or none if they have no tree; no tokens
 -- have no nodes
 abbrev pub nodes_of_tokens : List TokenKind → Option (List Node)
 nodes_of_tokens [] = Some []

@@ -1,7 +1,8 @@
 -- When two places of two programs do the same: the new one is c, the old one is read from its
 -- instruction i on, which lands at l. `is` are the old instructions after i, `ls` their landings, j
 -- the instruction of the new program where i lands, and `js` those after it.
-use Rattle.std.specs.Prelude.{ℕ, ◌+◌, ◌-◌, ◌%◌, ◌^◌, ◌==◌, nat_lt, nat_le, Bool, true, false, if◌then◌else◌, ◌&&◌, ◌||◌, not, List, [], ◌∷◌, length, Option, Some, None, slice_get, drop}
+use Rattle.std.specs.Prelude.{ℕ, ◌+◌, ◌-◌, ◌%◌, ◌^◌, ◌==◌, nat_lt, nat_le, Bool, true, false, ◌&&◌, ◌||◌, not, List, [], ◌∷◌, length, Option, Some, None, slice_get, drop}
+use Rattle.std.specs.Option.{option_map_or}
 use Rattle.flt_bpf.specs.declared.insn.Insn.{Insn}
 use Rattle.flt_bpf.specs.declared.operation.Operation.{Operation}
 use Rattle.flt_bpf.specs.declared.operation.Operation.TheVariants.{LoadAbsolute, LoadIndirect, Load, LoadHeaderLength, Compute, Negate, Jump, JumpIf, ReturnConstant, ReturnAccumulator, CopyToIndex, CopyToAccumulator}
@@ -33,7 +34,7 @@ landing_fits_at (Some l) far place a x =
 abbrev pub landing_fits : List Landing → ℕ → ℕ → ℕ → Bool → Bool → Bool
 landing_fits ls k far place a x = landing_fits_at (slice_get ls k) far place a x
 
--- both programs go on alike after an instruction that both have, here with this operation: all its
+-- both programs go on the same way after an instruction that both have, here with this operation: all its
 -- ways fit, and it isn't `ja`
 abbrev pub goes_on : Operation → Insn → Landing → Insn → List Landing → Bool
 goes_on Jump j l i ls = false
@@ -45,8 +46,8 @@ goes_on ReturnAccumulator j l i ls = true
 goes_on op j l i ls =
     landing_fits ls 0 0 l.place (sets_accumulator op || l.accumulator) (sets_index op || l.index)
 
--- j is the same instruction as i but for the offsets, what it reads is the same in both programs,
--- and both go on alike
+-- j is the same instruction as i except the offsets, what it reads is the same in both programs,
+-- and both go on the same way
 unfoldable pub same_step : Option Operation → Insn → Landing → Insn → List Landing → Bool
 same_step None j l i ls = false
 same_step (Some op) j l i ls =
@@ -66,12 +67,16 @@ EQUAL = code_of (JumpIf test.Equal Constant)
 abbrev pub ANY_BIT : ℕ
 ANY_BIT = code_of (JumpIf test.AnyBit Constant)
 
--- j is one test of bits in place of i, which is a mask, and of the test after it whether 0 is left;
+-- i is a mask, and t a test whether 0 is left
+abbrev pub is_masked_test : Insn → Insn → Bool
+is_masked_test i t = (i.code == MASK && t.code == EQUAL) && t.k == 0
+
+-- j is one test of bits instead of i, which is a mask, and of the test after it whether 0 is left;
 -- before them A is the same in both programs, and after them it isn't read
 unfoldable pub one_test : Insn → Landing → Insn → List Insn → List Landing → Bool
 one_test j l i [] ls = false
 one_test j l i (t ∷ is) ls =
-    ((i.code == MASK && t.code == EQUAL) && (t.k == 0 && (j.code == ANY_BIT && i.k == j.k)))
+    (is_masked_test i t && (j.code == ANY_BIT && i.k == j.k))
     && (l.accumulator
     && (landing_fits ls (1 + t.jt) j.jf l.place false l.index
     && landing_fits ls (1 + t.jf) j.jt l.place false l.index))
@@ -81,19 +86,18 @@ abbrev pub direct_code : Option Operation → Option ℕ
 direct_code (Some (LoadIndirect width)) = Some (code_of (LoadAbsolute width))
 direct_code _ = None
 
--- a code, if there is one, is this one
-abbrev pub is_code : Option ℕ → ℕ → Bool
-is_code None n = false
-is_code (Some m) n = m == n
+-- i puts a number into A, and t copies it to X
+abbrev pub puts_number_into_index : Insn → Insn → Bool
+puts_number_into_index i t = i.code == code_of (Load Accumulator Immediate) && t.code == code_of CopyToIndex
 
--- j is one load at a fixed place in place of i, which puts a number into A, its copy to X, and a
+-- j is one load at a fixed place instead of i, which puts a number into A, its copy to X, and a
 -- load at X; X isn't read after them
 unfoldable pub direct_load : Insn → Landing → Insn → List Insn → List Landing → Bool
 direct_load j l i [] ls = false
 direct_load j l i (t ∷ []) ls = false
 direct_load j l i (t ∷ u ∷ is) ls =
-    ((i.code == code_of (Load Accumulator Immediate) && t.code == code_of CopyToIndex)
-    && (is_code (direct_code (operation_of u.code)) j.code && (i.k + u.k) % 2 ^ 32 == j.k))
+    (puts_number_into_index i t
+    && (option_map_or (λ n. n == j.code) (direct_code (operation_of u.code)) false && (i.k + u.k) % 2 ^ 32 == j.k))
     && landing_fits ls 2 0 l.place true false
 
 -- a load at X
@@ -113,7 +117,7 @@ abbrev pub loads_alike : Insn → Insn → Insn → Insn → Bool
 loads_alike t h w j =
     (t.code == h.code && t.k == h.k) && (is_indirect (operation_of w.code) && w.code == j.code)
 
--- the new code loads a header's length and then at X, in place of i, which puts a number into A,
+-- the new code loads a header's length and then at X, instead of i, which puts a number into A,
 -- the load of the header's length, their sum, its copy to X, and a load at X; X isn't read after
 -- them
 unfoldable pub header_load : List Insn → Landing → Insn → List Insn → List Landing → Bool
@@ -147,17 +151,17 @@ goes_on_or_rejects ReturnConstant = false
 goes_on_or_rejects ReturnAccumulator = false
 goes_on_or_rejects op = true
 
--- the code from a place on, which is named by the number of instructions from there to the end;
--- none of it if it has fewer
+-- the code from a place on, which is named by the number of instructions from there to the end; all
+-- of it if it has fewer
 abbrev pub code_from : List Insn → ℕ → List Insn
-code_from c place = if nat_le place (length c) then drop (length c - place) c else []
+code_from c place = drop (length c - place) c
 
 -- two tests lead to the same place, which is counted from the end: what each skips, of the
 -- instructions that follow it
 abbrev pub same_target : ℕ → ℕ → ℕ → ℕ → Bool
 same_target far len other_far other_len = len - far == other_len - other_far
 
--- two instructions with this operation go on alike: they return, or lead to the same places, or what
+-- two instructions with this operation go on the same way: they return, or lead to the same places, or what
 -- follows both is the same
 abbrev pub goes_on_alike : Option Operation → Insn → ℕ → Insn → ℕ → Bool → Bool
 goes_on_alike None i len j other_len rest = false
@@ -190,7 +194,7 @@ lands_at_if c (Some l) place a x =
 abbrev pub lands_at : List Insn → List Landing → ℕ → ℕ → Bool → Bool → Bool
 lands_at c ls k place a x = lands_at_if c (slice_get ls k) place a x
 
--- i, of which this is the operation, has no instruction in the new code: all its ways land where it
+-- i, of which this is the operation, has no instruction in the new code: all its ways land if it
 -- lands, at j; and it does nothing that is seen from there on, or the packet is rejected there
 unfoldable pub left_out : List Insn → Option Operation → Insn → Landing → Insn → List Landing → Bool
 left_out c None j l i ls = false
@@ -214,7 +218,8 @@ stands_at c (j ∷ js) l i is ls =
 -- the code does at the landing of i what i and those after it do; nothing is asked if i lands
 -- nowhere
 abbrev pub stands : List Insn → Landing → Insn → List Insn → List Landing → Bool
-stands c l i is ls = l.place == 0 || stands_at c (code_from c l.place) l i is ls
+stands c l i is ls =
+    l.place == 0 || (nat_le l.place (length c) && stands_at c (code_from c l.place) l i is ls)
 
 -- the code does at each landing what the old code does there
 abbrev pub are_alike : List Insn → List Insn → List Landing → Bool
@@ -222,7 +227,7 @@ are_alike c [] ls = true
 are_alike c (i ∷ is) [] = false
 are_alike c (i ∷ is) (l ∷ ls) = stands c l i is ls && are_alike c is ls
 
--- the first instruction of the old code lands where the new code, of this length, begins; code
+-- the first instruction of the old code lands if the new code, of this length, begins; code
 -- without instructions has no beginning
 abbrev pub begins : List Landing → ℕ → Bool
 begins [] len = false

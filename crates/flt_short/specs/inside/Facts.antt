@@ -1,11 +1,13 @@
--- What is known of a packet, and of A and X, where a run reaches an instruction. `code` and `k`
+-- What is known of a packet, and of A and X, if a run reaches an instruction. `code` and `k`
 -- together are those of a load: they say which bytes of the packet it takes. Elsewhere `k` is what
 -- is known at a place. `i` is an instruction.
 use Rattle.std.specs.Prelude.{ℕ, suc, ◌==◌, not, Bool, true, false, if◌then◌else◌, ◌&&◌, ◌||◌, List, [], ◌∷◌, length, map, replicate, Option, Some, None, slice_set}
+use Rattle.std.specs.Option.{option_or, option_map_or}
 use Rattle.flt_bpf.specs.declared.insn.Insn.{Insn}
 use Rattle.flt_bpf.specs.declared.operation.Operation.{Operation}
 use Rattle.flt_bpf.specs.declared.operation.Operation.TheVariants.{LoadAbsolute, LoadIndirect, Load, LoadHeaderLength, Store, Compute, Jump, JumpIf, CopyToIndex}
-use Rattle.flt_bpf.specs.declared.operation.Register.TheVariants.{Index}
+use Rattle.flt_bpf.specs.declared.operation.Register.TheVariants.{Accumulator, Index}
+use Rattle.flt_bpf.specs.declared.operation.Source.TheVariants.{Length}
 use Rattle.flt_bpf.specs.declared.operation.Operand.TheVariants.{Constant}
 use Rattle.flt_bpf.specs.declared.operation.Test.TheVariants.{Equal}
 use Rattle.flt_bpf.specs.declared.operation.AluOperation.TheVariants.{And}
@@ -71,7 +73,7 @@ entails_some (IsOneOf a b) d = allows d a && allows d b
 abbrev pub entails : Claim → Claim → Bool
 entails c d = claims_nothing d || entails_some c d
 
--- what holds if a number is a, or if it is b: it is one of the two; of other claims nothing
+-- what holds if a number is a, or if it is b: it is one of the two; for other claims nothing
 abbrev pub one_of_two : Claim → Claim → Claim
 one_of_two (Is a) (Is b) = IsOneOf a b
 one_of_two _ _ = Nothing
@@ -81,7 +83,7 @@ abbrev pub joined_claim : Claim → Claim → Claim
 joined_claim c d = if entails c d then d else (if entails d c then c else one_of_two c d)
 
 -- what holds of a fact's field on two ways, on one of which the fact holds, which claims something,
--- and on the other one all of the others: by the first that leaves a claim, or nothing
+-- and on the other one all of the others: by the first that keeps a claim, or nothing
 abbrev pub joined_with_any : Fact → List Fact → Fact
 joined_with_any x [] = nothing_claimed
 joined_with_any x (y ∷ ys) =
@@ -109,7 +111,7 @@ joined_held _ _ = held.Unknown
 abbrev pub common_header : Option ℕ → Option ℕ → Option ℕ
 common_header a b = if same_optional a b then a else None
 
--- what is known at a place, where A held this, once one more run comes there
+-- what is known at a place, if A held this, once one more run comes there
 abbrev pub joined_by : Held → Known → Known → Known
 joined_by held.Unreached k came = came
 joined_by h k came = record {
@@ -119,7 +121,7 @@ joined_by h k came = record {
 }
 
 -- what is known at a place once one more run comes there, of which `came` is known: what holds of
--- all these runs, or all of `came` where no run came before
+-- all these runs, or all of `came` if no run came before
 abbrev pub joined : Known → Known → Known
 joined k came = joined_by k.held k came
 
@@ -128,16 +130,11 @@ abbrev pub outcome_by_claim : Claim → ℕ → Option Bool
 outcome_by_claim (Is a) n = Some (a == n)
 outcome_by_claim c n = if allows c n then None else Some false
 
--- an outcome, or a later one where there is none
-abbrev pub first_said : Option Bool → Option Bool → Option Bool
-first_said (Some outcome) later = Some outcome
-first_said None later = later
-
 -- the outcome of the test whether a field is this number, by the first fact that decides it
 abbrev pub decided : List Fact → Field → ℕ → Option Bool
 decided [] f n = None
 decided (x ∷ xs) f n =
-    if same_field x.field f then first_said (outcome_by_claim x.claim n) (decided xs f n)
+    if same_field x.field f then option_or (outcome_by_claim x.claim n) (decided xs f n)
     else decided xs f n
 
 -- the two numbers that a claim names, or else those found later
@@ -161,13 +158,12 @@ abbrev pub place_for : List Fact → Fact → ℕ
 place_for [] y = 0
 place_for (x ∷ xs) y = if length xs == 0 || gives_way x y then 0 else suc (place_for xs y)
 
--- what is known with one more fact, in the place of one that gives way, or of the last
-abbrev pub with_one : Known → Fact → Known
-with_one k y = record k { facts = slice_set k.facts (place_for k.facts y) y }
-
--- what is known with one more fact, of this field with this claim
+-- what is known with one more fact, of this field with this claim: in the place of one that gives
+-- way to it, or of the last
 abbrev pub with_fact : Known → Field → Claim → Known
-with_fact k f c = with_one k (record { field = f; claim = c })
+with_fact k f c =
+    let y : Fact = record { field = f; claim = c } in
+    record k { facts = slice_set k.facts (place_for k.facts y) y }
 
 -- a fact says that the bytes that a load takes are captured: any claim of its number does
 abbrev pub captures : Fact → ℕ → ℕ → Bool
@@ -187,6 +183,10 @@ holds_field _ code k = false
 abbrev pub is_captured : Known → ℕ → ℕ → Bool
 is_captured known code k = holds_field known.held code k || any_captures known.facts code k
 
+-- the field that a load puts into A
+abbrev pub field_of : Insn → Field
+field_of i = record { code = i.code; k = i.k; mask = None }
+
 -- a field, which has this mask or none, with one more mask: no field, if it has one already
 abbrev pub masked_by : Option ℕ → Field → ℕ → Option Field
 masked_by None f m = Some (record f { mask = Some m })
@@ -196,14 +196,9 @@ masked_by (Some old) f m = None
 abbrev pub masked_field : Field → ℕ → Option Field
 masked_field f m = masked_by f.mask f m
 
--- what A holds: this field, if there is one, and else anything
-abbrev pub held_if_some : Option Field → Held
-held_if_some None = held.Unknown
-held_if_some (Some f) = held.Field f
-
 -- what A holds once it is masked, by what it held
 abbrev pub masked_held : Held → ℕ → Held
-masked_held (held.Field f) m = held_if_some (masked_field f m)
+masked_held (held.Field f) m = option_map_or held.Field (masked_field f m) held.Unknown
 masked_held _ m = held.Unknown
 
 -- what is known of A once X is another number: no longer that it is what a load at X would put
@@ -214,8 +209,8 @@ held_without_index h = h
 
 -- what A holds after an instruction that isn't a test, by what it held
 abbrev pub held_after : Option Operation → Held → Insn → Held
-held_after (Some (LoadAbsolute width)) h i =
-    held.Field (record { code = i.code; k = i.k; mask = None })
+held_after (Some (LoadAbsolute width)) h i = held.Field (field_of i)
+held_after (Some (Load Accumulator Length)) h i = held.Field (field_of i)
 held_after (Some (LoadIndirect width)) h i = held.AtIndex i.code i.k
 held_after (Some (Compute And Constant)) h i = masked_held h i.k
 held_after (Some LoadHeaderLength) h i = held_without_index h
@@ -252,7 +247,7 @@ claim_after false n (Some two) =
 abbrev pub known_by : Known → Field → ℕ → Bool → Known
 known_by k f n outcome = with_fact k f (claim_after outcome n (two_numbers_of k.facts f))
 
--- what is known once a test with the number n had an outcome, where A held h and k was known: more
+-- what is known once a test with the number n had an outcome, if A held h and k was known: more
 -- only after a test for equality of a field
 abbrev pub known_by_test : Option Operation → Held → Known → ℕ → Bool → Known
 known_by_test (Some (JumpIf Equal Constant)) (held.Field f) k n outcome = known_by k f n outcome

@@ -1,12 +1,13 @@
--- Where an instruction leads, as the code returns it and as the machine's definition has it.
-use Rattle.flt_bpf.specs.Machine.{Next, Goes, Ends}
-use Rattle.flt_trace.specs.declared.steps.Step.{Step}
-use Rattle.flt_trace.specs.declared.steps.Flow.{Flow}
-use Rattle.flt_trace.specs.declared.steps.Flow.TheVariants.{Further, End}
-use Rattle.flt_trace.specs.Trace.{step_state}
+-- The step that is written of a place and a state.
+use Rattle.std.specs.Prelude.{ℕ}
+use Rattle.flt_bpf.specs.declared.machine.State.{State}
+use Rattle.flt_trace.specs.declared.walk.Step.{Step}
 
--- where an instruction leads, in the machine's words: past some instructions with this state, or to
--- the end with an answer
-abbrev pub flow_next : Flow → Step → Next
-flow_next (Further further) s = Goes further (step_state s)
-flow_next (End answer) s = Ends answer
+-- the step of a run that is before a place in a state
+abbrev pub step_at : ℕ → State → Step
+step_at place s = record {
+  place = place;
+  accumulator = s.accumulator;
+  index = s.index;
+  memory = s.memory;
+}

@@ -12,7 +12,7 @@ base_of group.Octet = 256
 base_of group.Byte = 256
 base_of group.Quad = 65536
 
--- what a reader of addresses returns: one of which this holds, or none where it holds of no address
+-- what a reader of addresses returns: one of which this holds, or none if it holds of no address
 abbrev pub FindsAddress : (ℕ → Type 0) → Option ℕ → Type 0
 FindsAddress IsIt answer = MatchOption answer ((address : ℕ) → IsIt address → ⊥) IsIt
 
@@ -21,7 +21,7 @@ abbrev pub IsDoubleColon : List ℕ → ℕ → Type 0
 IsDoubleColon word i = (slice_index word i ≡ 58) × (slice_index word (i + 1) ≡ 58)
 
 -- what reading a text as at most eight groups returns: how many there are and the number that they
--- write in their base, or none where it isn't such groups
+-- write in their base, or none if it isn't such groups
 abbrev pub ReadsGroups : Group → List ℕ → Option JoinedGroups → Type 0
 ReadsGroups form text None =
     (groups : List (List ℕ)) → AreGroups form text groups → length groups ≤ 8 → ⊥

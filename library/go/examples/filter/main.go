@@ -9,17 +9,17 @@ import (
 	"io"
 	"os"
 
-	"capkit"
+	"example.com/capkit"
 )
 
 // count prints how many packets match, also of those before a fault.
 func count(expression *capkit.Expression, name string) error {
-	capture, err := capkit.Open(name)
+	reader, err := capkit.Open(name)
 	if err != nil {
 		return err
 	}
-	defer capture.Close()
-	reader, seen, matching := capture.Reader(), 0, 0
+	defer reader.Close()
+	seen, matching := 0, 0
 	for {
 		packet, end := reader.Next()
 		if end != nil {

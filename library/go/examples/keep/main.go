@@ -11,7 +11,7 @@ import (
 	"io"
 	"os"
 
-	"capkit"
+	"example.com/capkit"
 )
 
 func isSameFile(one, other string) bool {
@@ -25,17 +25,15 @@ func isSameFile(one, other string) bool {
 
 // keep writes the packets that match, also those before a fault.
 func keep(expression *capkit.Expression, name, out string) error {
-	capture, err := capkit.Open(name)
+	reader, err := capkit.Open(name)
 	if err != nil {
 		return err
 	}
-	defer capture.Close()
-	first, err := capture.Reader().Next()
-	if err == nil {
-		_, err = expression.Filter(first.LinkType)
-	}
-	if err != nil && err != io.EOF {
-		return fmt.Errorf("%s: %w", name, err)
+	defer reader.Close()
+	reader.SetFilter(expression)
+	packet, end := reader.Next()
+	if end != nil && end != io.EOF {
+		return fmt.Errorf("%s: %w", name, end)
 	}
 	file, err := os.Create(out)
 	if err != nil {
@@ -44,34 +42,20 @@ func keep(expression *capkit.Expression, name, out string) error {
 	defer file.Close()
 	buffer := bufio.NewWriter(file)
 	writer := capkit.NewWriter(buffer, capkit.Pcapng)
-	end := copyMatching(capture.Reader(), expression, writer)
+	for end == nil {
+		if end = writer.Write(packet); end == nil {
+			packet, end = reader.Next()
+		}
+	}
 	for _, finish := range []func() error{writer.Close, buffer.Flush, file.Close} {
 		if err := finish(); err != nil {
 			return err
 		}
 	}
-	if end != nil {
+	if end != io.EOF {
 		return fmt.Errorf("%s: %w", name, end)
 	}
 	return nil
-}
-
-func copyMatching(reader *capkit.Reader, expression *capkit.Expression, writer *capkit.Writer) error {
-	for {
-		packet, err := reader.Next()
-		if err == io.EOF {
-			return nil
-		} else if err != nil {
-			return err
-		}
-		matches, err := expression.Matches(packet)
-		if err == nil && matches {
-			err = writer.Write(packet)
-		}
-		if err != nil {
-			return err
-		}
-	}
 }
 
 func fail(err error, status int) {

@@ -1,15 +1,13 @@
 """Filter expressions of packets, and pcap and pcapng captures, by the proved library libcapkit.
 
-    expression = capkit.Expression("tcp port 80")
-    for packet in capkit.packets("day.pcap"):
-        if expression.matches(packet):
-            print(packet.time, len(packet.data))
+    for packet in capkit.packets("day.pcap", "tcp port 80"):
+        print(packet.time, len(packet.data))
 
 A time is in nanoseconds since 1970-01-01 00:00:00 UTC. A link type is the number that captures have
 for it; expressions are compiled for LINK_ETHERNET, LINK_RAW and LINK_COOKED.
 """
-from .errors import CaptureError, CompileError, ProgramError, WriteError
-from .filters import Expression, Filter, Instruction, Step, explain
+from .errors import CaptureError, Check, CompileError, ProgramError, Rule, Status, WriteError
+from .filters import Elsewhere, Expression, Filter, Instruction, Step, explain
 from .reading import Capture, Packet, packets
 from .writing import Writer
 
@@ -20,20 +18,7 @@ LINK_RAW = 101
 LINK_COOKED = 113
 
 __all__ = [
-    "LINK_COOKED",
-    "LINK_ETHERNET",
-    "LINK_RAW",
-    "Capture",
-    "CaptureError",
-    "CompileError",
-    "Expression",
-    "Filter",
-    "Instruction",
-    "Packet",
-    "ProgramError",
-    "Step",
-    "WriteError",
-    "Writer",
-    "explain",
-    "packets",
-]
+    "LINK_COOKED", "LINK_ETHERNET", "LINK_RAW", "Capture", "CaptureError", "Check",
+    "CompileError", "Elsewhere", "Expression", "Filter", "Instruction", "Packet", "ProgramError",
+    "Rule", "Status", "Step", "WriteError", "Writer", "explain", "packets",
+]  # fmt: skip

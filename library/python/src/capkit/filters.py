@@ -2,17 +2,20 @@
 from __future__ import annotations
 
 import ctypes as c
+import enum
 from typing import TYPE_CHECKING, Any, Dict, Iterable, List, NamedTuple, Optional, Tuple, Union
 
 from . import native
-from .errors import CompileError, ProgramError
+from .errors import CompileError, ProgramError, Status
 
 if TYPE_CHECKING:
     from .reading import Packet
 
 Bytes = Union[bytes, bytearray, memoryview]
 
-_STATUSES_WITH_A_PLACE = {2, 3, 4, 14}
+_WITH_A_PLACE = {
+    Status.UNKNOWN_CHARACTER, Status.UNKNOWN_WORD, Status.NUMBER_TOO_LARGE, Status.NOT_UTF8
+}  # fmt: skip
 
 
 class Instruction(NamedTuple):
@@ -37,16 +40,19 @@ class Step(NamedTuple):
     """The 16 words of memory."""
 
 
-def _failure(status: int, number: int) -> CompileError:
-    return CompileError(status, number if status in _STATUSES_WITH_A_PLACE else None)
+class Elsewhere(enum.IntFlag):
+    """What else runs a program alike."""
+
+    LIBPCAP = 1
+    LINUX = 2
 
 
 def _number_of(call: Any, text: bytes, *arguments: Any) -> int:
-    """The number that a call leaves for an expression; raises CompileError."""
+    """The number that a call gives for an expression; raises CompileError."""
     number = c.c_size_t()
     status = call(text, len(text), *arguments, c.byref(number))
-    if status != native.OK:
-        raise _failure(status, number.value)
+    if status:
+        raise CompileError(status, number.value if status in _WITH_A_PLACE else None)
     return number.value
 
 
@@ -56,6 +62,8 @@ def _bound(text: bytes) -> int:
 
 
 def _encoded(text: str) -> bytes:
+    if not isinstance(text, str):
+        raise TypeError(f"an expression is a str, not {type(text).__name__}")
     # What isn't UTF-8 on a command line comes as lone surrogates, and is given back.
     return text.encode(errors="surrogateescape")
 
@@ -73,33 +81,53 @@ def explain(expression: str) -> str:
     return buffer.value.decode()
 
 
-def _insn(code: int, jt: int, jf: int, k: int) -> native.Insn:
+def _insn(code: int, jt: int, jf: int, k: int) -> Any:
     fits = native.fits
     jumps = fits(jt, 8, "jt"), fits(jf, 8, "jf")
     return native.Insn(fits(code, 16, "code"), *jumps, fits(k, 32, "k"))
 
 
 class Filter:
-    """The program of an expression for packets of one link type."""
+    """The program of an expression for packets of one link type.
+
+    Filters are equal if their instructions are.
+    """
 
     def __init__(self, expression: str, link_type: int) -> None:
         """Compiles the expression; raises CompileError."""
         native.fits(link_type, 16, "link type")
         text = _encoded(expression)
         room = _bound(text)
-        self._insns = (native.Insn * room)()
+        self._insns: Any = (native.Insn * room)()
         self._count = _number_of(native.compile_, text, link_type, self._insns, room)
 
     @classmethod
     def from_instructions(cls, instructions: Iterable[Tuple[int, int, int, int]]) -> Filter:
-        """A program from elsewhere, as `tcpdump -ddd` prints it; raises ProgramError."""
+        """A program from elsewhere, such as `tcpdump -ddd` prints; raises ProgramError."""
         program = [_insn(*instruction) for instruction in instructions]
         made, index = cls.__new__(cls), c.c_size_t()
         made._insns, made._count = (native.Insn * len(program))(*program), len(program)
         rule = native.check(made._insns, made._count, c.byref(index))
-        if rule != native.OK:
+        if rule:
             raise ProgramError(rule, index.value)
         return made
+
+    def __repr__(self) -> str:
+        return f"<Filter of {self._count} instructions>"
+
+    def __str__(self) -> str:
+        return self.listing
+
+    def __eq__(self, other: object) -> bool:
+        if not isinstance(other, Filter):
+            return NotImplemented
+        return self.instructions == other.instructions
+
+    def __hash__(self) -> int:
+        return hash(self.instructions)
+
+    def __reduce__(self) -> Tuple[Any, ...]:
+        return Filter.from_instructions, (self.instructions,)
 
     def run(self, data: Bytes, original_length: Optional[int] = None) -> int:
         """What the program returns on a packet: 0 rejects it.
@@ -111,10 +139,9 @@ class Filter:
         return result
 
     def _arguments(self, data: Bytes, original_length: Optional[int]) -> Tuple[Any, ...]:
+        data = native.bytes_of(data, "data")
         original = len(data) if original_length is None else original_length
         native.fits(original, 32, "original length")
-        if not isinstance(data, bytes):
-            data = bytes(data)
         return self._insns, self._count, data, len(data), original
 
     def matches(self, data: Bytes, original_length: Optional[int] = None) -> bool:
@@ -146,9 +173,14 @@ class Filter:
         return "\n".join([str(self._count), *lines, ""])
 
     @property
+    def runs_on(self) -> Elsewhere:
+        """Where else the program gives the same answers; see capkit_portability."""
+        return Elsewhere(native.portability(self._insns, self._count))
+
+    @property
     def is_portable(self) -> bool:
-        """Whether libpcap and a Linux socket give the same answers; see capkit_is_portable."""
-        return bool(native.is_portable(self._insns, self._count))
+        """Whether libpcap and a Linux socket give the same answers."""
+        return self.runs_on == Elsewhere.LIBPCAP | Elsewhere.LINUX
 
 
 class Expression:
@@ -160,8 +192,25 @@ class Expression:
         self.text = text
         self._filters: Dict[int, Filter] = {}
 
+    def __repr__(self) -> str:
+        return f"Expression({self.text!r})"
+
+    def __str__(self) -> str:
+        return self.text
+
+    def __eq__(self, other: object) -> bool:
+        if not isinstance(other, Expression):
+            return NotImplemented
+        return self.text == other.text
+
+    def __hash__(self) -> int:
+        return hash(self.text)
+
+    def __reduce__(self) -> Tuple[Any, ...]:
+        return Expression, (self.text,)
+
     def filter(self, link_type: int) -> Filter:
-        """The expression's filter for a link type; CompileError where none is compiled for it."""
+        """The expression's filter for a link type; CompileError if none is compiled for it."""
         if link_type not in self._filters:
             self._filters[link_type] = Filter(self.text, link_type)
         return self._filters[link_type]

@@ -1,68 +1,39 @@
-"""The calls of libcapkit, as capkit.h declares them."""
+"""The calls of libcapkit, as capkit.h declares them.
+
+ctypes and not cffi: given objects of C that are made once, a call takes as long, and any Python has it.
+"""
 import ctypes as c
 import os
 import pathlib
-from typing import Any
+from typing import Any, List, Sequence, Tuple
 
-OK = 0
-LINK_TYPE = 15
-NO_ROOM = 16
-PACKET = 0
-END = 222
-NO_PACKET = 223
-NO_ROOM_IN_BUFFER = 225
 MOST_INTERFACES = 256
+MOST_UNIT = 1048576
 
 
-class Insn(c.Structure):
-    _fields_ = [("code", c.c_uint16), ("jt", c.c_uint8), ("jf", c.c_uint8), ("k", c.c_uint32)]
+def _struct(name: str, fields: Sequence[Tuple[str, Any]]) -> Any:
+    return type(name, (c.Structure,), {"_fields_": fields})
 
 
-class Step(c.Structure):
-    _fields_ = [
-        ("index", c.c_uint32),
-        ("a", c.c_uint32),
-        ("x", c.c_uint32),
-        ("memory", c.c_uint32 * 16),
-    ]
+def _of(kind: Any, names: str) -> List[Tuple[str, Any]]:
+    return [(name, kind) for name in names.split()]
 
 
-class Reader(c.Structure):
-    _fields_ = [
-        ("offset", c.c_size_t),
-        ("snap", c.c_uint32),
-        ("interfaces", c.c_uint32),
-        ("link_type", c.c_uint16),
-        ("has_link_type", c.c_uint8),
-        ("form", c.c_uint8),
-        ("big_endian", c.c_uint8),
-        ("nanoseconds", c.c_uint8),
-    ]
-
-
-class Interface(c.Structure):
-    _fields_ = [
-        ("units", c.c_uint64),
-        ("offset", c.c_int64),
-        ("snap", c.c_uint32),
-        ("link_type", c.c_uint16),
-        ("name_length", c.c_uint8),
-        ("name", c.c_ubyte * 255),
-    ]
-
-
-class PacketInfo(c.Structure):
-    _fields_ = [
-        ("time", c.c_uint64),
-        ("at", c.c_size_t),
-        ("options_at", c.c_size_t),
-        ("captured", c.c_uint32),
-        ("original", c.c_uint32),
-        ("options_length", c.c_uint32),
-        ("interface", c.c_uint32),
-        ("snap", c.c_uint32),
-        ("link_type", c.c_uint16),
-    ]
+_8, _16, _32, _64, _size = c.c_uint8, c.c_uint16, c.c_uint32, c.c_uint64, c.c_size_t
+Insn = _struct("Insn", [("code", _16), *_of(_8, "jt jf"), ("k", _32)])
+Step = _struct("Step", [*_of(_32, "index a x"), ("memory", _32 * 16)])
+Reader = _struct("Reader", [
+    ("offset", _size), *_of(_32, "snap interfaces"), ("link_type", _16),
+    *_of(_8, "has_link_type form big_endian nanoseconds"),
+])  # fmt: skip
+Interface = _struct("Interface", [
+    ("units", _64), ("offset", c.c_int64), ("snap", _32), ("link_type", _16), ("name_length", _8),
+    ("name", _8 * 255),
+])  # fmt: skip
+PacketInfo = _struct("PacketInfo", [
+    ("time", _64), *_of(_size, "at options_at"),
+    *_of(_32, "captured original options_length interface snap"), ("link_type", _16),
+])  # fmt: skip
 
 
 def load() -> c.CDLL:
@@ -72,57 +43,61 @@ def load() -> c.CDLL:
     return c.CDLL(str(name))
 
 
+_library = load()
+
+
 def declare(name: str, result: Any, *arguments: Any) -> Any:
-    """The call of this name."""
-    call = getattr(_library, name)
-    call.restype, call.argtypes = result, arguments
+    """A call. One without the kinds of its arguments takes objects of C alone, and is quicker."""
+    call = _library[name]
+    call.restype = result
+    if arguments:
+        call.argtypes = arguments
     return call
 
 
-_library = load()
-_text, _size, _pointer, _number = c.c_char_p, c.c_size_t, c.c_void_p, c.c_uint32
-_buffer = (_pointer, _size, c.POINTER(_size))
+_text, _at = c.c_char_p, c.c_void_p
+_number, _buffer = c.POINTER(_size), (_at, _size, c.POINTER(_size))
 
-bound = declare("capkit_bound", _number, _text, _size, c.POINTER(_size))
-explain = declare("capkit_explain", _number, _text, _size, *_buffer)
-compile_ = declare(
-    "capkit_compile", _number, _text, _size, c.c_uint16, _pointer, _size, c.POINTER(_size)
-)
-check = declare("capkit_check", _number, _pointer, _size, c.POINTER(_size))
-matches = declare("capkit_matches", _number, _pointer, _size, _text, _size, _number)
-trace = declare(
-    "capkit_trace", _size, _pointer, _size, _text, _size, _number, _pointer, _size
-)
-insn_text = declare("capkit_insn_text", _size, _pointer, _number, _pointer, _size)
-line = declare(
-    "capkit_line",
-    _size, c.c_uint16, c.c_uint64, _number, _text, _size, _number, _pointer, _size,
-)  # fmt: skip
-is_portable = declare("capkit_is_portable", _number, _pointer, _size)
-next_ = declare(
-    "capkit_next", _number, _pointer, _pointer, _size, _pointer, _size, _pointer
-)
-comment = declare("capkit_comment", _size, _pointer, _pointer, _size, _pointer, _pointer, _size)
-write_file_header = declare("capkit_write_file_header", _number, _number, c.c_uint16, *_buffer)
-write_record = declare(
-    "capkit_write_record", _number, _number, c.c_uint64, _number, _text, _size, *_buffer
-)
-write_section = declare("capkit_write_section", _number, *_buffer)
-write_interface = declare(
-    "capkit_write_interface", _number, c.c_uint16, _number, _text, _size, *_buffer
-)
+bound = declare("capkit_bound", _32, _text, _size, _number)
+explain = declare("capkit_explain", _32, _text, _size, *_buffer)
+compile_ = declare("capkit_compile", _32, _text, _size, _16, *_buffer)
+check = declare("capkit_check", _32, *_buffer)
+run = declare("capkit_run", _32, _at, _size, _at, _size, _32, _number)
+matches = declare("capkit_matches", _32, _at, _size, _at, _size, _32)
+trace = declare("capkit_trace", _size, _at, _size, _at, _size, _32, _at, _size)
+insn_text = declare("capkit_insn_text", _size, _at, _32, _at, _size)
+line = declare("capkit_line", _size, _16, _64, _32, _at, _size, _32, _at, _size)
+portability = declare("capkit_portability", _32, _at, _size)
+next_ = declare("capkit_next", _32)
+next_match = declare("capkit_next_match", _32)
+comment = declare("capkit_comment", _size, _at, _at, _size, _at, _at, _size)
+write_file_header = declare("capkit_write_file_header", _32, _32, _16, *_buffer)
+write_record = declare("capkit_write_record", _32, _32, _64, _32, _text, _size, *_buffer)
+write_section = declare("capkit_write_section", _32, *_buffer)
+write_interface = declare("capkit_write_interface", _32, _16, _32, _text, _size, *_buffer)
 write_packet = declare(
-    "capkit_write_packet",
-    _number, _number, c.c_uint64, _number, _text, _size, _text, _size, *_buffer,
-)  # fmt: skip
-number_text = declare("capkit_text", _size, _number, _pointer, _size)
+    "capkit_write_packet", _32, _32, _64, _32, _text, _size, _text, _size, *_buffer
+)
+number_text = declare("capkit_text", _size, _32, _at, _size)
 
 
 def fits(value: int, bits: int, name: str) -> int:
-    """The value, which ctypes would cut without a word; ValueError where it has too many bits."""
+    """The value, which ctypes would cut without a word; ValueError if it has too many bits."""
+    if not isinstance(value, int):
+        raise TypeError(f"{name} is a number, not {type(value).__name__}")
     if not 0 <= value < 1 << bits:
         raise ValueError(f"{name} {value} is not from 0 to {(1 << bits) - 1}")
     return value
+
+
+def bytes_of(value: Any, name: str) -> bytes:
+    """The bytes of an object that has some: bytes, a bytearray, a memoryview of any items."""
+    if isinstance(value, bytes):
+        return value
+    try:
+        return memoryview(value).tobytes()
+    except TypeError:
+        raise TypeError(f"{name} is bytes, not {type(value).__name__}") from None
 
 
 def text_by(call: Any, *arguments: Any) -> str:

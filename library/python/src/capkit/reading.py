@@ -1,145 +1,234 @@
 """The packets of captures."""
 from __future__ import annotations
 
-import copy
 import ctypes as c
-import mmap
+import io
 import os
 import stat
 import struct
-from typing import Any, Iterator, NamedTuple, Optional, Union
+import weakref
+from typing import IO, Any, Iterator, NamedTuple, Optional, Tuple, Union
 
 from . import native
-from .errors import CaptureError
+from .errors import CaptureError, Check
+from .filters import Bytes, Expression, Filter
 
 Path = Union[str, "os.PathLike[str]"]
+Source = Union[Path, Bytes, IO[bytes]]
+
+END, NO_PACKET, ANOTHER_LINK_TYPE = 222, 223, 226
+# What is read at once: what fits into a processor's cache is filtered twice as fast.
+_PIECE = 1 << 18
+# The fields of native.PacketInfo, which one call takes faster than one for each does.
+_INFO = struct.Struct("@QNNIIIIIH")
+_NAME_LENGTH, _NAME = native.Interface.name_length.offset, native.Interface.name.offset
 
 
-class Packet(NamedTuple):
-    """A packet of a capture."""
-
+class _Fields(NamedTuple):
     time: int
     """Nanoseconds since 1970-01-01 00:00:00 UTC."""
     link_type: int
     data: bytes
     """The bytes that were captured."""
     original_length: int
-    """How many bytes it had on the wire."""
-    comment: bytes = b""
-    interface_name: bytes = b""
-    snap_length: int = 262144
+    """How many bytes it had on the wire; as many as were captured, if that isn't given."""
+    comment: bytes
+    interface_name: bytes
+    snap_length: int
     """The most bytes that were captured of a packet of its interface; 0 is no limit."""
+
+
+class Packet(_Fields):
+    """A packet of a capture."""
+
+    __slots__ = ()
+
+    def __new__(
+        cls, time: int, link_type: int, data: bytes, original_length: Optional[int] = None,
+        comment: bytes = b"", interface_name: bytes = b"", snap_length: int = 262144,
+    ) -> Packet:  # fmt: skip
+        original = len(data) if original_length is None else original_length
+        fields = (time, link_type, data, original, comment, interface_name, snap_length)
+        return tuple.__new__(cls, fields)
 
     def line(self, with_link: bool = False) -> str:
         """What `capkit print` prints of it, or with the link header `capkit print -e`."""
         time = native.fits(self.time, 63, "time")
         original = native.fits(self.original_length, 32, "original length")
         link_type = native.fits(self.link_type, 16, "link type")
-        data = bytes(self.data)
-        line = native.text_by(
+        data = native.bytes_of(self.data, "data")
+        return native.text_by(
             native.line, link_type, time, original, data, len(data), with_link
-        )
-        return line.rstrip("\n")
+        ).rstrip("\n")
 
 
-class _BufferView(c.Structure):
-    """Python's Py_buffer."""
-
-    _fields_ = [
-        ("start", c.c_void_p),
-        ("owner", c.py_object),
-        ("length", c.c_ssize_t),
-        ("item_size", c.c_ssize_t),
-        ("is_read_only", c.c_int),
-        ("dimensions", c.c_int),
-        ("format", c.c_char_p),
-        ("shape", c.c_void_p),
-        ("strides", c.c_void_p),
-        ("suboffsets", c.c_void_p),
-        ("internal", c.c_void_p),
-    ]
+_open: weakref.WeakSet[Capture] = weakref.WeakSet()
 
 
-# The fields of native.PacketInfo.
-_INFO = struct.Struct("@QNNIIIIIH")
-
-
-def _name(table: memoryview, number: int) -> bytes:
-    """The name of an interface, of the bytes of a table."""
-    start = number * c.sizeof(native.Interface)
-    length = table[start + native.Interface.name_length.offset]
-    name = start + native.Interface.name.offset
-    return bytes(table[name : name + length])
-
-
-def _start_of(memory: Any) -> Any:
-    """Where the bytes of an object begin. It has to live as long as they are read."""
-    view = _BufferView()
-    c.pythonapi.PyObject_GetBuffer(c.py_object(memory), c.byref(view), c.c_int(0))
-    start = c.c_void_p(view.start)
-    c.pythonapi.PyBuffer_Release(c.byref(view))
-    return start
-
-
-def _contents(path: Path) -> Union[bytes, mmap.mmap]:
-    """A file, mapped into memory; of what can't be mapped, as a pipe, the bytes up to its end."""
-    with open(path, "rb") as file:
-        status = os.fstat(file.fileno())
-        if stat.S_ISREG(status.st_mode) and status.st_size > 0:
-            return mmap.mmap(file.fileno(), 0, access=mmap.ACCESS_READ)
-        return file.read()
+def is_being_read(descriptor: int) -> bool:
+    """Whether a file is one that a capture reads."""
+    status = os.fstat(descriptor)
+    return any(capture._identity == (status.st_dev, status.st_ino) for capture in list(_open))
 
 
 class Capture:
-    """A capture of a file, or of bytes in memory. Each loop over it has its packets from the first.
+    """A capture of a path, of an open file, or of bytes in memory.
 
-    A loop ends with the capture, or raises CaptureError at its first fault.
+    A loop over it has its packets, and ends with the capture or raises CaptureError at its first fault.
+    It takes the memory of some units, however long the capture is, and gives a packet as soon as its
+    bytes have come. Each loop over a path or bytes begins anew; a pipe, or an open file, is read once. A
+    file that becomes shorter while it is read is a fault (TRUNCATED).
 
-    A file is mapped into memory, so it may be larger than that, and is not to be changed while it
-    is read: where it becomes shorter the process ends by SIGBUS. A pipe is read to its end first.
+    It is a context manager, and closes a file that it opened.
     """
 
-    def __init__(self, source: Union[Path, bytes]) -> None:
-        """Raises OSError where the file can't be opened or read."""
-        self._memory = source if isinstance(source, bytes) else _contents(source)
-        # The offset of a known fault: the packets before it are given, no error.
-        self._fault_at: Optional[int] = None
+    def __init__(self, source: Source) -> None:
+        """Raises OSError if the file can't be opened."""
+        self._file: Any = None
+        self._bytes: Optional[bytes] = None
+        # Which file it is, if it can be read from any place.
+        self._identity: Optional[Tuple[int, int]] = None
+        # The packets before a known fault are given, and no error.
+        self._ends_at_fault = False
+        self._source = source
+        if isinstance(source, (str, os.PathLike)):
+            self._file = open(source, "rb", buffering=0)
+            status = os.fstat(self._file.fileno())
+            if stat.S_ISREG(status.st_mode):
+                self._identity = status.st_dev, status.st_ino
+                _open.add(self)
+        elif hasattr(source, "read"):
+            self._file = source
+        else:
+            self._bytes = native.bytes_of(source, "a source that is neither a path nor a file")
 
-    def _before(self, fault_at: int) -> Capture:
-        """The capture up to a fault."""
-        capture = copy.copy(self)
-        capture._fault_at = fault_at
-        return capture
+    def close(self) -> None:
+        """Closes a file that it opened; no loop goes on."""
+        _open.discard(self)
+        if self._file is not None and self._file is not self._source:
+            self._file.close()
+
+    __del__ = close
+
+    def __enter__(self) -> Capture:
+        return self
+
+    def __exit__(self, *error: object) -> None:
+        self.close()
+
+    def __repr__(self) -> str:
+        source = f"{len(self._bytes)} bytes" if self._bytes is not None else repr(self._source)
+        return f"<Capture of {source}>"
+
+    def __reduce__(self) -> Tuple[Any, ...]:
+        return _again, (self._source, self._ends_at_fault)
 
     def __iter__(self) -> Iterator[Packet]:
-        memory, fault_at = self._memory, self._fault_at
-        start, size = _start_of(memory), len(memory)
+        return self.matching(None)
+
+    def matching(self, expression: Union[str, Expression, None]) -> Iterator[Packet]:
+        """The packets that match; CompileError if one has a link type that isn't filtered."""
+        if isinstance(expression, str):
+            expression = Expression(expression)
+        return self._loop(expression)
+
+    def _fill(self, view: memoryview, position: int) -> int:
+        """Reads on from a position, which a stream is at."""
+        file, kind = self._file, type(self._file)
+        if self._identity:
+            return os.preadv(file.fileno(), [view], position)
+        if hasattr(kind, "readinto"):
+            # The one of a buffered file that doesn't wait for more than there is.
+            read: Any = getattr(file, "readinto1", file.readinto)
+            return read(view) or 0
+        data = file.read(len(view))
+        view[: len(data)] = data
+        return len(data)
+
+    def _is_shorter(self, position: int) -> bool:
+        """Whether the file was longer when it was read up to a position."""
+        return bool(self._identity) and os.fstat(self._file.fileno()).st_size < position
+
+    def _fault(self, fault: int, offset: int) -> CaptureError:
+        is_stream = self._bytes is None and not self._identity
+        return CaptureError(fault, offset, None if is_stream else _again(self._source, True))
+
+    def _loop(self, expression: Optional[Expression]) -> Iterator[Packet]:
+        memory = self._bytes
+        is_whole = memory is not None
+        buffer: Any = c.c_char_p(memory) if is_whole else c.create_string_buffer(native.MOST_UNIT + _PIECE)
+        size, base = c.c_size_t(len(memory) if memory is not None else 0), 0
         reader, info = native.Reader(), native.PacketInfo()
         table = (native.Interface * native.MOST_INTERFACES)()
-        arguments = (c.byref(reader), table, len(table), start, size, c.byref(info))
-        unpack = _INFO.unpack_from
-        next_, names, fields = native.next_, memoryview(table).cast("B"), memoryview(info).cast("B")
-        while fault_at is None or reader.offset != fault_at:
-            found = next_(*arguments)
-            if found == native.PACKET:
-                # One call for all fields is faster than one for each.
+        given = c.byref(reader), table, c.c_size_t(len(table)), buffer, size
+        program = None if expression is None else expression.filter(1)
+        call, arguments = _call(given, info, program, 1)
+        bytes_of: Any = memory if is_whole else buffer
+        unpack, make = _INFO.unpack_from, tuple.__new__
+        names, fields = memoryview(table).cast("B"), memoryview(info).cast("B")
+        while True:
+            found = call(*arguments)
+            if not found or found == ANOTHER_LINK_TYPE:
                 time, at, _, length, original, options, number, snap, link = unpack(fields)
-                comment = self._comment(reader, start, info) if options else b""
-                name = _name(names, number) if number < reader.interfaces else b""
-                yield Packet(time, link, memory[at : at + length], original, comment, name, snap)
-            elif found == native.END:
+                data = bytes_of[at : at + length]
+                if found and expression is not None:
+                    program = expression.filter(link)
+                    call, arguments = _call(given, info, program, link)
+                    if not program.matches(data, original):
+                        continue
+                comment = name = b""
+                if options:
+                    comment = _comment(reader, buffer, size.value, info)
+                if number < reader.interfaces:
+                    start = number * len(names) // native.MOST_INTERFACES + _NAME
+                    end = start + names[start - _NAME + _NAME_LENGTH]
+                    name = names[start:end].tobytes()
+                yield make(Packet, (time, link, data, original, comment, name, snap))
+            elif found == NO_PACKET:
+                pass
+            elif not is_whole and _asks_for_more(found, size.value - reader.offset):
+                rest, base = size.value - reader.offset, base + reader.offset
+                c.memmove(buffer, c.byref(buffer, reader.offset), rest)
+                reader.offset = 0
+                view = memoryview(buffer).cast("B")[rest : rest + _PIECE]
+                count = self._fill(view, base + rest)
+                size.value, is_whole = rest + count, not count
+                if is_whole and self._is_shorter(base + rest) and not self._ends_at_fault:
+                    raise self._fault(Check.TRUNCATED, base)
+            elif found == END or self._ends_at_fault:
                 return
-            elif found != native.NO_PACKET:
-                raise CaptureError(found, reader.offset, self._before(reader.offset))
-
-    def _comment(self, reader: Any, start: Any, info: Any) -> bytes:
-        buffer = c.create_string_buffer(info.options_length)
-        length = native.comment(
-            c.byref(reader), start, len(self._memory), c.byref(info), buffer, len(buffer)
-        )
-        return buffer.raw[:length]
+            else:
+                raise self._fault(found, base + reader.offset)
 
 
-def packets(source: Union[Path, bytes]) -> Iterator[Packet]:
-    """The packets of a capture, one after another; see Capture."""
-    return iter(Capture(source))
+def _again(source: Source, ends_at_fault: bool) -> Capture:
+    """A capture as it was made."""
+    capture = Capture(source)
+    capture._ends_at_fault = ends_at_fault
+    return capture
+
+
+def _asks_for_more(found: int, rest: int) -> bool:
+    """Whether a result may be another one if more bytes come."""
+    return found in (END, Check.TRUNCATED) or (found == Check.NOT_A_CAPTURE_FILE and rest < 4)
+
+
+def _call(given: Any, info: Any, program: Optional[Filter], link: int) -> Tuple[Any, Any]:
+    """What reads the next packet, and all that it is given, as objects of C."""
+    if program is None:
+        return native.next_, (*given, c.byref(info))
+    insns = c.byref(program._insns), c.c_size_t(program._count), c.c_uint16(link)
+    return native.next_match, (*given, *insns, c.byref(info))
+
+
+def _comment(reader: Any, buffer: Any, size: int, info: Any) -> bytes:
+    text = c.create_string_buffer(info.options_length)
+    length = native.comment(c.byref(reader), buffer, size, c.byref(info), text, len(text))
+    return text.raw[:length]
+
+
+def packets(
+    source: Source, expression: Union[str, Expression, None] = None
+) -> Iterator[Packet]:
+    """The packets of a capture, one after another, or those that match an expression; see Capture."""
+    return Capture(source).matching(expression)

@@ -3,43 +3,48 @@ from __future__ import annotations
 
 import ctypes as c
 import os
-from types import TracebackType
-from typing import IO, Any, Dict, Optional, Tuple, Type, Union
+import stat
+from typing import IO, Any, Dict, Literal, Optional, Tuple, Union, get_args
 
 from . import native
-from .errors import WriteError
-from .reading import Packet
+from .errors import Check, WriteError
+from .reading import Packet, Path, is_being_read
 
-_FORMATS = ("pcapng", "pcap", "nsecpcap")
+
+Format = Literal["pcapng", "pcap", "nsecpcap"]
+
 _ETHERNET = 1
+_NO_ROOM_IN_BUFFER = 225
 
 
 class Writer:
     """Writes packets to a capture, the same bytes as capkit(1) writes.
 
     `target` is a path or a binary file. A file at the path is opened, and what it held goes, with
-    the first packet, or by `close` where there is none. It must not be one that is being read. A
-    format is "pcapng", "pcap" (microseconds) or "nsecpcap" (pcap with nanoseconds). A pcap file has
-    packets of one link type, that of the first one.
+    the first packet, or by `close` if there is none; WriteError if a Capture reads it. A format is
+    "pcapng", "pcap" (microseconds) or "nsecpcap" (pcap with nanoseconds). A pcap file has packets of
+    one link type, that of the first one.
 
     It is a context manager. A block that ends by an exception before the first packet was written
-    leaves the file as it was.
+    doesn't change the file.
     """
 
-    def __init__(
-        self, target: Union[str, os.PathLike[str], IO[bytes]], format: str = "pcapng"
-    ) -> None:
-        if format not in _FORMATS:
-            raise ValueError(f"format {format!r} is none of {', '.join(_FORMATS)}")
+    def __init__(self, target: Union[Path, IO[bytes]], format: Format = "pcapng") -> None:
+        formats = get_args(Format)
+        if format not in formats:
+            raise ValueError(f"format {format!r} is none of {', '.join(formats)}")
+        self._format = format
         self._nanoseconds = int(format == "nsecpcap")
-        self._is_pcapng = format == "pcapng"
-        self._has_header = False
-        self._link_type = _ETHERNET
+        # That of the first packet, once the file's header is written.
+        self._link_type: Optional[int] = None
         self._interfaces: Dict[Tuple[int, int, bytes], int] = {}
         self._unit, self._length = c.create_string_buffer(4096), c.c_size_t()
         self._target = target
         self._file: Optional[IO[bytes]] = None
         self._is_closed = False
+
+    def __repr__(self) -> str:
+        return f"<Writer of {self._format} to {self._target!r}>"
 
     def write(self, packet: Packet) -> None:
         """Appends a packet, or raises WriteError and writes nothing of it.
@@ -48,8 +53,8 @@ class Writer:
         """
         if self._is_closed:
             raise ValueError("write to a closed writer")
-        _check(packet)
-        if self._is_pcapng:
+        packet = _checked(packet)
+        if self._format == "pcapng":
             self._put(packet.link_type, self._block(packet))
         else:
             self._put(packet.link_type, self._record(packet))
@@ -57,35 +62,30 @@ class Writer:
     def close(self) -> None:
         """Writes what is left, and closes a file that the writer opened."""
         if not self._is_closed:
-            if not self._has_header:
-                self._put(self._link_type, b"")
+            if self._link_type is None:
+                self._put(_ETHERNET, b"")
             self._end()
 
     def __enter__(self) -> Writer:
         return self
 
-    def __exit__(
-        self,
-        kind: Optional[Type[BaseException]],
-        error: Optional[BaseException],
-        trace: Optional[TracebackType],
-    ) -> None:
+    def __exit__(self, kind: object, *error: object) -> None:
         if kind is None:
             self.close()
         else:
             self._end()
 
     def _put(self, link_type: int, unit: bytes) -> None:
-        """Writes a unit, after the header of the file where that wasn't written yet."""
-        file = self._file
-        if file is None:
+        """Writes a unit, after the header of the file if that wasn't written yet."""
+        if self._file is None:
             target = self._target
-            file = open(target, "wb") if isinstance(target, (str, os.PathLike)) else target
-            self._file = file
-        if not self._has_header:
-            file.write(self._header(link_type))
-            self._has_header, self._link_type = True, link_type
-        file.write(unit)
+            is_path = isinstance(target, (str, os.PathLike))
+            self._file = _opened(target) if is_path else target  # type: ignore[arg-type, assignment]
+        assert self._file is not None
+        if self._link_type is None:
+            self._file.write(self._header(link_type))
+            self._link_type = link_type
+        self._file.write(unit)
 
     def _end(self) -> None:
         self._is_closed = True
@@ -99,30 +99,28 @@ class Writer:
     def _made(self, call: Any, *arguments: Any) -> bytes:
         """The unit that a call makes."""
         while True:
-            room = len(self._unit)
-            written = call(*arguments, self._unit, room, c.byref(self._length))
-            if written == native.OK:
+            written = call(*arguments, self._unit, len(self._unit), c.byref(self._length))
+            if not written:
                 return c.string_at(self._unit, self._length.value)
-            if written != native.NO_ROOM_IN_BUFFER:
+            if written != _NO_ROOM_IN_BUFFER:
                 raise WriteError(native.text_of(written))
             self._unit = c.create_string_buffer(self._length.value)
 
     def _header(self, link_type: int) -> bytes:
-        if self._is_pcapng:
+        if self._format == "pcapng":
             return self._made(native.write_section)
         return self._made(native.write_file_header, self._nanoseconds, link_type)
 
     def _record(self, packet: Packet) -> bytes:
         """A packet's record."""
-        if self._has_header and packet.link_type != self._link_type:
-            raise WriteError("link types differ")
-        data, original = packet.data, packet.original_length
-        return self._made(
-            native.write_record, self._nanoseconds, packet.time, original, data, len(data)
-        )
+        if self._link_type not in (None, packet.link_type):
+            raise WriteError(native.text_of(Check.LINK_TYPES_DIFFER) or "link types differ")
+        time, data, original = packet.time, packet.data, packet.original_length
+        call = native.write_record
+        return self._made(call, self._nanoseconds, time, original, data, len(data))
 
     def _block(self, packet: Packet) -> bytes:
-        """A packet's block, after that of its interface where it is the first of it."""
+        """A packet's block, after that of its interface if it is the first of it."""
         key = (packet.link_type, packet.snap_length, packet.interface_name)
         number = self._interfaces.get(key, len(self._interfaces))
         data, comment = packet.data, packet.comment
@@ -137,8 +135,20 @@ class Writer:
         return block
 
 
-def _check(packet: Packet) -> None:
-    """Refuses numbers that no capture has."""
+def _opened(target: Path) -> IO[bytes]:
+    """A file that is empty now; WriteError if a capture reads it."""
+    descriptor = os.open(target, os.O_WRONLY | os.O_CREAT | os.O_CLOEXEC, 0o666)
+    file = open(descriptor, "wb")
+    if is_being_read(descriptor):
+        file.close()
+        raise WriteError(f"{os.fspath(target)} is a capture that is being read")
+    if stat.S_ISREG(os.fstat(descriptor).st_mode):
+        file.truncate(0)
+    return file
+
+
+def _checked(packet: Packet) -> Packet:
+    """The packet; WriteError if it has numbers that no capture has, TypeError if something else."""
     try:
         native.fits(packet.time, 64, "time")
         native.fits(packet.link_type, 16, "link type")
@@ -146,3 +156,6 @@ def _check(packet: Packet) -> None:
         native.fits(packet.snap_length, 32, "snapshot length")
     except ValueError as error:
         raise WriteError(str(error)) from None
+    data, name = native.bytes_of(packet.data, "data"), packet.interface_name
+    name, comment = native.bytes_of(name, "interface_name"), native.bytes_of(packet.comment, "comment")
+    return packet._replace(data=data, interface_name=name, comment=comment)

@@ -17,14 +17,14 @@ pub returns-clause-ok : goal.returns-clause-ok
 returns-clause-ok g c =
     header_came g.I.Input.tells _ _ c.read_rest.new.buffer _
     (λ t. joined_front _ _ _ c.args.first.now c.read_rest.new.buffer 24 (search rules) refl c.in_ok-read_rest.ensures.same (c.in_ok-read_rest.ensures.ok t))
-    (search rules) c.read_file_header.ensures
+    (search rules) c.read_head.ensures
 
 pub returns-clause-err : goal.returns-clause-err
 returns-clause-err g c =
     let front = first_of c.args.first.now c.read_rest.new.buffer 24 (search rules) c.in_ok-read_rest.ensures.same in
     header_refused g.I.Input.tells _ _ c.read_rest.new.buffer _
     (λ t. joined_front _ _ _ c.args.first.now c.read_rest.new.buffer 24 (search rules) refl c.in_ok-read_rest.ensures.same (c.in_ok-read_rest.ensures.ok t))
-    (search rules) (section_of_bytes c.read_rest.new.buffer c.args.first.now front (search rules) ∙ c.requires) c.read_file_header.ensures
+    (search rules) (section_of_bytes c.read_rest.new.buffer c.args.first.now front (search rules) ∙ c.requires) c.read_head.ensures
 
 pub returns-clause-memory : goal.returns-clause-memory
-returns-clause-memory g c = header-has_memory c.read_rest.new.buffer _ c.read_file_header.ensures
+returns-clause-memory g c = header-has_memory c.read_rest.new.buffer _ c.read_head.ensures

@@ -14,10 +14,10 @@ returns-in_err-write_file_start g c =
 
 pub returns : goal.returns
 returns g c =
-    let front : List ℕ = c.record_header.result in
+    let front : List ℕ = c.record_bytes.result in
     let bytes : List ℕ = c.args.packet.now.bytes.now in
     let same : front ++ (bytes ++ []) ≡ record_text (resolution_of c.args.format) (captured c.args.packet.now) =
-    ap (λ (l : List ℕ). front ++ l) (append-nil bytes) ∙ ap (λ (l : List ℕ). l ++ bytes) c.record_header.ensures in
+    ap (λ (l : List ℕ). front ++ l) (append-nil bytes) ∙ ap (λ (l : List ℕ). l ++ bytes) c.record_bytes.ensures in
     appends-then _ _ _ _ _ _ _ c.in_ok-write_file_start.ensures (record {
       appended = λ tells. appends-as c.write_parts.result _ _ _ _ same (c.write_parts.ensures.exact tells);
       failed = c.write_parts.ensures.failed;

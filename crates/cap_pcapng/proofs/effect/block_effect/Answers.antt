@@ -1,7 +1,7 @@
 use Rattle.std.proofs.Common.{◌∙◌, sym, ap, subst}
 use Rattle.cap_octet.specs.declared.fault.Fault.{Fault}
-use Rattle.cap_pcapng.specs.Block.{parts_of}
-use Rattle.cap_pcapng.specs.Effect.{IsBlockFault}
+use Rattle.cap_pcapng.specs.Block.{Parts, parts_of}
+use Rattle.cap_pcapng.specs.Effect.{IsBlockFault, LieAsSaid}
 use Rattle.cap_pcapng.proofs.Entered.{enhanced_enters, enhanced_room, refused_by_itself, simple_enters}
 use Rattle.cap_pcapng.proofs.effect.block_effect.Goals as goal
 
@@ -21,6 +21,16 @@ returns-in-Ok-simple_packet_spans-clause-ok g c =
     let e = c.in-Ok-Simple.ensures in
     simple_enters c.args.frame.now (g.T.Interfaces.list c.args.table.now) c.args.bytes.now c.in-Ok-Simple.block c.in-Ok-simple_packet_spans.spans
     c.requires.whole c.requires.shortest (sym (ap parts_of c.in-Ok-Simple.field-0-is) ∙ e.parts) e.passes c.in-Ok-simple_packet_spans.ensures
+
+pub returns-in-Ok-clause-lies : goal.returns-in-Ok-clause-lies
+returns-in-Ok-clause-lies g c =
+    let P : Parts → Type 0 = λ parts. LieAsSaid parts c.in-Ok.spans in
+    subst P (sym (ap parts_of c.in-Ok-Enhanced.field-0-is) ∙ c.in-Ok-Enhanced.ensures.parts) c.in-Ok.ensures.1.lies
+
+pub returns-in-Ok-simple_packet_spans-clause-lies : goal.returns-in-Ok-simple_packet_spans-clause-lies
+returns-in-Ok-simple_packet_spans-clause-lies g c =
+    let P : Parts → Type 0 = λ parts. LieAsSaid parts c.in-Ok-simple_packet_spans.spans in
+    subst P (sym (ap parts_of c.in-Ok-Simple.field-0-is) ∙ c.in-Ok-Simple.ensures.parts) (c.in-Ok-simple_packet_spans.ensures.1 c.args.frame.now.order).lies
 
 pub returns-in-Err-clause-err : goal.returns-in-Err-clause-err
 returns-in-Err-clause-err g c =

@@ -1,5 +1,6 @@
+use Rattle.cap_process.proofs.Closings.{copy_ends}
 use Rattle.cap_process.proofs.Wholes.{edit_keeps}
 use Rattle.cap_process.proofs.law.edit_keeps_what_is_carried.Goals as goal
 
 pub returns : goal.returns
-returns c = edit_keeps c.items_back.ensures
+returns c = record { output = edit_keeps c.items_back.ensures; ends = copy_ends }

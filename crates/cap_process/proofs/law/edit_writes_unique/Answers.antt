@@ -1,5 +1,6 @@
+use Rattle.cap_process.proofs.Closings.{edit_ends}
 use Rattle.cap_process.proofs.Wholes.{edit_writes}
 use Rattle.cap_process.proofs.law.edit_writes_unique.Goals as goal
 
 pub returns : goal.returns
-returns c = edit_writes
+returns c = record { output = edit_writes; ends = edit_ends }

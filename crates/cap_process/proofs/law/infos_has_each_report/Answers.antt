@@ -1,5 +1,6 @@
+use Rattle.cap_process.proofs.Closings.{infos_ends}
 use Rattle.cap_process.proofs.Wholes.{infos_reports}
 use Rattle.cap_process.proofs.law.infos_has_each_report.Goals as goal
 
 pub returns : goal.returns
-returns c = infos_reports
+returns c = record { output = infos_reports; ends = infos_ends }

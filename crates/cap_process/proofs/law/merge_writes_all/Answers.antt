@@ -1,5 +1,6 @@
+use Rattle.cap_process.proofs.Closings.{merge_ends}
 use Rattle.cap_process.proofs.Wholes.{merge_writes}
 use Rattle.cap_process.proofs.law.merge_writes_all.Goals as goal
 
 pub returns : goal.returns
-returns c = merge_writes
+returns c = record { output = merge_writes; ends = merge_ends }

@@ -1,5 +1,6 @@
+use Rattle.cap_process.proofs.Closings.{print_ends}
 use Rattle.cap_process.proofs.Wholes.{print_writes}
 use Rattle.cap_process.proofs.law.print_writes_matching.Goals as goal
 
 pub returns : goal.returns
-returns c = print_writes
+returns c = record { output = print_writes; ends = print_ends }

@@ -31,7 +31,7 @@ fn listings_are_read(rt: HostRuntime) {
     assert!(rt; is_read_as(rt.alloc(), b"0", &[]));
 }
 
-/// Whether a listing's program is written as this text, by `piece` bytes a call.
+/// Whether a listing's program is written as this text, by `piece` bytes per call.
 fn is_written_as(alloc: Global, listing: &[u8], text: &[u8], piece: usize) -> Result<bool, Fail> {
     let program = program_of(alloc, listing)?;
     let mut bytes = [0u8; 64];

@@ -144,7 +144,7 @@ const ANSWERS: &[Row] = &[
         (2, 4),
     ),
     ("4\n5 0 0 2\n6 0 0 1\n6 0 0 2\n6 0 0 3\n", &[], 0, (3, 2)),
-    // Each test after a load, where it holds and where not: one step each.
+    // Each test after a load, if it holds and if not: one step each.
     ("4\n48 0 0 0\n21 0 1 6\n6 0 0 1\n6 0 0 2\n", &[6], 1, (1, 3)),
     ("4\n48 0 0 0\n21 0 1 6\n6 0 0 1\n6 0 0 2\n", &[5], 1, (2, 3)),
     ("4\n48 0 0 0\n37 0 1 6\n6 0 0 1\n6 0 0 2\n", &[7], 1, (1, 3)),
@@ -249,7 +249,7 @@ fn a_program_may_be_too_long(rt: HostRuntime) -> Result<(), Fail> {
     Ok(())
 }
 
-/// Whether a fault is reported so.
+/// Whether a fault is reported like this.
 fn is_told_as(alloc: Global, fault: impl Display + Drop, text: &str) -> bool {
     matches!(format!(in alloc; "{fault}"), Ok(told) if told.as_str() == text)
 }

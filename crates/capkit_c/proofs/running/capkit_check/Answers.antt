@@ -1,9 +1,10 @@
 -- A program that passes is valid, and of another the first broken rule is told by its number.
+use Rattle.std.proofs.Common.{refl}
 use Rattle.capkit_c.specs.Running.{passes, breaks}
 use Rattle.capkit_c.proofs.running.capkit_check.Goals as goal
 
 pub returns-in-Ok : goal.returns-in-Ok
-returns-in-Ok c = passes c.in-Ok.ensures.valid
+returns-in-Ok c = passes c.in-Ok.ensures.valid refl
 
 pub returns-in-Err : goal.returns-in-Err
 returns-in-Err c = breaks c.in-Err.fault c.rule_number.ensures c.in-Err.ensures.refused

@@ -1,11 +1,12 @@
--- The numbers so far are smaller.
+-- The intervals so far begin before.
 use Rattle.std.proofs.Common.{ℕ, ◌-◌, ◌<◌, ◌≤◌, length, get_or}
+use Rattle.flt_emit.specs.Formula.{no_interval}
 use Rattle.flt_gen.proofs.group.place_among.Given as goal
 
 abbrev pub invariant-lower : goal.invariant-lower
 invariant-lower l = record {
   within : l.at ≤ length l.numbers;
-  smaller : (i : ℕ) → i < l.at → get_or l.numbers i 0 < l.number;
+  lower : (k : ℕ) → k < l.at → (get_or l.numbers k no_interval).low < l.new.low;
 }
 
 abbrev pub decreases-lower : goal.decreases-lower

@@ -13,12 +13,12 @@ returns-in_err-found g c =
       consistent = tt;
       known = tt;
       ok = tt;
-      err = λ t. rw c.requires (fields_refused _ _ _ c.read_front.new.front _ _ (rw c.if-not-branch.false at (c.in_ok-read_front.ensures.ok t)) (search rules) c.read_record_header.ensures.answer c.in_err-found.was);
+      err = λ t. rw c.requires (fields_refused _ _ _ c.read_front.new.front _ _ (rw c.if-not-branch.false at (c.in_ok-read_front.ensures.ok t)) (search rules) c.read_record.ensures.answer c.in_err-found.was);
       kept = (refl, refl);
       grown = omega arith;
       bounded = λ most. most;
       fits = tt;
-      memory = λ e. absurd (fields-has_memory c.args.head.now c.read_front.new.front _ _ c.read_record_header.ensures.answer c.in_err-found.was (error_is e));
+      memory = λ e. absurd (fields-has_memory c.args.head.now c.read_front.new.front _ _ c.read_record.ensures.answer c.in_err-found.was (error_is e));
     })
 
 pub returns-in_err-make_room : goal.returns-in_err-make_room
@@ -36,7 +36,7 @@ returns-in_err-make_room g c =
       bounded = λ most. c.make_room.ensures.bounded (omega (arith, c.in_ok-found.ensures.short)) most;
       fits = tt;
       memory = λ e t. rw c.requires (record-takes c.args.head.now _ _ c.read_front.new.front c.in_ok-found.found _ _ refl (rw c.if-not-branch.false at (c.in_ok-read_front.ensures.ok t)) (search rules)
-          (fields_came _ _ _ _ c.read_record_header.ensures.answer c.in_ok-found.was) (search rules));
+          (fields_came _ _ _ _ c.read_record.ensures.answer c.in_ok-found.was) (search rules));
     })
 
 pub returns-in_err-read_rest : goal.returns-in_err-read_rest
@@ -49,7 +49,7 @@ returns-in_err-read_rest g c =
       known = tt;
       ok = tt;
       err = λ t. rw c.requires (data_missing _ _ _ _ c.read_front.new.front c.in_ok-found.found _ _ (search rules) (rw c.if-not-branch.false at (c.in_ok-read_front.ensures.ok t)) (search rules)
-          (fields_came _ _ _ _ c.read_record_header.ensures.answer c.in_ok-found.was) (omega (arith, c.in_ok-found.ensures.short)) (c.in_err-read_rest.ensures.err t));
+          (fields_came _ _ _ _ c.read_record.ensures.answer c.in_ok-found.was) (omega (arith, c.in_ok-found.ensures.short)) (c.in_err-read_rest.ensures.err t));
       kept = (refl, refl);
       grown = rw (take_at c.read_rest.new.buffer _ c.make_room.new.buffer.len (search rules)) (let size : length c.read_rest.new.buffer ≡ c.make_room.new.buffer.len = search rules in omega (arith, size, c.make_room.ensures.grown, c.make_room.new.buffer.ok.0));
       bounded = λ most. rw (take_at c.read_rest.new.buffer _ c.make_room.new.buffer.len (search rules)) (let size : length c.read_rest.new.buffer ≡ c.make_room.new.buffer.len = search rules in omega (arith, size, c.make_room.ensures.bounded (omega (arith, c.in_ok-found.ensures.short)) most, c.make_room.new.buffer.ok.0));
@@ -75,7 +75,7 @@ returns g c = rw c.record_spans-self.ensures (record {
   known = rw c.requires tt;
   ok = λ t. rw c.requires
       (record_came _ _ _ _ c.read_front.new.front (take (16 + c.in_ok-found.found.captured) c.read_rest.new.buffer) _ c.in_ok-found.found _ (rw c.if-not-branch.false at (c.in_ok-read_front.ensures.ok t)) (search rules)
-      (fields_came _ _ _ _ c.read_record_header.ensures.answer c.in_ok-found.was) refl (search rules) c.in_ok-read_rest.ensures.same (c.in_ok-read_rest.ensures.ok t) (rw (take_at c.read_rest.new.buffer _ c.make_room.new.buffer.len (search rules)) refl));
+      (fields_came _ _ _ _ c.read_record.ensures.answer c.in_ok-found.was) refl (search rules) c.in_ok-read_rest.ensures.same (c.in_ok-read_rest.ensures.ok t) (rw (take_at c.read_rest.new.buffer _ c.make_room.new.buffer.len (search rules)) refl));
   err = tt;
   kept = tt;
   grown = rw (take_at c.read_rest.new.buffer _ c.make_room.new.buffer.len (search rules)) (let size : length c.read_rest.new.buffer ≡ c.make_room.new.buffer.len = search rules in omega (arith, size, c.make_room.ensures.grown, c.make_room.new.buffer.ok.0));

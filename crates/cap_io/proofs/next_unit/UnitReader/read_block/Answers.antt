@@ -23,12 +23,12 @@ returns-in_err-found g c =
       known = tt;
       ok = tt;
       err = λ t. refused-block c.args.self.now.file c.args.self.now.table c.args.front.now _ _ _ (search rules) c.requires.begins
-          (frame_refused (section_before c.args.self.now.file c.args.self.now.table) c.order.result c.args.front.now _ _ _ (order-held c.args.self.now.file c.args.self.now.table ∙ sym c.order.ensures) (search rules) c.read_frame.ensures.answer c.in_err-found.was);
+          (frame_refused (section_before c.args.self.now.file c.args.self.now.table) c.order.result c.args.front.now _ _ _ (order-held c.args.self.now.file c.args.self.now.table ∙ sym c.order.ensures) (search rules) c.frame.ensures.answer c.in_err-found.was);
       kept = (refl, refl);
       grown = omega arith;
       bounded = λ most. most;
       fits = tt;
-      memory = λ e. absurd (frame-has_memory c.order.result c.args.front.now _ _ c.read_frame.ensures.answer c.in_err-found.was (error_is e));
+      memory = λ e. absurd (frame-has_memory c.order.result c.args.front.now _ _ c.frame.ensures.answer c.in_err-found.was (error_is e));
     })
 
 pub returns-in_err-make_room : goal.returns-in_err-make_room
@@ -48,7 +48,7 @@ returns-in_err-make_room g c =
       fits = tt;
       memory = λ e t. block-takes c.args.self.now.file c.args.self.now.table c.args.front.now _ _ (search rules) c.requires.begins
           (block-exceeds (section_before c.args.self.now.file c.args.self.now.table) c.order.result c.args.front.now _ c.in_ok-found.found _ (order-held c.args.self.now.file c.args.self.now.table ∙ sym c.order.ensures) (search rules)
-          (front_says c.order.result c.args.front.now _ c.in_ok-found.found c.read_frame.ensures.answer c.in_ok-found.was) (search rules));
+          (front_says c.order.result c.args.front.now _ c.in_ok-found.found c.frame.ensures.answer c.in_ok-found.was) (search rules));
     })
 
 pub returns-in_err-read_rest : goal.returns-in_err-read_rest
@@ -62,7 +62,7 @@ returns-in_err-read_rest g c =
       ok = tt;
       err = λ t. refused-block c.args.self.now.file c.args.self.now.table c.args.front.now _ _ _ (search rules) c.requires.begins
           (rest_of_block (section_before c.args.self.now.file c.args.self.now.table) c.order.result c.args.front.now _ _ c.in_ok-found.found _ (order-held c.args.self.now.file c.args.self.now.table ∙ sym c.order.ensures) (search rules)
-          (front_says c.order.result c.args.front.now _ c.in_ok-found.found c.read_frame.ensures.answer c.in_ok-found.was) c.in_ok-found.ensures.longest (c.in_err-read_rest.ensures.err t));
+          (front_says c.order.result c.args.front.now _ c.in_ok-found.found c.frame.ensures.answer c.in_ok-found.was) c.in_ok-found.ensures.longest (c.in_err-read_rest.ensures.err t));
       kept = (refl, refl);
       grown = rw (take_at c.read_rest.new.buffer _ c.make_room.new.buffer.len (search rules)) (let size : length c.read_rest.new.buffer ≡ c.make_room.new.buffer.len = search rules in omega (arith, size, c.make_room.ensures.grown, c.make_room.new.buffer.ok.0));
       bounded = λ most. rw (take_at c.read_rest.new.buffer _ c.make_room.new.buffer.len (search rules)) (let size : length c.read_rest.new.buffer ≡ c.make_room.new.buffer.len = search rules in omega (arith, size, c.make_room.ensures.bounded c.in_ok-found.ensures.longest most, c.make_room.new.buffer.ok.0));
@@ -97,7 +97,7 @@ returns-in-Err g c =
           (interfaces-held c.args.self.now.file c.args.self.now.table c.args.front.now c.requires.begins c.requires.consistent) c.in_ok-found.ensures.shortest c.in_ok-found.ensures.longest
           (omega (arith, c.in_ok-make_room.ensures.room, c.deref.ensures.len, ap length c.deref.ensures.value))
           (whole_came c.order.result c.args.front.now _ _ (take c.in_ok-found.found.length c.read_rest.new.buffer) _ c.in_ok-found.found (search rules)
-          (front_says c.order.result c.args.front.now _ c.in_ok-found.found c.read_frame.ensures.answer c.in_ok-found.was)
+          (front_says c.order.result c.args.front.now _ c.in_ok-found.found c.frame.ensures.answer c.in_ok-found.was)
           (rw (take_at c.read_rest.new.buffer _ c.make_room.new.buffer.len (search rules)) refl) c.in_ok-read_rest.ensures.same (c.in_ok-read_rest.ensures.ok t))
           (ap (take c.in_ok-found.found.length) c.deref.ensures.value) c.in-Err.ensures.err);
       kept = (refl, c.in-Err.ensures.kept);
@@ -109,7 +109,7 @@ returns-in-Err g c =
           (interfaces-held c.args.self.now.file c.args.self.now.table c.args.front.now c.requires.begins c.requires.consistent) c.in_ok-found.ensures.shortest
           (omega (arith, c.in_ok-make_room.ensures.room, c.deref.ensures.len, ap length c.deref.ensures.value))
           (whole_came c.order.result c.args.front.now _ _ (take c.in_ok-found.found.length c.read_rest.new.buffer) _ c.in_ok-found.found (search rules)
-          (front_says c.order.result c.args.front.now _ c.in_ok-found.found c.read_frame.ensures.answer c.in_ok-found.was)
+          (front_says c.order.result c.args.front.now _ c.in_ok-found.found c.frame.ensures.answer c.in_ok-found.was)
           (rw (take_at c.read_rest.new.buffer _ c.make_room.new.buffer.len (search rules)) refl) c.in_ok-read_rest.ensures.same (c.in_ok-read_rest.ensures.ok t))
           (ap (take c.in_ok-found.found.length) c.deref.ensures.value) (entry-adds _ _ _ c.in-Err.fault c.in-Err.ensures.err (error_is e)));
     }
@@ -120,7 +120,7 @@ returns-in-Ok-Some g c =
     let frame = c.in_ok-found.found in
     let enters = rw c.in-Ok-Some.field-0-is at c.in-Ok-Some.ensures.ok in
     let stays = interfaces-kept frame c.args.self.now.table c.apply_block.new.table _ c.in-Ok-Some.packet enters in
-    let says = front_says c.order.result c.args.front.now _ frame c.read_frame.ensures.answer c.in_ok-found.was in
+    let says = front_says c.order.result c.args.front.now _ frame c.frame.ensures.answer c.in_ok-found.was in
     let small = small-following _ _ (length c.args.front.now) frame.length (search rules) moves.counted c.in_ok-found.ensures.shortest moves.bounded c.requires.bounded in
     record {
       moves = record {
@@ -167,7 +167,7 @@ returns-in-Ok-None g c =
     let moves = c.in_ok-read_rest.ensures.moves in
     let frame = c.in_ok-found.found in
     let enters = rw c.in-Ok-None.field-0-is at c.in-Ok-None.ensures.ok in
-    let says = front_says c.order.result c.args.front.now _ frame c.read_frame.ensures.answer c.in_ok-found.was in
+    let says = front_says c.order.result c.args.front.now _ frame c.frame.ensures.answer c.in_ok-found.was in
     let small = small-following _ _ (length c.args.front.now) frame.length (search rules) moves.counted c.in_ok-found.ensures.shortest moves.bounded c.requires.bounded in
     rw (c.first_link_type-link.ensures frame.order, c.first_link.ensures) (record {
       moves = record {

@@ -7,6 +7,6 @@ use Rattle.capkit_c.proofs.memory.pcap.header_in.Goals as goal
 
 pub returns : goal.returns
 returns c =
-    c.read_file_header.ensures
+    c.read_head.ensures
     ∙ ap (λ b. checked (header_fault b) (header_in b)) c.in-Some.ensures.cases.same
     ∙ head_taken c.args.text.now c.in-Some.ensures.cases.enough

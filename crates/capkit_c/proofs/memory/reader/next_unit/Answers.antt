@@ -13,12 +13,12 @@ returns-then-is_at_end-clause-left c =
 pub returns-in-Some-clause-left : goal.returns-in-Some-clause-left
 returns-in-Some-clause-left c =
     found_packet c.args.capture.now c.bytes_from-text.result.now c.args.reader.now c.new_at.result c.args.table.now c.read_unit.new.table c.args.packet.now c.packet_at.result c.file_state-form.result c.known_interface_count-count.result c.in-Ok.step c.in-Some.placed
-    c.file_state-form.ensures c.known_interface_count-count.ensures.counts c.bytes_from-text.ensures c.in-Ok.ensures.ok c.new_at.ensures.form c.new_at.ensures.interfaces c.new_at.ensures.offset c.in-Some.is c.packet_at.ensures
+    c.file_state-form.ensures c.known_interface_count-count.ensures.counts c.bytes_from-text.ensures c.in-Ok.ensures.ok c.new_at.ensures.form c.new_at.ensures.interfaces c.new_at.ensures.offset c.in-Some.is c.packet_at.ensures c.new_at.ensures.link
 
 pub returns-in-None-clause-left : goal.returns-in-None-clause-left
 returns-in-None-clause-left c =
     passed c.args.capture.now c.bytes_from-text.result.now c.args.reader.now c.new_at.result c.args.table.now c.read_unit.new.table c.args.packet.now c.file_state-form.result c.known_interface_count-count.result c.in-Ok.step
-    c.file_state-form.ensures c.known_interface_count-count.ensures.counts c.bytes_from-text.ensures c.in-Ok.ensures.ok c.new_at.ensures.form c.new_at.ensures.interfaces c.new_at.ensures.offset c.in-None.is
+    c.file_state-form.ensures c.known_interface_count-count.ensures.counts c.bytes_from-text.ensures c.in-Ok.ensures.ok c.new_at.ensures.form c.new_at.ensures.interfaces c.new_at.ensures.offset c.in-None.is c.new_at.ensures.link
 
 pub returns-in-Err-Fault-clause-left : goal.returns-in-Err-Fault-clause-left
 returns-in-Err-Fault-clause-left c =

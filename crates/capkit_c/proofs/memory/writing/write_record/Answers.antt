@@ -17,5 +17,5 @@ returns-in-Ok c =
     let fits = checked_ok (first_failing (record_fit_checks p)) tt tt (sym c.in-Ok.ensures) in
     unrefused _ _ _ _ _ c.put_parts.result
     (met_front ((nat_lt c.args.time (2 ^ 63), TimeOutOfRange) ∷ []) (record_fit_checks p) (rw early refl) ∙ fits.0)
-    (ap₂ (λ (h t : List ℕ). h ++ t) (c.record_header-head.ensures ∙ ap (λ r. record_header r p) c.pcap_format-format.ensures.resolution) (append-nil c.args.bytes.now))
+    (ap₂ (λ (h t : List ℕ). h ++ t) (c.record_bytes-head.ensures ∙ ap (λ r. record_header r p) c.pcap_format-format.ensures.resolution) (append-nil c.args.bytes.now))
     c.put_parts.ensures

@@ -3,4 +3,4 @@ use Rattle.std.proofs.Common.{length}
 use Rattle.flt_emit.proofs.code.Code.+emit_chain.Given as goal
 
 abbrev pub decreases-emit_chain : goal.decreases-emit_chain
-decreases-emit_chain g l = length l.values.now
+decreases-emit_chain g l = length l.items.now

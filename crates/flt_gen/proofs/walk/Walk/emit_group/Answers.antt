@@ -1,7 +1,7 @@
 -- The steps of the group are emitted.
 use Rattle.std.proofs.Common.{◌≡◌, subst}
 use Rattle.std.specs.Prelude.{OnOk}
-use Rattle.flt_gen.specs.inside.Group.{Group, no_group, group_formula}
+use Rattle.flt_gen.specs.inside.Group.{Group, no_group, numbers_of, group_formula}
 use Rattle.flt_gen.specs.inside.Steps.{Steps, IsPut, no_steps}
 use Rattle.flt_gen.specs.inside.Walk.{Walk, finish_formula}
 use Rattle.flt_gen.proofs.StepsEmitted.{steps_emitted}
@@ -14,8 +14,8 @@ returns g c =
     let s = c.put_members.new.steps in
     let group = c.self.inside.group in
     let f = group_formula link group in
-    let numbers = c.numbers.result.now in
-    let put : IsPut f (no_steps numbers) s = subst (λ (s0 : Steps). IsPut f s0 s) c.in_ok-begin.ensures c.in_ok-put_members.ensures in
+    let numbers = numbers_of group in
+    let put : IsPut f (no_steps numbers) s = subst (λ (s0 : Steps). IsPut f s0 s) c.in_ok-begin_steps.ensures c.in_ok-put_members.ensures in
     let walk : Group → Walk = λ h. record {
       code = c.self.inside.code;
       to = c.self.inside.to;

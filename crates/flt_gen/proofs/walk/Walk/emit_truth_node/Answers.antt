@@ -1,7 +1,8 @@
 -- The steps of a primitive are emitted.
-use Rattle.std.proofs.Common.{◌≡◌, [], sym, subst}
+use Rattle.std.proofs.Common.{◌≡◌, sym, subst}
 use Rattle.std.specs.Prelude.{OnOk}
 use Rattle.flt_ast.specs.declared.node.Node.{Node}
+use Rattle.flt_emit.specs.Formula.{no_numbers}
 use Rattle.flt_gen.specs.Primitives.{check_formula, cast_formula}
 use Rattle.flt_gen.specs.inside.Steps.{Steps, IsPut, no_steps}
 use Rattle.flt_gen.specs.inside.Walk.{emit_truth_node}
@@ -15,9 +16,9 @@ returns-in_ok-put_check-in-Check g c =
     let r = c.emit_steps in
     let f = check_formula link c.in-Check.protocol in
     let s = c.put_check.new.self in
-    let put : IsPut f (no_steps []) s = subst (λ (s0 : Steps). IsPut f s0 s) c.in_ok-begin-in-Check.ensures c.in_ok-put_check-in-Check.ensures in
+    let put : IsPut f (no_steps no_numbers) s = subst (λ (s0 : Steps). IsPut f s0 s) c.begin_alone.ensures c.in_ok-put_check-in-Check.ensures in
     subst (λ (n : Node). OnOk r.result (r.new.self ≡ emit_truth_node link w n)) (sym c.in-Check.is)
-    (steps_emitted r.result link f [] s w r.new.self put r.ensures)
+    (steps_emitted r.result link f no_numbers s w r.new.self put r.ensures)
 
 pub returns-in_ok-put_cast-in-Cast : goal.returns-in_ok-put_cast-in-Cast
 returns-in_ok-put_cast-in-Cast g c =
@@ -26,6 +27,6 @@ returns-in_ok-put_cast-in-Cast g c =
     let r = c.emit_steps-in-Cast in
     let f = cast_formula link c.in-Cast.protocol c.in-Cast.cast in
     let s = c.put_cast.new.self in
-    let put : IsPut f (no_steps []) s = subst (λ (s0 : Steps). IsPut f s0 s) c.in_ok-begin-in-Cast.ensures c.in_ok-put_cast-in-Cast.ensures in
+    let put : IsPut f (no_steps no_numbers) s = subst (λ (s0 : Steps). IsPut f s0 s) c.begin_alone-in-Cast.ensures c.in_ok-put_cast-in-Cast.ensures in
     subst (λ (n : Node). OnOk r.result (r.new.self ≡ emit_truth_node link w n)) (sym c.in-Cast.is)
-    (steps_emitted r.result link f [] s w r.new.self put r.ensures)
+    (steps_emitted r.result link f no_numbers s w r.new.self put r.ensures)

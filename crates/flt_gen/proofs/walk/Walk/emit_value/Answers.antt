@@ -1,6 +1,7 @@
 -- The steps of a value that joins no group are emitted.
-use Rattle.std.proofs.Common.{◌≡◌, [], Some, None, Option, ◌∙◌, sym, ap, subst}
+use Rattle.std.proofs.Common.{◌≡◌, Some, None, Option, ◌∙◌, sym, ap, subst}
 use Rattle.std.specs.Prelude.{OnOk, if◌then◌else◌}
+use Rattle.flt_emit.specs.Formula.{no_numbers}
 use Rattle.flt_gen.specs.inside.Emitted.{qualified_needed}
 use Rattle.flt_gen.specs.inside.Group.{Group, larger_group}
 use Rattle.flt_gen.specs.inside.Steps.{Steps, IsPut, no_steps}
@@ -14,7 +15,7 @@ returns g c =
     let r = c.emit_steps in
     let s = c.put_value.new.self in
     let f = qualified_needed a.link a.qualifiers a.value in
-    let put : IsPut f (no_steps []) s = subst (λ (s0 : Steps). IsPut f s0 s) c.in_ok-begin.ensures c.in_ok-put_value.ensures in
+    let put : IsPut f (no_steps no_numbers) s = subst (λ (s0 : Steps). IsPut f s0 s) c.begin_alone.ensures c.in_ok-put_value.ensures in
     let walk : Group → Walk = λ h. record {
       code = c.self.inside.code;
       to = c.self.inside.to;
@@ -29,6 +30,6 @@ returns g c =
     let none = c.in_ok-add.ensures.taken ∙ ap (λ t. if t then Some c.add.new.self else None) c.if-branch.false in
     let none_now = subst (λ (w : Walk). larger_group a.qualifiers a.value w.group ≡ None) c.self.view_is none in
     let flushed : c.flush_group.new.self ≡ flush_group a.link a.self.now = c.in_ok-flush_group.ensures ∙ ap (flush_group a.link) kept in
-    let done = steps_emitted r.result a.link f [] s c.flush_group.new.self r.new.self put r.ensures in
+    let done = steps_emitted r.result a.link f no_numbers s c.flush_group.new.self r.new.self put r.ensures in
     subst (λ (o : Option Group). OnOk r.result (r.new.self ≡ emit_value a.link a.qualifiers a.value a.self.now o)) (sym none_now)
     (subst (λ (w : Walk). OnOk r.result (r.new.self ≡ finish_formula a.link f w)) flushed done)

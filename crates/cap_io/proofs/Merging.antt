@@ -1,0 +1,226 @@
+-- The order of a merge is sorted, has each packet once, and keeps those of each input in their places.
+use Rattle.std.proofs.Common.{◌≡◌, inl, inr, ℕ, ◌+◌, ◌<◌, ◌≤◌, ◌&&◌, ◌||◌, Bool, true, false, if◌then◌else◌, max, List, [], ◌∷◌, ◌++◌, refl, sym, ◌∙◌, ap, arith, subst}
+use Rattle.std.specs.Prelude.{nat_lt, nat_eq, IsPermutation}
+use Rattle.std.proofs.lemmas.Bool.Decides.{nat_tests}
+use Rattle.std.proofs.lemmas.List.Sorted.{IsPermutation-refl, IsPermutation-trans, IsPermutation-cons, IsPermutation-middle}
+use Rattle.cap_io.specs.Capture.{Placed, Ending}
+use Rattle.cap_io.specs.Sequence.{Entry, Event, Packet, SequenceEnd, Complete, FaultIn, Sequence, InputItems, all_entries, comes_before, end_after, entries_of, fault_without_packets, insert_entry, sequence_of_entries, sort_entries, unless_fault, with_front}
+use Rattle.cap_io.specs.Merging.{AreSorted, IsNoLater, IsNoLaterThan, MergesSort, events_of, of_input}
+
+-- ---- before and after
+
+before : (x y : Entry) → comes_before x y ≡ true → IsNoLater x y
+before x y is = by_less (nat_lt x.key y.key) refl
+  where
+    by_same : (b : Bool) → nat_eq x.key y.key ≡ b → (b && nat_lt x.input y.input) ≡ true → IsNoLater x y
+    by_same true same less = inr (grind (arith, nat_tests, same), grind (arith, nat_tests, less))
+    by_same false same less = (cc)
+
+    by_less : (b : Bool) → nat_lt x.key y.key ≡ b → IsNoLater x y
+    by_less true less = inl (grind (arith, nat_tests, less))
+    by_less false less =
+        by_same (nat_eq x.key y.key) refl (subst (λ (c : Bool). (c || (nat_eq x.key y.key && nat_lt x.input y.input)) ≡ true) less is)
+
+not-before : (x y : Entry) → comes_before x y ≡ false → IsNoLater y x
+not-before x y is = by_less (nat_lt x.key y.key) refl
+  where
+    by_same : (b : Bool) → nat_eq x.key y.key ≡ b → nat_lt x.key y.key ≡ false → (b && nat_lt x.input y.input) ≡ false → IsNoLater y x
+    by_same true same less later = inr (grind (arith, nat_tests, same), grind (arith, nat_tests, later))
+    by_same false same less later = inl (grind (arith, nat_tests, same, less))
+
+    by_less : (b : Bool) → nat_lt x.key y.key ≡ b → IsNoLater y x
+    by_less true less =
+        absurd (let contrary : true ≡ false = subst (λ (c : Bool). (c || (nat_eq x.key y.key && nat_lt x.input y.input)) ≡ false) less is in (cc))
+    by_less false less =
+        by_same (nat_eq x.key y.key) refl less (subst (λ (c : Bool). (c || (nat_eq x.key y.key && nat_lt x.input y.input)) ≡ false) less is)
+
+no-later-trans : (x y z : Entry) → IsNoLater x y → IsNoLater y z → IsNoLater x z
+no-later-trans x y z (inl a) (inl b) = inl (omega (arith, a, b))
+no-later-trans x y z (inl a) (inr b) = inl (let e = b.0 in omega (arith, a, e))
+no-later-trans x y z (inr a) (inl b) = inl (let e = a.0 in omega (arith, b, e))
+no-later-trans x y z (inr a) (inr b) = inr (a.0 ∙ b.0, (let l = a.1 in let m = b.1 in omega (arith, l, m)))
+
+no-later-all : (e x : Entry) (xs : List Entry) → IsNoLater e x → IsNoLaterThan x xs → IsNoLaterThan e xs
+no-later-all e x [] first all = tt
+no-later-all e x (y ∷ ys) first all = (no-later-trans e x y first all.0, no-later-all e x ys first all.1)
+
+-- ---- sorted
+
+no-later-insert : (e x : Entry) (xs : List Entry) → IsNoLater e x → IsNoLaterThan e xs → IsNoLaterThan e (insert_entry x xs)
+no-later-insert e x [] first all = (first, tt)
+no-later-insert e x (y ∷ ys) first all = by_place (no-later-insert e x ys first all.1) (comes_before y x)
+  where
+    by_place : IsNoLaterThan e (insert_entry x ys) → (b : Bool) → IsNoLaterThan e (if b then y ∷ insert_entry x ys else x ∷ y ∷ ys)
+    by_place more true = (all.0, more)
+    by_place more false = (first, all)
+
+sorted-insert : (e : Entry) (es : List Entry) → AreSorted es → AreSorted (insert_entry e es)
+sorted-insert e [] all = (tt, tt)
+sorted-insert e (x ∷ xs) all = by_place (sorted-insert e xs all.1) (comes_before x e) refl
+  where
+    by_place : AreSorted (insert_entry e xs) → (b : Bool) → comes_before x e ≡ b → AreSorted (if b then x ∷ insert_entry e xs else e ∷ x ∷ xs)
+    by_place more true is = (no-later-insert x e xs (before x e is) all.0, more)
+    by_place more false is = ((not-before x e is, no-later-all e x xs (not-before x e is) all.0), all)
+
+sorted : (es : List Entry) → AreSorted (sort_entries es)
+sorted [] = tt
+sorted (e ∷ es) = sorted-insert e (sort_entries es) (sorted es)
+
+-- ---- each once
+
+permuted-insert : (e : Entry) (es : List Entry) → IsPermutation (e ∷ es) (insert_entry e es)
+permuted-insert e [] = IsPermutation-refl (e ∷ [])
+permuted-insert e (x ∷ xs) = by_place (permuted-insert e xs) (comes_before x e)
+  where
+    by_place : IsPermutation (e ∷ xs) (insert_entry e xs) → (b : Bool) → IsPermutation (e ∷ x ∷ xs) (if b then x ∷ insert_entry e xs else e ∷ x ∷ xs)
+    by_place more true = IsPermutation-trans _ _ _ (IsPermutation-middle (e ∷ []) x xs) (IsPermutation-cons x _ _ more)
+    by_place more false = IsPermutation-refl (e ∷ x ∷ xs)
+
+permuted : (es : List Entry) → IsPermutation es (sort_entries es)
+permuted [] = IsPermutation-refl []
+permuted (e ∷ es) = IsPermutation-trans _ _ _ (IsPermutation-cons e _ _ (permuted es)) (permuted-insert e (sort_entries es))
+
+-- ---- in their places
+
+-- of those of its own input none has a lower greatest time
+abbrev Leads : Entry → List Entry → Type 0
+Leads e [] = Unit {0}
+Leads e (x ∷ xs) = (x.input ≡ e.input → e.key ≤ x.key) × Leads e xs
+
+abbrev EachLeads : List Entry → Type 0
+EachLeads [] = Unit {0}
+EachLeads (e ∷ es) = Leads e es × EachLeads es
+
+leads-append : (e : Entry) (xs ys : List Entry) → Leads e xs → Leads e ys → Leads e (xs ++ ys)
+leads-append e [] ys a b = b
+leads-append e (x ∷ xs) ys a b = (a.0, leads-append e xs ys a.1 b)
+
+leads-own : (e : Entry) (input : ℕ) (ending : Ending) (greatest : ℕ) (ps : List Placed) → e.key ≤ greatest → Leads e (entries_of input ending greatest ps)
+leads-own e input ending greatest [] less = tt
+leads-own e input ending greatest (p ∷ ps) less =
+    let more : greatest ≤ max greatest p.packet.time = grind arith in
+    let next : e.key ≤ max greatest p.packet.time = omega (arith, less, more) in
+    ((λ same. next), leads-own e input ending (max greatest p.packet.time) ps next)
+
+leads-other : (e : Entry) (input : ℕ) (ending : Ending) (greatest : ℕ) (ps : List Placed) → e.input < input → Leads e (entries_of input ending greatest ps)
+leads-other e input ending greatest [] less = tt
+leads-other e input ending greatest (p ∷ ps) less =
+    ((λ (same : input ≡ e.input). omega (arith, less, same)), leads-other e input ending (max greatest p.packet.time) ps less)
+
+leads-others : (e : Entry) (input : ℕ) (rs : List InputItems) → e.input < input → Leads e (all_entries input rs)
+leads-others e input [] less = tt
+leads-others e input (r ∷ rs) less =
+    leads-append e (entries_of input r.items.ending r.greatest r.items.packets) (all_entries (input + 1) rs) (leads-other e input r.items.ending r.greatest r.items.packets less) (leads-others e (input + 1) rs (omega (arith, less)))
+
+each-leads-own : (input : ℕ) (ending : Ending) (greatest : ℕ) (ps : List Placed) (rest : List Entry) → ((e : Entry) → e.input ≡ input → Leads e rest) → EachLeads rest → EachLeads (entries_of input ending greatest ps ++ rest)
+each-leads-own input ending greatest [] rest others each = each
+each-leads-own input ending greatest (p ∷ ps) rest others each =
+    let e : Entry = record { key = max greatest p.packet.time; input = input; p = p; end = end_after input ending ps } in
+    let same : max greatest p.packet.time ≤ max greatest p.packet.time = omega arith in
+    (leads-append e (entries_of input ending (max greatest p.packet.time) ps) rest (leads-own e input ending (max greatest p.packet.time) ps same) (others e refl), each-leads-own input ending (max greatest p.packet.time) ps rest others each)
+
+each-leads : (input : ℕ) (rs : List InputItems) → EachLeads (all_entries input rs)
+each-leads input [] = tt
+each-leads input (r ∷ rs) =
+    each-leads-own input r.items.ending r.greatest r.items.packets (all_entries (input + 1) rs) (λ e is. leads-others e (input + 1) rs (omega (arith, is))) (each-leads (input + 1) rs)
+
+leads-insert : (e x : Entry) (xs : List Entry) → (x.input ≡ e.input → e.key ≤ x.key) → Leads e xs → Leads e (insert_entry x xs)
+leads-insert e x [] first all = (first, tt)
+leads-insert e x (y ∷ ys) first all = by_place (leads-insert e x ys first all.1) (comes_before y x)
+  where
+    by_place : Leads e (insert_entry x ys) → (b : Bool) → Leads e (if b then y ∷ insert_entry x ys else x ∷ y ∷ ys)
+    by_place more true = (all.0, more)
+    by_place more false = (first, all)
+
+leads-sorted : (e : Entry) (es : List Entry) → Leads e es → Leads e (sort_entries es)
+leads-sorted e [] all = tt
+leads-sorted e (x ∷ xs) all = leads-insert e x (sort_entries xs) all.0 (leads-sorted e xs all.1)
+
+abbrev if_of : ℕ → Entry → List Entry → List Entry
+if_of input e es = if nat_eq e.input input then e ∷ es else es
+
+-- one that stands in front of another input's entry may stand behind it
+exchanged : (input : ℕ) (e x : Entry) (es : List Entry) → (e.input ≡ x.input → ⊥) → if_of input x (if_of input e es) ≡ if_of input e (if_of input x es)
+exchanged input e x es other = by_both (nat_eq x.input input) (nat_eq e.input input) refl refl
+  where
+    by_both : (a b : Bool) → nat_eq x.input input ≡ a → nat_eq e.input input ≡ b
+        → (if a then x ∷ (if b then e ∷ es else es) else (if b then e ∷ es else es)) ≡ (if b then e ∷ (if a then x ∷ es else es) else (if a then x ∷ es else es))
+    by_both true true a b = absurd (other (grind (arith, nat_tests, a, b)))
+    by_both true false a b = refl
+    by_both false true a b = refl
+    by_both false false a b = refl
+
+-- what comes before an entry that leads is of another input
+is-other : (e x : Entry) → (x.input ≡ e.input → e.key ≤ x.key) → comes_before x e ≡ true → e.input ≡ x.input → ⊥
+is-other e x leads is same =
+    let least : e.key ≤ x.key = leads (sym same) in
+    elim (before x e is) [
+      | inl less ↦ omega (arith, less, least)
+      | inr equal ↦
+          let key : nat_lt x.key e.key ≡ false = grind (arith, nat_tests, least) in
+          let input : nat_lt x.input e.input ≡ false = grind (arith, nat_tests, same) in
+          let contrary : (false || (nat_eq x.key e.key && false)) ≡ true = subst (λ (c : Bool). (false || (nat_eq x.key e.key && c)) ≡ true) input (subst (λ (c : Bool). (c || (nat_eq x.key e.key && nat_lt x.input e.input)) ≡ true) key is) in
+          never (nat_eq x.key e.key) contrary
+    ]
+  where
+    never : (b : Bool) → (false || (b && false)) ≡ true → ⊥
+    never true contrary = (cc)
+    never false contrary = (cc)
+
+places-insert : (input : ℕ) (e : Entry) (es : List Entry) → Leads e es → of_input input (insert_entry e es) ≡ of_input input (e ∷ es)
+places-insert input e [] leads = refl
+places-insert input e (x ∷ xs) leads = by_place (places-insert input e xs leads.1) (comes_before x e) refl
+  where
+    by_place : of_input input (insert_entry e xs) ≡ of_input input (e ∷ xs) → (b : Bool) → comes_before x e ≡ b → of_input input (if b then x ∷ insert_entry e xs else e ∷ x ∷ xs) ≡ of_input input (e ∷ x ∷ xs)
+    by_place more true is = ap (if_of input x) more ∙ exchanged input e x (of_input input xs) (is-other e x leads.0 is)
+    by_place more false is = refl
+
+places : (input : ℕ) (es : List Entry) → EachLeads es → of_input input (sort_entries es) ≡ of_input input es
+places input [] each = refl
+places input (e ∷ es) each = places-insert input e (sort_entries es) (leads-sorted e es each.0) ∙ ap (if_of input e) (places input es each.1)
+
+-- ---- those that come
+
+record Come (es : List Entry) (s : Sequence) : Type 0 where
+  come : List Entry
+  later : List Entry
+  parts : es ≡ come ++ later
+  events : s.events ≡ events_of come
+  whole : s.end ≡ Complete → later ≡ []
+
+comes : (es : List Entry) → Come es (sequence_of_entries es)
+comes [] = record { come = []; later = []; parts = refl; events = refl; whole = λ is. refl }
+comes (e ∷ es) = by_end (comes es) e.end
+  where
+    by_end : Come es (sequence_of_entries es) → (c : SequenceEnd) → Come (e ∷ es) (with_front (Packet e.input e.p ∷ []) (unless_fault c (sequence_of_entries es)))
+    by_end more Complete =
+        record {
+          come = e ∷ more.come;
+          later = more.later;
+          parts = ap (λ (l : List Entry). e ∷ l) more.parts;
+          events = ap (λ (l : List Event). Packet e.input e.p ∷ l) more.events;
+          whole = more.whole;
+        }
+    by_end more (FaultIn input fault offset) =
+        record { come = e ∷ []; later = es; parts = refl; events = refl; whole = λ is. (cc) }
+
+comes-unless : (c : SequenceEnd) (es : List Entry) → Come es (unless_fault c (sequence_of_entries es))
+comes-unless Complete es = comes es
+comes-unless (FaultIn input fault offset) es =
+    record { come = []; later = es; parts = refl; events = refl; whole = λ is. (cc) }
+
+pub merges-sort : MergesSort
+merges-sort rs =
+    let es = all_entries 0 rs in
+    let c = comes-unless (fault_without_packets 0 rs) (sort_entries es) in
+    record {
+      sorted = sort_entries es;
+      order = sorted es;
+      all = permuted es;
+      places = λ input. places input es (each-leads 0 rs);
+      come = c.come;
+      later = c.later;
+      parts = c.parts;
+      events = c.events;
+      whole = c.whole;
+    }

@@ -1,0 +1,46 @@
+-- What the order of a merge is, in the words of lists: the packets of its inputs, sorted.
+use Rattle.std.specs.Prelude.{◌≡◌, ◌⊎◌, ℕ, ◌<◌, ◌≤◌, nat_eq, if◌then◌else◌, List, [], ◌∷◌, ◌++◌, map, IsPermutation}
+use Rattle.cap_io.specs.Sequence.{Entry, Event, Packet, Complete, InputItems, ByTime, all_entries, sequence_of}
+
+-- One packet comes no later than another: by the greatest time in its own input up to and with it,
+-- then by the input's number.
+abbrev pub IsNoLater : Entry → Entry → Type 0
+IsNoLater x y = (x.key < y.key) ⊎ ((x.key ≡ y.key) × (x.input ≤ y.input))
+
+-- a packet comes no later than each of these
+abbrev pub IsNoLaterThan : Entry → List Entry → Type 0
+IsNoLaterThan e [] = Unit {0}
+IsNoLaterThan e (x ∷ xs) = IsNoLater e x × IsNoLaterThan e xs
+
+-- each packet comes no later than those after it
+abbrev pub AreSorted : List Entry → Type 0
+AreSorted [] = Unit {0}
+AreSorted (e ∷ es) = IsNoLaterThan e es × AreSorted es
+
+-- those of one input, in the order in which they stand
+abbrev pub of_input : ℕ → List Entry → List Entry
+of_input input [] = []
+of_input input (e ∷ es) =
+    if nat_eq e.input input then e ∷ of_input input es else of_input input es
+
+-- packets as events
+abbrev pub events_of : List Entry → List Event
+events_of es = map (λ (e : Entry). Packet e.input e.p) es
+
+-- A merge of these inputs: all their packets sorted by (greatest time in the own input up to and
+-- with the packet, input, place in the input), of which the first ones come; all of them if the
+-- order doesn't end by a fault.
+pub record IsMerge (rs : List InputItems) : Type 0 where
+  pub sorted : List Entry
+  pub order : AreSorted sorted
+  pub all : IsPermutation (all_entries 0 rs) sorted
+  pub places : (input : ℕ) → of_input input sorted ≡ of_input input (all_entries 0 rs)
+  pub come : List Entry
+  pub later : List Entry
+  pub parts : sorted ≡ come ++ later
+  pub events : (sequence_of ByTime rs).events ≡ events_of come
+  pub whole : (sequence_of ByTime rs).end ≡ Complete → later ≡ []
+
+-- each merge is one
+abbrev pub MergesSort : Type 0
+MergesSort = (rs : List InputItems) → IsMerge rs

@@ -1,0 +1,39 @@
+use Rattle.std.proofs.Common.{◌≡◌, ◌++◌, ◌-◌, ℕ, List, ap, arith, drop, IfErr, IfOk, take, Option, None, Some, subst}
+use Rattle.cap_pcapng.specs.Block.{body_checks, body_in, option_checks, parts_in_body}
+use Rattle.cap_octet.specs.declared.fault.Fault.{Fault}
+use Rattle.cap_pcapng.specs.declared.blocks.Block.{Block}
+use Rattle.cap_pcapng.proofs.Judged.{judged-fault, judged-passes}
+use Rattle.cap_pcapng.proofs.WholeBlocks.{block_fault-body}
+use Rattle.cap_pcapng.proofs.read.block.Goals as goal
+
+pub returns-clause-refused : goal.returns-clause-refused
+returns-clause-refused c =
+    let frame = c.args.frame.now in
+    let body : List ℕ = take ((frame.length - 4) - 8) (drop 8 c.args.bytes.now) in
+    let ends : (frame.length - 4) - 8 ≡ frame.length - 12 = omega arith in
+    let is : body ≡ body_in frame c.args.bytes.now = ap (λ n. take n (drop 8 c.args.bytes.now)) ends in
+    let P : Option Fault → Type 0 = λ o. IfErr c.read_body.result (λ (fault : Fault). o ≡ Some fault) in
+    subst P (block_fault-body frame c.args.bytes.now body (omega arith) (omega arith) (omega arith) is)
+    (judged-fault (body_checks frame.block_type frame.order body ++ option_checks (parts_in_body frame.block_type frame.order body)) c.read_body.result _ c.read_body.ensures.parts)
+
+pub returns-then-size-lt12-clause-refused : goal.returns-then-size-lt12-clause-refused
+returns-then-size-lt12-clause-refused c = grind arith
+
+pub returns-then-bytes-size-clause-refused : goal.returns-then-bytes-size-clause-refused
+returns-then-bytes-size-clause-refused c = grind arith
+
+pub returns-then-u32_at-frame-clause-refused : goal.returns-then-u32_at-frame-clause-refused
+returns-then-u32_at-frame-clause-refused c = grind arith
+
+pub returns-clause-parts : goal.returns-clause-parts
+returns-clause-parts c = grind arith
+
+pub returns-clause-passes : goal.returns-clause-passes
+returns-clause-passes c =
+    let frame = c.args.frame.now in
+    let body : List ℕ = take ((frame.length - 4) - 8) (drop 8 c.args.bytes.now) in
+    let ends : (frame.length - 4) - 8 ≡ frame.length - 12 = omega arith in
+    let is : body ≡ body_in frame c.args.bytes.now = ap (λ n. take n (drop 8 c.args.bytes.now)) ends in
+    let P : Option Fault → Type 0 = λ o. IfOk c.read_body.result (λ (block : Block). o ≡ None) in
+    subst P (block_fault-body frame c.args.bytes.now body (omega arith) (omega arith) (omega arith) is)
+    (judged-passes (body_checks frame.block_type frame.order body ++ option_checks (parts_in_body frame.block_type frame.order body)) c.read_body.result _ c.read_body.ensures.parts)

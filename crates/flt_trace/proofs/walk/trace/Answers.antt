@@ -1,0 +1,55 @@
+-- Each round writes the step that the run is before, and goes on to the next one.
+use Rattle.std.proofs.Common.{◌+◌, ◌∙◌, ap, arith, rules, subst, sym}
+use Rattle.std.proofs.lemmas.Option.{slice_get-get_or}
+use Rattle.flt_bpf.specs.inside.Flow.{reach_next}
+use Rattle.flt_bpf.proofs.Checking.{parts}
+use Rattle.flt_bpf.proofs.Steps.{goes_inside, sound_at}
+use Rattle.flt_trace.proofs.Tracing.{Standing, standing_first, standing_last, standing_next, written_more, written_none}
+use Rattle.flt_trace.proofs.walk.trace.Goals as goal
+
+pub places-init : goal.places-init
+places-init c = record {
+  standing = subst (λ s. Standing c.args.insns.now c.args.packet.now c.args.len 0 s 0) (sym c.new-state.ensures) (standing_first _ _ _ c.requires);
+  written = written_none _ _ _ _;
+}
+
+pub put_step-requires : goal.put_step-requires
+put_step-requires c =
+    let few = (parts c.args.insns.now c.requires).short in
+    omega (arith, c.places.invariant.standing.inside)
+
+pub execute-requires-clause-sound : goal.execute-requires-clause-sound
+execute-requires-clause-sound c =
+    sound_at c.args.insns.now c.places.place _ c.requires (slice_get-get_or c.args.insns.now c.places.place _ c.places.invariant.standing.inside)
+
+pub returns-in-End : goal.returns-in-End
+returns-in-End c =
+    let at = c.places.invariant.standing in
+    let written = written_more _ _ _ _ _ _ _ c.places.count c.places.invariant.written at.here c.put_step.ensures in
+    let there = slice_get-get_or c.args.insns.now c.places.place _ at.inside in
+    standing_last _ _ _ _ _ c.places.place c.places.state c.places.count c.in-End.answer _ at written there (c.execute.ensures ∙ ap (λ t. reach_next t c.execute.new.state) c.in-End.is)
+
+pub overflow_add-place : goal.overflow_add-place
+overflow_add-place c =
+    let at = c.places.invariant.standing in
+    let there = slice_get-get_or c.args.insns.now c.places.place _ at.inside in
+    let inside = goes_inside c.args.insns.now c.places.place _ c.args.packet.now c.args.len c.places.state c.execute.new.state c.in-Further.further c.requires there (c.execute.ensures ∙ ap (λ t. reach_next t c.execute.new.state) c.in-Further.is) in
+    let few = (parts c.args.insns.now c.requires).short in
+    search rules
+
+pub overflow_add-place-in-Further : goal.overflow_add-place-in-Further
+overflow_add-place-in-Further c =
+    let at = c.places.invariant.standing in
+    let there = slice_get-get_or c.args.insns.now c.places.place _ at.inside in
+    let inside = goes_inside c.args.insns.now c.places.place _ c.args.packet.now c.args.len c.places.state c.execute.new.state c.in-Further.further c.requires there (c.execute.ensures ∙ ap (λ t. reach_next t c.execute.new.state) c.in-Further.is) in
+    let few = (parts c.args.insns.now c.requires).short in
+    search rules
+
+pub places-preserved : goal.places-preserved
+places-preserved c =
+    let at = c.places.invariant.standing in
+    let there = slice_get-get_or c.args.insns.now c.places.place _ at.inside in
+    record {
+      standing = standing_next _ _ _ c.places.place c.places.state c.execute.new.state c.places.count c.in-Further.further _ c.requires at there (c.execute.ensures ∙ ap (λ t. reach_next t c.execute.new.state) c.in-Further.is);
+      written = written_more _ _ _ _ _ _ _ c.places.count c.places.invariant.written at.here c.put_step.ensures;
+    }
