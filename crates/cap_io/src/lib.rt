@@ -1,4 +1,9 @@
 //! Packets from a device, one at a time, through one buffer; and packets to a device.
+//!
+//! [`Source`] reads a capture of either format, for `cap_inputs`: `advance` goes on to the next
+//! packet, and `head` lends it. [`Sink`] writes a capture, for `cap_process`: `put` appends a
+//! packet, and `finish` ends the capture. The library (`capkit_c`) uses [`FileState`], which is
+//! what is known of a file, for captures in memory.
 #![tactic(auto)]
 
 mod file_state;

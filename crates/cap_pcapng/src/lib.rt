@@ -1,6 +1,10 @@
 //! Blocks of pcapng files (draft-ietf-opsawg-pcapng), one at a time: read in both byte orders, and
 //! written.
 //!
+//! `cap_io` calls it for files, the library (`capkit_c`) for captures in memory. [`frame`] reads
+//! the first 12 bytes of a block. [`block_effect`] then checks the whole block, and returns what it
+//! does among the interfaces of its section. [`write_packet`] writes a packet's block.
+//!
 //! Nothing here takes memory but `Table::push`.
 #![tactic(auto)]
 

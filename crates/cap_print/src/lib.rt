@@ -1,5 +1,9 @@
 //! The lines that are printed of packets, after tcpdump(1).
 //!
+//! `cap_process` calls [`print_packet`], which writes a packet's line to a device, and the rows of
+//! its bytes if [`Options`] ask for them. The library (`capkit_c`) calls [`write_line`], which puts
+//! only the line into a buffer, a [`Text`].
+//!
 //! Nothing here takes memory.
 #![tactic(auto)]
 

@@ -1,4 +1,8 @@
 //! Tests of what no contract and no command line can show, from devices to whole runs.
+//!
+//! No crate uses it: `rt test` runs it, and so does `rt ci`. First read `devices`, on devices over
+//! std's readers and writers, `heaps`, on runs in a heap of a fixed size, and `host`, on files,
+//! standard streams and messages.
 #![tactic(auto)]
 
 #[cfg(test)]

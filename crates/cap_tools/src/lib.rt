@@ -1,4 +1,8 @@
 //! Jobs: one for all commands.
+//!
+//! [`Job`] reads the inputs of a command, decides their packets and writes its output, one step per
+//! call of `step`; a [`Turn`] shows whether it goes on. [`run`] makes all steps and returns the
+//! status: the program calls it through `capkit_engine`, and `cap_cases` and `cap_tests` call both.
 #![tactic(auto)]
 
 mod job;

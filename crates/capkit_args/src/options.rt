@@ -106,7 +106,7 @@ const EDIT: CommandRow = CommandRow {
             id: ids::START,
             name: Name::Letter('A'),
             value: Value::Text("T"),
-            help: "Keep times from T on: 2026-01-31T12:00:00Z, or seconds",
+            help: "Keep packets since T: 2026-01-31T12:00:00Z, or seconds",
         },
         Argument {
             id: ids::STOP,
@@ -268,7 +268,7 @@ const COMPILE: CommandRow = CommandRow {
             id: ids::LINK,
             name: Name::Long("link"),
             value: Value::Link,
-            help: "What packets begin with, ether if none is given{n}",
+            help: "Compile for this link type, ether if none is given{n}",
         },
         WORD,
     ],

@@ -1,6 +1,9 @@
 //! Files and standard streams: what names mean, what a command is run over, how its run ends, and
 //! what is reported of it.
 //!
+//! `capkit_main` calls `program::run_program` with the engine that runs commands; `capkit_engine`
+//! implements `engine::Engine`. `runner::run_command` opens the files and runs a command over them.
+//!
 //! A function without a clause deals with what no contract here knows: the files of the system, its
 //! terminals and clock, and the texts of clap and of messages. `cap_tests` tests these functions.
 #![tactic(auto)]

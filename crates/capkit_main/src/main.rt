@@ -1,4 +1,8 @@
 //! capkit: a workbench for saved packet captures.
+//!
+//! This is the program that users run; `main` is all it has. It calls `run_program` of
+//! `capkit_host`, which parses the words and reports errors, with `Jobs` of `capkit_engine`, which
+//! runs the commands.
 #![tactic(auto)]
 
 use capkit_engine::Jobs;

@@ -1,5 +1,6 @@
 //! The packet-filter machine: its instructions, the check of a program, its runs, and listings of
-//! programs.
+//! programs. `flt_gen` makes programs for it, `cap_filter` runs them and reads listings, and the
+//! library (`capkit_c`) checks and runs the programs of its callers.
 //!
 //! The machine is of the kind of S. McCanne and V. Jacobson, "The BSD Packet Filter" (1993): two
 //! registers, 16 words of memory, loads from the packet, arithmetic and forward jumps. A

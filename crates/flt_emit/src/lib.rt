@@ -1,6 +1,9 @@
 //! Code for the packet-filter machine, written from its last instruction on: tests of fields, whose
 //! targets may be at any distance.
 //!
+//! Only `flt_gen` calls it, to emit the code of primitives. An [`Elementary`] is a test as data,
+//! [`Code`] is the code so far, and its `emit_elementary` puts the code of a test in front.
+//!
 //! `elementary` has the tests as data, `table` those of each link, `code` the code that grows,
 //! `emit` the code of a test, and `among` that of a search.
 #![tactic(auto)]

@@ -1,4 +1,5 @@
-//! From filter expressions to programs of the packet-filter machine.
+//! From filter expressions to programs of the packet-filter machine. `cap_filter` calls
+//! [`generate`]; read that first, then `walk::Walk` and `steps::Steps`.
 //!
 //! - `program` has all stages. `folding` first makes one number of arithmetic of only numbers.
 //! - `walk` takes the nodes from the last to the first and emits their code, with `waiting` (what

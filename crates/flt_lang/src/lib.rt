@@ -1,5 +1,8 @@
 //! The filter language of pcap-filter(7): tokens become a tree, bare values take their qualifiers,
 //! and a tree is checked before code is made of it.
+//!
+//! `cap_filter` calls the three steps in this order: [`parse`], [`resolve`] and [`check`]. The
+//! library (`capkit_c`) calls [`bound`], the most instructions that a program of the tree has.
 #![tactic(auto)]
 
 mod checking;

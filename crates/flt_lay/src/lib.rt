@@ -1,5 +1,8 @@
 //! Code whose jumps go any distance, laid out as instructions: a jump (`ja`) is added only for a
 //! target that is too far for its test.
+//!
+//! `flt_gen` calls it, as the last stage before a program is checked. [`laid_out`] takes
+//! `flt_bpf::Wide` instructions and returns `flt_bpf::Insn` ones, which give the same answers.
 #![tactic(auto)]
 
 mod layout;

@@ -41,7 +41,7 @@ numbers_of [] = None
 numbers_of (w ∷ []) = after (numeral w) (Some [])
 numbers_of (w ∷ v ∷ ws) = after (numeral w) (later_numbers (v ∷ ws))
 
--- the numbers of a line, blanks between them, or none if it isn't a such line
+-- the numbers of a line, blanks between them, or none if it isn't such a line
 abbrev pub line_numbers : List ℕ → Option (List ℕ)
 line_numbers line = numbers_of (slice_split (λ b. b == BLANK) line)
 
