@@ -112,7 +112,7 @@ const EDIT: CommandRow = CommandRow {
             id: ids::STOP,
             name: Name::Letter('B'),
             value: Value::Text("T"),
-            help: "Keep times before T",
+            help: "Keep packets before T",
         },
         Argument {
             id: ids::CHOP_START,

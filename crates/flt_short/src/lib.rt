@@ -1,7 +1,7 @@
 //! Code of fewer instructions for other code: tests go on as far as what is known there decides,
 //! and one instruction replaces several that do the same.
 //!
-//! Only `flt_gen` calls it: [`threaded`], then [`shortened`], and both once more.
+//! `flt_gen` calls [`threaded`], then [`shortened`], and both once more.
 //!
 //! Two passes: `thread` moves the targets of tests, by what is known of a packet (`facts`) where
 //! runs come (`arrivals`); `shorten` then proposes shorter code, and `alike` compares it with the
