@@ -1,8 +1,11 @@
 //! What no command line shows of expressions and programs.
 
 mod clone_only;
+mod compilation;
 mod expressions;
 mod jumps;
 mod layout;
+mod lists;
 mod machine;
+mod shortening;
 mod tokens;

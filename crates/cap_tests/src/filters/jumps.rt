@@ -1,10 +1,8 @@
 //! The place where the program of an expression has jumps (`ja`).
 
-use cap_command::{Command, Compile};
-use cap_octet::{Link, MemInput, MemOutput};
-use cap_tools::run;
-use flt_bpf::{Insn, read_listing};
-use std::alloc::{AllocError, Global};
+use crate::filters::compilation::compiled;
+use flt_bpf::Insn;
+use std::alloc::Global;
 use std::test::Fail;
 
 /// The code of `ja`.
@@ -15,34 +13,6 @@ const CLASS: u16 = 7;
 
 /// The farthest that a conditional jump reaches by its own offsets.
 const FARTHEST: usize = 255;
-
-/// How many bytes the listings of this module have at most.
-const ROOM: usize = 30_000;
-
-/// The command that compiles the text.
-fn compile(alloc: Global, text: &str) -> Result<Command, AllocError> {
-    let expr = String::from_str(alloc, text)?;
-    let link = Link::Ether;
-    Ok(Command::Compile(Compile { expr, link }))
-}
-
-/// The instructions of the listing that a run of `compile` writes.
-fn compiled(alloc: Global, text: &str) -> Result<Vec<Insn>, Fail> {
-    let command = compile(alloc, text)?;
-    let mut names = Vec::new(alloc);
-    names.push(String::from_str(alloc, "out")?)?;
-    let inputs: Vec<MemInput<'_>> = Vec::new(alloc);
-    let mut listing = vec![in alloc; 0u8; ROOM]?;
-    let (out, err) = (MemOutput::new(&mut listing), MemOutput::new(&mut []));
-    if !command.is_proper(inputs.len()) {
-        return Err(Fail::from("the command may not be run"));
-    }
-    let (status, out, _) = run(alloc, command, names, inputs, out, err);
-    if status != 0 {
-        return Err(Fail::from("no listing"));
-    }
-    Ok(read_listing(alloc, out.written())?)
-}
 
 /// Whether an offset of this instruction leads over `count` others.
 fn leads_over(insn: &Insn, count: usize) -> bool {
@@ -133,8 +103,16 @@ fn one_value_again_and_again(rt: HostRuntime) -> Result<(), Fail> {
     Ok(())
 }
 
+/// A field is loaded once for all its numbers, so that each test is near the end.
+#[test]
+fn one_field_with_many_values(rt: HostRuntime) -> Result<(), Fail> {
+    assert!(rt; longest_has(rt.alloc(), "len", 2)? == 0);
+    Ok(())
+}
+
+/// A sum is computed for each test, so that the first tests are too far from the end.
 #[test]
 fn longer_and_longer(rt: HostRuntime) -> Result<(), Fail> {
-    assert!(rt; longest_has(rt.alloc(), "len", 2)? > 0);
+    assert!(rt; longest_has(rt.alloc(), "ether[0:2] + 1", 2)? > 0);
     Ok(())
 }
