@@ -1,7 +1,32 @@
 //! Laws of the definitions: each is the contract of a function that does nothing.
+ghost use Rattle.std.specs.Prelude.{◌≡◌, ◌↔◌, List};
+ghost use Rattle.flt_bpf.specs.declared.insn.Insn.{Insn};
+ghost use Rattle.capkit_c.specs.Elsewhere.{HereFromZeros, SameFromAnyWords, SameOnLibpcap};
 ghost use Rattle.capkit_c.specs.Laws.{RestIsRead};
+ghost use Rattle.capkit_c.specs.Portable.{is_portable, portability};
 
 /// The rest of a capture, from the reader's place on, is read as the capture is.
 pub fn rest_is_read()
     ensures { RestIsRead }
+{}
+
+/// The machine here is one of those that the next laws speak of.
+pub fn here_from_zeros()
+    ensures { HereFromZeros }
+{}
+
+/// A valid program that has a bit of `capkit_portability` reads no word of memory before it writes
+/// it: from any words it returns what it returns from zeros.
+pub fn same_from_any_words()
+    ensures { SameFromAnyWords }
+{}
+
+/// A valid program that has libpcap's bit returns the same on libpcap's machine.
+pub fn same_on_libpcap()
+    ensures { SameOnLibpcap }
+{}
+
+/// A program is portable if and only if it has both bits.
+pub fn both_bits()
+    ensures { (insns : List Insn) → (is_portable insns ≡ 1) ↔ (portability insns ≡ 3) }
 {}

@@ -1,0 +1,70 @@
+-- Runs of portable programs elsewhere: on libpcap's machine, and from other words of memory.
+use Rattle.std.specs.Prelude.{◌≡◌, ◌≢◌, ℕ, zero, suc, ◌+◌, List, length, Option, Some, None, slice_get, replicate, bit_and}
+use Rattle.flt_bpf.specs.declared.insn.Insn.{Insn}
+use Rattle.flt_bpf.specs.declared.machine.State.{State}
+use Rattle.flt_bpf.specs.declared.operation.Operation.{Operation}
+use Rattle.flt_bpf.specs.declared.operation.Operation.TheVariants.{LoadIndirect}
+use Rattle.flt_bpf.specs.declared.operation.Register.TheVariants.{Accumulator}
+use Rattle.flt_bpf.specs.Instructions.{operation_of}
+use Rattle.flt_bpf.specs.Machine.{Next, Lost, Progress, Stands, progress_after, field, into, does, machine}
+use Rattle.flt_bpf.specs.Valid.{IsValid, WORDS}
+use Rattle.capkit_c.specs.Portable.{portability}
+
+-- a machine, by what each operation does there on a packet of original length n
+abbrev pub Machine : Type 0
+Machine = Operation → Insn → List ℕ → ℕ → State → Next
+
+-- what an instruction of this operation does on a machine, which is lost without an operation
+abbrev pub does_on : Machine → Option Operation → Insn → List ℕ → ℕ → State → Next
+does_on there None i p n s = Lost
+does_on there (Some operation) i p n s = there operation i p n s
+
+-- what the instruction at a place does on a machine, which is lost without an instruction
+abbrev pub step_on : Machine → Option Insn → List ℕ → ℕ → State → Next
+step_on there None p n s = Lost
+step_on there (Some i) p n s = does_on there (operation_of i.code) i p n s
+
+-- at most t more instructions on a machine, from a place on, after a count of them
+abbrev pub run_on : Machine → List Insn → List ℕ → ℕ → ℕ → ℕ → State → ℕ → Progress
+run_on there prog p n zero place s count = Stands place s
+run_on there prog p n (suc t) place s count =
+    progress_after (run_on there prog p n t) place count
+    (step_on there (slice_get prog place) p n s)
+
+-- at the start A and X are 0, and memory contains these words
+abbrev pub start_with : List ℕ → State
+start_with words = record { accumulator = 0; index = 0; memory = words }
+
+-- state or answer of a program on a machine whose memory contains these words at the start, on a
+-- packet of original length n after at most t instructions
+abbrev pub outcome_on : Machine → List ℕ → List Insn → List ℕ → ℕ → ℕ → Progress
+outcome_on there words prog p n t = run_on there prog p n t 0 (start_with words) 0
+
+-- on every packet a program returns on a machine, whatever the 16 words of memory are at the start,
+-- what it returns here from zeros, and after as many instructions
+abbrev pub ReturnsTheSame : Machine → List Insn → Type 0
+ReturnsTheSame there insns =
+    (words p : List ℕ) (n : ℕ) → length words ≡ WORDS
+    → outcome_on there words insns p n (length insns) ≡ machine insns p n (length insns)
+
+-- libpcap's machine: an indexed load doesn't add X and k modulo 2^32
+abbrev pub on_libpcap : Machine
+on_libpcap (LoadIndirect width) i p n s = into Accumulator (field p (s.index + i.k) width) s
+on_libpcap operation i p n s = does operation i p n s
+
+-- The machine here, from zeros, is one of these: every run is the same.
+abbrev pub HereFromZeros : Type 0
+HereFromZeros =
+    (insns : List Insn) (p : List ℕ) (n t : ℕ)
+    → outcome_on does (replicate WORDS 0) insns p n t ≡ machine insns p n t
+
+-- A valid program that has a bit returns the same here from any words of memory.
+abbrev pub SameFromAnyWords : Type 0
+SameFromAnyWords =
+    (insns : List Insn) → IsValid insns → portability insns ≢ 0 → ReturnsTheSame does insns
+
+-- A valid program that has libpcap's bit, 1, returns the same on libpcap's machine.
+abbrev pub SameOnLibpcap : Type 0
+SameOnLibpcap =
+    (insns : List Insn) → IsValid insns → bit_and (portability insns) 1 ≡ 1
+    → ReturnsTheSame on_libpcap insns
