@@ -3,7 +3,7 @@ use Rattle.std.proofs.Common.{◌≡◌, ◌↔◌, ◌⊎◌, inl, inr, ℕ, ze
 use Rattle.std.specs.Prelude.{◌==◌, nat_lt, nat_le, ◌&&◌, ◌||◌, not, if◌then◌else◌, slice_get, slice_set, bit_and}
 use Rattle.std.specs.List.{list_all}
 use Rattle.std.specs.Option.{option_map}
-use Rattle.std.proofs.lemmas.Bool.{and_parts, and_from, or_right, or_left, cases_lt, eq-eqb, ne_eqb, ltb-true, not-true}
+use Rattle.std.proofs.lemmas.Bool.{and_parts, and_from, or_right, or_left, cases_lt, eq-eqb, ne_eqb, ltb-true, lt-ltb, not-true}
 use Rattle.std.proofs.lemmas.List.{get_or-drop}
 use Rattle.std.proofs.lemmas.Nat.{and_le_r}
 use Rattle.std.proofs.lemmas.Option.{slice_get_past, slice_get-get_or}
@@ -14,6 +14,7 @@ use Rattle.flt_bpf.specs.declared.operation.Operation.TheVariants.{LoadAbsolute,
 use Rattle.flt_bpf.specs.declared.operation.Register.{Register}
 use Rattle.flt_bpf.specs.declared.operation.Register.TheVariants.{Accumulator, Index}
 use Rattle.flt_bpf.specs.declared.operation.Source.TheVariants.{Immediate, Memory, Length}
+use Rattle.flt_bpf.specs.declared.operation.AluOperation.TheVariants.{ShiftLeft, ShiftRight}
 use Rattle.flt_bpf.specs.declared.operation.Operand.TheVariants.{Constant, IndexRegister}
 use Rattle.flt_bpf.specs.declared.operation.Width.TheVariants.{Byte}
 use Rattle.flt_bpf.specs.Instructions.{operation_of}
@@ -21,8 +22,8 @@ use Rattle.flt_bpf.specs.Machine.{Next, Goes, Ends, Lost, step, step_if_there, d
 use Rattle.flt_bpf.specs.Valid.{IsValid, WORDS}
 use Rattle.flt_bpf.proofs.Checking.{parts}
 use Rattle.flt_bpf.proofs.Steps.{goes_inside}
-use Rattle.capkit_c.specs.Portable.{sign_bit, operation_keeps, keeps_x_small, operation_alike, runs_alike, operation_alike_on_libpcap, runs_alike_on_libpcap, is_live_at, operation_wants, is_live_before, live_places, none_read_unwritten, most_attached, is_portable, portability}
-use Rattle.capkit_c.specs.Elsewhere.{Machine, does_on, step_on, run_on, outcome_on, on_libpcap, HereFromZeros, SameFromAnyWords, SameOnLibpcap}
+use Rattle.capkit_c.specs.Portable.{sign_bit, half_sign_bit, operation_keeps, keeps_x_small, operation_alike, runs_alike, operation_alike_on_libpcap, runs_alike_on_libpcap, is_live_at, operation_wants, is_live_before, live_places, none_read_unwritten, most_attached, is_portable, portability}
+use Rattle.capkit_c.specs.Elsewhere.{Machine, does_on, step_on, run_on, outcome_on, on_libpcap, load_on_linux, on_linux, HereFromZeros, SameFromAnyWords, SameOnLibpcap, SameOnLinux}
 
 -- ---- words
 
@@ -120,9 +121,9 @@ module _ (i : Insn) (p : List ℕ) (n : ℕ) (f : ℕ → List Bool) (s : State)
 
 -- ---- X stays small
 
--- X is below 2^31, if a test says so
+-- X is below 2^30, if a test says so
 abbrev Small : Bool → State → Type 0
-Small small s = small ≡ true → s.index < sign_bit
+Small small s = small ≡ true → s.index < half_sign_bit
 
 abbrev index_after : Next → ℕ
 index_after (Goes k s) = s.index
@@ -141,23 +142,23 @@ put_index : (b : Bool) (s : State) (m : List ℕ) (x : ℕ) → s.index < x → 
 put_index true s m x h = h
 put_index false s m x h = omega arith
 
-header_index : (o : Option ℕ) (s : State) → index_after (into Index (option_map header_length o) s) < sign_bit
+header_index : (o : Option ℕ) (s : State) → index_after (into Index (option_map header_length o) s) < half_sign_bit
 header_index None s = omega arith
 header_index (Some b) s = let low = and_le_r b 15 in omega arith
 
-index_kept : (o : Option Operation) (i : Insn) (p : List ℕ) (n : ℕ) (s : State) → operation_keeps o i.k ≡ true → s.index < sign_bit → index_after (does_if_known o i p n s) < sign_bit
+index_kept : (o : Option Operation) (i : Insn) (p : List ℕ) (n : ℕ) (s : State) → operation_keeps o i.k ≡ true → s.index < half_sign_bit → index_after (does_if_known o i p n s) < half_sign_bit
 index_kept None i p n s e h = omega arith
-index_kept (Some (LoadAbsolute width)) i p n s e h = into_index (field p i.k width) s sign_bit h
-index_kept (Some (LoadIndirect width)) i p n s e h = into_index (field p ((s.index + i.k) % 2 ^ 32) width) s sign_bit h
+index_kept (Some (LoadAbsolute width)) i p n s e h = into_index (field p i.k width) s half_sign_bit h
+index_kept (Some (LoadIndirect width)) i p n s e h = into_index (field p ((s.index + i.k) % 2 ^ 32) width) s half_sign_bit h
 index_kept (Some (Load Accumulator Immediate)) i p n s e h = h
-index_kept (Some (Load Accumulator Memory)) i p n s e h = word_index (slice_get s.memory i.k) s sign_bit h
+index_kept (Some (Load Accumulator Memory)) i p n s e h = word_index (slice_get s.memory i.k) s half_sign_bit h
 index_kept (Some (Load Accumulator Length)) i p n s e h = h
-index_kept (Some (Load Index Immediate)) i p n s e h = ltb-true i.k sign_bit e
+index_kept (Some (Load Index Immediate)) i p n s e h = ltb-true i.k half_sign_bit e
 index_kept (Some (Load Index Memory)) i p n s e h = cc
 index_kept (Some (Load Index Length)) i p n s e h = cc
 index_kept (Some LoadHeaderLength) i p n s e h = header_index (field p i.k Byte) s
-index_kept (Some (Store register)) i p n s e h = put_index (nat_lt i.k (length s.memory)) s (slice_set s.memory i.k (held register s)) sign_bit h
-index_kept (Some (Compute operator operand)) i p n s e h = into_index (compute operator s.accumulator (operand_value operand i.k s.index)) s sign_bit h
+index_kept (Some (Store register)) i p n s e h = put_index (nat_lt i.k (length s.memory)) s (slice_set s.memory i.k (held register s)) half_sign_bit h
+index_kept (Some (Compute operator operand)) i p n s e h = into_index (compute operator s.accumulator (operand_value operand i.k s.index)) s half_sign_bit h
 index_kept (Some Negate) i p n s e h = h
 index_kept (Some Jump) i p n s e h = h
 index_kept (Some (JumpIf test operand)) i p n s e h = h
@@ -197,7 +198,7 @@ module _ (there : Machine) (prog : List Insn) (p : List ℕ) (n : ℕ) (small : 
       (s : State) (m : List ℕ) → place < length prog → length prog ≤ t + place → Before place m s → Small small s
       → run_on there prog p n t place (on s m) count ≡ run_from prog p n t place s count
 
-  next : (t place count : ℕ) (i : Insn) (s : State) (u v : Next) → ((k : ℕ) → SameFrom t (place + 1 + k) (count + 1)) → length prog ≤ suc t + place → slice_get prog place ≡ Some i → After (λ w. drop (suc place) (live_places w prog)) u v → step i p n s ≡ v → (small ≡ true → index_after v < sign_bit) → progress_after (run_on there prog p n t) place count u ≡ progress_after (run_from prog p n t) place count v
+  next : (t place count : ℕ) (i : Insn) (s : State) (u v : Next) → ((k : ℕ) → SameFrom t (place + 1 + k) (count + 1)) → length prog ≤ suc t + place → slice_get prog place ≡ Some i → After (λ w. drop (suc place) (live_places w prog)) u v → step i p n s ≡ v → (small ≡ true → index_after v < half_sign_bit) → progress_after (run_on there prog p n t) place count u ≡ progress_after (run_from prog p n t) place count v
   next t place count i s u v later left g (goes k s1 m1 h1) e x1 =
       later k s1 m1 (goes_inside prog place i p n s s1 k valid g e) (omega arith)
       (weaker refl (λ w l. sym (live_later w prog place k) ∙ l) h1) x1
@@ -308,7 +309,10 @@ tests_say q insns e =
     record { each = λ k i g. all_at (q (list_all keeps_x_small insns)) insns k i b.0 g; none = b.1 }
 
 alike_known : (o : Option Operation) (k : ℕ) (small : Bool) → operation_alike o k small ≡ true → operation_alike_on_libpcap o k small ≡ true
-alike_known (Some (LoadIndirect width)) k small e = e
+alike_known (Some (LoadIndirect width)) k small e =
+    let both = and_parts small (nat_lt k half_sign_bit) e in
+    let low = ltb-true k half_sign_bit both.1 in
+    and_from small (nat_lt k sign_bit) both.0 (lt-ltb k sign_bit (omega arith))
 alike_known _ k small e = refl
 
 on_libpcap_too : (insns : List Insn) → (tested runs_alike insns ≡ true) ⊎ (tested runs_alike_on_libpcap insns ≡ true) → Tested runs_alike_on_libpcap insns
@@ -327,7 +331,7 @@ same_from_any_words insns valid bit words p n long =
 
 -- ---- libpcap
 
-sum_stays : (a b : ℕ) → a < sign_bit → b < sign_bit → (a + b) % 2 ^ 32 ≡ a + b
+sum_stays : (a b : ℕ) → a < half_sign_bit → b < sign_bit → (a + b) % 2 ^ 32 ≡ a + b
 sum_stays a b x y = omega arith
 
 libpcap_known : (o : Option Operation) (i : Insn) (p : List ℕ) (n : ℕ) (s : State) (small : Bool) → operation_alike_on_libpcap o i.k small ≡ true → Small small s → does_on on_libpcap o i p n s ≡ does_if_known o i p n s
@@ -342,6 +346,36 @@ same_on_libpcap insns valid bit words p n long =
     let t = on_libpcap_too insns (first_bit (tested runs_alike insns) (tested runs_alike_on_libpcap insns) bit) in
     from_start on_libpcap insns p words n (list_all keeps_x_small insns) valid (keeps_each insns)
     (λ k i s g x. libpcap_known (operation_of i.code) i p n s (list_all keeps_x_small insns) (t.each k i g) x) t.none long
+
+-- ---- Linux
+
+load_below : (other : Machine) (offset : ℕ) (operation : Operation) (i : Insn) (p : List ℕ) (n : ℕ) (s : State) → nat_lt offset sign_bit ≡ true → load_on_linux other offset operation i p n s ≡ does operation i p n s
+load_below other offset operation i p n s e = ap (λ b. if b then does operation i p n s else other operation i p n s) e
+
+linux_known : (other : Machine) (o : Option Operation) (i : Insn) (p : List ℕ) (n : ℕ) (s : State) (small : Bool) → operation_alike o i.k small ≡ true → Small small s → does_on (on_linux other) o i p n s ≡ does_if_known o i p n s
+linux_known other None i p n s small e x = refl
+linux_known other (Some (LoadAbsolute width)) i p n s small e x = load_below other i.k (LoadAbsolute width) i p n s e
+linux_known other (Some LoadHeaderLength) i p n s small e x = load_below other i.k LoadHeaderLength i p n s e
+linux_known other (Some (LoadIndirect width)) i p n s small e x =
+    let both = and_parts small (nat_lt i.k half_sign_bit) e in
+    let low = ltb-true i.k half_sign_bit both.1 in
+    let small_x = x both.0 in
+    load_below other ((s.index + i.k) % 2 ^ 32) (LoadIndirect width) i p n s (lt-ltb _ sign_bit (omega arith))
+linux_known other (Some (Load register Immediate)) i p n s small e x = refl
+linux_known other (Some (Load register Memory)) i p n s small e x = refl
+linux_known other (Some (Load register Length)) i p n s small e x = cc
+linux_known other (Some (Compute ShiftLeft Constant)) i p n s small e x = refl
+linux_known other (Some (Compute ShiftRight Constant)) i p n s small e x = refl
+linux_known other (Some (Compute ShiftLeft IndexRegister)) i p n s small e x = cc
+linux_known other (Some (Compute ShiftRight IndexRegister)) i p n s small e x = cc
+linux_known other (Some (Compute _ operand)) i p n s small e x = refl
+linux_known other (Some _) i p n s small e x = refl
+
+pub same_on_linux : SameOnLinux
+same_on_linux insns other valid bit words p n long =
+    let t = tests_say runs_alike insns (second_bit (tested runs_alike insns) (tested runs_alike_on_libpcap insns) bit) in
+    from_start (on_linux other) insns p words n (list_all keeps_x_small insns) valid (keeps_each insns)
+    (λ k i s g x. linux_known other (operation_of i.code) i p n s (list_all keeps_x_small insns) (t.each k i g) x) t.none long
 
 -- ---- both bits
 

@@ -1,14 +1,17 @@
--- Runs of portable programs elsewhere: on libpcap's machine, and from other words of memory.
-use Rattle.std.specs.Prelude.{◌≡◌, ◌≢◌, ℕ, zero, suc, ◌+◌, List, length, Option, Some, None, slice_get, replicate, bit_and}
+-- Runs of portable programs on libpcap's machine, on Linux's, and from other words of memory.
+use Rattle.std.specs.Prelude.{◌≡◌, ◌≢◌, ℕ, zero, suc, ◌+◌, ◌%◌, ◌^◌, nat_lt, if◌then◌else◌, List, length, Option, Some, None, slice_get, replicate, bit_and}
 use Rattle.flt_bpf.specs.declared.insn.Insn.{Insn}
 use Rattle.flt_bpf.specs.declared.machine.State.{State}
+use Rattle.flt_bpf.specs.declared.operation.AluOperation.TheVariants.{ShiftLeft, ShiftRight}
+use Rattle.flt_bpf.specs.declared.operation.Operand.TheVariants.{IndexRegister}
 use Rattle.flt_bpf.specs.declared.operation.Operation.{Operation}
-use Rattle.flt_bpf.specs.declared.operation.Operation.TheVariants.{LoadIndirect}
+use Rattle.flt_bpf.specs.declared.operation.Operation.TheVariants.{LoadAbsolute, LoadIndirect, Load, LoadHeaderLength, Compute}
 use Rattle.flt_bpf.specs.declared.operation.Register.TheVariants.{Accumulator}
+use Rattle.flt_bpf.specs.declared.operation.Source.TheVariants.{Length}
 use Rattle.flt_bpf.specs.Instructions.{operation_of}
-use Rattle.flt_bpf.specs.Machine.{Next, Lost, Progress, Stands, progress_after, field, into, does, machine}
+use Rattle.flt_bpf.specs.Machine.{Next, Goes, Lost, Progress, Stands, progress_after, field, into, with_register, compute, does, machine}
 use Rattle.flt_bpf.specs.Valid.{IsValid, WORDS}
-use Rattle.capkit_c.specs.Portable.{portability}
+use Rattle.capkit_c.specs.Portable.{sign_bit, portability}
 
 -- a machine, by what each operation does there on a packet of original length n
 abbrev pub Machine : Type 0
@@ -52,6 +55,25 @@ abbrev pub on_libpcap : Machine
 on_libpcap (LoadIndirect width) i p n s = into Accumulator (field p (s.index + i.k) width) s
 on_libpcap operation i p n s = does operation i p n s
 
+-- a load on Linux, by its place: from 2^31 on it does something else
+abbrev pub load_on_linux : Machine → ℕ → Machine
+load_on_linux other at operation i p n s =
+    if nat_lt at sign_bit then does operation i p n s else other operation i p n s
+
+-- Linux's machine: loads from 2^31 on do something else, whatever that is; the length is the
+-- captured one; a shift by X is by X modulo 32
+abbrev pub on_linux : Machine → Machine
+on_linux other (LoadAbsolute width) i p n s = load_on_linux other i.k (LoadAbsolute width) i p n s
+on_linux other LoadHeaderLength i p n s = load_on_linux other i.k LoadHeaderLength i p n s
+on_linux other (LoadIndirect width) i p n s =
+    load_on_linux other ((s.index + i.k) % 2 ^ 32) (LoadIndirect width) i p n s
+on_linux other (Load register Length) i p n s = Goes 0 (with_register register (length p) s)
+on_linux other (Compute ShiftLeft IndexRegister) i p n s =
+    into Accumulator (compute ShiftLeft s.accumulator (s.index % 32)) s
+on_linux other (Compute ShiftRight IndexRegister) i p n s =
+    into Accumulator (compute ShiftRight s.accumulator (s.index % 32)) s
+on_linux other operation i p n s = does operation i p n s
+
 -- The machine here, from zeros, is one of these: every run is the same.
 abbrev pub HereFromZeros : Type 0
 HereFromZeros =
@@ -68,3 +90,10 @@ abbrev pub SameOnLibpcap : Type 0
 SameOnLibpcap =
     (insns : List Insn) → IsValid insns → bit_and (portability insns) 1 ≡ 1
     → ReturnsTheSame on_libpcap insns
+
+-- A valid program that has Linux's bit, 2, returns the same on Linux's machine, whatever its loads
+-- from 2^31 on do.
+abbrev pub SameOnLinux : Type 0
+SameOnLinux =
+    (insns : List Insn) (other : Machine) → IsValid insns → bit_and (portability insns) 2 ≡ 2
+    → ReturnsTheSame (on_linux other) insns

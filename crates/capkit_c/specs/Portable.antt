@@ -15,35 +15,39 @@ use Rattle.flt_bpf.specs.declared.operation.Source.TheVariants.{Immediate, Memor
 abbrev pub sign_bit : ℕ
 sign_bit = 2 ^ 31
 
--- whether X, the index register, is surely below 2^31 after an operation if it is before it
+-- 2^30: the sum of two numbers below it is below 2^31
+abbrev pub half_sign_bit : ℕ
+half_sign_bit = 2 ^ 30
+
+-- whether X, the index register, is surely below 2^30 after an operation if it is before it
 abbrev pub operation_keeps : Option Operation → ℕ → Bool
-operation_keeps (Some (Load Index Immediate)) k = nat_lt k sign_bit
+operation_keeps (Some (Load Index Immediate)) k = nat_lt k half_sign_bit
 operation_keeps (Some (Load Index _)) k = false
 operation_keeps (Some CopyToIndex) k = false
 operation_keeps _ k = true
 
--- whether X, the index register, is surely below 2^31 after an instruction if it is before it
+-- whether X, the index register, is surely below 2^30 after an instruction if it is before it
 abbrev pub keeps_x_small : Insn → Bool
 keeps_x_small i = operation_keeps (operation_of i.code) i.k
 
 -- whether an operation surely does the same on libpcap's and Linux's machines; `small` says that X
--- is below 2^31
+-- is below 2^30
 abbrev pub operation_alike : Option Operation → ℕ → Bool → Bool
 operation_alike (Some (LoadAbsolute width)) k small = nat_lt k sign_bit
 operation_alike (Some LoadHeaderLength) k small = nat_lt k sign_bit
-operation_alike (Some (LoadIndirect width)) k small = small && nat_lt k sign_bit
+operation_alike (Some (LoadIndirect width)) k small = small && nat_lt k half_sign_bit
 operation_alike (Some (Load register Length)) k small = false
 operation_alike (Some (Compute ShiftLeft IndexRegister)) k small = false
 operation_alike (Some (Compute ShiftRight IndexRegister)) k small = false
 operation_alike _ k small = true
 
 -- whether an instruction surely does the same on libpcap's and Linux's machines; `small` says that
--- X is below 2^31
+-- X is below 2^30
 abbrev pub runs_alike : Bool → Insn → Bool
 runs_alike small i = operation_alike (operation_of i.code) i.k small
 
 -- whether an operation surely does the same on libpcap's machine, where X and k are not added modulo
--- 2^32; `small` says that X is below 2^31
+-- 2^32; `small` says that X is below 2^30
 abbrev pub operation_alike_on_libpcap : Option Operation → ℕ → Bool → Bool
 operation_alike_on_libpcap (Some (LoadIndirect width)) k small = small && nat_lt k sign_bit
 operation_alike_on_libpcap _ k small = true

@@ -1,7 +1,8 @@
 //! Laws of the definitions: each is the contract of a function that does nothing.
 ghost use Rattle.std.specs.Prelude.{◌≡◌, ◌↔◌, List};
 ghost use Rattle.flt_bpf.specs.declared.insn.Insn.{Insn};
-ghost use Rattle.capkit_c.specs.Elsewhere.{HereFromZeros, SameFromAnyWords, SameOnLibpcap};
+ghost use Rattle.capkit_c.specs.Elsewhere.{HereFromZeros, SameFromAnyWords};
+ghost use Rattle.capkit_c.specs.Elsewhere.{SameOnLibpcap, SameOnLinux};
 ghost use Rattle.capkit_c.specs.Laws.{RestIsRead};
 ghost use Rattle.capkit_c.specs.Portable.{is_portable, portability};
 
@@ -24,6 +25,11 @@ pub fn same_from_any_words()
 /// A valid program that has libpcap's bit returns the same on libpcap's machine.
 pub fn same_on_libpcap()
     ensures { SameOnLibpcap }
+{}
+
+/// A valid program that has Linux's bit returns the same on Linux's machine.
+pub fn same_on_linux()
+    ensures { SameOnLinux }
 {}
 
 /// A program is portable if and only if it has both bits.

@@ -14,33 +14,36 @@ const MOST_ATTACHED: usize = 4096;
 /// How many words of memory a program has.
 const WORDS: u32 = flt_bpf::WORDS as u32;
 
-/// 2^31, the greatest bit of 32. From here on Linux takes a load's offset as negative, which means
-/// something else there. And where X, the index register, and an offset are both below it, their
-/// sum doesn't wrap.
+/// 2^31, the greatest bit of 32. From here on Linux takes the place of a load as negative, which
+/// means something else there.
 const SIGN_BIT: u32 = 0x8000_0000;
 
-/// Whether X, the index register, is sure to hold less than 2^31 after an instruction if it does
+/// 2^30. If X, the index register, and an offset are both below it, their sum is below 2^31; and if
+/// only X is, and the offset is below 2^31, it doesn't wrap.
+const HALF_SIGN_BIT: u32 = 0x4000_0000;
+
+/// Whether X, the index register, is sure to hold less than 2^30 after an instruction if it does
 /// before it: X isn't loaded from memory, from the packet's length or from A, nor with a constant
-/// from 2^31 on.
+/// from 2^30 on.
 fn keeps_x_small(insn: &Insn) -> bool
     ensures { result ≡ keeps_x_small insn.now }
 {
     match decode(insn.code) {
-        Some(Operation::Load(Register::Index, Source::Immediate)) => insn.k < SIGN_BIT,
+        Some(Operation::Load(Register::Index, Source::Immediate)) => insn.k < HALF_SIGN_BIT,
         Some(Operation::Load(Register::Index, _) | Operation::CopyToIndex) => false,
         _ => true,
     }
 }
 
 /// Whether an instruction is sure to do the same on Linux's and libpcap's machines as on the one
-/// here, where `small` says that X is below 2^31, and memory isn't looked at. `docs/LIBRARY.md`
+/// here, where `small` says that X is below 2^30, and memory isn't looked at. `docs/LIBRARY.md`
 /// (Programs elsewhere) has what is different.
 fn runs_alike(insn: &Insn, small: bool) -> bool
     ensures { result ≡ runs_alike small insn.now }
 {
     match decode(insn.code) {
         Some(Operation::LoadAbsolute(_) | Operation::LoadHeaderLength) => insn.k < SIGN_BIT,
-        Some(Operation::LoadIndirect(_)) => small && insn.k < SIGN_BIT,
+        Some(Operation::LoadIndirect(_)) => small && insn.k < HALF_SIGN_BIT,
         // The length is the captured one on Linux.
         Some(Operation::Load(_, Source::Length)) => false,
         // A shift by 32 or more gives 0 here, and is taken modulo 32 on Linux.
@@ -50,7 +53,7 @@ fn runs_alike(insn: &Insn, small: bool) -> bool
     }
 }
 
-/// Whether X is sure to hold less than 2^31 throughout each run: it is 0 first, and every
+/// Whether X is sure to hold less than 2^30 throughout each run: it is 0 first, and every
 /// instruction keeps it so.
 fn all_keep_x_small(insns: &[Insn]) -> bool
     ensures { result ≡ list_all keeps_x_small insns.now }
@@ -59,7 +62,7 @@ fn all_keep_x_small(insns: &[Insn]) -> bool
 }
 
 /// Whether every instruction is sure to do the same on libpcap's and Linux's machines, where
-/// `small` says that X is below 2^31 throughout, and memory isn't looked at.
+/// `small` says that X is below 2^30 throughout, and memory isn't looked at.
 fn all_run_alike(insns: &[Insn], small: bool) -> bool
     ensures { result ≡ list_all (runs_alike small) insns.now }
 {
@@ -67,7 +70,7 @@ fn all_run_alike(insns: &[Insn], small: bool) -> bool
 }
 
 /// Whether an instruction is sure to do the same on libpcap's machine as on the one here, where
-/// `small` says that X is below 2^31, and memory isn't looked at: libpcap doesn't add X and an
+/// `small` says that X is below 2^30, and memory isn't looked at: libpcap doesn't add X and an
 /// offset modulo 2^32.
 fn runs_alike_on_libpcap(insn: &Insn, small: bool) -> bool
     ensures { result ≡ runs_alike_on_libpcap small insn.now }
@@ -79,7 +82,7 @@ fn runs_alike_on_libpcap(insn: &Insn, small: bool) -> bool
 }
 
 /// Whether every instruction is sure to do the same on libpcap's machine, where `small` says that X
-/// is below 2^31 throughout, and memory isn't looked at.
+/// is below 2^30 throughout, and memory isn't looked at.
 fn all_run_alike_on_libpcap(insns: &[Insn], small: bool) -> bool
     ensures { result ≡ list_all (runs_alike_on_libpcap small) insns.now }
 {

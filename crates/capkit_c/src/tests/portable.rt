@@ -9,6 +9,9 @@ const RETURN: Row = (22, 0, 0, 0);
 /// 2^31.
 const HALF_OF_PLACES: u32 = 0x8000_0000;
 
+/// 2^30.
+const QUARTER_OF_PLACES: u32 = 0x4000_0000;
+
 /// Instructions, and whether they run the same way.
 const PROGRAMS: &[(&[Row], u32)] = &[
     // Loads below 2^31 and at it.
@@ -32,20 +35,37 @@ const PROGRAMS: &[(&[Row], u32)] = &[
     (&[(0x28, 0, 0, HALF_OF_PLACES), RETURN], 0),
     (&[(0x30, 0, 0, HALF_OF_PLACES), RETURN], 0),
     (&[(0xb1, 0, 0, HALF_OF_PLACES), RETURN], 0),
-    // Indexed loads, where X is small, and if it may not be.
+    // Indexed loads, where X is small, and if it may not be. X + k below 2^31 and from it on, where
+    // Linux counts back from 2^32: the third loads a byte of the network header there.
+    (
+        &[
+            (0x01, 0, 0, QUARTER_OF_PLACES - 1),
+            (0x50, 0, 0, QUARTER_OF_PLACES - 1),
+            RETURN,
+        ],
+        1,
+    ),
     (
         &[
             (0x01, 0, 0, HALF_OF_PLACES - 1),
             (0x50, 0, 0, HALF_OF_PLACES - 1),
             RETURN,
         ],
-        1,
+        0,
+    ),
+    (
+        &[(0x01, 0, 0, 0x7ff8_0000), (0x50, 0, 0, 0x7ff8_0000), RETURN],
+        0,
     ),
     (
         &[(0x01, 0, 0, 0), (0x40, 0, 0, 9), (0x48, 0, 0, 9), RETURN],
         1,
     ),
     (&[(0x01, 0, 0, HALF_OF_PLACES), (0x50, 0, 0, 0), RETURN], 0),
+    (
+        &[(0x01, 0, 0, QUARTER_OF_PLACES), (0x50, 0, 0, 0), RETURN],
+        0,
+    ),
     (&[(0x07, 0, 0, 0), (0x40, 0, 0, 0), RETURN], 0),
     (&[(0x07, 0, 0, 0), (0x48, 0, 0, 0), RETURN], 0),
     (
@@ -57,6 +77,18 @@ const PROGRAMS: &[(&[Row], u32)] = &[
     (&[(0xb1, 0, 0, 14), (0x50, 0, 0, HALF_OF_PLACES), RETURN], 0),
     (
         &[(0xb1, 0, 0, 14), (0x50, 0, 0, HALF_OF_PLACES - 1), RETURN],
+        0,
+    ),
+    (
+        &[(0xb1, 0, 0, 14), (0x50, 0, 0, QUARTER_OF_PLACES), RETURN],
+        0,
+    ),
+    (
+        &[
+            (0xb1, 0, 0, 14),
+            (0x50, 0, 0, QUARTER_OF_PLACES - 1),
+            RETURN,
+        ],
         1,
     ),
     (&[(0x07, 0, 0, 0), RETURN], 1),
@@ -118,8 +150,12 @@ fn what_runs_alike(rt: HostRuntime) -> Result<(), Fail> {
     assert!(rt; capkit_is_portable(&most) == 1);
     let over = vec![in rt.alloc(); UNWRITTEN; 4097]?;
     assert!(rt; capkit_is_portable(&over) == 0 && capkit_portability(&over) == 0);
-    // The packet's length is another one only on Linux.
+    // The packet's length is another one only on Linux, and a place from 2^31 on means something
+    // else only there.
     let mut place = [UNWRITTEN; 8];
     assert!(rt; capkit_portability(filled(&[(0x80, 0, 0, 0), RETURN], &mut place)) == 1);
+    let mut place = [UNWRITTEN; 8];
+    let rows: &[Row] = &[(0xb1, 0, 0, 14), (0x50, 0, 0, HALF_OF_PLACES - 1), RETURN];
+    assert!(rt; capkit_portability(filled(rows, &mut place)) == 1);
     Ok(())
 }
