@@ -41,8 +41,8 @@ mkdir "$work/debian"
 : >"$work/debian/control"
 needs=$(cd "$work" && dpkg-shlibdeps -O "$tree/usr/bin/capkit" | sed -n 's/^shlibs:Depends=//p')
 
-# What a user copies to read a damaged capture, or to work on many machines.
-install -D -m 644 -t "$documents/examples" "$root/examples/salvage.py" "$root/examples/any.sh"
+# What a user copies to read a damaged capture, to list what is lost of one, or to work on many machines.
+install -D -m 644 -t "$documents/examples" "$root/examples/salvage.py" "$root/examples/any.sh" "$root/examples/lost.py"
 install -D -m 644 -t "$documents/examples/scale" "$root/examples/scale/filter.sbatch" "$root/examples/scale/filter.py"
 
 # The manual pages and completions.
