@@ -11,7 +11,7 @@ import sys
 from typing import NamedTuple
 
 NO_LIBRARY = """the library of capkit isn't there. In a checkout `make -C library` builds it; else
-install the package for Python that `make -C library python` makes (docs/LIBRARY.md)"""
+install the package python3-capkit, or the wheel of `make -C library python` (docs/INSTALL.md)"""
 
 
 class Missing(Exception):

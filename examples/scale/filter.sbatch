@@ -7,7 +7,8 @@
 # sbatch is the greatest of the tasks' statuses. What a task reports is in capkit-NUMBER.log.
 #
 # A task removes the .match of an earlier run first, writes to a name of its own, and renames that at its end. So each
-# .match beside a FILE is of this run and complete, and a file that can't be read, or a refused expression, has none.
+# .match beside a FILE is of this run, and complete if the status is 0, and a file that can't be read, or a refused
+# expression, has none.
 # A FILE that is the .match of another one is refused, and so are two files that would have one .match.
 #SBATCH --job-name=capkit
 #SBATCH --ntasks=1
