@@ -4,7 +4,7 @@
 usage: lost.py [-F FORMAT] FILE        (- is standard input)
 
 FORMAT is pcapng, pcap or nsecpcap. What capkit refuses, it reports itself. The status is 0 if
-nothing is left out, 1 if something is, 2 if the command line is wrong or FILE can't be read on.
+nothing is left out, 1 if something is, and 2, with a message, if FILE isn't read to its end.
 """
 import argparse
 import collections
@@ -84,7 +84,7 @@ class Capture:
     def packet(self, number, ticks):
         need(number < len(self.interfaces), "unknown interface")
         link, snap, name, units = self.interfaces[number]
-        self.lost["time cut"] += ticks * 10**9 % (units * (1000 if self.form == "pcap" else 1)) != 0
+        self.lost["digits of a time"] += ticks * 10**9 % (units * (1000 if self.form == "pcap" else 1)) != 0
         if number not in self.used:
             self.used.add(number)
             self.lost["interface without packets"] -= 1
