@@ -84,7 +84,7 @@ class Capture:
     def packet(self, number, ticks):
         need(number < len(self.interfaces), "unknown interface")
         link, snap, name, units = self.interfaces[number]
-        self.lost["digits of a time"] += ticks * 10**9 % (units * (1000 if self.form == "pcap" else 1)) != 0
+        self.lost["time digits"] += ticks * 10**9 % (units * 1000 ** (self.form == "pcap")) != 0
         if number not in self.used:
             self.used.add(number)
             self.lost["interface without packets"] -= 1
