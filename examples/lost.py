@@ -109,7 +109,8 @@ def main():
         fault = f"lost.py: {words.file}: offset {capture.at}: {getattr(error, 'strerror', error)}\n"
     lines = [f"{what}: {count}\n" for what, count in sorted(capture.lost.items()) if count]
     try:
-        open(1, "wb", buffering=0).write("".join(lines).encode())
+        with open(1, "wb", closefd=False) as output:
+            output.write("".join(lines).encode())
     except OSError as error:
         fault = f"lost.py: -: {error.strerror}\n"
     sys.stderr.write(fault)
