@@ -1,5 +1,5 @@
 -- How many instructions are laid out.
-use Rattle.std.proofs.Common.{◌≡◌, ℕ, ◌+◌, ◌-◌, ◌*◌, ◌<◌, ◌≤◌, List, [], ◌∷◌, length, Bool, true, false, cond, Option, Some, refl, sym, subst, arith}
+use Rattle.std.proofs.Common.{◌≡◌, ℕ, ◌+◌, ◌-◌, ◌*◌, ◌<◌, ◌≤◌, List, [], ◌∷◌, length, Bool, true, cond, Option, Some, refl, sym, subst, arith}
 use Rattle.std.specs.Prelude.{◌≢◌, nat_le, count_by}
 use Rattle.std.proofs.lemmas.Bool.Decides.{nat_tests}
 use Rattle.std.proofs.lemmas.List.Sums.{sum_by-cons}
@@ -11,7 +11,7 @@ use Rattle.flt_bpf.specs.Instructions.{operation_of}
 use Rattle.flt_bpf.specs.Layout.{is_branch, JUMP, MOST_OFFSET, HasNoJump, IsShort}
 use Rattle.flt_bpf.proofs.Codes.{back_of_code}
 use Rattle.flt_lay.specs.declared.layout.Reach.{Reach}
-use Rattle.flt_lay.specs.declared.layout.Reach.TheVariants.{Near, YesFar, NoFar, BothFar}
+use Rattle.flt_lay.specs.declared.layout.Reach.TheVariants.{Near}
 use Rattle.flt_lay.specs.inside.Layout.{PlacedCode, place_at, near_place, with_offsets, with_test, with_test_by, with_insn, placed_code, laid_out}
 
 -- code with at least one and at most a given number of instructions more
@@ -21,14 +21,11 @@ record Grows (c d : List Insn) (most : ℕ) : Type 0 where
 
 test_grows : (r : Reach) (i : Insn) (hit miss : ℕ) (c : List Insn) → Grows c (with_test_by r i hit miss c) 3
 test_grows Near i hit miss c = record { more = omega arith; few = omega arith }
-test_grows YesFar i hit miss c = record { more = omega arith; few = omega arith }
-test_grows NoFar i hit miss c = record { more = omega arith; few = omega arith }
-test_grows BothFar i hit miss c = record { more = omega arith; few = omega arith }
+test_grows _ i hit miss c = record { more = omega arith; few = omega arith }
 
 emitted_grows : (op : Option Operation) (i : Insn) (l : PlacedCode) → Grows l.code (with_insn op i l) (1 + 2 * cond (is_branch op) 1 0)
 unfolding with_test
 emitted_grows (Some (JumpIf t o)) i l = test_grows _ i _ _ l.code
-emitted_grows (Some Jump) i l = record { more = omega arith; few = omega arith }
 emitted_grows _ i l = record { more = omega arith; few = omega arith }
 
 pub at_least : (wide : List Insn) → length wide ≤ length (laid_out wide)
@@ -45,8 +42,7 @@ at_most (i ∷ is) =
     omega (arith, g.few, at_most is)
 
 test_or_not : (b : Bool) → cond b 1 0 ≤ 1
-test_or_not true = omega arith
-test_or_not false = omega arith
+test_or_not b = grind (arith, nat_tests)
 
 -- three for each at most
 pub threefold : (wide : List Insn) → length (laid_out wide) ≤ 3 * length wide

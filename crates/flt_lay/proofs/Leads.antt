@@ -90,8 +90,7 @@ near_jump c (j ∷ js) to l h =
     choice true true e rest =
         let same : j.to ≡ to = grind (arith, nat_tests) in
         subst (GoesTo c j.place) same (All-head (Leads c) j js h).goes
-    choice true false e rest = rest
-    choice false b e rest = rest
+    choice _ _ e rest = rest
 
 pub near_goes : (l : PlacedCode) (to : ℕ) → to ≤ length l.code → AllLead l.code l.jumps → GoesTo l.code (near_place l to) to
 unfolding near_place

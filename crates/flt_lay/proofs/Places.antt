@@ -2,7 +2,7 @@
 use Rattle.std.proofs.Common.{◌≡◌, ℕ, zero, suc, ◌≤◌, List, [], ◌∷◌, ◌++◌, length, drop, Option, Some, refl, sym, ap, ◌∙◌, arith, append_assoc, length-append}
 use Rattle.flt_bpf.specs.declared.insn.Insn.{Insn}
 use Rattle.flt_bpf.specs.declared.operation.Operation.{Operation}
-use Rattle.flt_bpf.specs.declared.operation.Operation.TheVariants.{Jump, JumpIf}
+use Rattle.flt_bpf.specs.declared.operation.Operation.TheVariants.{JumpIf}
 use Rattle.flt_bpf.specs.Instructions.{operation_of}
 use Rattle.flt_lay.specs.declared.layout.Reach.{Reach}
 use Rattle.flt_lay.specs.declared.layout.Reach.TheVariants.{Near, YesFar, NoFar, BothFar}
@@ -35,22 +35,19 @@ test_end BothFar i hit miss c = end_put _ (end_put _ (end_put _ (end_same c)))
 pub emitted_end : (o : Option Operation) (i : Insn) (l : PlacedCode) → IsEndOf l.code (with_insn o i l)
 unfolding with_test
 emitted_end (Some (JumpIf test operand)) i l = test_end _ i _ _ l.code
-emitted_end (Some Jump) i l = end_put _ (end_same l.code)
 emitted_end _ i l = end_put _ (end_same l.code)
 
 -- the code of what is left of wide code is at the end
 pub rest_end : (wide : List Insn) (k : ℕ) → IsEndOf (laid_out (drop k wide)) (laid_out wide)
-rest_end [] zero = end_same []
-rest_end [] (suc k) = end_same []
-rest_end (i ∷ is) zero = end_same _
 rest_end (i ∷ is) (suc k) = end_more (rest_end is k) (emitted_end (operation_of i.code) i (placed_code is))
+rest_end _ zero = end_same _
+rest_end _ _ = end_same _
 
 -- a place is where that code begins
 pub target_is : (wide : List Insn) (k : ℕ) → place_at (placed_code wide) k ≡ length (laid_out (drop k wide))
-target_is [] zero = refl
-target_is [] (suc k) = refl
-target_is (i ∷ is) zero = refl
 target_is (i ∷ is) (suc k) = target_is is k
+target_is _ zero = refl
+target_is _ _ = refl
 
 pub target_inside : (wide : List Insn) (k : ℕ) → place_at (placed_code wide) k ≤ length (laid_out wide)
 target_inside wide k = omega (arith, target_is wide k, end_length (rest_end wide k))

@@ -4,10 +4,10 @@ use Rattle.std.specs.Prelude.{if◌then◌else◌}
 use Rattle.flt_bpf.specs.declared.insn.Insn.{Insn}
 use Rattle.flt_bpf.specs.declared.machine.State.{State}
 use Rattle.flt_bpf.specs.declared.operation.Operation.{Operation}
-use Rattle.flt_bpf.specs.declared.operation.Operation.TheVariants.{LoadAbsolute, LoadIndirect, Load, LoadHeaderLength, Store, Compute, Negate, Jump, JumpIf, ReturnConstant, ReturnAccumulator, CopyToIndex, CopyToAccumulator}
+use Rattle.flt_bpf.specs.declared.operation.Operation.TheVariants.{LoadAbsolute, LoadIndirect, Load, LoadHeaderLength, Store, Compute, Jump, JumpIf, ReturnConstant, ReturnAccumulator}
 use Rattle.flt_bpf.specs.declared.operation.Register.{Register}
 use Rattle.flt_bpf.specs.declared.operation.Register.TheVariants.{Accumulator, Index}
-use Rattle.flt_bpf.specs.declared.operation.Source.TheVariants.{Immediate, Memory, Length}
+use Rattle.flt_bpf.specs.declared.operation.Source.TheVariants.{Memory}
 use Rattle.flt_bpf.specs.declared.operation.Test.{Test}
 use Rattle.flt_bpf.specs.declared.operation.Operand.{Operand}
 use Rattle.flt_bpf.specs.Instructions.{operation_of}
@@ -89,20 +89,16 @@ unfolding with_test
 emitted_same None i l is p n s e h = plain None i l.code p n s e
 emitted_same (Some (LoadAbsolute width)) i l is p n s e h = plain _ i l.code p n s e ∙ after_into Accumulator _ s l is p n h
 emitted_same (Some (LoadIndirect width)) i l is p n s e h = plain _ i l.code p n s e ∙ after_into Accumulator _ s l is p n h
-emitted_same (Some (Load register Immediate)) i l is p n s e h = plain _ i l.code p n s e ∙ h.next _
 emitted_same (Some (Load register Memory)) i l is p n s e h = plain _ i l.code p n s e ∙ after_word_into register _ s l is p n h
-emitted_same (Some (Load register Length)) i l is p n s e h = plain _ i l.code p n s e ∙ h.next _
 emitted_same (Some LoadHeaderLength) i l is p n s e h = plain _ i l.code p n s e ∙ after_into Index _ s l is p n h
 emitted_same (Some (Store register)) i l is p n s e h = plain _ i l.code p n s e ∙ after_into_word _ _ l is p n h
 emitted_same (Some (Compute operator operand)) i l is p n s e h = plain _ i l.code p n s e ∙ after_into Accumulator _ s l is p n h
-emitted_same (Some Negate) i l is p n s e h = plain _ i l.code p n s e ∙ h.next _
 emitted_same (Some Jump) i l is p n s e h = jumps _ l.code p n s ∙ h.arrives i.k s
 emitted_same (Some (JumpIf t o)) i l is p n s e h =
     test_goes _ i t o _ _ l.code p n s e (h.near i.jt).within (h.near i.jf).within ∙ by_way _ l is p n i.jt i.jf s h
 emitted_same (Some ReturnConstant) i l is p n s e h = plain _ i l.code p n s e
 emitted_same (Some ReturnAccumulator) i l is p n s e h = plain _ i l.code p n s e
-emitted_same (Some CopyToIndex) i l is p n s e h = plain _ i l.code p n s e ∙ h.next _
-emitted_same (Some CopyToAccumulator) i l is p n s e h = plain _ i l.code p n s e ∙ h.next _
+emitted_same _ i l is p n s e h = plain _ i l.code p n s e ∙ h.next _
 
 -- the same answer from each wide instruction on
 same_from : (wide : List Insn) (p : List ℕ) (n k : ℕ) (s : State) → answer_of (laid_out (drop k wide)) p n 0 s ≡ answer_of wide p n k s

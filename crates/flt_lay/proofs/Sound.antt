@@ -5,11 +5,11 @@ use Rattle.std.proofs.lemmas.Bool.Decides.{nat_tests}
 use Rattle.flt_bpf.specs.declared.insn.Insn.{Insn}
 use Rattle.flt_bpf.specs.declared.fault.CheckFault.TheVariants.{JumpOut}
 use Rattle.flt_bpf.specs.declared.operation.Operation.{Operation}
-use Rattle.flt_bpf.specs.declared.operation.Operation.TheVariants.{LoadAbsolute, LoadIndirect, Load, LoadHeaderLength, Store, Compute, Negate, Jump, JumpIf, ReturnConstant, ReturnAccumulator, CopyToIndex, CopyToAccumulator}
-use Rattle.flt_bpf.specs.declared.operation.Source.TheVariants.{Immediate, Memory, Length}
+use Rattle.flt_bpf.specs.declared.operation.Operation.TheVariants.{Load, Compute, Jump, JumpIf}
+use Rattle.flt_bpf.specs.declared.operation.Source.TheVariants.{Memory}
 use Rattle.flt_bpf.specs.declared.operation.Test.{Test}
 use Rattle.flt_bpf.specs.declared.operation.Operand.{Operand}
-use Rattle.flt_bpf.specs.declared.operation.Operand.TheVariants.{Constant, IndexRegister}
+use Rattle.flt_bpf.specs.declared.operation.Operand.TheVariants.{Constant}
 use Rattle.flt_bpf.specs.Instructions.{operation_of}
 use Rattle.flt_bpf.specs.Check.{unless, fault_of, fault_if_known, is_return, ends_in_return, IsFaultless, IsValidUnlessLong}
 use Rattle.flt_lay.specs.declared.layout.Reach.{Reach}
@@ -62,17 +62,12 @@ near_inside : (l : PlacedCode) (following k : ℕ) → HasTargets l following �
 near_inside l following k h inside = record { some = (h.near k).some (h.inside k inside).some; within = (h.near k).within }
 
 within_if : (k following : ℕ) → unless (nat_lt k following) JumpOut ≡ None → k < following
-within_if k following e = below (nat_lt k following) refl e
-  where
-    below : (b : _) → b ≡ nat_lt k following → unless b JumpOut ≡ None → k < following
-    below true t e = grind (arith, nat_tests)
-    below false t e = cc
+within_if k following e = grind (arith, nat_tests)
 
 emitted_sound : (op : Option Operation) (i : Insn) (l : PlacedCode) (following : ℕ) → operation_of i.code ≡ op → fault_if_known op i following ≡ None → HasTargets l following → IsFaultless l.code → IsFaultless (with_insn op i l)
 unfolding with_test
 emitted_sound None i l following e none h sound = cc
 emitted_sound (Some (Load register Memory)) i l following e none h sound = plain_sound _ i l.code e none sound
-emitted_sound (Some (Store register)) i l following e none h sound = plain_sound _ i l.code e none sound
 emitted_sound (Some (Compute operator Constant)) i l following e none h sound = plain_sound _ i l.code e none sound
 emitted_sound (Some Jump) i l following e none h sound = jump_sound _ l.code (h.inside i.k (within_if i.k following none)) sound
 emitted_sound (Some (JumpIf t o)) i l following e none h sound = tests (nat_lt i.jt following) (nat_lt i.jf following) refl refl none
@@ -82,9 +77,8 @@ emitted_sound (Some (JumpIf t o)) i l following e none h sound = tests (nat_lt i
         let yes_in : i.jt < following = grind (arith, nat_tests) in
         let no_in : i.jf < following = grind (arith, nat_tests) in
         reached_sound _ i t o _ _ l.code e (near_inside l following i.jt h yes_in) (near_inside l following i.jf h no_in) sound
-    tests true false ea eb none' = cc
-    tests false b ea eb none' = cc
-emitted_sound _ i l following e none h sound = plain_sound _ i l.code e refl sound
+    tests _ _ ea eb none' = cc
+emitted_sound _ i l following e none h sound = plain_sound _ i l.code e none sound
 
 targets_of : (wide : List Insn) → HasTargets (placed_code wide) (length wide)
 targets_of wide = record {
@@ -108,9 +102,7 @@ ends_after (i ∷ h ∷ front) c some = ends_after (h ∷ front) c some
 test_no_end : (r : Reach) (i : Insn) (t : Test) (o : Operand) (hit miss : ℕ) → operation_of i.code ≡ Some (JumpIf t o) → ends_in_return (with_test_by r i hit miss []) ≡ false
 unfolding operation_of
 test_no_end Near i t o hit miss e = ap is_return e
-test_no_end YesFar i t o hit miss e = refl
-test_no_end NoFar i t o hit miss e = refl
-test_no_end BothFar i t o hit miss e = refl
+test_no_end _ i t o hit miss e = refl
 
 last_end : (op : Option Operation) (i : Insn) → operation_of i.code ≡ op → ends_in_return (with_insn op i (placed_code [])) ≡ is_return (operation_of i.code)
 unfolding with_test operation_of
