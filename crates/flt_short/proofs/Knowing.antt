@@ -62,8 +62,7 @@ same_number v b e = grind (arith, nat_tests)
 pub same_masks : (a b : Option ℕ) → same_optional a b ≡ true → a ≡ b
 same_masks None None e = refl
 same_masks (Some a) (Some b) e = ap Some (numbers a b e)
-same_masks None (Some b) e = cc
-same_masks (Some a) None e = cc
+same_masks _ _ e = cc
 
 pub same_value : (p : List ℕ) (n : ℕ) (f g : Field) → same_field f g ≡ true → value_of p n f ≡ value_of p n g
 same_value p n f g e =
@@ -89,9 +88,7 @@ some_entails : (c d : Claim) (n : ℕ) → entails_some c d ≡ true → allows 
 some_entails Nothing d n e h = cc
 some_entails (Is a) d n e h = subst (λ m. allows d m ≡ true) (sym (numbers n a h)) e
 some_entails (IsNot a) (IsNot b) n e h = grind (arith, nat_tests)
-some_entails (IsNot a) Nothing n e h = cc
-some_entails (IsNot a) (Is b) n e h = cc
-some_entails (IsNot a) (IsOneOf b b') n e h = cc
+some_entails (IsNot a) _ n e h = cc
 some_entails (IsOneOf a b) d n e h =
     let q = and_parts (allows d a) (allows d b) e in
     elim (or_cases (n == a) (n == b) h) [
@@ -101,9 +98,7 @@ some_entails (IsOneOf a b) d n e h =
 
 some_of_nothing : (c d : Claim) → entails_some c d ≡ true → claims_nothing c ≡ true → claims_nothing d ≡ true
 some_of_nothing Nothing d e h = cc
-some_of_nothing (Is a) d e h = cc
-some_of_nothing (IsNot a) d e h = cc
-some_of_nothing (IsOneOf a b) d e h = cc
+some_of_nothing _ d e h = cc
 
 entailed : (c d : Claim) (o : Option ℕ) → entails c d ≡ true → is_said c o ≡ true → is_said d o ≡ true
 entailed c d None e h = elim (or_cases (claims_nothing d) (entails_some c d) e) [ inl i ↦ i | inr i ↦ some_of_nothing c d i h ]
@@ -129,8 +124,7 @@ says_right (Is a) n v b h e =
     let is_b : (a == n) ≡ b = cc in
     ap (λ m. m == n) (numbers v a h) ∙ is_b
 says_right Nothing n v b h e = cc
-says_right (IsNot a) n v b h e = grind (arith, nat_tests)
-says_right (IsOneOf a a') n v b h e = grind (arith, nat_tests)
+says_right _ n v b h e = grind (arith, nat_tests)
 
 module _ (p : List ℕ) (len : ℕ) where
   abbrev pub Says : Fact → Type 0
@@ -295,8 +289,7 @@ module _ (p : List ℕ) (len : ℕ) where
       let t = held_there f.mask (loaded (operation_of f.code) p len f.k) s.accumulator x in
       (t.0, ap (λ m. loaded (operation_of m) p len k) (sym (numbers f.code code q.0)) ∙ ap (loaded (operation_of f.code) p len) (sym (numbers f.k k q.1)) ∙ t.1)
   field_there held.Unreached code k s x e = absurd x
-  field_there held.Unknown code k s x e = cc
-  field_there (held.AtIndex c j) code k s x e = cc
+  field_there _ code k s x e = cc
 
   pub captured_there : (k : Known) (code at : ℕ) (s : State) → Holds k s → is_captured k code at ≡ true → IsThere code at
   captured_there k code at s y e = elim (or_cases (holds_field k.held code at) (any_captures k.facts code at) e) [ inl i ↦ field_there k.held code at s y.a i | inr i ↦ any_there k.facts code at y.facts i ]

@@ -17,7 +17,7 @@ use Rattle.flt_bpf.specs.declared.operation.Operand.TheVariants.{Constant, Index
 use Rattle.flt_bpf.specs.declared.operation.Test.TheVariants as test
 use Rattle.flt_bpf.specs.declared.operation.AluOperation.TheVariants as arithmetic
 use Rattle.flt_bpf.specs.declared.operation.Width.{Width}
-use Rattle.flt_bpf.specs.declared.operation.Width.TheVariants.{Word, HalfWord, Byte}
+use Rattle.flt_bpf.specs.declared.operation.Width.TheVariants.{Word, Byte}
 use Rattle.flt_bpf.specs.Instructions.{code_of, operation_of}
 use Rattle.flt_bpf.specs.Machine.{Next, Goes, Ends, Lost, step, does, does_if_known, into, into_word, operand_value, test_holds, field, compute, header_length, Answered, run_from, progress_after, step_if_there, machine, start}
 use Rattle.flt_short.specs.declared.alike.Landing.{Landing}
@@ -43,10 +43,9 @@ steps_of (i ∷ is) p n (suc k) s = steps_of is p n k s
 steps_of (i ∷ is) p n zero s = suc (steps_after (steps_of is p n) (step i p n s))
 
 steps_drop : (c : List Insn) (p : List ℕ) (n k : ℕ) (s : State) → steps_of (drop k c) p n 0 s ≡ steps_of c p n k s
-steps_drop [] p n zero s = refl
-steps_drop [] p n (suc k) s = refl
-steps_drop (i ∷ is) p n zero s = refl
 steps_drop (i ∷ is) p n (suc k) s = steps_drop is p n k s
+steps_drop _ p n zero s = refl
+steps_drop _ p n _ s = refl
 
 drop_at : (c : List Insn) (k : ℕ) (j : Insn) → slice_get c k ≡ Some j → drop k c ≡ j ∷ drop (suc k) c
 drop_at [] k j e = cc
@@ -77,10 +76,9 @@ implied_same true a u v e h = λ z. h e
 implied_same false a u v e h = λ z. cc
 
 drop_after : (c : List Insn) (k : ℕ) (j : Insn) (js : List Insn) → drop k c ≡ j ∷ js → drop (suc k) c ≡ js
-drop_after [] zero j js e = cc
-drop_after [] (suc k) j js e = cc
-drop_after (i ∷ c) zero j js e = cc
 drop_after (i ∷ c) (suc k) j js e = drop_after c k j js e
+drop_after _ zero j js e = cc
+drop_after _ _ j js e = cc
 
 tail_after : (c : List Insn) (place : ℕ) (j : Insn) (js : List Insn) → 0 < place → place ≤ length c → code_from c place ≡ j ∷ js → js ≡ code_from c (place - 1)
 tail_after c place j js some low e =
@@ -228,8 +226,7 @@ module _ (p : List ℕ) (n : ℕ) where
   absolute_is : (w : Width) → operation_of (code_of (LoadAbsolute w)) ≡ Some (LoadAbsolute w)
   unfolding operation_of
   absolute_is Word = refl
-  absolute_is HalfWord = refl
-  absolute_is Byte = refl
+  absolute_is _ = refl
 
   -- one test for a mask and a test of 0
   one_good : (c is : List Insn) (ls : List Landing) (l : Landing) (all : AllLand c is ls) (low : l.place ≤ length c) (j i : Insn) → one_test j l i is ls ≡ true → (s : State) (a x : ℕ) → Same l.accumulator a s.accumulator → Same l.index x s.index → AsGood (j ∷ code_from c (l.place - 1)) (i ∷ is) p n 0 0 (other s a x) s
@@ -263,8 +260,6 @@ module _ (p : List ℕ) (n : ℕ) where
 
   direct_good : (c is : List Insn) (ls : List Landing) (l : Landing) (all : AllLand c is ls) (low : l.place ≤ length c) (j i : Insn) → direct_load j l i is ls ≡ true → (s : State) (a x : ℕ) → AsGood (j ∷ code_from c (l.place - 1)) (i ∷ is) p n 0 0 (other s a x) s
   unfolding direct_load
-  direct_good c [] ls l all low j i f s a x = cc
-  direct_good c (u ∷ []) ls l all low j i f s a x = cc
   direct_good c (u ∷ v ∷ is) ls l all low j i f s a x =
       let q : (i.code ≡ 0) × (u.code ≡ 7) × (option_map_or (λ m. m == j.code) (direct_code (operation_of v.code)) false ≡ true) × ((i.k + v.k) % 2 ^ 32 ≡ j.k) × (landing_fits ls 2 0 l.place true false ≡ true) = grind (arith, nat_tests) in
       let w = direct_is v.code j.code (operation_of v.code) refl q.2 in
@@ -276,6 +271,7 @@ module _ (p : List ℕ) (n : ℕ) where
       (old_alone (j ∷ d) (v ∷ is) u 0 (other s a x) s' s'' (known_step p n u (Some CopyToIndex) s' (ap operation_of q.1 ∙ codes.copy))
       (both d is j v (other s a x) s'' _ _ (known_step p n j (Some (LoadAbsolute w.0)) (other s a x) w.1.1) third
       (into_both p n (Follows d is p n) (ends d is) (lost d is) Accumulator (field p j.k w.0) (other s a x) s'' (λ y e. fit c (u ∷ v ∷ is) ls l all low 2 0 true false q.4 (record s'' { accumulator = y }) y x (λ z. refl) (λ z. cc)))))
+  direct_good c _ ls l all low j i f s a x = cc
 
   -- the header length and a load after it, for a number and the header length that are added in A and go to X
   indirect_is : (o : Option Operation) → is_indirect o ≡ true → (w : Width) × (o ≡ Some (LoadIndirect w))
@@ -307,10 +303,6 @@ module _ (p : List ℕ) (n : ℕ) where
   header_good : (c is : List Insn) (ls : List Landing) (l : Landing) (all : AllLand c is ls) (low : l.place ≤ length c) (h i : Insn) (js : List Insn) → js ≡ code_from c (l.place - 1) → header_load (h ∷ js) l i is ls ≡ true → (s : State) (a x : ℕ) → AsGood (h ∷ code_from c (l.place - 1)) (i ∷ is) p n 0 0 (other s a x) s
   unfolding header_load
   header_good c is ls l all low h i [] at f s a x = cc
-  header_good c [] ls l all low h i (j ∷ js) at f s a x = cc
-  header_good c (t ∷ []) ls l all low h i (j ∷ js) at f s a x = cc
-  header_good c (t ∷ u ∷ []) ls l all low h i (j ∷ js) at f s a x = cc
-  header_good c (t ∷ u ∷ v ∷ []) ls l all low h i (j ∷ js) at f s a x = cc
   header_good c (t ∷ u ∷ v ∷ w ∷ is) ls l all low h i (j ∷ js) at f s a x =
       let q : (i.code ≡ 0) × (t.code ≡ 177) × (u.code ≡ 12) × (v.code ≡ 7) × (t.code ≡ h.code) × (t.k ≡ h.k) × (is_indirect (operation_of w.code) ≡ true) × (w.code ≡ j.code) × ((i.k + w.k) % 2 ^ 32 ≡ j.k) × (landing_fits ls 4 0 (l.place - 1) true false ≡ true) = grind (arith, nat_tests) in
       let t_is = ap operation_of q.1 ∙ codes.header in
@@ -327,6 +319,7 @@ module _ (p : List ℕ) (n : ℕ) where
       (old_alone (h ∷ d) (t ∷ rest_is) i 0 (other s a x) s s1 (known_step p n i (Some (Load Accumulator Immediate)) s (ap operation_of q.0 ∙ codes.number))
       (both d rest_is h t (other s a x) s1 _ _ new second
       (into_both p n (Follows d rest_is p n) (ends d rest_is) (lost d rest_is) Index (option_map header_length (field p h.k Byte)) (other s a x) s1 (λ y e. after y refl))))
+  header_good c _ ls l all low h i _ at f s a x = cc
 
   -- an instruction that is left out
   rejected : (j : Insn) (js : List Insn) (s : State) → rejects j ≡ true → (answer_of (j ∷ js) p n 0 s ≡ Some 0) × (steps_of (j ∷ js) p n 0 s ≡ 1)
@@ -383,8 +376,6 @@ module _ (p : List ℕ) (n : ℕ) where
       (λ b eb. sym (sym (answer_drop is p n far s) ∙ ap (λ z. answer_of z p n 0 s) e ∙ answer_drop js p n near s) ∙ eb, omega arith)
 
   copies_good : (c one two : List Insn) (x y : ℕ) → one ≡ drop x c → two ≡ drop y c → are_copies one two ≡ true → (s : State) → AsGood two one p n 0 0 s s
-  copies_good c [] two x y d e f s = cc
-  copies_good c (i ∷ is) [] x y d e f s = cc
   copies_good c (i ∷ is) (j ∷ js) x y d e f s =
       let op = operation_of i.code in
       let q : (i.code ≡ j.code) × (i.k ≡ j.k) × (goes_on_alike op i (length is) j (length js) (are_copies is js) ≡ true) = grind (arith, nat_tests) in
@@ -411,6 +402,7 @@ module _ (p : List ℕ) (n : ℕ) where
           ways true = led is js s i.jt j.jt (to i.jt j.jt (and_parts (same_target i.jt (length is) j.jt (length js)) _ h).0)
           ways false = led is js s i.jf j.jf (to i.jf j.jf (and_parts (same_target i.jt (length is) j.jt (length js)) _ h).1)
       alike (Some op) rest to h = plain_both p n (Follows js is p n) (ends js is) (lost js is) op j i s refl (rest h)
+  copies_good c _ _ x y d e f s = cc
 
   module _ (c is : List Insn) (ls : List Landing) (l : Landing) (all : AllLand c is ls) (i : Insn) (s : State) (a x : ℕ) (ha : Same l.accumulator a s.accumulator) (hx : Same l.index x s.index) where
     abbrev Left : Type 0

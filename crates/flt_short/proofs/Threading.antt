@@ -67,19 +67,16 @@ module _ (p : List ℕ) (n : ℕ) where
   -- A where X is another number
   without : (h : Held) (s : State) (x : ℕ) → HeldHolds p n h s → HeldHolds p n (held_without_index h) (record s { index = x })
   without held_variant.Unreached s x y = y
-  without held_variant.Unknown s x y = tt
   without (held_variant.Field f) s x y = y
-  without (held_variant.AtIndex code k) s x y = tt
+  without _ s x y = tt
 
   masks : (h : Held) (m v : ℕ) (s : State) → HeldHolds p n h s → compute arithmetic.And s.accumulator m ≡ Some v → HeldHolds p n (masked_held h m) (record s { accumulator = v })
-  masks held_variant.Unreached m v s x e = tt
-  masks held_variant.Unknown m v s x e = tt
-  masks (held_variant.AtIndex code k) m v s x e = tt
   masks (held_variant.Field f) m v s x e = by f.mask refl
     where
       by : (o : Option ℕ) → f.mask ≡ o → HeldHolds p n (option_map_or held_variant.Field (masked_by o f m) held_variant.Unknown) (record s { accumulator = v })
       by (Some old) q = tt
       by None q = ap (masked (Some m)) (ap (value_at p n f.code f.k) (sym q) ∙ x) ∙ e
+  masks _ m v s x e = tt
 
   module _ (from : ℕ) (k : Known) (i : Insn) (is d : List Insn) (seen : List Known) (s : State) (x : Holds p n k s) where
     plain : (op : Option Operation) (t : State) → Alike from d is (arrived seen from (known_after op k i)) → Holds p n (known_after op k i) t → answer_of d p n 0 t ≡ answer_of is p n 0 t
@@ -101,8 +98,7 @@ module _ (p : List ℕ) (n : ℕ) where
         by : (h : Held) → HeldHolds p n h s → Holds p n (record { held = h; index = k.index; facts = k.facts }) (record s { memory = m })
         by held_variant.Unreached y = absurd y
         by held_variant.Unknown y = record { a = tt; x = x.x; facts = x.facts }
-        by (held_variant.Field f) y = record { a = y; x = x.x; facts = x.facts }
-        by (held_variant.AtIndex code at) y = record { a = y; x = x.x; facts = x.facts }
+        by _ y = record { a = y; x = x.x; facts = x.facts }
 
     here : (op : Option Operation) → operation_of i.code ≡ op → Alike from d is (with_arrivals_by from op k (threaded_by op k i is) seen) → answer_after (answer_of d p n) (does_if_known op (threaded_by op k i is) p n s) ≡ answer_after (answer_of is p n) (does_if_known op i p n s)
     here None e f = refl

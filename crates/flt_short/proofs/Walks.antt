@@ -15,7 +15,7 @@ use Rattle.flt_bpf.specs.declared.operation.Test.TheVariants as test
 use Rattle.flt_bpf.specs.declared.operation.AluOperation.TheVariants as arithmetic
 use Rattle.flt_bpf.specs.declared.operation.Width.TheVariants.{Byte}
 use Rattle.flt_bpf.specs.Instructions.{operation_of}
-use Rattle.flt_bpf.specs.Machine.{Next, Goes, Ends, Lost, step as does_step, does_if_known, into, field, header_length}
+use Rattle.flt_bpf.specs.Machine.{Next, Goes, step as does_step, does_if_known, into, field, header_length}
 use Rattle.flt_bpf.specs.Answer.{answer_of, answer_after}
 use Rattle.flt_short.specs.declared.facts.Field.{Field}
 use Rattle.flt_short.specs.declared.facts.Held.{Held}
@@ -39,14 +39,12 @@ module _ (p : List ℕ) (n : ℕ) where
     where
       by : (o : Next) → answer_after (answer_of c p n) o ≡ answer_after (λ far w. answer_of (j ∷ c) p n (0 + 1 + far) w) o
       by (Goes far w) = let there : 0 + 1 + far ≡ suc far = omega arith in ap (λ z. answer_of (j ∷ c) p n z w) (sym there)
-      by (Ends a) = refl
-      by Lost = refl
+      by _ = refl
   at_step (j ∷ c) (suc place) i s g = at_step c place i s g ∙ by (does_step i p n s)
     where
       by : (o : Next) → answer_after (λ far w. answer_of c p n (place + 1 + far) w) o ≡ answer_after (λ far w. answer_of (j ∷ c) p n (suc place + 1 + far) w) o
       by (Goes far w) = let there : suc place + 1 + far ≡ suc (place + 1 + far) = omega arith in ap (λ z. answer_of (j ∷ c) p n z w) (sym there)
-      by (Ends a) = refl
-      by Lost = refl
+      by _ = refl
 
   -- what A holds does not matter where something is put into it
   abbrev with_a : State → ℕ → State
@@ -121,18 +119,14 @@ module _ (p : List ℕ) (n : ℕ) where
     field_is : (h : Held) (other : Option Field) (f : Field) (s : State) (a : ℕ) → HeldHolds p n h s → AtSpot s other a → field_at h other ≡ Some f → value_of p n f ≡ Some a
     field_is h (Some g) f s a x y e = let same : g ≡ f = cc in subst (λ z. value_of p n z ≡ Some a) same y
     field_is (held.Field g) None f s a x y e = let same : g ≡ f = cc in subst (λ z. value_of p n z ≡ Some a) same (x ∙ ap Some (sym y))
-    field_is held.Unreached None f s a x y e = cc
-    field_is held.Unknown None f s a x y e = cc
-    field_is (held.AtIndex code k) None f s a x y e = cc
+    field_is _ None f s a x y e = cc
 
     away_is : (h : Held) (f : Field) (s : State) (a : ℕ) → HeldHolds p n h s → value_of p n f ≡ Some a → AtSpot s (other_field h f) a
     away_is (held.Field g) f s a x y =
         by_test (λ o. AtSpot s o a) (same_field g f) None (Some f)
         (λ e. (let both : Some a ≡ Some s.accumulator = sym y ∙ sym (same_value p n g f e) ∙ x in cc))
         (λ _. y)
-    away_is held.Unreached f s a x y = y
-    away_is held.Unknown f s a x y = y
-    away_is (held.AtIndex code k) f s a x y = y
+    away_is _ f s a x y = y
 
     module _ (k : Known) (s : State) (holds : Holds p n k s) (from : ℕ) where
       abbrev rest : ℕ → ℕ → State → Option ℕ
@@ -194,9 +188,7 @@ module _ (p : List ℕ) (n : ℕ) where
           load_is (held.AtIndex code m) j x t =
               let q = and_parts (code == j.code) (m == j.k) t in
               ap (λ z. loaded_at (operation_of z) p s.index j.k) (sym (numbers code j.code q.0)) ∙ ap (loaded_at (operation_of code) p s.index) (sym (numbers m j.k q.1)) ∙ x
-          load_is held.Unreached j x t = cc
-          load_is held.Unknown j x t = cc
-          load_is (held.Field f) j x t = cc
+          load_is _ j x t = cc
       step_good (Some (Compute arithmetic.And Constant)) i spot next g o e r = option_and_then_some _ (field_at k.held spot.other) next e (λ f q e'. masked_on f (masked_field f i.k) q refl e')
         where
           masked_on : (f : Field) (m : Option Field) → field_at k.held spot.other ≡ Some f → masked_field f i.k ≡ m → option_map (λ h. spot_at (spot.place + 1) (other_field k.held h)) m ≡ Some next → Walks s from next
@@ -285,12 +277,11 @@ module _ (p : List ℕ) (n : ℕ) where
     target_inside k from l = by (field_at k.held (walk_from k c from).spot.other) (number_at c (walk_from k c from).spot.place)
       where
         by : (o : Option Field) (m : Option ℕ) → target_by o m k c from (walk_from k c from).best < length c
-        by None m = walked_inside k from l
-        by (Some f) None = walked_inside k from l
         by (Some f) (Some v) =
             by_test (λ m. m < length c) (nat_lt (walk_from k c from).best (walk_from (known_by k f v true) c from).best && (walk_from (known_by k f v true) c from).best == (walk_from (known_by k f v false) c from).best) _ _
             (λ _. walked_inside (known_by k f v true) from l)
             (λ _. walked_inside k from l)
+        by _ _ = walked_inside k from l
 
     target_same : (k : Known) (from : ℕ) (s : State) → Holds p n k s → answer_of c p n (target k c from) s ≡ answer_of c p n from s
     target_same k from s h = by (field_at k.held end.spot.other) refl (number_at c end.spot.place)
@@ -302,8 +293,6 @@ module _ (p : List ℕ) (n : ℕ) where
         right = walked_right k s h from
 
         by : (o : Option Field) → field_at k.held end.spot.other ≡ o → (m : Option ℕ) → answer_of c p n (target_by o m k c from end.best) s ≡ answer_of c p n from s
-        by None q m = right.1
-        by (Some f) q None = right.1
         by (Some f) q (Some v) =
             let first = walk_from (known_by k f v true) c from in
             let second = walk_from (known_by k f v false) c from in
@@ -318,6 +307,7 @@ module _ (p : List ℕ) (n : ℕ) where
             either_way : (b : Bool) → answer_of c p n (walk_from (known_by k f v b) c from).best s ≡ answer_of c p n from s → (walk_from (known_by k f v true) c from).best ≡ (walk_from (known_by k f v false) c from).best → answer_of c p n (walk_from (known_by k f v true) c from).best s ≡ answer_of c p n from s
             either_way true e one = e
             either_way false e one = ap (λ m. answer_of c p n m s) one ∙ e
+        by _ q _ = right.1
 
     pub moved_same : (k : Known) (from : ℕ) (s : State) → Holds p n k s → answer_of c p n (threaded_offset k c from) s ≡ answer_of c p n from s
     moved_same k from s h =
