@@ -1,8 +1,9 @@
 -- Intervals that ascend.
-use Rattle.std.proofs.Common.{◌≡◌, ℕ, zero, suc, ◌+◌, ◌-◌, ◌/◌, ◌<◌, ◌≤◌, List, [], ◌∷◌, length, take, drop, get_or, Bool, true, false, refl, ap, ◌∙◌, sym, arith}
+use Rattle.std.proofs.Common.{◌≡◌, ℕ, zero, suc, ◌+◌, ◌-◌, ◌<◌, ◌≤◌, List, [], ◌∷◌, length, take, drop, get_or, Bool, true, false, refl, ap, ◌∙◌, arith}
 use Rattle.std.specs.Prelude.{nat_lt, nat_le, ◌==◌, ◌&&◌, ◌||◌, max, if◌then◌else◌}
 use Rattle.std.specs.List.{insert}
 use Rattle.std.proofs.lemmas.Bool.Decides.{nat_tests}
+use mathlib.Core.Bool.{and-false, or_assoc}
 use Rattle.flt_emit.specs.declared.elementary.Interval.{Interval}
 use Rattle.flt_emit.specs.inside.Code.{low_of}
 use Rattle.flt_emit.specs.Formula.{Formula, Single, Compare, Both, Either, Except, Among, is_in, is_within, no_interval}
@@ -13,10 +14,6 @@ use Rattle.flt_gen.specs.inside.Intervals.{insert_ascending, is_gap, extended, j
 pub if_case : {A : Type 0} (P : A → Type 0) (b : Bool) (x y : A) → (b ≡ true → P x) → (b ≡ false → P y) → P (if b then x else y)
 if_case P true x y t f = t refl
 if_case P false x y t f = f refl
-
-pub both_true : (a b : Bool) → (a && b) ≡ true → (a ≡ true) × (b ≡ true)
-both_true true b e = (refl, e)
-both_true false b e = cc
 
 -- after lower intervals one is put before the first that isn't lower
 pub inserted_at : (i : Interval) (is : List Interval) (at : ℕ) → at ≤ length is → ((k : ℕ) → k < at → (get_or is k no_interval).low < i.low) → (at < length is → i.low ≤ (get_or is at no_interval).low) → insert is at i ≡ insert_ascending i is
@@ -58,10 +55,8 @@ apart_less a b [] l h = tt
 apart_less a b (i ∷ is) l h = (let k = h.0 in omega arith, h.1, h.2)
 
 pub apart_take : (a h : ℕ) (is : List Interval) → Apart a is → Apart a (take h is)
-apart_take a zero [] l = tt
-apart_take a zero (i ∷ is) l = tt
-apart_take a (suc h) [] l = tt
 apart_take a (suc h) (i ∷ is) l = (l.0, l.1, apart_take (i.high + 1) h is l.2)
+apart_take a _ _ l = tt
 
 pub apart_drop : (a h : ℕ) (is : List Interval) → Apart a is → Apart a (drop h is)
 apart_drop a zero [] l = tt
@@ -73,12 +68,8 @@ apart_drop a (suc h) (i ∷ is) l = let m = l.0 in let n = l.1 in apart_less a (
 under_interval : (x : ℕ) (i : Interval) → x < i.low → is_in x i ≡ false
 under_interval x i l = let no : nat_le i.low x ≡ false = grind (arith, nat_tests) in ap (λ b. b && nat_le x i.high) no
 
-and_false : (b : Bool) → (b && false) ≡ false
-and_false true = refl
-and_false false = refl
-
 past_interval : (x : ℕ) (i : Interval) → i.high < x → is_in x i ≡ false
-past_interval x i l = let no : nat_le x i.high ≡ false = grind (arith, nat_tests) in ap (λ b. nat_le i.low x && b) no ∙ and_false (nat_le i.low x)
+past_interval x i l = let no : nat_le x i.high ≡ false = grind (arith, nat_tests) in ap (λ b. nat_le i.low x && b) no ∙ and-false (nat_le i.low x)
 
 none_below : (x a : ℕ) (is : List Interval) → x < a → Apart a is → is_within x is ≡ false
 none_below x a [] l h = refl
@@ -126,9 +117,7 @@ length_inserted i (j ∷ js) =
     if_case (λ xs. length xs ≡ length (j ∷ js) + 1) (nat_lt j.low i.low) (j ∷ insert_ascending i js) (i ∷ j ∷ js) (λ e. let h = length_inserted i js in omega arith) (λ e. omega arith)
 
 or_swap : (a b c : Bool) → (b || (a || c)) ≡ (a || (b || c))
-or_swap true true c = refl
-or_swap true false c = refl
-or_swap false b c = refl
+or_swap a b c = grind (arith, nat_tests)
 
 pub within_inserted : (x : ℕ) (i : Interval) (is : List Interval) → is_within x (insert_ascending i is) ≡ (is_in x i || is_within x is)
 within_inserted x i [] = refl
@@ -148,23 +137,8 @@ points_inserted i (j ∷ js) e h =
     if_case Points (nat_lt j.low i.low) (j ∷ insert_ascending i js) (i ∷ j ∷ js) (λ t. (h.0, points_inserted i js e h.1)) (λ f. (e, h))
 
 -- those that touch, joined
-or_again : (a b c : Bool) → ((a || b) || c) ≡ (a || (b || c))
-or_again true b c = refl
-or_again false b c = refl
-
 joined_in : (x : ℕ) (i j : Interval) → i.low ≤ i.high → i.low ≤ j.low → j.low ≤ j.high → j.low ≤ i.high + 1 → is_in x (extended i j) ≡ (is_in x i || is_in x j)
-joined_in x i j low order high touch = by (nat_le i.low x) refl (nat_le x i.high) refl (nat_le j.low x) refl (nat_le x j.high) refl (nat_le x (max i.high j.high)) refl
-  where
-    by : (a : Bool) → nat_le i.low x ≡ a → (b : Bool) → nat_le x i.high ≡ b → (c : Bool) → nat_le j.low x ≡ c → (d : Bool) → nat_le x j.high ≡ d → (m : Bool) → nat_le x (max i.high j.high) ≡ m → (a && m) ≡ ((a && b) || (c && d))
-    by true p true q c r d s true t = refl
-    by true p true q c r d s false t = absurd (let u : x ≤ i.high = grind (arith, nat_tests) in let v : max i.high j.high < x = grind (arith, nat_tests) in omega arith)
-    by true p false q true r true s true t = refl
-    by true p false q true r true s false t = absurd (let u : x ≤ j.high = grind (arith, nat_tests) in let v : max i.high j.high < x = grind (arith, nat_tests) in omega arith)
-    by true p false q true r false s false t = refl
-    by true p false q true r false s true t = absurd (let u : i.high < x = grind (arith, nat_tests) in let w : j.high < x = grind (arith, nat_tests) in let v : x ≤ max i.high j.high = grind (arith, nat_tests) in omega arith)
-    by true p false q false r d s m t = absurd (let u : i.high < x = grind (arith, nat_tests) in let w : x < j.low = grind (arith, nat_tests) in omega arith)
-    by false p b q true r d s m t = absurd (let u : x < i.low = grind (arith, nat_tests) in let w : j.low ≤ x = grind (arith, nat_tests) in omega arith)
-    by false p b q false r d s m t = refl
+joined_in x i j low order high touch = grind (arith, nat_tests)
 
 ordered_less : (a b : ℕ) (is : List Interval) → a ≤ b → Ordered b is → Ordered a is
 ordered_less a b [] l h = tt
@@ -185,7 +159,7 @@ within_from x i (j ∷ js) m h =
     (λ e. let near : j.low - i.high ≤ 1 = grind (arith, nat_tests) in
     within_from x (extended i j) js (omega arith) (ordered_less i.low j.low js h.0 h.2)
     ∙ ap (λ b. b || is_within x js) (joined_in x i j m h.0 h.1 (omega arith))
-    ∙ or_again (is_in x i) (is_in x j) (is_within x js))
+    ∙ or_assoc (is_in x i) (is_in x j) (is_within x js))
 
 length_from : (i : Interval) (js : List Interval) → (1 ≤ length (joined_from i js)) × (length (joined_from i js) ≤ length js + 1)
 length_from i [] = (omega arith, omega arith)

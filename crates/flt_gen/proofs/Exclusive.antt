@@ -8,6 +8,10 @@ use Rattle.flt_emit.specs.declared.elementary.FrameKind.TheVariants.{Ip, Ip6, Ar
 use Rattle.flt_emit.specs.declared.elementary.Elementary.{Elementary}
 use Rattle.flt_emit.specs.Elementary.{Yes, No, reading_of, with, under_mask, elementary_reads, type_test}
 
+pub is_yes : (b : Bool) → reading_of (Some b) ≡ Yes → b ≡ true
+is_yes true e = refl
+is_yes false e = cc
+
 -- a field that is one number is no other
 other_value : (o : Option ℕ) (mask : Option ℕ) (a b : ℕ) → (a == b) ≡ false → reading_of (with o (λ v. Some (under_mask mask v == a))) ≡ Yes → reading_of (with o (λ v. Some (under_mask mask v == b))) ≡ No
 other_value None mask a b apart e = cc
@@ -15,10 +19,6 @@ other_value (Some x) mask a b apart e =
     let yes : (under_mask mask x == a) ≡ true = is_yes (under_mask mask x == a) e in
     let same : under_mask mask x ≡ a = grind (arith, nat_tests) in
     ap (λ y. reading_of (Some (y == b))) same ∙ ap (λ c. reading_of (Some c)) apart
-  where
-    is_yes : (c : Bool) → reading_of (Some c) ≡ Yes → c ≡ true
-    is_yes true e = refl
-    is_yes false e = cc
 
 module _ (p : List ℕ) where
   -- where the first test is yes the second is no

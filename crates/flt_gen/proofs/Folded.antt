@@ -1,5 +1,6 @@
 -- An expression with its arithmetic of numbers folded means the same, and counts no more.
-use Rattle.std.proofs.Common.{◌≡◌, ℕ, Bool, true, ◌+◌, ◌%◌, ◌^◌, ◌≤◌, List, [], ◌∷◌, false, Option, Some, None, refl, sym, ap, ◌∙◌, arith, fold}
+use Rattle.std.proofs.Common.{◌≡◌, ℕ, ◌+◌, ◌%◌, ◌^◌, ◌≤◌, List, [], ◌∷◌, false, Option, Some, None, refl, sym, ap, ◌∙◌, arith, fold}
+use mathlib.Core.Bool.{or_assoc}
 use Rattle.std.specs.Prelude.{◌||◌}
 use Rattle.flt_words.specs.declared.token.Operator.{Operator}
 use Rattle.flt_words.specs.declared.token.Join.{Join}
@@ -15,16 +16,17 @@ use Rattle.flt_ast.specs.Nodes.{number_nodes, truth_nodes, expr_nodes}
 use Rattle.flt_ast.specs.inside.Nodes.{number_onto, truth_onto, expr_onto}
 use Rattle.flt_ast.specs.Resolved.{is_unfilled, any_primitive, some_primitive}
 use Rattle.cap_octet.specs.declared.link.Link.{Link}
-use Rattle.flt_emit.specs.Elementary.{MatchResult, Yes, No, Rejected, with, reading_of, compares, elementary_reads}
+use Rattle.flt_emit.specs.Elementary.{MatchResult, Yes, with, reading_of, compares, elementary_reads}
 use Rattle.flt_emit.specs.Numbers.{width_of, base, number, result_of, accessors, accessor_tests}
 use Rattle.flt_emit.specs.Formula.{Formula, Compare, both, either, negation, reads, relation_reads, guarded_formula, checked_formula}
 use Rattle.flt_emit.specs.declared.elementary.Elementary.{Elementary}
 use Rattle.flt_emit.specs.inside.Code.{constant}
 use Rattle.flt_gen.specs.Reading.{formula, holds}
 use Rattle.flt_gen.specs.Counts.{short_bound_of}
-use Rattle.flt_gen.specs.inside.Folding.{negated_constant, applied_constant, number_or, negated_number, applied_number, folded_number, and_denied, joined_truth, folded_truth, folded_expression, latest_constant, node_or, with_negation, with_operator, Held, with_held, with_folded}
+use Rattle.flt_gen.specs.inside.Folding.{negated_constant, applied_constant, number_or, negated_number, applied_number, folded_number, and_denied, joined_truth, folded_truth, folded_expression, node_or, with_negation, with_operator, Held, with_held, with_folded}
 use Rattle.flt_gen.proofs.Numbers.{constant_is}
 use Rattle.flt_gen.proofs.Held.{held_truth, none_held, back_truth}
+use Rattle.flt_gen.proofs.Once.{both_again}
 
 -- by what is folded
 by_fold : (P : NumberTree → Type 0) (o : Option ℕ) (a : NumberTree) → ((k : ℕ) → o ≡ Some k → P (literal k)) → P a → P (number_or o a)
@@ -126,13 +128,9 @@ pub short_no_more : (e : Expression) → short_bound_of (folded_expression e) �
 short_no_more empty = omega arith
 short_no_more (truth a) = let h = no_more a in let s = h.size in let t = h.tests in omega arith
 
-or_assoc : (a b c : Bool) → (a || (b || c)) ≡ ((a || b) || c)
-or_assoc true b c = refl
-or_assoc false b c = refl
-
 filled_denied : (a b : TruthTree) → any_primitive is_unfilled (and_denied a b) ≡ (any_primitive is_unfilled a || any_primitive is_unfilled b)
 filled_denied (denied a) b = refl
-filled_denied (joined join.And x (denied a)) b = or_assoc (any_primitive is_unfilled x) (any_primitive is_unfilled a) (any_primitive is_unfilled b)
+filled_denied (joined join.And x (denied a)) b = sym (or_assoc (any_primitive is_unfilled x) (any_primitive is_unfilled a) (any_primitive is_unfilled b))
 filled_denied a b = refl
 
 filled_joined : (j : Join) (a b : TruthTree) → any_primitive is_unfilled (joined_truth j a b) ≡ any_primitive is_unfilled (joined j a b)
@@ -152,13 +150,7 @@ filled_folded (truth a) h = filled_truth a ∙ h
 
 denied_both : (r q : MatchResult) → negation (either r q) ≡ both (negation r) (negation q)
 denied_both Yes q = refl
-denied_both No q = refl
-denied_both Rejected q = refl
-
-both_assoc : (r q t : MatchResult) → both r (both q t) ≡ both (both r q) t
-both_assoc Yes q t = refl
-both_assoc No q t = refl
-both_assoc Rejected q t = refl
+denied_both _ q = refl
 
 module _ (p : List ℕ) (n : ℕ) where
   negated_is : (link : Link) (a : NumberTree) (u : Option ℕ) → constant a ≡ u → (k : ℕ) → negated_constant u ≡ Some k → number link (negated a) p n ≡ Some k
@@ -208,7 +200,7 @@ module _ (p : List ℕ) (n : ℕ) where
   denied_same link (denied a) b = denied_both (reads link (formula link a) p n) (reads link (formula link b) p n)
   denied_same link (joined join.And x (denied a)) b =
       ap (λ r. both (reads link (formula link x) p n) r) (denied_both (reads link (formula link a) p n) (reads link (formula link b) p n))
-      ∙ both_assoc (reads link (formula link x) p n) (negation (reads link (formula link a) p n)) (negation (reads link (formula link b) p n))
+      ∙ both_again (reads link (formula link x) p n) (negation (reads link (formula link a) p n)) (negation (reads link (formula link b) p n))
   denied_same link a b = refl
 
   joined_same : (link : Link) (j : Join) (a b : TruthTree) → reads link (formula link (joined_truth j a b)) p n ≡ reads link (formula link (joined j a b)) p n
@@ -230,10 +222,6 @@ module _ (p : List ℕ) (n : ℕ) where
   holds_folded link (truth a) = truth_folded link a
 
 -- ---- the nodes of the folded tree
-
-latest_is : (a : NumberTree) (d : List Node) → latest_constant (number_onto a d) ≡ constant a
-latest_is (literal k) d = refl
-latest_is _ d = refl
 
 one_or_both : (o : Operator) (r : Option ℕ) (a b : NumberTree) (d : List Node) → node_or r d (node.Apply o ∷ number_onto b (number_onto a d)) ≡ number_onto (number_or r (applied o a b)) d
 one_or_both o None a b d = refl

@@ -3,6 +3,7 @@ use Rattle.std.proofs.Common.{◌≡◌, ℕ, suc, ◌+◌, ◌-◌, ◌*◌, �
 use Rattle.std.specs.Prelude.{◌==◌, ◌||◌, ◌&&◌, nat_lt, nat_le, bit_and, if◌then◌else◌}
 use Rattle.std.proofs.Math.Nat.{suc-mul}
 use Rattle.std.proofs.lemmas.Bool.Decides.{nat_tests}
+use Rattle.std.proofs.lemmas.Bool.{and_parts, or_parts}
 use Rattle.flt_words.specs.declared.token.Protocol.{Protocol}
 use Rattle.flt_words.specs.declared.token.Protocol.TheVariants.{Ip, Tcp, Udp}
 use Rattle.flt_words.specs.declared.token.Side.TheVariants.{Source, Destination}
@@ -27,7 +28,7 @@ use Rattle.flt_ast.specs.Tree.{NumberTree, TruthTree, check, cast, sized, bare, 
 use Rattle.flt_ast.specs.Counts as count
 use Rattle.flt_ast.specs.Resolved.{is_unfilled, any_primitive}
 use Rattle.cap_octet.specs.declared.link.Link.{Link}
-use Rattle.flt_emit.specs.Elementary.{MatchResult, Yes, No, Rejected}
+use Rattle.flt_emit.specs.Elementary.{MatchResult, Yes}
 use Rattle.flt_gen.specs.declared.address.Hosts.TheVariants as hosts
 use Rattle.flt_gen.specs.declared.port.Ports.TheVariants.{Several}
 use Rattle.flt_emit.specs.Formula.{Formula, Compare, Both, Either, Except, is_in, is_within, both, either, negation, Numbers, any_sides, reads}
@@ -37,7 +38,7 @@ use Rattle.flt_gen.specs.Reading.{formula}
 use Rattle.flt_gen.specs.inside.Counts.{first_ends, tests, nodes, words}
 use Rattle.flt_gen.specs.inside.Intervals.{insert_ascending, sought}
 use Rattle.flt_gen.specs.inside.Group.{Group, no_group, entry, found_member, others_with, with_member, same_type, same_protocol, same_direction, agree, goes_with, net_numbers, member_of, group_and, larger_group, is_searched, numbers_of, mask_of, several_formula, rows_formula, group_formula, or_any, or_group, truth_member, choice, grouped_formula, MOST_TOGETHER, FEWEST_RANGES}
-use Rattle.flt_gen.proofs.Ascending.{if_case, both_true, Searchable, Searches, Ordered, Points, ordered_inserted, points_inserted, length_inserted, within_inserted, searchable_joined, joined_tests, joined_points}
+use Rattle.flt_gen.proofs.Ascending.{if_case, Searchable, Searches, Ordered, Points, ordered_inserted, points_inserted, length_inserted, within_inserted, searchable_joined, joined_tests, joined_points}
 use Rattle.flt_gen.proofs.Counted.{Bare, bare_within, bare_some, bare_either, bare_after, any_tests, Sought, bare_any, bare_check, bare_cast, of_kinds, bare_hosts, bare_ports}
 use Rattle.flt_gen.proofs.Needed.{bare_needed, value_same}
 use Rattle.flt_gen.proofs.Once.{same_sizes, relation_tests, relation_same}
@@ -87,21 +88,18 @@ kept_none = record { none = λ e. (refl, refl, refl, refl); some = λ l. absurd 
 -- several members' formula has no more tests
 several_hosts_few : (protocol : Option Protocol) (d : Direction) (n x : ℕ) → 1 + x ≤ n → of_kinds protocol (1 + (n * count.side_tests d 1 + x)) ≤ n * count.ip4_tests protocol d
 several_hosts_few None (direction.One s) n x l = omega arith
-several_hosts_few None (direction.Both j) n x l = omega arith
-several_hosts_few (Some p) (direction.One s) n x l = omega arith
-several_hosts_few (Some p) (direction.Both j) n x l = omega arith
+several_hosts_few _ (direction.One s) n x l = omega arith
+several_hosts_few _ _ n x l = omega arith
 
 several_ports_few : (protocol : Option Protocol) (d : Direction) (n x : ℕ) → 2 ≤ n → 1 + x ≤ n → 1 + count.transport_tests protocol + 1 + (n * count.side_tests d 1 + x) + (1 + count.transport_tests protocol + (n * count.side_tests d 1 + x)) ≤ n * count.port_tests protocol d 1
 several_ports_few None (direction.One s) n x l m = omega arith
-several_ports_few None (direction.Both j) n x l m = omega arith
-several_ports_few (Some p) (direction.One s) n x l m = omega arith
-several_ports_few (Some p) (direction.Both j) n x l m = omega arith
+several_ports_few _ (direction.One s) n x l m = omega arith
+several_ports_few _ _ n x l m = omega arith
 
 any_few : (d : Direction) (n x f a o : ℕ) → 1 ≤ n → a ≤ n + x → f + (a + o) ≤ n + n + x → any_tests d f a o ≤ n * count.side_tests d 1 + x
 any_few (direction.One Source) n x f a o l m k = omega arith
-any_few (direction.One Destination) n x f a o l m k = omega arith
 any_few (direction.Both Or) n x f a o l m k = omega arith
-any_few (direction.Both And) n x f a o l m k = omega arith
+any_few _ n x f a o l m k = omega arith
 
 bare_several : (link : Link) (q : CompleteQualifiers) (t : ℕ) (k : ValueType) (numbers : Numbers) (n x f a o : ℕ) → Sought numbers f a o → 2 ≤ n → 1 + x ≤ n → a ≤ n + x → f + (a + o) ≤ n + n + x → Bare (several_formula link q t k numbers) (n * member_tests k q.protocol q.direction)
 bare_several link q t k numbers n x f a o h two room am fm = by k
@@ -194,8 +192,7 @@ searched_two : (group : Group) → is_searched group ≡ true → 2 ≤ length g
 searched_two group e = by group.is_plain e
   where
     by : (b : Bool) → nat_le (if b then 2 else FEWEST_RANGES) (length group.entries) ≡ true → 2 ≤ length group.entries
-    by true e = grind (arith, nat_tests)
-    by false e = let eight : 8 ≤ length group.entries = grind (arith, nat_tests) in omega arith
+    by b e = grind (arith, nat_tests)
 
 group_rows : (link : Link) (p : List ℕ) (n : ℕ) (group : Group) → Kept group → 0 < length group.entries → reads link (group_formula link group) p n ≡ reads link (rows_formula link group.entries) p n
 group_rows link p n group k l =
@@ -261,25 +258,13 @@ directions_are _ _ e = cc
 
 -- which types go together
 alike_sides : (link : Link) (p : List ℕ) (n : ℕ) (a b : ValueType) (protocol : Option Protocol) (d : Direction) (m : Member) (ms : List Member) → same_type a b ≡ true → members_read link p n b protocol d m ms ≡ members_read link p n a protocol d m ms
-alike_sides link p n Host Host protocol d m ms e = refl
-alike_sides link p n Host Net protocol d m ms e = refl
-alike_sides link p n Net Host protocol d m ms e = refl
-alike_sides link p n Net Net protocol d m ms e = refl
-alike_sides link p n Port Port protocol d m ms e = refl
-alike_sides link p n Port PortRange protocol d m ms e = refl
-alike_sides link p n PortRange Port protocol d m ms e = refl
-alike_sides link p n PortRange PortRange protocol d m ms e = refl
+alike_sides link p n Host Host protocol d m ms e = cc
+alike_sides link p n _ Host protocol d m ms e = cc
 alike_sides link p n _ _ protocol d m ms e = cc
 
 alike_tests : (a b : ValueType) (protocol : Option Protocol) (d : Direction) → same_type a b ≡ true → member_tests b protocol d ≡ member_tests a protocol d
-alike_tests Host Host protocol d e = refl
-alike_tests Host Net protocol d e = refl
-alike_tests Net Host protocol d e = refl
-alike_tests Net Net protocol d e = refl
-alike_tests Port Port protocol d e = refl
-alike_tests Port PortRange protocol d e = refl
-alike_tests PortRange Port protocol d e = refl
-alike_tests PortRange PortRange protocol d e = refl
+alike_tests Host Host protocol d e = cc
+alike_tests _ Host protocol d e = cc
 alike_tests _ _ protocol d e = cc
 
 some_member : (l m : Member) → Some l ≡ Some m → l ≡ m
@@ -321,17 +306,15 @@ member_tests_few Net p d (value.Number x z) m e = omega arith
 member_tests_few Net p d (value.Dotted x z) m e = omega arith
 member_tests_few Port p d v m e = omega arith
 member_tests_few PortRange None (direction.One s) v m e = omega arith
-member_tests_few PortRange None (direction.Both j) v m e = omega arith
-member_tests_few PortRange (Some p) (direction.One s) v m e = omega arith
-member_tests_few PortRange (Some p) (direction.Both j) v m e = omega arith
+member_tests_few PortRange _ (direction.One s) v m e = omega arith
+member_tests_few PortRange _ _ v m e = omega arith
 member_tests_few _ p d _ m e = cc
 
 good_is : (k : ValueType) (m : Member) (t : ℕ) → IsMember k m → m.bits ≤ t → agree (nat_lt m.bits 32) (nat_lt t 32) ≡ true → Good m t
 good_is k m t h l a = record { order = h.order; fewer = l; alike = a; masked = h.masked; end = h.end }
 
 agree_same : (a : Bool) → agree a a ≡ true
-agree_same true = refl
-agree_same false = refl
+agree_same a = grind (arith, nat_tests)
 
 goods_more : (ms : List Member) (t u : ℕ) → t ≤ u → agree (nat_lt t 32) (nat_lt u 32) ≡ true → Goods ms t → Goods ms u
 goods_more [] t u l a h = tt
@@ -340,21 +323,10 @@ goods_more (m ∷ ms) t u l a h =
     (record { order = g.order; fewer = omega (arith, g.fewer); alike = agree_on (nat_lt m.bits 32) (nat_lt t 32) (nat_lt u 32) g.alike a; masked = g.masked; end = g.end }, goods_more ms t u l a h.1)
   where
     agree_on : (a b c : Bool) → agree a b ≡ true → agree b c ≡ true → agree a c ≡ true
-    agree_on true true c e f = f
-    agree_on true false c e f = cc
-    agree_on false true c e f = cc
-    agree_on false false c e f = f
+    agree_on a b c e f = grind (arith, nat_tests)
 
 agree_max : (a b : ℕ) → agree (nat_lt b 32) (nat_lt a 32) ≡ true → (agree (nat_lt a 32) (nat_lt (max a b) 32) ≡ true) × (agree (nat_lt b 32) (nat_lt (max a b) 32) ≡ true)
-agree_max a b e = by (nat_lt a 32) refl (nat_lt b 32) refl (nat_lt (max a b) 32) refl e
-  where
-    by : (c : Bool) → nat_lt a 32 ≡ c → (d : Bool) → nat_lt b 32 ≡ d → (m : Bool) → nat_lt (max a b) 32 ≡ m → agree d c ≡ true → (agree c m ≡ true) × (agree d m ≡ true)
-    by true p true q true r e = (refl, refl)
-    by true p true q false r e = absurd (let u : a < 32 = grind (arith, nat_tests) in let v : b < 32 = grind (arith, nat_tests) in let w : 32 ≤ max a b = grind (arith, nat_tests) in omega arith)
-    by true p false q m r e = cc
-    by false p true q m r e = cc
-    by false p false q true r e = absurd (let u : 32 ≤ a = grind (arith, nat_tests) in let w : max a b < 32 = grind (arith, nat_tests) in omega arith)
-    by false p false q false r e = (refl, refl)
+agree_max a b e = (grind (arith, nat_tests), grind (arith, nat_tests))
 
 -- what is known where a value goes with members
 record Fits_in (q : CompleteQualifiers) (bits : ℕ) (group : Group) : Type 0 where
@@ -370,11 +342,11 @@ fits_in q bits group (e ∷ es) l g =
     let room = nat_lt (length (e ∷ es)) MOST_TOGETHER in
     let widths = agree (nat_lt bits 32) (nat_lt group.bits 32) in
     let o = group.qualifiers in
-    let b = both_true (same_type q.value_type o.value_type) (same_protocol q.protocol o.protocol && (same_direction q.direction o.direction && (widths && room))) g in
-    let c = both_true (same_protocol q.protocol o.protocol) (same_direction q.direction o.direction && (widths && room)) b.1 in
-    let d = both_true (same_direction q.direction o.direction) (widths && room) c.1 in
+    let b = and_parts (same_type q.value_type o.value_type) (same_protocol q.protocol o.protocol && (same_direction q.direction o.direction && (widths && room))) g in
+    let c = and_parts (same_protocol q.protocol o.protocol) (same_direction q.direction o.direction && (widths && room)) b.1 in
+    let d = and_parts (same_direction q.direction o.direction) (widths && room) c.1 in
     let sd = directions_are q.direction o.direction d.0 in
-    record { types = b.0; protocols = protocols_are q.protocol o.protocol c.0; directions = sd.0; merged = sd.1; widths = (both_true widths room d.1).0 }
+    record { types = b.0; protocols = protocols_are q.protocol o.protocol c.0; directions = sd.0; merged = sd.1; widths = (and_parts widths room d.1).0 }
 
 -- the row of a value that is a member
 row_is : (link : Link) (p : List ℕ) (n : ℕ) (q : CompleteQualifiers) (v : Value) (m : Member) → member_of q.value_type v ≡ Some m → reads link (qualified_needed link q v) p n ≡ members_read link p n q.value_type q.protocol q.direction m []
@@ -397,7 +369,7 @@ held_one q v m group k none e = record {
   all_count = length_inserted m.numbers group.all ∙ (let z : length group.all ≡ 0 = ap length empty.0 in let y : length group.entries ≡ 0 = ap length none in omega arith);
   others_count = let z : length (others_with group.entries group.first group.others) ≡ 0 = ap length others in let y : length group.entries ≡ 0 = ap length none in omega arith;
   points = λ plain.
-      let t = both_true (m.numbers.low == m.numbers.high) group.is_plain plain in
+      let t = and_parts (m.numbers.low == m.numbers.high) group.is_plain plain in
       let point : m.numbers.low ≡ m.numbers.high = (let u = t.0 in grind (arith, nat_tests)) in
       (point, subst (λ zs. Points (insert_ascending m.numbers zs)) (sym empty.0) (point, tt), subst Points (sym others) tt);
   counted = let few = member_tests_few q.value_type q.protocol q.direction v m e in let z : length group.entries ≡ 0 = ap length none in
@@ -433,7 +405,7 @@ held_more q v m group l ls e es is h f w = record {
   all_count = length_inserted m.numbers group.all ∙ (let z = h.all_count in omega arith);
   others_count = let z = h.others_count in let y : length (others_with group.entries group.first group.others) ≡ length group.others + 1 = ap length others ∙ length_inserted l.numbers group.others in omega arith;
   points = λ plain.
-      let t = both_true (m.numbers.low == m.numbers.high) group.is_plain plain in
+      let t = and_parts (m.numbers.low == m.numbers.high) group.is_plain plain in
       let point : m.numbers.low ≡ m.numbers.high = (let u = t.0 in grind (arith, nat_tests)) in
       let pts = h.points t.1 in
       (point, points_inserted m.numbers group.all point pts.1, subst Points (sym others) (points_inserted l.numbers group.others pts.0 pts.2));
@@ -513,8 +485,7 @@ taken link q v group more k e = by_member (member_of q.value_type v) refl e
 or_again : (bs : List Entry) (a b o : MatchResult) → either a (or_reads bs b o) ≡ or_reads bs (either a b) o
 or_again [] a b o = refl
 or_again (x ∷ bs) Yes b o = refl
-or_again (x ∷ bs) No b o = refl
-or_again (x ∷ bs) Rejected b o = refl
+or_again _ _ b o = refl
 
 or_some : (bs : List Entry) (a o : MatchResult) → 0 < length bs → or_reads bs a o ≡ either a o
 or_some [] a o l = absurd (omega arith)
@@ -599,14 +570,6 @@ either_stands link a b group k (Some more) e h g m =
     let t = member_taken link b group more k e in
     chain_stands link (grouped_formula link more a) a b group more t.0 t.1 t.2 t.3 (m more (t.3).kept)
 
-left_false : (a b : Bool) → (a || b) ≡ false → a ≡ false
-left_false true b e = cc
-left_false false b e = refl
-
-right_false : (a b : Bool) → (a || b) ≡ false → b ≡ false
-right_false true b e = cc
-right_false false b e = e
-
 -- members that are looked for together change neither the reading nor what is counted
 pub grouped_stands : (link : Link) (a : TruthTree) (group : Group) → Kept group → any_primitive is_unfilled a ≡ false → StandsBy link (grouped_formula link group a) a group
 grouped_stands link (check p) group k u = bare_stands link (check_formula link p) (check p) group k refl refl (bare_check link p) (λ q n. refl)
@@ -620,6 +583,6 @@ grouped_stands link (denied a) group k u =
     or_stands link (Except (grouped_formula link no_group a)) (denied a) group k (denied_stands link _ a (grouped_stands link a no_group kept_none u))
 grouped_stands link (joined And a b) group k u =
     or_stands link (Both (grouped_formula link no_group a) (grouped_formula link no_group b)) (joined And a b) group k
-    (both_stand link _ _ a b (grouped_stands link a no_group kept_none (left_false _ _ u)) (grouped_stands link b no_group kept_none (right_false _ _ u)))
+    (both_stand link _ _ a b (grouped_stands link a no_group kept_none (or_parts _ _ u).0) (grouped_stands link b no_group kept_none (or_parts _ _ u).1))
 grouped_stands link (joined Or a b) group k u =
-    either_stands link a b group k (truth_member b group) refl (grouped_stands link a no_group kept_none (left_false _ _ u)) (grouped_stands link b group k (right_false _ _ u)) (λ more j. grouped_stands link a more j (left_false _ _ u))
+    either_stands link a b group k (truth_member b group) refl (grouped_stands link a no_group kept_none (or_parts _ _ u).0) (grouped_stands link b group k (or_parts _ _ u).1) (λ more j. grouped_stands link a more j (or_parts _ _ u).0)

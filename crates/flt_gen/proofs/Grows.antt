@@ -292,15 +292,13 @@ chain_fits from (i ∷ is) hit miss c s h m =
     fits_more _ _ (omega arith) (omega arith) (fits_on f.grows (interval_fits from i is hit e.entry e.code f.grows.sound (inside_on f.grows h) f.entry))
 
 pub are_many : (is : List Interval) → are_few is ≡ false → 2 ≤ length is
-are_many [] e = cc
-are_many (i ∷ []) e = cc
 are_many (i ∷ j ∷ is) e = omega arith
+are_many _ e = cc
 
 first_of_half : (from : Bool) (h : ℕ) (is : List Interval) → 0 < h → first_more from (take h is) ≡ first_more from is
-first_of_half true h is l = refl
 first_of_half false zero is l = absurd (omega arith)
 first_of_half false (suc h) [] l = refl
-first_of_half false (suc h) (i ∷ is) l = refl
+first_of_half _ _ _ l = refl
 
 search_fits : (k : ℕ) (from : Bool) (is : List Interval) (hit miss : ℕ) (c : List Insn) → Sound c → Inside c hit → Inside c miss → Searched c (emit_search k from is hit miss c) (2 * length is - 1 + first_more from is)
 unfolding emit_search

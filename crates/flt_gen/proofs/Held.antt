@@ -1,11 +1,11 @@
 -- The nodes of a tree that are held, and put back.
-use Rattle.std.proofs.Common.{◌≡◌, ℕ, zero, suc, ◌+◌, ◌-◌, ◌<◌, List, [], ◌∷◌, refl, ap, ◌∙◌, arith}
+use Rattle.std.proofs.Common.{◌≡◌, ℕ, suc, ◌+◌, List, [], ◌∷◌, refl, ◌∙◌, arith}
 use Rattle.flt_ast.specs.declared.node.Node.{Node}
 use Rattle.flt_ast.specs.declared.node.Node.TheVariants as node
 use Rattle.flt_ast.specs.Tree.{NumberTree, load, negated, applied, TruthTree, compared, denied, joined}
 use Rattle.flt_ast.specs.Nodes.{number_nodes, truth_nodes}
 use Rattle.flt_ast.specs.inside.Nodes.{number_onto, truth_onto}
-use Rattle.flt_gen.specs.inside.Folding.{and_operands, hold, put_back}
+use Rattle.flt_gen.specs.inside.Folding.{hold, put_back}
 
 pub one_more : (need : ℕ) → need + 1 ≡ suc need
 one_more need = omega arith
@@ -16,10 +16,6 @@ two_more need = omega arith
 pub none_held : (held ns : List Node) → hold 0 held ns ≡ record { held = held; rest = ns }
 none_held held [] = refl
 none_held held (n ∷ ns) = refl
-
-pub hold_step : (need : ℕ) (held : List Node) (n : Node) (ns : List Node) → 0 < need → hold need held (n ∷ ns) ≡ hold (and_operands n (need - 1)) (n ∷ held) ns
-hold_step zero held n ns l = absurd (omega arith)
-hold_step (suc need) held n ns l = let same : need ≡ suc need - 1 = omega arith in ap (λ k. hold (and_operands n k) (n ∷ held) ns) same
 
 held_number : (a : NumberTree) (need : ℕ) (held d : List Node) → hold (suc need) held (number_onto a d) ≡ hold need (number_nodes a held) d
 held_number (load p s a) need held d = held_number a need (node.Load p s ∷ held) d

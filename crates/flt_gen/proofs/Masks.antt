@@ -12,28 +12,13 @@ use Rattle.flt_gen.specs.Primitives.{partial_mask, ip6_tests}
 use Rattle.flt_gen.proofs.Ascending.{if_case}
 
 -- each word lacks a power of 2, the whole word where it has no bit of the mask; so does the mask
-in_first : (a b c d q : ℕ) → a ≤ 2 ^ 32 → b ≡ 2 ^ 32 → c ≡ 2 ^ 32 → d ≡ 2 ^ 32 → q ≡ a * 2 ^ 96
+joins : (a b c d q : ℕ) → a ≤ 2 ^ 32 → b ≤ 2 ^ 32 → c ≤ 2 ^ 32 → d ≤ 2 ^ 32 → q + 2 ^ 96 + 2 ^ 64 + 2 ^ 32 ≡ a * 2 ^ 96 + b * 2 ^ 64 + c * 2 ^ 32 + d
     → number_from_digits (2 ^ 32) ((2 ^ 32 - a) ∷ (2 ^ 32 - b) ∷ (2 ^ 32 - c) ∷ (2 ^ 32 - d) ∷ []) ≡ 2 ^ 128 - q
-in_first a b c d q upper_bound second third fourth same = omega arith
-
-in_second : (a b c d q : ℕ) → a ≡ 1 → b ≤ 2 ^ 32 → c ≡ 2 ^ 32 → d ≡ 2 ^ 32 → q ≡ b * 2 ^ 64
-    → number_from_digits (2 ^ 32) ((2 ^ 32 - a) ∷ (2 ^ 32 - b) ∷ (2 ^ 32 - c) ∷ (2 ^ 32 - d) ∷ []) ≡ 2 ^ 128 - q
-in_second a b c d q first upper_bound third fourth same = omega arith
-
-in_third : (a b c d q : ℕ) → a ≡ 1 → b ≡ 1 → c ≤ 2 ^ 32 → d ≡ 2 ^ 32 → q ≡ c * 2 ^ 32
-    → number_from_digits (2 ^ 32) ((2 ^ 32 - a) ∷ (2 ^ 32 - b) ∷ (2 ^ 32 - c) ∷ (2 ^ 32 - d) ∷ []) ≡ 2 ^ 128 - q
-in_third a b c d q first second upper_bound fourth same = omega arith
-
-in_fourth : (a b c d q : ℕ) → a ≡ 1 → b ≡ 1 → c ≡ 1 → d ≤ 2 ^ 32 → q ≡ d
-    → number_from_digits (2 ^ 32) ((2 ^ 32 - a) ∷ (2 ^ 32 - b) ∷ (2 ^ 32 - c) ∷ (2 ^ 32 - d) ∷ []) ≡ 2 ^ 128 - q
-in_fourth a b c d q first second third upper_bound same = omega arith
+joins a b c d q l m n o e = omega arith
 
 -- powers of 2
 same : (k m : ℕ) → k ≡ m → 2 ^ k ≡ 2 ^ m
 same k m e = ap (λ n. 2 ^ n) e
-
-few_bits : (k : ℕ) → k ≤ 32 → 2 ^ k ≤ 2 ^ 32
-few_bits k upper_bound = pow_mono {i = k} {j = 32} upper_bound
 
 raised : (k m up : ℕ) → k ≡ m + up → 2 ^ k ≡ 2 ^ m * 2 ^ up
 raised k m up e = same k (m + up) e ∙ pow-add 2 m up
@@ -44,13 +29,19 @@ lack bits word = 32 - (bits - 32 * word)
 
 masks_join : (bits : ℕ) → number_from_digits (2 ^ 32) (first_bits 32 (bits - 32 * 0) ∷ first_bits 32 (bits - 32 * 1) ∷ first_bits 32 (bits - 32 * 2) ∷ first_bits 32 (bits - 32 * 3) ∷ []) ≡ first_bits 128 bits
 masks_join bits =
-    ⊎_elim (λ first. in_first _ _ _ _ _ (few_bits (lack bits 0) (omega arith)) (same (lack bits 1) 32 (omega arith)) (same (lack bits 2) 32 (omega arith)) (same (lack bits 3) 32 (omega arith)) (raised (128 - bits) (lack bits 0) 96 (omega arith)))
-    (λ past_first. ⊎_elim (λ second. in_second _ _ _ _ _ (same (lack bits 0) 0 (omega arith)) (few_bits (lack bits 1) (omega arith)) (same (lack bits 2) 32 (omega arith)) (same (lack bits 3) 32 (omega arith)) (raised (128 - bits) (lack bits 1) 64 (omega arith)))
-    (λ past_second. ⊎_elim (λ third. in_third _ _ _ _ _ (same (lack bits 0) 0 (omega arith)) (same (lack bits 1) 0 (omega arith)) (few_bits (lack bits 2) (omega arith)) (same (lack bits 3) 32 (omega arith)) (raised (128 - bits) (lack bits 2) 32 (omega arith)))
-    (λ past_third. in_fourth _ _ _ _ _ (same (lack bits 0) 0 (omega arith)) (same (lack bits 1) 0 (omega arith)) (same (lack bits 2) 0 (omega arith)) (few_bits (lack bits 3) (omega arith)) (same (128 - bits) (lack bits 3) (omega arith)))
+    ⊎_elim (λ first. by (omega (arith, same (lack bits 1) 32 (omega arith), same (lack bits 2) 32 (omega arith), same (lack bits 3) 32 (omega arith), raised (128 - bits) (lack bits 0) 96 (omega arith))))
+    (λ past_first. ⊎_elim (λ second. by (omega (arith, same (lack bits 0) 0 (omega arith), same (lack bits 2) 32 (omega arith), same (lack bits 3) 32 (omega arith), raised (128 - bits) (lack bits 1) 64 (omega arith))))
+    (λ past_second. ⊎_elim (λ third. by (omega (arith, same (lack bits 0) 0 (omega arith), same (lack bits 1) 0 (omega arith), same (lack bits 3) 32 (omega arith), raised (128 - bits) (lack bits 2) 32 (omega arith))))
+    (λ past_third. by (omega (arith, same (lack bits 0) 0 (omega arith), same (lack bits 1) 0 (omega arith), same (lack bits 2) 0 (omega arith), same (128 - bits) (lack bits 3) (omega arith))))
     (cases_lt bits 96))
     (cases_lt bits 64))
     (cases_lt bits 32)
+  where
+    few : (word : ℕ) → 2 ^ lack bits word ≤ 2 ^ 32
+    few word = pow_mono {i = lack bits word} {j = 32} (omega arith)
+
+    by : 2 ^ (128 - bits) + 2 ^ 96 + 2 ^ 64 + 2 ^ 32 ≡ 2 ^ lack bits 0 * 2 ^ 96 + 2 ^ lack bits 1 * 2 ^ 64 + 2 ^ lack bits 2 * 2 ^ 32 + 2 ^ lack bits 3 → number_from_digits (2 ^ 32) (first_bits 32 (bits - 32 * 0) ∷ first_bits 32 (bits - 32 * 1) ∷ first_bits 32 (bits - 32 * 2) ∷ first_bits 32 (bits - 32 * 3) ∷ []) ≡ first_bits 128 bits
+    by e = joins _ _ _ _ _ (few 0) (few 1) (few 2) (few 3) e
 
 -- a mask of all bits, left out, is still that
 partial_is : (m : ℕ) → unwrap_or (partial_mask m) (2 ^ 32 - 1) ≡ m

@@ -3,6 +3,7 @@ use Rattle.std.proofs.Common.{◌≡◌, ℕ, ◌+◌, ◌-◌, ◌*◌, ◌/◌
 use Rattle.std.specs.Prelude.{◌==◌, ◌&&◌, nat_le, if◌then◌else◌, bit_and}
 use Rattle.std.specs.Int.Bits.{and_zero_r}
 use Rattle.std.proofs.lemmas.Bool.Decides.{nat_tests}
+use Rattle.std.proofs.lemmas.Bool.{and_parts}
 use Rattle.flt_words.specs.declared.token.Side.TheVariants.{Source, Destination}
 use Rattle.flt_words.specs.declared.token.Join.TheVariants.{And, Or}
 use Rattle.flt_words.specs.declared.token.Protocol.{Protocol}
@@ -20,21 +21,20 @@ use Rattle.cap_octet.specs.declared.link.Link.{Link}
 use Rattle.flt_emit.specs.declared.elementary.FrameKind.TheVariants as kind
 use Rattle.flt_emit.specs.declared.elementary.Offset.TheVariants.{Fixed}
 use Rattle.flt_emit.specs.declared.elementary.Elementary.{Elementary}
-use Rattle.flt_emit.specs.Elementary.{MatchResult, Yes, No, Rejected, reading_of, with, under_mask, kind_test, elementary_reads}
+use Rattle.flt_emit.specs.Elementary.{MatchResult, Yes, reading_of, with, under_mask, kind_test, elementary_reads}
 use Rattle.cap_octet.specs.Link.{network_offset}
 use Rattle.flt_emit.specs.Formula.{both, either, all_of, sides, reads}
 use Rattle.flt_gen.specs.Primitives.{partial_mask, address_test, ip6_test, ip6_tests, ip6_formula, value_formula}
 use Rattle.flt_gen.specs.inside.Emitted.{is_empty, is_idle, capture_test, last_test, needed_tests, ip6_needed, value_needed}
-use Rattle.flt_gen.proofs.Ascending.{if_case, both_true}
+use Rattle.flt_gen.proofs.Ascending.{if_case}
 use Rattle.flt_gen.proofs.Counted.{Bare, bare_after, bare_sides, bare_value}
 
 -- no more tests
 fewer : (ts : List Elementary) → length (needed_tests ts) ≤ length ts
-fewer [] = omega arith
-fewer (t ∷ []) = omega arith
 fewer (t ∷ u ∷ ts) =
     let h = fewer (u ∷ ts) in
     if_case (λ xs. length xs ≤ length (t ∷ u ∷ ts)) (is_idle t) (needed_tests (u ∷ ts)) (t ∷ needed_tests (u ∷ ts)) (λ e. omega arith) (λ e. omega arith)
+fewer _ = omega arith
 
 pub bare_needed : (link : Link) (k : ValueType) (p : Option Protocol) (d : Direction) (v : Value) → Bare (value_needed link k p d v) (count.typed_tests k p d v)
 bare_needed link Net p d (value.Ip6 a n) =
@@ -47,7 +47,7 @@ bare_needed link k p d v = bare_value link k p d v
 idle_holds : (mask : Option ℕ) (a v : ℕ) → (is_empty mask && a == 0) ≡ true → (under_mask mask v == a) ≡ true
 idle_holds None a v e = cc
 idle_holds (Some m) a v e =
-    let b = both_true (m == 0) (a == 0) e in
+    let b = and_parts (m == 0) (a == 0) e in
     let no_bits : m ≡ 0 = (let z = b.0 in grind (arith, nat_tests)) in
     let zero_is : a ≡ 0 = (let z = b.1 in grind (arith, nat_tests)) in
     let none : bit_and v m ≡ 0 = ap (λ x. bit_and v x) no_bits ∙ and_zero_r v in
@@ -56,8 +56,7 @@ idle_holds (Some m) a v e =
 
 and_yes : (r : MatchResult) → both r Yes ≡ r
 and_yes Yes = refl
-and_yes No = refl
-and_yes Rejected = refl
+and_yes _ = refl
 
 -- tests of words, each after the one before, by masks and values
 abbrev tests_from : ℕ → List (Option ℕ × ℕ) → List Elementary

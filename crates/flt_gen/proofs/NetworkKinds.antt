@@ -2,6 +2,7 @@
 use Rattle.std.proofs.Common.{◌≡◌, get_or-drop, ℕ, ◌+◌, ◌*◌, ◌/◌, ◌%◌, ◌<◌, List, length, drop, Bool, true, false, nat_lt, nat_le, ◌==◌, Option, Some, None, refl, sym, ap, subst, ◌∙◌, arith, if◌then◌else◌}
 use Rattle.std.specs.Prelude.{◌↔◌, ◌^◌, All, bit_and, slice_index}
 use Rattle.std.proofs.lemmas.Bool.Decides.{nat_tests}
+use Rattle.std.proofs.lemmas.Bool.{eqb-true}
 use Rattle.std.proofs.lemmas.Grind.{and_high_numeral}
 use Rattle.cap_octet.specs.Assigned.{ETHERTYPE_IPV4, ETHERTYPE_IPV6, ETHERTYPE_ARP, ETHERTYPE_RARP}
 use Rattle.cap_octet.specs.NetworkHeader.{header_after, network_header, header_by_ethertype, header_by_version}
@@ -18,6 +19,7 @@ use Rattle.cap_octet.specs.declared.link.Link.TheVariants.{Ether}
 use Rattle.flt_emit.specs.Elementary.{MatchResult, Yes, No, Rejected, reading_of, with, elementary_reads, is_at, kind_test, type_test}
 use Rattle.cap_octet.specs.Link.{all_links, link_of, link_type, type_offset}
 use Rattle.flt_gen.specs.Laws.{frame_kind, carries_kind, carries}
+use Rattle.flt_gen.proofs.Exclusive.{is_yes}
 
 -- a test reads what a packet's header is
 pub record Agrees (reading : MatchResult) (header : NetworkHeader) (kind : NetworkKind) (carries_kind : Bool) : Type 0 where
@@ -32,30 +34,18 @@ type_of Rarp = ETHERTYPE_RARP
 
 type_is : (kind : NetworkKind) → header_by_ethertype (type_of kind) ≡ Known kind
 type_is Ipv4 = refl
-type_is Ipv6 = refl
-type_is Arp = refl
-type_is Rarp = refl
-
-known_same : {k kind : NetworkKind} → Known k ≡ Known kind → k ≡ kind
-known_same e = cc
-
-is_yes : (b : Bool) → reading_of (Some b) ≡ Yes → b ≡ true
-is_yes true e = refl
-is_yes false e = cc
+type_is _ = refl
 
 not_rejected : (b : Bool) → reading_of (Some b) ≡ Rejected → ⊥
 not_rejected true e = absurd (cc)
 not_rejected false e = absurd (cc)
-
-equal : (a b : ℕ) → (a == b) ≡ true → a ≡ b
-equal a b e = grind (arith, nat_tests)
 
 -- a number that is the type of a kind is equal to it
 type_back : (v : ℕ) (kind : NetworkKind) → header_by_ethertype v ≡ Known kind → (v == type_of kind) ≡ true
 type_back v kind = go (v == ETHERTYPE_IPV4) (v == ETHERTYPE_IPV6) (v == ETHERTYPE_ARP) (v == ETHERTYPE_RARP) refl refl refl refl
   where
     at : (k : NetworkKind) → (v == type_of k) ≡ true → Known k ≡ Known kind → (v == type_of kind) ≡ true
-    at k test e = subst (λ (x : NetworkKind). (v == type_of x) ≡ true) (known_same e) test
+    at k test e = let same : k ≡ kind = cc in subst (λ (x : NetworkKind). (v == type_of x) ≡ true) same test
 
     go : (a b c d : Bool) → (v == ETHERTYPE_IPV4) ≡ a → (v == ETHERTYPE_IPV6) ≡ b → (v == ETHERTYPE_ARP) ≡ c → (v == ETHERTYPE_RARP) ≡ d
         → (if a then Known Ipv4 else if b then Known Ipv6 else if c then Known Arp else if d then Known Rarp else OtherType v) ≡ Known kind
@@ -70,11 +60,8 @@ type_not_short : (v : ℕ) → header_by_ethertype v ≡ Short → ⊥
 type_not_short v = go (v == ETHERTYPE_IPV4) (v == ETHERTYPE_IPV6) (v == ETHERTYPE_ARP) (v == ETHERTYPE_RARP)
   where
     go : (a b c d : Bool) → (if a then Known Ipv4 else if b then Known Ipv6 else if c then Known Arp else if d then Known Rarp else OtherType v) ≡ Short → ⊥
-    go true b c d e = absurd (cc)
-    go false true c d e = absurd (cc)
-    go false false true d e = absurd (cc)
     go false false false true e = absurd (cc)
-    go false false false false e = absurd (cc)
+    go _ _ _ _ e = absurd (cc)
 
 -- nothing is captured of the type, or it is a number
 nothing_there : (kind : NetworkKind) → Agrees (reading_of None) Short kind true
@@ -83,7 +70,7 @@ nothing_there kind = record { matches = (λ e. absurd (cc), λ e. absurd (cc)); 
 number_there : (v : ℕ) (kind : NetworkKind) → Agrees (reading_of (Some (v == type_of kind))) (header_by_ethertype v) kind true
 number_there v kind = record {
   matches = (
-    λ e. ap header_by_ethertype (equal v (type_of kind) (is_yes (v == type_of kind) e)) ∙ type_is kind,
+    λ e. ap header_by_ethertype (eqb-true v (type_of kind) (is_yes (v == type_of kind) e)) ∙ type_is kind,
     λ e. ap (λ b. reading_of (Some b)) (type_back v kind e),
   );
   rejects = (λ e. absurd (not_rejected (v == type_of kind) e), λ e. absurd (type_not_short v e.0));
@@ -104,43 +91,28 @@ at_type at kind p = rw (same_number p at) (go (nat_le (at + 2) (length p)) (nat_
         → Agrees (reading_of (with (if long then Some (big_endian_at p at HalfWord) else None) (λ (x : ℕ). Some (x == type_of kind)))) (if short then Short else header_by_ethertype (big_endian_at p at HalfWord)) kind true
     go true false long short = number_there (big_endian_at p at HalfWord) kind
     go false true long short = nothing_there kind
-    go true true long short = absurd (grind (arith, nat_tests))
-    go false false long short = absurd (grind (arith, nat_tests))
+    go _ _ long short = absurd (grind (arith, nat_tests))
 
 -- the mask leaves the version, which the first four bits are
 version_test : (v n m : ℕ) → m ≡ 16 * n → v < 2 ^ 8 → (bit_and v 0xf0 == m) ≡ (v / 16 == n)
-version_test v n m times upper_bound = go (bit_and v 0xf0 == m) (v / 16 == n) refl refl
-  where
-    high : bit_and v 0xf0 ≡ 16 * (v / 16)
-    high = let parts : bit_and v 240 + v % 16 ≡ v = and_high_numeral v 239 refl upper_bound in omega arith
-
-    go : (a b : Bool) → (bit_and v 0xf0 == m) ≡ a → (v / 16 == n) ≡ b → a ≡ b
-    go true true ta tb = refl
-    go false false ta tb = refl
-    go true false ta tb =
-        let same : bit_and v 0xf0 ≡ m = equal (bit_and v 0xf0) m ta in
-        let back : v / 16 ≡ n = omega (arith, high) in
-        absurd (grind (arith, nat_tests))
-    go false true ta tb =
-        let same : v / 16 ≡ n = equal (v / 16) n tb in
-        let back : bit_and v 0xf0 ≡ m = omega (arith, high) in
-        absurd (grind (arith, nat_tests))
+version_test v n m times upper_bound =
+    let parts : bit_and v 240 + v % 16 ≡ v = and_high_numeral v 239 refl upper_bound in
+    let high : bit_and v 0xf0 ≡ 16 * (v / 16) = omega arith in
+    grind (arith, nat_tests)
 
 is_four : (w : ℕ) → (w == 4) ≡ true ↔ (header_by_version w ≡ Known Ipv4)
-is_four w = (λ test. ap header_by_version (equal w 4 test), go (w == 4) (w == 6) refl)
+is_four w = (λ test. ap header_by_version (eqb-true w 4 test), go (w == 4) (w == 6) refl)
   where
     go : (a b : Bool) → (w == 4) ≡ a → (if a then Known Ipv4 else if b then Known Ipv6 else OtherVersion w) ≡ Known Ipv4 → (w == 4) ≡ true
-    go true b test e = test
-    go false true test e = absurd (cc)
-    go false false test e = absurd (cc)
+    go false true test e = cc
+    go _ _ test e = cc
 
 is_six : (w : ℕ) → (w == 6) ≡ true ↔ (header_by_version w ≡ Known Ipv6)
-is_six w = (λ test. ap header_by_version (equal w 6 test), go (w == 4) (w == 6) refl)
+is_six w = (λ test. ap header_by_version (eqb-true w 6 test), go (w == 4) (w == 6) refl)
   where
     go : (a b : Bool) → (w == 6) ≡ b → (if a then Known Ipv4 else if b then Known Ipv6 else OtherVersion w) ≡ Known Ipv6 → (w == 6) ≡ true
-    go a true test e = test
-    go true false test e = absurd (cc)
-    go false false test e = absurd (cc)
+    go false true test e = cc
+    go _ _ test e = cc
 
 -- raw IP has no other header
 abbrev IsIp : NetworkHeader → Type 0
@@ -153,9 +125,8 @@ version_ip : (w : ℕ) → IsIp (header_by_version w)
 version_ip w = go (w == 4) (w == 6)
   where
     go : (a b : Bool) → IsIp (if a then Known Ipv4 else if b then Known Ipv6 else OtherVersion w)
-    go true b = tt
     go false true = tt
-    go false false = tt
+    go _ _ = tt
 
 not_ip : {header : NetworkHeader} (w : ℕ) → (IsIp header → ⊥) → header_by_version w ≡ header → ⊥
 not_ip w other e = other (subst IsIp e (version_ip w))
@@ -182,8 +153,7 @@ module _ (kind : NetworkKind) (n m : ℕ) (times : m ≡ 16 * n) (is : (w : ℕ)
           → Agrees (reading_of (with (if long then Some (slice_index p 0) else None) (λ (x : ℕ). Some (bit_and x 0xf0 == m)))) (if none then Short else header_by_version (slice_index p 0 / 16)) kind true
       go true false long none = version_there (slice_index p 0) (first_byte p bytes long)
       go false true long none = nothing_there kind
-      go true true long none = absurd (grind (arith, nat_tests))
-      go false false long none = absurd (grind (arith, nat_tests))
+      go _ _ long none = absurd (grind (arith, nat_tests))
 
 -- raw IP isn't asked for ARP and RARP, and has none
 not_carried : (kind : NetworkKind) (p : List ℕ) → (IsIp (Known kind) → ⊥) → Agrees No (header_after None p) kind false
@@ -199,13 +169,10 @@ not_carried kind p other = record {
 by_place : (place : Option ℕ) (kind : NetworkKind) (p : List ℕ) → All (λ b. b < 2 ^ 8) p
     → Agrees (elementary_reads (type_test place (frame_kind kind)) p) (header_after place p) kind (carries_kind place kind)
 by_place (Some at) Ipv4 p bytes = at_type at Ipv4 p
-by_place (Some at) Ipv6 p bytes = at_type at Ipv6 p
-by_place (Some at) Arp p bytes = at_type at Arp p
-by_place (Some at) Rarp p bytes = at_type at Rarp p
+by_place (Some at) kind p bytes = at_type at kind p
 by_place None Ipv4 p bytes = by_version Ipv4 4 0x40 refl is_four p bytes
 by_place None Ipv6 p bytes = by_version Ipv6 6 0x60 refl is_six p bytes
-by_place None Arp p bytes = not_carried Arp p (λ x. x)
-by_place None Rarp p bytes = not_carried Rarp p (λ x. x)
+by_place None kind p bytes = not_carried kind p (λ x. x)
 
 -- a link type tells its link
 its_link : (link : Link) → link_of (link_type link) ≡ Some link
@@ -216,6 +183,4 @@ its_link _ = refl
 pub agrees : (link : Link) (kind : NetworkKind) (p : List ℕ) → All (λ b. b < 2 ^ 8) p
     → Agrees (elementary_reads (kind_test link (frame_kind kind)) p) (network_header (link_type link) p) kind (carries link kind)
 agrees link Ipv4 p bytes = rw (its_link link) (by_place (type_offset link) Ipv4 p bytes)
-agrees link Ipv6 p bytes = rw (its_link link) (by_place (type_offset link) Ipv6 p bytes)
-agrees link Arp p bytes = rw (its_link link) (by_place (type_offset link) Arp p bytes)
-agrees link Rarp p bytes = rw (its_link link) (by_place (type_offset link) Rarp p bytes)
+agrees link kind p bytes = rw (its_link link) (by_place (type_offset link) kind p bytes)

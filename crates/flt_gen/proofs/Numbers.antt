@@ -2,7 +2,7 @@
 use Rattle.std.proofs.Common.{◌≡◌, ℕ, ◌+◌, ◌-◌, ◌%◌, ◌^◌, ◌<◌, ◌≤◌, List, ◌∷◌, length, Bool, true, false, Option, Some, None, refl, sym, ap, ap₂, ◌∙◌, subst, arith}
 use Rattle.std.specs.Prelude.{slice_get, slice_set, nat_lt, if◌then◌else◌}
 use Rattle.std.specs.Option.{option_map}
-use Rattle.std.proofs.Math.ListN.{set, length-set}
+use Rattle.std.proofs.Math.ListN.{length-set}
 use Rattle.std.proofs.Math.Nat.{mod-add-mod}
 use Rattle.std.proofs.lemmas.Bool.Decides.{nat_tests}
 use Rattle.std.proofs.lemmas.Option.{slice_get-get_or}
@@ -16,7 +16,7 @@ use Rattle.flt_bpf.specs.declared.operation.Operand.{Operand}
 use Rattle.flt_bpf.specs.declared.operation.Operand.TheVariants.{Constant, IndexRegister}
 use Rattle.flt_bpf.specs.Machine.{Goes, Lost, field, compute, operand_value, into, word_into, header_length}
 use Rattle.flt_words.specs.declared.token.Operator.{Operator}
-use Rattle.flt_words.specs.declared.token.Operator.TheVariants.{Or, And, ShiftLeft, ShiftRight, Add, Subtract, Multiply, Divide, Remainder, ExclusiveOr}
+use Rattle.flt_words.specs.declared.token.Operator.TheVariants.{Add}
 use Rattle.flt_words.specs.declared.token.Protocol.{Protocol}
 use Rattle.flt_words.specs.declared.token.Protocol.TheVariants.{Ether, Tcp, Udp, Icmp}
 use Rattle.flt_ast.specs.Tree.{NumberTree, literal, len, named, load, negated, applied}
@@ -45,15 +45,7 @@ get_set_below xs i j v less l =
 -- the machine's arithmetic is that of expressions
 pub computed : (o : Operator) (a b : ℕ) → compute (alu_operation o) a b ≡ result_of o a b
 computed Add a b = refl
-computed Subtract a b = refl
-computed Multiply a b = refl
-computed Divide a b = refl
-computed Or a b = refl
-computed And a b = refl
-computed ShiftLeft a b = refl
-computed ShiftRight a b = refl
-computed Remainder a b = refl
-computed ExclusiveOr a b = refl
+computed _ a b = refl
 
 -- a right operand that is in an instruction is a constant that this may have
 pub record IsConstant (operator : Operator) (r : NumberTree) (k : ℕ) : Type 0 where
@@ -84,10 +76,7 @@ module _ (p : List ℕ) (n : ℕ) where
   pub constant_is : (link : Link) (r : NumberTree) (k : ℕ) → constant r ≡ Some k → number link r p n ≡ Some k
   constant_is link (literal j) k e = e
   constant_is link (named j) k e = e
-  constant_is link len k e = cc
-  constant_is link (load protocol size i) k e = cc
-  constant_is link (negated a) k e = cc
-  constant_is link (applied operator l r) k e = cc
+  constant_is link _ k e = cc
 
   run_operator : (operator : Operator) (operand : Operand) (k : ℕ) (c : List Insn) (s : State) → answer_of (plain (computation operator operand) k ∷ c) p n 0 s ≡ answer_after (answer_of c p n) (into Accumulator (result_of operator s.accumulator (operand_value operand k s.index)) s)
   run_operator operator operand k c s =

@@ -2,12 +2,12 @@
 use Rattle.std.proofs.Common.{◌≡◌, ℕ, ◌+◌, ◌≤◌, List, [], ◌∷◌, true, refl, sym, ap, ◌∙◌, arith}
 use Rattle.flt_words.specs.declared.token.Comparison.{Comparison}
 use Rattle.flt_words.specs.declared.token.Protocol.{Protocol}
-use Rattle.flt_words.specs.declared.token.Protocol.TheVariants.{Ether, Ip, Ip6, Arp, Rarp, Tcp, Udp, Icmp, Icmp6}
-use Rattle.flt_ast.specs.Tree.{NumberTree, literal, len, named, load, negated, applied, compared}
+use Rattle.flt_words.specs.declared.token.Protocol.TheVariants.{Ether, Tcp}
+use Rattle.flt_ast.specs.Tree.{NumberTree, load, negated, applied, compared}
 use Rattle.flt_ast.specs.Counts.{accessor_test_count, number_tests, truth_tests}
 use Rattle.cap_octet.specs.declared.link.Link.{Link}
 use Rattle.flt_emit.specs.declared.elementary.Elementary.{Elementary}
-use Rattle.flt_emit.specs.Elementary.{MatchResult, Yes, No, Rejected, elementary_reads}
+use Rattle.flt_emit.specs.Elementary.{MatchResult, Yes, elementary_reads}
 use Rattle.flt_emit.specs.Numbers.{accessors, accessor_tests}
 use Rattle.flt_emit.specs.Formula.{Formula, Compare, both, reads, guarded_formula, checked_formula}
 use Rattle.flt_gen.specs.inside.Counts.{tests, nodes, words}
@@ -16,15 +16,8 @@ use Rattle.flt_gen.specs.Reading.{formula}
 use Rattle.flt_gen.proofs.Ascending.{if_case, Searches}
 
 equal_are : (p q : Protocol) → equals p q ≡ true → p ≡ q
-equal_are Ether Ether e = refl
-equal_are Ip Ip e = refl
-equal_are Ip6 Ip6 e = refl
-equal_are Arp Arp e = refl
-equal_are Rarp Rarp e = refl
-equal_are Tcp Tcp e = refl
-equal_are Udp Udp e = refl
-equal_are Icmp Icmp e = refl
-equal_are Icmp6 Icmp6 e = refl
+equal_are Ether Ether e = cc
+equal_are _ Ether e = cc
 equal_are _ _ e = cc
 
 -- the tests of accessors add neither nodes nor words, and search for nothing
@@ -49,9 +42,7 @@ same_sizes link (p ∷ ps) f =
 -- no more tests
 accessor_tests_are : (link : Link) (p : Protocol) (f : Formula) → tests (guarded_formula (accessor_tests link p) f) ≡ accessor_test_count p + tests f
 accessor_tests_are link Tcp f = omega arith
-accessor_tests_are link Udp f = omega arith
-accessor_tests_are link Icmp f = omega arith
-accessor_tests_are link _ f = refl
+accessor_tests_are link _ f = omega arith
 
 without_tests : (link : Link) (p : Protocol) (qs : List Protocol) (f : Formula) → tests (checked_formula link (without_protocol p qs) f) ≤ tests (checked_formula link qs f)
 without_tests link p [] f = omega arith
@@ -62,9 +53,6 @@ without_tests link p (q ∷ qs) f =
     if_case (λ xs. tests (checked_formula link xs f) ≤ tests (checked_formula link (q ∷ qs) f)) (equals p q) (without_protocol p qs) (q ∷ without_protocol p qs) (λ e. omega arith) (λ e. omega arith)
 
 protocols_tests : (link : Link) (a : NumberTree) (rest : List Protocol) (f : Formula) → tests (checked_formula link (protocols_of a rest) f) ≤ number_tests a + tests (checked_formula link rest f)
-protocols_tests link (literal n) rest f = omega arith
-protocols_tests link (named n) rest f = omega arith
-protocols_tests link len rest f = omega arith
 protocols_tests link (load p s a) rest f =
     let h = protocols_tests link a rest f in
     let w = without_tests link p (protocols_of a rest) f in
@@ -75,6 +63,7 @@ protocols_tests link (applied o a b) rest f =
     let h = protocols_tests link a (protocols_of b rest) f in
     let k = protocols_tests link b rest f in
     omega arith
+protocols_tests link _ rest f = omega arith
 
 pub relation_tests : (link : Link) (c : Comparison) (l r : NumberTree) → tests (relation_formula link c l r) ≤ truth_tests (compared c l r)
 relation_tests link c l r =
@@ -83,16 +72,14 @@ relation_tests link c l r =
     omega arith
 
 -- the same reading
-both_again : (a b r : MatchResult) → both a (both b r) ≡ both (both a b) r
+pub both_again : (a b r : MatchResult) → both a (both b r) ≡ both (both a b) r
 both_again Yes b r = refl
-both_again No b r = refl
-both_again Rejected b r = refl
+both_again _ b r = refl
 
 -- after a test that holds
 if_yes : (a r s : MatchResult) → (a ≡ Yes → r ≡ s) → both a r ≡ both a s
 if_yes Yes r s h = h refl
-if_yes No r s h = refl
-if_yes Rejected r s h = refl
+if_yes _ r s h = refl
 
 module _ (link : Link) (p : List ℕ) (n : ℕ) where
   abbrev all_read : List Elementary → MatchResult
@@ -122,15 +109,13 @@ module _ (link : Link) (p : List ℕ) (n : ℕ) where
       (λ e. one_read r (without_protocol q qs) f ∙ ap (λ a. both (told r) a) h ∙ sym (one_read r qs f))
 
   protocols_read : (a : NumberTree) (ps qs : List Protocol) (f : Formula) → following ps f ≡ following qs f → following (protocols_of a ps) f ≡ following (accessors a qs) f
-  protocols_read (literal k) ps qs f h = h
-  protocols_read (named k) ps qs f h = h
-  protocols_read len ps qs f h = h
   protocols_read (load q s a) ps qs f h =
       one_read q (without_protocol q (protocols_of a ps)) f
       ∙ if_yes (told q) _ _ (λ sure. without_read q (protocols_of a ps) f sure ∙ protocols_read a ps qs f h)
       ∙ sym (one_read q (accessors a qs) f)
   protocols_read (negated a) ps qs f h = protocols_read a ps qs f h
   protocols_read (applied o a b) ps qs f h = protocols_read a (protocols_of b ps) (accessors b qs) f (protocols_read b ps qs f h)
+  protocols_read _ ps qs f h = h
 
   pub relation_same : (c : Comparison) (l r : NumberTree) → reads link (relation_formula link c l r) p n ≡ reads link (formula link (compared c l r)) p n
   relation_same c l r = protocols_read l (protocols_of r []) (accessors r []) (Compare c l r) (protocols_read r [] [] (Compare c l r) refl)

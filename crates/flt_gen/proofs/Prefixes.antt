@@ -1,7 +1,8 @@
 -- Networks as intervals: what is asked under the mask of one prefix can be asked under that of a longer one.
-use Rattle.std.proofs.Common.{◌≡◌, ℕ, suc, ◌+◌, ◌-◌, ◌*◌, ◌/◌, ◌^◌, ◌<◌, ◌≤◌, Bool, true, false, Option, Some, None, refl, sym, ap, ◌∙◌, arith, pow_mono}
+use Rattle.std.proofs.Common.{◌≡◌, ℕ, suc, ◌+◌, ◌-◌, ◌*◌, ◌/◌, ◌^◌, ◌<◌, ◌≤◌, Bool, true, false, Some, None, refl, sym, ap, ◌∙◌, arith, pow_mono, inl, inr}
 use Rattle.std.specs.Prelude.{◌==◌, ◌&&◌, nat_lt, nat_le, bit_and, if◌then◌else◌}
 use Rattle.std.proofs.Math.Nat.{div-mul-le_self, lt-div-mul-add, le-div_iff_mul-le, mul-le-mul_right, pow-succ', suc-mul}
+use Rattle.std.proofs.lemmas.Bool.{cases_lt}
 use Rattle.std.proofs.lemmas.Bool.Decides.{nat_tests}
 use Rattle.std.proofs.lemmas.Nat.{and_le_r, pow_pos}
 use Rattle.std.proofs.lemmas.Nat.Bits.{and_high_mask, and_high_mask_twice}
@@ -37,49 +38,24 @@ part_mask t l =
 
 -- blocks of numbers, each as long as the last ones are J
 no_further : (c d J : ℕ) → 0 < J → d * J ≤ c * J + (J - 1) → d ≤ c
-no_further c d J some l = by (nat_le (suc c) d) refl
-  where
-    by : (b : Bool) → nat_le (suc c) d ≡ b → d ≤ c
-    by true e = absurd (let m : suc c ≤ d = grind (arith, nat_tests) in let k : suc c * J ≤ d * J = mul-le-mul_right J m in let n : suc c * J ≡ c * J + J = suc-mul c J in omega arith)
-    by false e = let m : d < suc c = grind (arith, nat_tests) in omega arith
+no_further c d J some l =
+    elim (cases_lt c d) [
+      | inl m ↦ absurd (let k : suc c * J ≤ d * J = mul-le-mul_right J m in let n : suc c * J ≡ c * J + J = suc-mul c J in omega arith)
+      | inr k ↦ k
+    ]
 
 block_in : (y a J : ℕ) → 0 < J → a ≡ a / J * J → (nat_le a y && nat_le y (a + (J - 1))) ≡ (nat_le a (y / J * J) && nat_le (y / J * J) (a + (J - 1)))
-block_in y a J some whole = by (nat_le a y) refl (nat_le y (a + (J - 1))) refl (nat_le a (y / J * J)) refl (nat_le (y / J * J) (a + (J - 1))) refl
-  where
-    under : y / J * J ≤ y
-    under = div-mul-le_self y J
-
-    near : y < y / J * J + J
-    near = lt-div-mul-add some
-
-    from : a ≤ y → a ≤ y / J * J
-    from l = let k : a / J ≤ y / J = (le-div_iff_mul-le some).1 (omega arith) in let m : a / J * J ≤ y / J * J = mul-le-mul_right J k in omega arith
-
-    upto : y / J * J ≤ a + (J - 1) → y ≤ a + (J - 1)
-    upto l = let k : y / J ≤ a / J = no_further (a / J) (y / J) J some (omega arith) in let m : y / J * J ≤ a / J * J = mul-le-mul_right J k in omega arith
-
-    by : (b : Bool) → nat_le a y ≡ b → (c : Bool) → nat_le y (a + (J - 1)) ≡ c → (d : Bool) → nat_le a (y / J * J) ≡ d → (e : Bool) → nat_le (y / J * J) (a + (J - 1)) ≡ e → (b && c) ≡ (d && e)
-    by true p true q true r true s = refl
-    by true p c q false r e s = absurd (let u : a ≤ y = grind (arith, nat_tests) in let v = from u in let w : y / J * J < a = grind (arith, nat_tests) in omega arith)
-    by true p true q true r false s = absurd (let u : y ≤ a + (J - 1) = grind (arith, nat_tests) in let w : a + (J - 1) < y / J * J = grind (arith, nat_tests) in omega arith)
-    by true p false q true r true s = absurd (let u : y / J * J ≤ a + (J - 1) = grind (arith, nat_tests) in let v = upto u in let w : a + (J - 1) < y = grind (arith, nat_tests) in omega arith)
-    by true p false q true r false s = refl
-    by false p c q true r e s = absurd (let u : y < a = grind (arith, nat_tests) in let w : a ≤ y / J * J = grind (arith, nat_tests) in omega arith)
-    by false p c q false r e s = refl
+block_in y a J some whole =
+    let under : y / J * J ≤ y = div-mul-le_self y J in
+    let near : y < y / J * J + J = lt-div-mul-add some in
+    let from : a ≤ y → a ≤ y / J * J = λ l. let k : a / J ≤ y / J = (le-div_iff_mul-le some).1 (omega arith) in let m : a / J * J ≤ y / J * J = mul-le-mul_right J k in omega arith in
+    let upto : y / J * J ≤ a + (J - 1) → y ≤ a + (J - 1) = λ l. let k : y / J ≤ a / J = no_further (a / J) (y / J) J some (omega arith) in let m : y / J * J ≤ a / J * J = mul-le-mul_right J k in omega arith in
+    grind (arith, nat_tests)
 
 block_is : (z a J : ℕ) → 0 < J → a ≡ a / J * J → z ≡ z / J * J → (z == a) ≡ (nat_le a z && nat_le z (a + (J - 1)))
-block_is z a J some whole round = by (z == a) refl (nat_le a z) refl (nat_le z (a + (J - 1))) refl
-  where
-    same : z ≤ a + (J - 1) → z ≤ a
-    same l = let k : z / J ≤ a / J = no_further (a / J) (z / J) J some (omega arith) in let m : z / J * J ≤ a / J * J = mul-le-mul_right J k in omega arith
-
-    by : (b : Bool) → (z == a) ≡ b → (c : Bool) → nat_le a z ≡ c → (d : Bool) → nat_le z (a + (J - 1)) ≡ d → b ≡ (c && d)
-    by true p true q true r = refl
-    by true p true q false r = absurd (let u : z ≡ a = grind (arith, nat_tests) in let w : a + (J - 1) < z = grind (arith, nat_tests) in omega arith)
-    by true p false q d r = absurd (let u : z ≡ a = grind (arith, nat_tests) in let w : z < a = grind (arith, nat_tests) in omega arith)
-    by false p true q true r = absurd (let u : z ≤ a + (J - 1) = grind (arith, nat_tests) in let v = same u in let w : a ≤ z = grind (arith, nat_tests) in let no : (z ≡ a → ⊥) = grind (arith, nat_tests) in no (omega arith))
-    by false p true q false r = refl
-    by false p false q d r = refl
+block_is z a J some whole round =
+    let same : z ≤ a + (J - 1) → z ≤ a = λ l. let k : z / J ≤ a / J = no_further (a / J) (z / J) J some (omega arith) in let m : z / J * J ≤ a / J * J = mul-le-mul_right J k in omega arith in
+    grind (arith, nat_tests)
 
 -- the mask of the last j bits
 abbrev high : ℕ → ℕ
@@ -103,14 +79,10 @@ under_longer x a j k l m e =
     block_in y a (2 ^ j) (pow_pos j) (round_is a j m e) ∙ ap (λ v. nat_le a v && nat_le v (a + (2 ^ j - 1))) z
 
 agree_true : (a b : Bool) → agree a b ≡ true → b ≡ true → a ≡ true
-agree_true true b e h = refl
-agree_true false true e h = cc
-agree_true false false e h = cc
+agree_true a b e h = grind (arith, nat_tests)
 
 agree_false : (a b : Bool) → agree a b ≡ true → b ≡ false → a ≡ false
-agree_false true true e h = cc
-agree_false true false e h = cc
-agree_false false b e h = refl
+agree_false a b e h = grind (arith, nat_tests)
 
 pub same_hit : (m : Member) (t : ℕ) → Good m t → (x : ℕ) → is_in (under_mask (mask_of t) x) m.numbers ≡ is_in (under_mask (mask_of m.bits) x) m.numbers
 same_hit m t g x = by (nat_lt t 32) refl

@@ -47,26 +47,22 @@ pick Rejected v w = 0
 
 pick_both : (a b : MatchResult) (v w : ℕ) → pick a (pick b v w) w ≡ pick (both a b) v w
 pick_both Yes b v w = refl
-pick_both No b v w = refl
-pick_both Rejected b v w = refl
+pick_both _ b v w = refl
 
 pick_either : (a b : MatchResult) (v w : ℕ) → pick a v (pick b v w) ≡ pick (either a b) v w
 pick_either Yes b v w = refl
-pick_either No b v w = refl
-pick_either Rejected b v w = refl
+pick_either _ b v w = refl
 
 pick_negated : (a : MatchResult) (v w : ℕ) → pick a w v ≡ pick (exchanged a) v w
 pick_negated Yes v w = refl
-pick_negated No v w = refl
-pick_negated Rejected v w = refl
+pick_negated _ v w = refl
 
 picked : (b : Bool) (v w : ℕ) → (if b then v else w) ≡ pick (reading_of (Some b)) v w
 picked true v w = refl
 picked false v w = refl
 
 or_else : (a b : Bool) (v w : ℕ) → (if a then v else (if b then v else w)) ≡ (if (a || b) then v else w)
-or_else true b v w = refl
-or_else false b v w = refl
+or_else a b v w = grind (arith, nat_tests)
 
 exchanged_if : (b : Bool) (v w : ℕ) → (if b then w else v) ≡ (if not b then v else w)
 exchanged_if true v w = refl
@@ -79,25 +75,13 @@ at_most_is : (a b : ℕ) → not (nat_lt b a) ≡ nat_le a b
 at_most_is a b = grind (arith, nat_tests)
 
 in_range : (b c : Bool) (v w : ℕ) → b ≡ true → (if c then w else v) ≡ (if (b && not c) then v else w)
-in_range true true v w e = refl
-in_range true false v w e = refl
-in_range false c v w e = cc
+in_range b c v w e = grind (arith, nat_tests)
 
 range_is : (b c : Bool) (v w : ℕ) → (if b then (if c then w else v) else w) ≡ (if (b && not c) then v else w)
-range_is true true v w = refl
-range_is true false v w = refl
-range_is false c v w = refl
+range_is b c v w = grind (arith, nat_tests)
 
 pub one_number : (a low high : ℕ) → low ≡ high → (a == low) ≡ (nat_le low a && nat_le a high)
-one_number a low high e = by (a == low) refl (nat_le low a) refl (nat_le a high) refl
-  where
-    by : (b : Bool) → (a == low) ≡ b → (c : Bool) → nat_le low a ≡ c → (d : Bool) → nat_le a high ≡ d → b ≡ (c && d)
-    by true p true q true r = refl
-    by true p true q false r = absurd (let s : a ≡ low = grind (arith, nat_tests) in let t : high < a = grind (arith, nat_tests) in omega arith)
-    by true p false q d r = absurd (let s : a ≡ low = grind (arith, nat_tests) in let t : a < low = grind (arith, nat_tests) in omega arith)
-    by false p true q true r = absurd (let s : low ≤ a = grind (arith, nat_tests) in let t : a ≤ high = grind (arith, nat_tests) in let no : (a ≡ low → ⊥) = grind (arith, nat_tests) in no (omega arith))
-    by false p true q false r = refl
-    by false p false q d r = refl
+one_number a low high e = grind (arith, nat_tests)
 
 -- a state with a number in A, and with another one in X
 abbrev Has : ℕ → State → Type 0

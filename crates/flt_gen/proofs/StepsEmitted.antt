@@ -1,26 +1,23 @@
 -- A formula's steps, emitted from the last to the first, are the formula's code.
-use Rattle.std.proofs.Common.{◌≡◌, ◌<◌, ◌≤◌, ℕ, List, [], ◌∷◌, length, drop, get_or, Bool, true, false, Result, Ok, Err, refl, sym, ap, ◌∙◌, arith}
+use Rattle.std.proofs.Common.{◌≡◌, ◌<◌, ◌≤◌, List, [], ◌∷◌, length, drop, get_or, Bool, true, false, Result, Ok, Err, refl, sym, ap, ◌∙◌, arith}
 use Rattle.std.specs.Prelude.{OnOk, if◌then◌else◌}
 use Rattle.std.specs.declared.alloc.AllocError.{AllocError}
 use Rattle.flt_words.specs.declared.token.Join.TheVariants.{And, Or}
 use Rattle.cap_octet.specs.declared.link.Link.{Link}
 use Rattle.flt_emit.specs.declared.elementary.Elementary.{Elementary}
-use Rattle.flt_emit.specs.Formula.{Formula, Single, Compare, Both, Either, Except, Among, all_of, Numbers}
+use Rattle.flt_emit.specs.Formula.{Formula, Single, Both, Either, all_of, Numbers}
 use Rattle.flt_gen.specs.inside.Emitted.{is_idle, needed_tests}
 use Rattle.flt_gen.specs.inside.Steps.{Steps, Part, Joint, Meaning, meaning, with_parts, with_formula, no_steps, IsPut, IsJoined}
 use Rattle.flt_gen.specs.inside.Walk.{Walk, finish_formula, emit_part, emit_parts}
 
 parts_emitted : (link : Link) (w : Walk) (f : Formula) (ps : List Part) → emit_parts link w (with_parts f ps) ≡ emit_parts link (finish_formula link f w) ps
-parts_emitted link w (Single t) ps = refl
-parts_emitted link w (Compare c l r) ps = refl
 parts_emitted link w (Both a b) ps =
     let v = emit_part link w (Joint And) in
     parts_emitted link v b (with_parts a ps) ∙ parts_emitted link (finish_formula link b v) a ps
 parts_emitted link w (Either a b) ps =
     let v = emit_part link w (Joint Or) in
     parts_emitted link v b (with_parts a ps) ∙ parts_emitted link (finish_formula link b v) a ps
-parts_emitted link w (Except a) ps = refl
-parts_emitted link w (Among f is) ps = refl
+parts_emitted link w _ ps = refl
 
 -- where they are all that is emitted
 pub steps_emitted : {T : Type 0} (r : Result T AllocError) (link : Link) (f : Formula) (numbers : Numbers) (s : Steps) (w new : Walk) → IsPut f (no_steps numbers) s → OnOk r ((l : Link) → new ≡ emit_parts l w (meaning s).parts) → OnOk r (new ≡ finish_formula link f w)
@@ -41,9 +38,8 @@ more_tests t [] some = absurd (omega arith)
 more_tests t (u ∷ ts) some = refl
 
 more_needed : (ts : List Elementary) (other : Elementary) → 2 ≤ length ts → is_idle (get_or ts 0 other) ≡ false → all_of (needed_tests ts) ≡ Both (Single (get_or ts 0 other)) (all_of (needed_tests (drop 1 ts)))
-more_needed [] other l e = absurd (omega arith)
-more_needed (t ∷ []) other l e = absurd (omega arith)
 more_needed (t ∷ u ∷ ts) other l e = ap (λ b. all_of (if b then needed_tests (u ∷ ts) else t ∷ needed_tests (u ∷ ts))) e ∙ more_tests t (needed_tests (u ∷ ts)) (some_needed u ts)
+more_needed _ other l e = absurd (omega arith)
 
 -- a test, those after it, and their join
 pub words_put : {T : Type 0} (r : Result T AllocError) (ts : List Elementary) (other : Elementary) (s0 s1 s2 s3 : Steps) → 2 ≤ length ts → is_idle (get_or ts 0 other) ≡ false → IsPut (Single (get_or ts 0 other)) s0 s1 → IsPut (all_of (needed_tests (drop 1 ts))) s1 s2 → OnOk r (IsJoined And s2 s3) → OnOk r (IsPut (all_of (needed_tests ts)) s0 s3)

@@ -11,7 +11,7 @@ use Rattle.flt_words.specs.declared.token.Comparison.{Comparison}
 use Rattle.flt_words.specs.declared.token.Comparison.TheVariants.{Equal}
 use Rattle.flt_words.specs.declared.token.Protocol.{Protocol}
 use Rattle.flt_words.specs.declared.token.Protocol.TheVariants.{Tcp, Udp, Icmp}
-use Rattle.flt_ast.specs.Tree.{NumberTree, literal, len, named, load, negated, applied}
+use Rattle.flt_ast.specs.Tree.{NumberTree, load, negated, applied}
 use Rattle.cap_octet.specs.declared.link.Link.{Link}
 use Rattle.flt_emit.specs.declared.elementary.Offset.{Offset}
 use Rattle.flt_emit.specs.declared.elementary.Offset.TheVariants.{Fixed, AfterHeader}
@@ -78,15 +78,13 @@ by_right P None slot short long one all = all
 by_right P (Some k) slot short long one all = one k refl
 
 number_extends : (link : Link) (e : NumberTree) (slot : ℕ) (c d : List Insn) → Extends c d → Extends c (emit_number link e slot d)
-number_extends link (literal k) slot c d e = extends_put c d _ e
-number_extends link (named k) slot c d e = extends_put c d _ e
-number_extends link len slot c d e = extends_put c d _ e
 number_extends link (load protocol size i) slot c d e = number_extends link i slot c _ (accessor_extends link protocol (width_of size) c d e)
 number_extends link (negated a) slot c d e = number_extends link a slot c _ (extends_put c d _ e)
 number_extends link (applied operator l r) slot c d e =
     number_extends link l slot c _ (by_right (λ b. Extends c b) (constant_operand operator r) slot _ _
     (λ k is. extends_put c d _ e)
     (extends_put c _ _ (number_extends link r (slot + 1) c _ (extends_put c _ _ (extends_put c _ _ (extends_put c d _ e))))))
+number_extends link _ slot c d e = extends_put c d _ e
 
 relation_extends : (link : Link) (comparison : Comparison) (l r : NumberTree) (hit miss : ℕ) (c : List Insn) → Extends c (emit_relation link comparison l r hit miss c)
 relation_extends link comparison l r hit miss c =

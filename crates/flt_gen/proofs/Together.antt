@@ -1,7 +1,8 @@
 -- Addresses or ports that are looked for together read as one after the other.
-use Rattle.std.proofs.Common.{◌≡◌, ℕ, ◌+◌, ◌-◌, ◌*◌, ◌/◌, ◌^◌, ◌%◌, ◌<◌, ◌≤◌, List, [], ◌∷◌, Bool, true, false, Option, Some, None, refl, sym, ap, ap₂, ◌∙◌, subst, arith}
-use Rattle.std.specs.Prelude.{◌==◌, ◌||◌, ◌&&◌, nat_lt, nat_le, min, max, bit_and, if◌then◌else◌}
+use Rattle.std.proofs.Common.{◌≡◌, ℕ, ◌+◌, ◌-◌, ◌*◌, ◌^◌, ◌%◌, ◌≤◌, List, [], ◌∷◌, Bool, true, false, Option, Some, None, refl, sym, ap, ap₂, ◌∙◌, subst, arith}
+use Rattle.std.specs.Prelude.{◌==◌, ◌||◌, ◌&&◌, nat_le, min, max, bit_and, if◌then◌else◌}
 use Rattle.std.proofs.lemmas.Bool.Decides.{nat_tests}
+use mathlib.Core.Bool.{or-false}
 use Rattle.flt_words.specs.declared.token.Protocol.{Protocol}
 use Rattle.flt_words.specs.declared.token.Protocol.TheVariants.{Ip, Arp, Rarp, Tcp, Udp}
 use Rattle.flt_words.specs.declared.token.ValueType.{ValueType}
@@ -14,8 +15,7 @@ use Rattle.flt_ast.specs.declared.qualifiers.CompleteQualifiers.{CompleteQualifi
 use Rattle.flt_ast.specs.declared.value.Value.{Value}
 use Rattle.flt_ast.specs.declared.value.Value.TheVariants as value
 use Rattle.flt_ast.specs.declared.value.NetMask.TheVariants as mask
-use Rattle.flt_ast.specs.declared.net.Ip4Net.{Ip4Net}
-use Rattle.flt_ast.specs.Nets.{first_bits, ip4_net}
+use Rattle.flt_ast.specs.Nets.{first_bits}
 use Rattle.cap_octet.specs.declared.link.Link.{Link}
 use Rattle.cap_octet.specs.Link.{type_offset}
 use Rattle.flt_emit.specs.declared.elementary.FrameKind.{FrameKind}
@@ -29,7 +29,7 @@ use Rattle.flt_emit.specs.declared.elementary.Sides.{Sides}
 use Rattle.flt_gen.specs.declared.port.Transport.{Transport}
 use Rattle.flt_emit.specs.Elementary.{MatchResult, Yes, No, Rejected, reading_of, with, field_at, under_mask, kind_test, elementary_reads}
 use Rattle.flt_emit.specs.Formula.{Formula, is_in, is_within, both, either, all_of, sides, Numbers, no_numbers, any_sides, reads}
-use Rattle.flt_gen.specs.Primitives.{partial_mask, address_places, address_test, port_is, port_between, port_places, port_sides, transport, following, ip_transport, ip6_transport, port_test, port_formula, net_test, net_formula, value_formula}
+use Rattle.flt_gen.specs.Primitives.{address_places, address_test, port_is, port_between, port_places, port_sides, transport, following, ip_transport, ip6_transport, port_test, port_formula, net_test, net_formula, value_formula}
 use Rattle.flt_gen.specs.inside.Intervals.{joined_all, sought}
 use Rattle.flt_gen.specs.inside.Group.{mask_of, found_member, net_numbers, member_of, several_formula}
 use Rattle.flt_gen.proofs.Ascending.{Ordered, within_joined}
@@ -93,10 +93,6 @@ yes_or : (b c : Bool) → exact (b || c) ≡ either (exact b) (exact c)
 yes_or true c = refl
 yes_or false c = refl
 
-or_none : (b : Bool) → (b || false) ≡ b
-or_none true = refl
-or_none false = refl
-
 read_or : (o : Option ℕ) (f g : ℕ → Bool) → read_by o (λ x. f x || g x) ≡ either (read_by o f) (read_by o g)
 read_or None f g = refl
 read_or (Some x) f g = yes_or (f x) (g x)
@@ -106,11 +102,8 @@ read_same None f g e = refl
 read_same (Some x) f g e = ap exact (e x)
 
 both_told : (m n k b o : Bool) → either (exact m) (either (exact (n || b)) (exact (k || o))) ≡ either (either (exact m) (exact n)) (either (exact k) (either (exact b) (exact o)))
-both_told true n k b o = refl
-both_told false true k b o = refl
 both_told false false true true o = refl
-both_told false false true false o = refl
-both_told false false false b o = refl
+both_told _ _ _ _ _ = refl
 
 -- one more in front of those of which k is the first
 one_more : (d : Direction) (s t : Option ℕ) (m k o : ℕ → Bool) → Merged d → sides_read d s t m (λ x. m x || (k x || o x)) (λ x. k x || o x) ≡ either (plain_reads d s t m) (sides_read d s t k (λ x. k x || o x) o)
@@ -126,16 +119,15 @@ one_more (direction.Both Or) (Some x) (Some y) m k o h = both_told (m x) (m y) (
 one_more (direction.Both And) s t m k o h = absurd h
 
 one_alone : (d : Direction) (s t : Option ℕ) (m : ℕ → Bool) → sides_read d s t m (λ x. m x || false) (λ x. false) ≡ plain_reads d s t m
-one_alone (direction.One Source) s t m = read_same s (λ x. m x || false) m (λ x. or_none (m x))
-one_alone (direction.One Destination) s t m = read_same t (λ x. m x || false) m (λ x. or_none (m x))
+one_alone (direction.One Source) s t m = read_same s (λ x. m x || false) m (λ x. or-false (m x))
+one_alone (direction.One Destination) s t m = read_same t (λ x. m x || false) m (λ x. or-false (m x))
 one_alone (direction.Both Or) None t m = refl
 one_alone (direction.Both Or) (Some x) None m = refl
 one_alone (direction.Both Or) (Some x) (Some y) m = last (m x) (m y)
   where
     last : (b c : Bool) → either (exact b) (either (exact (c || false)) (exact false)) ≡ either (exact b) (exact c)
-    last true c = refl
     last false true = refl
-    last false false = refl
+    last _ _ = refl
 one_alone (direction.Both And) s t m = refl
 
 sides_same : (d : Direction) (s t : Option ℕ) (f g a b o q : ℕ → Bool) → ((x : ℕ) → f x ≡ g x) → ((x : ℕ) → a x ≡ b x) → ((x : ℕ) → o x ≡ q x) → sides_read d s t f a o ≡ sides_read d s t g b q
@@ -147,27 +139,22 @@ sides_same (direction.Both And) s t f g a b o q e h k = ap₂ both (read_same s 
 module _ (link : Link) (p : List ℕ) (n : ℕ) where
   or_no : (s : MatchResult) → either s No ≡ s
   or_no Yes = refl
-  or_no No = refl
-  or_no Rejected = refl
+  or_no _ = refl
 
   one_kind : (i a b : MatchResult) → both i (either a b) ≡ either (both i a) (both i b)
   one_kind Yes a b = refl
-  one_kind No a b = refl
-  one_kind Rejected a b = refl
+  one_kind _ a b = refl
 
   -- of three kinds one at most is yes
   three_kinds : (i r q a b c x y z : MatchResult) → (i ≡ Yes → r ≡ No) → (i ≡ Yes → q ≡ No) → (r ≡ Yes → q ≡ No) → either (both i (either a x)) (either (both r (either b y)) (both q (either c z))) ≡ either (either (both i a) (either (both r b) (both q c))) (either (both i x) (either (both r y) (both q z)))
   three_kinds Rejected r q a b c x y z ir iq rq = refl
   three_kinds No Rejected q a b c x y z ir iq rq = refl
   three_kinds No No q a b c x y z ir iq rq = one_kind q c z
-  three_kinds No Yes Yes a b c x y z ir iq rq = absurd (let e = rq refl in cc)
-  three_kinds No Yes Rejected a b c x y z ir iq rq = absurd (let e = rq refl in cc)
   three_kinds No Yes No a b c x y z ir iq rq = or_no (either b y) ∙ ap (λ v. either v y) (sym (or_no b)) ∙ ap (λ v. either (either b No) v) (sym (or_no y))
-  three_kinds Yes Yes q a b c x y z ir iq rq = absurd (let e = ir refl in cc)
-  three_kinds Yes Rejected q a b c x y z ir iq rq = absurd (let e = ir refl in cc)
-  three_kinds Yes No Yes a b c x y z ir iq rq = absurd (let e = iq refl in cc)
-  three_kinds Yes No Rejected a b c x y z ir iq rq = absurd (let e = iq refl in cc)
+  three_kinds No Yes _ a b c x y z ir iq rq = absurd (let e = rq refl in cc)
   three_kinds Yes No No a b c x y z ir iq rq = or_no (either a x) ∙ ap (λ v. either v x) (sym (or_no a)) ∙ ap (λ v. either (either a No) v) (sym (or_no x))
+  three_kinds Yes No _ a b c x y z ir iq rq = absurd (let e = iq refl in cc)
+  three_kinds Yes _ q a b c x y z ir iq rq = absurd (let e = ir refl in cc)
 
   abbrev kind_reads : FrameKind → MatchResult
   kind_reads k = elementary_reads (kind_test link k) p
@@ -176,9 +163,8 @@ module _ (link : Link) (p : List ℕ) (n : ℕ) where
   two_kinds : (i r a b x y : MatchResult) → (i ≡ Yes → r ≡ No) → either (both i (either a x)) (both r (either b y)) ≡ either (either (both i a) (both r b)) (either (both i x) (both r y))
   two_kinds Rejected r a b x y ir = refl
   two_kinds No r a b x y ir = one_kind r b y
-  two_kinds Yes Yes a b x y ir = absurd (let e = ir refl in cc)
-  two_kinds Yes Rejected a b x y ir = absurd (let e = ir refl in cc)
   two_kinds Yes No a b x y ir = or_no (either a x) ∙ ap (λ v. either v x) (sym (or_no a)) ∙ ap (λ v. either (either a No) v) (sym (or_no x))
+  two_kinds Yes _ a b x y ir = absurd (let e = ir refl in cc)
 
   -- ports: what stands before the sides
   abbrev told : Elementary → MatchResult
@@ -207,10 +193,8 @@ module _ (link : Link) (p : List ℕ) (n : ℕ) where
   whole_is (Some t) f = refl
 
   transport_is : (protocol : Option Protocol) (header : Transport) (f : Formula) → reads link (transport protocol header.tcp header.udp f) p n ≡ both (transport_reads protocol header) (reads link f p n)
-  transport_is None header f = refl
   transport_is (Some Tcp) header f = refl
-  transport_is (Some Udp) header f = refl
-  transport_is (Some _) header f = refl
+  transport_is _ header f = refl
 
   after_is : (protocol : Option Protocol) (header : Transport) (f : Formula) → reads link (transport protocol header.tcp header.udp (following header.no_later_fragment f)) p n ≡ after_reads protocol header (reads link f p n)
   after_is protocol header f =
@@ -302,15 +286,14 @@ module _ (link : Link) (p : List ℕ) (n : ℕ) where
 
       same : sides_read d (source_of at) (destination_of at) (λ x. is_within (u x) (m.numbers ∷ [])) (λ x. is_within (u x) (joined_all all)) (λ x. is_within (u x) (joined_all others)) ≡ sides_read d (source_of at) (destination_of at) (hit m) (any_hit (m ∷ ms)) (any_hit ms)
       same = sides_same d (source_of at) (destination_of at) _ _ _ _ _ _
-          (λ x. or_none (is_in (u x) m.numbers) ∙ same_hit m t g.0 x)
+          (λ x. or-false (is_in (u x) m.numbers) ∙ same_hit m t g.0 x)
           (λ x. within_joined (u x) all oa ∙ wa (u x) ∙ any_same (m ∷ ms) t g x)
           (λ x. within_joined (u x) others oo ∙ wo (u x) ∙ any_same ms t g.1 x)
 
       by : (e : Direction) → Merged e → reads link (any_sides e at (mask_of t) (sought m.numbers all others)) p n ≡ sides_read e (source_of at) (destination_of at) (λ x. is_within (u x) (m.numbers ∷ [])) (λ x. is_within (u x) (joined_all all)) (λ x. is_within (u x) (joined_all others))
-      by (direction.One Source) q = refl
-      by (direction.One Destination) q = refl
-      by (direction.Both Or) q = refl
       by (direction.Both And) q = absurd q
+      by (direction.One Source) q = refl
+      by _ q = refl
 
   -- ports have no mask
   pub several_are : (q : CompleteQualifiers) (t : ℕ) (k : ValueType) (m : Member) (ms : List Member) (all others : List Interval) → (is_port k ≡ true → 32 ≤ t) → Merged q.direction → Goods (m ∷ ms) t → Ordered 0 all → Ordered 0 others → ((y : ℕ) → is_within y all ≡ raw_any (m ∷ ms) y) → ((y : ℕ) → is_within y others ≡ raw_any ms y) → reads link (several_formula link q t k (sought m.numbers all others)) p n ≡ members_read k q.protocol q.direction m ms
@@ -323,11 +306,8 @@ module _ (link : Link) (p : List ℕ) (n : ℕ) where
       each at = sides_are at q.direction t m ms all others h g oa oo wa wo
 
       hosts_are : (protocol : Option Protocol) → reads link (several_formula link (record q { protocol = protocol }) t Host numbers) p n ≡ hosts_by protocol (λ at. side_reads at q.direction t numbers)
-      hosts_are None = refl
       hosts_are (Some Ip) = refl
-      hosts_are (Some Arp) = refl
-      hosts_are (Some Rarp) = refl
-      hosts_are (Some _) = refl
+      hosts_are _ = refl
 
       ports : 32 ≤ t → reads link (several_formula link q t Port numbers) p n ≡ ports_by q.protocol (λ at. side_reads at q.direction t numbers)
       ports l =
@@ -362,11 +342,8 @@ module _ (link : Link) (p : List ℕ) (n : ℕ) where
       row at = reads link (sides d (address_test mask a at.source ∷ []) (address_test mask a at.destination ∷ [])) p n
 
       kinds_are : (protocol : Option Protocol) → reads link (net_formula link protocol (net_test d mask a)) p n ≡ hosts_by protocol row
-      kinds_are None = refl
       kinds_are (Some Ip) = refl
-      kinds_are (Some Arp) = refl
-      kinds_are (Some Rarp) = refl
-      kinds_are (Some _) = refl
+      kinds_are _ = refl
 
       each : (k : FrameKind) → row (address_places link k) ≡ plain_reads d (source_of (address_places link k)) (destination_of (address_places link k)) f
       each k =

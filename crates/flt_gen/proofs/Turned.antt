@@ -52,7 +52,6 @@ one_walked link w _ _ ns e = refl
 
 last_walked : (link : Link) (w : Walk) (n : Node) → emit_nodes link w (n ∷ []) ≡ emit_node link w n
 last_walked link w (node.Apply o) = refl
-last_walked link w (node.Compare c) = refl
 last_walked link w _ = refl
 
 -- the last of the nodes that are left

@@ -48,15 +48,13 @@ constant_walked link o k a w d left true = left _
 constant_walked link o k a w d left false = left _
 
 number_walked : (link : Link) (a : NumberTree) (w : Walk) (d : List Node) → emit_nodes link w (number_onto a d) ≡ emit_nodes link (finish_number link w.numbers (with_number link a w)) d
-number_walked link (literal n) w d = refl
-number_walked link (named n) w d = refl
-number_walked link len w d = refl
 number_walked link (load p s a) w d = number_walked link a _ d
 number_walked link (negated a) w d = number_walked link a _ d
 number_walked link (applied o a (literal k)) w d = constant_walked link o k a w d (λ v. number_walked link a v d) (takes_constant o k)
 number_walked link (applied o a (named k)) w d = constant_walked link o k a w d (λ v. number_walked link a v d) (takes_constant o k)
 number_walked link (applied o a len) w d = number_walked link a _ d
 number_walked link (applied o a r) w d = number_walked link r _ (number_onto a d) ∙ number_walked link a _ d
+number_walked link _ w d = refl
 
 -- a walk between two truths, with hosts that wait; and one after an or
 abbrev pub waiting : List Insn → Targets → List LeftTruth → Group → Walk

@@ -23,7 +23,7 @@ use Rattle.flt_ast.specs.Nodes.{expr_nodes}
 use Rattle.flt_ast.specs.Resolved.{is_unfilled, some_primitive}
 use Rattle.flt_ast.specs.Tree.{Expression, empty, truth}
 use Rattle.cap_octet.specs.declared.link.Link.{Link}
-use Rattle.flt_emit.specs.Elementary.{MatchResult, Yes, No, Rejected}
+use Rattle.flt_emit.specs.Elementary.{MatchResult, Yes}
 use Rattle.flt_emit.specs.inside.Code.{plain}
 use Rattle.flt_gen.specs.Correct.{IsProgramOf}
 use Rattle.flt_gen.specs.Counts.{short_bound_of}
@@ -73,8 +73,7 @@ miss_leads p n = record { inside = omega arith; by = λ s long. refl }
 
 pick_right : (r : MatchResult) → (pick r 262144 0 ≢ 0) ↔ (r ≡ Yes)
 pick_right Yes = (λ h. refl, λ e z. absurd (omega arith))
-pick_right No = (λ h. absurd (h refl), λ e. cc)
-pick_right Rejected = (λ h. absurd (h refl), λ e. cc)
+pick_right _ = (λ h. absurd (h refl), λ e. cc)
 
 -- how the code of an expression stands on the two returns, and where it leads
 fits : (link : Link) (e : Expression) → some_primitive is_unfilled e ≡ false → words_of e ≤ 16 → Fits returns_code (expression_code link e) (4 * tests_of e + 6 * nodes_of e) (6 * (tests_of e + nodes_of e))

@@ -14,9 +14,8 @@ abbrev left_walk : Link → List Node → ℕ → Walk → Walk
 left_walk link ns k w = emit_nodes link w (reverse (take k ns))
 
 first_put : (link : Link) (ns : List Node) (left : ℕ) (w : Walk) → 0 < left → left ≤ length ns → left - 1 ≡ 0 → left_walk link ns (left - 1) (emit_node link w (get_or ns (left - 1) (Check Ether))) ≡ left_walk link ns left w
-first_put link ns zero w some within first = absurd (omega arith)
 first_put link ns (suc zero) w some within first = sym (last_node link ns zero (Check Ether) w (omega arith) refl)
-first_put link ns (suc (suc k)) w some within first = absurd (omega arith)
+first_put link ns _ w some within first = absurd (omega arith)
 
 node_put : (link : Link) (ns : List Node) (left : ℕ) (w : Walk) → 0 < left - 1 → left ≤ length ns → emit_both_nodes link w (get_or ns (left - 1) (Check Ether)) (get_or ns (left - 1 - 1) (Check Ether)) ≡ None → left_walk link ns (left - 1) (emit_node link w (get_or ns (left - 1) (Check Ether))) ≡ left_walk link ns left w
 node_put link ns left w some within none =
