@@ -7,8 +7,8 @@ use Rattle.cap_octet.specs.Date.{NANOS_PER_SECOND}
 use Rattle.cap_octet.specs.Digits.{decimal_value}
 use Rattle.cap_octet.specs.Seconds.{fraction_nanoseconds, time_below_end, duration_value}
 
--- how many days after 1970-01-01 a day comes, if the calendar has it and its year is from 1970 to
--- 9999; else None
+-- the days from 1970-01-01 to a day; None if the calendar lacks the day or its year isn't from 1970
+-- to 9999
 abbrev pub day_number : ℕ → ℕ → ℕ → Option ℕ
 day_number year month day =
     if nat_le 1970 year
@@ -46,8 +46,8 @@ time_of_parts day clock fraction =
     (λ c. option_and_then
     (λ f. time_below_end ((d * 86400 + c) * NANOS_PER_SECOND + f)) fraction) clock) day
 
--- the number that `count` digits from place `at` write, or fewer if the text ends before; None
--- if one isn't a digit, or there is none
+-- the value of the `count` digits at place `at`, or of fewer if the text ends before; None if there
+-- are none or one isn't a digit
 abbrev pub number_at : List ℕ → ℕ → ℕ → Option ℕ
 number_at text at count = decimal_value (take count (drop at text))
 
@@ -66,8 +66,8 @@ is_date_time text =
     && ((slice_index text 13 == 58)
     && ((slice_index text 16 == 58) && (slice_index text (length text - 1) == 90))))))
 
--- the nanoseconds since 1970-01-01 of a text whose marks are in their places; None where what
--- stands between the marks isn't a date, time of day and fraction, or they aren't below 2^63
+-- the nanoseconds since 1970-01-01 of a text whose marks are in their places; None if the parts
+-- between the marks aren't a date, time of day and fraction, or if the time is 2^63 or more
 unfoldable pub date_time_value : List ℕ → Option ℕ
 date_time_value text =
     time_of_parts (day_of_parts (number_at text 0 4) (number_at text 5 2) (number_at text 8 2))

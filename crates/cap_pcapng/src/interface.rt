@@ -20,7 +20,7 @@ pub(crate) const RESOLUTION_CODE: u16 = 9;
 /// The code of an offset (option if_tsoffset).
 const OFFSET_CODE: u16 = 14;
 
-/// How many ticks make a second if no resolution is given.
+/// The ticks per second if no resolution is given.
 const MICROSECONDS: u64 = 1_000_000;
 
 /// The most bytes of an interface's name, as a capture that is read may have them.
@@ -43,18 +43,17 @@ pub struct Interface<'a> {
     ghost short_name: { length name.now ≤ 255 },
 }
 
-/// What the options so far say of an interface: the value of the first of each code; `None` if
-/// none of the code came.
+/// The options found so far: the value of the first one of each code, or `None`.
 #[derive(Clone, Copy)]
 struct FoundOptions<'a> {
     name: Option<&'a [u8]>,
-    /// How many ticks make a second.
+    /// The ticks per second.
     units: Option<u64>,
     /// What is added to each time, in seconds.
     offset: Option<i64>,
 }
 
-/// The name that an option's value is, or `BadOption` if it has over 255 bytes.
+/// The name in an option's value, or `BadOption` if it has over 255 bytes.
 fn name_in_value(value: &[u8]) -> Result<&[u8], Fault>
     ensures { ChecksGive (name_checks value.now) result (λ name. name.now ≡ value.now) }
 {
@@ -64,8 +63,8 @@ fn name_in_value(value: &[u8]) -> Result<&[u8], Fault>
     Ok(value)
 }
 
-/// How many ticks make a second, by the resolution that an option's value is; or `BadOption` if
-/// it isn't one byte, `BadTimeResolution` if that is out of range (`units_per_second`).
+/// The ticks per second, by the resolution in an option's value; or `BadOption` if the value isn't
+/// one byte, `BadTimeResolution` if that byte is out of range (`units_per_second`).
 fn units_in_value(value: &[u8]) -> Result<u64, Fault>
     ensures { ChecksGive (resolution_checks value.now) result
         (λ units. units ≡ units_in_value value.now) }
@@ -76,8 +75,8 @@ fn units_in_value(value: &[u8]) -> Result<u64, Fault>
     units_per_second(value[0])
 }
 
-/// The offset that an option's value is, in seconds, or `BadOption` if it isn't eight bytes (a
-/// signed number in the block's byte order).
+/// The offset in an option's value, in seconds: a signed number of eight bytes in the block's byte
+/// order; or `BadOption` if the value hasn't eight bytes.
 #[tactic(auto, unfolding(cap_octet::specs::Number::number_in))]
 fn offset_in_value(order: Order, value: &[u8]) -> Result<i64, Fault>
     ensures { ChecksGive (offset_checks value.now) result
@@ -142,8 +141,8 @@ impl<'a> InterfaceBlock<'a> {
     ghost use Rattle.cap_pcapng.specs.declared.frames.BlockType.TheVariants as kind;
 
     /// Reads the body of an interface description block, or returns the first check that it fails:
-    /// `BadBody` if it is shorter than 8 bytes, or that of one of its options. If no option
-    /// says them, there is no name, a tick is a microsecond and the offset 0.
+    /// `BadBody` if it is shorter than 8 bytes, or that of one of its options. The defaults are no
+    /// name, ticks of a microsecond and the offset 0.
     pub(crate) fn of_body(order: Order, body: &'a [u8]) -> Result<Self, Fault>
         ensures found { ChecksGive (body_checks kind.Interface order body.now
             ++ option_checks (parts_in_body kind.Interface order body.now)) result

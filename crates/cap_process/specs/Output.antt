@@ -1,4 +1,4 @@
--- What a contract sees of the output of a job, and what its calls do.
+-- The view of a job's output.
 use Rattle.std.specs.Prelude.{◌≡◌, ℕ, ◌+◌, List, ◌++◌}
 use Rattle.cap_octet.specs.Packet.{Captured}
 use Rattle.cap_print.specs.declared.print.Options.{Options}
@@ -11,15 +11,15 @@ use Rattle.cap_process.specs.declared.output.Writing.TheVariants as writing
 use Rattle.cap_process.specs.Outcome.{Form, AsCapture, AsReports, AsLines, lines_text}
 use Rattle.cap_process.specs.Reports.{Report, reports_text}
 
--- What is written into: a capture; or a text or the lines of packets, with the bytes that the
--- output took, a count of its failures, and how many bytes in all it takes at least before it
--- fails.
+-- The view of an output: a capture, a text or the lines of packets. A text and lines have the bytes
+-- written, the number of failures, and the number of bytes in all that the output takes at least
+-- before it fails.
 pub data Target : Type 0 where
   Capture : (sink : SinkView) → Target
   Text : (written : List ℕ) → (failures room : ℕ) → Target
   Lines : (options : Options) → (written : List ℕ) → (failures room : ℕ) → Target
 
--- what a device of the code is, by what its output shows of its bytes, its failures and its room
+-- the view of a `Device`, from the bytes written, the failures and the room of its output
 abbrev pub target_of : {O Z : Type 0} → (O → List ℕ) → (O → ℕ) → (O → ℕ) → Device O Z → Target
 target_of written failures room (device.Capture sink) = Capture sink
 target_of written failures room (device.Text output) =
@@ -46,13 +46,13 @@ written_to (Capture sink) = sink.written
 written_to (Text written failures room) = written
 written_to (Lines options written failures room) = written
 
--- how often a target's output failed
+-- the number of failures of a target's output
 abbrev pub failures_to : Target → ℕ
 failures_to (Capture sink) = sink.failures
 failures_to (Text written failures room) = failures
 failures_to (Lines options written failures room) = failures
 
--- how many bytes in all a target's output takes at least before it fails
+-- the number of bytes in all that a target's output takes at least before it fails
 abbrev pub room_to : Target → ℕ
 room_to (Capture sink) = sink.room
 room_to (Text written failures room) = room

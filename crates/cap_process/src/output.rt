@@ -1,4 +1,4 @@
-//! The place where a job writes: into a capture, or lines or a text.
+//! The output of a job: a capture, lines of packets, or a text.
 //!
 //! An error of these functions means that the device failed, unless a function says otherwise.
 ghost use Rattle.std.specs.Prelude.{◌≡◌, ◌+◌, IfErr, IsTrue, true};
@@ -91,7 +91,7 @@ impl<O: Output, A: Allocator> JobOutput<O, A> {
         }
     }
 
-    /// Makes the device pass on what it holds back, and returns whether it could.
+    /// Makes the device write its buffered bytes, and returns whether it could.
     pub fn release(&mut self) -> bool
         ensures kept { self.new ≡ self.old }
         ensures sure { IsTrue O.tells → result ≡ true }
@@ -117,7 +117,7 @@ impl<O: Output, A: Allocator> JobOutput<O, A> {
         }
     }
 
-    /// Writes the listing of a program. Only an output of text is asked for one.
+    /// Writes the listing of a program. The output must be a text.
     pub fn list(&mut self, program: &Program<A>) -> Result<(), DeviceFault>
         requires { is_text self.old ≡ true }
         ensures exact { IsTrue O.tells

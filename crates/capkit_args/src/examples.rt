@@ -1,6 +1,6 @@
-//! What `--version` prints, and what stands below the options of `--help`.
+//! What `--version` prints, and the text below the options of `--help`.
 //!
-//! A description ends with a colon, and its command lines stand below it, deeper by two blanks.
+//! A description ends with a colon; its command lines follow it, indented by two more blanks.
 //! `packaging/pages.py` reads them so for the manual pages. No line has more than 80 columns.
 
 /// The version of the program, as in `packaging/version`, and of the toolchain that proves it.
@@ -9,17 +9,17 @@ pub const VERSION: &str = "0.1.0 (rattle-kit-13f logic dac8208d650f15bf)";
 pub const LINE_HELP: &str = "\
 capkit COMMAND --help has the options and examples of a command.
 
-Status: 0 done, 1 a fault, 2 refused. More: man capkit";
+Exit status: 0 success, 1 error, 2 refused. More: man capkit";
 
 pub const EDIT_HELP: &str = "\
 Examples:
   Delete packets 2 and 3, and write pcap:
     capkit edit -F pcap in.pcap out.pcap 2-3
-  Keep the first thousand packets alone:
+  Keep only the first thousand packets:
     capkit edit -r in.pcapng out.pcapng 1-1000
   Keep an hour of a day:
     capkit edit -A 2026-01-31T12:00:00Z -B 2026-01-31T13:00:00Z day.pcap noon
-  Keep the headers alone:
+  Keep only the headers:
     capkit edit -s 96 in.pcap headers.pcapng
   Remove 8 bytes that a tap puts before each packet:
     capkit edit --chop-start 8 tapped.pcap plain.pcapng
@@ -32,7 +32,7 @@ Examples:
   Leave out the duplicates of a mirror port:
     capkit edit -D 5 mirrored.pcap single.pcapng
 
-Status: 0 done, 1 a fault, 2 refused. More: man capkit-edit";
+Exit status: 0 success, 1 error, 2 refused. More: man capkit-edit";
 
 pub const MERGE_HELP: &str = "\
 Examples:
@@ -41,7 +41,7 @@ Examples:
   Join the files of a ring buffer, the oldest first:
     capkit merge -a -F pcap -w all.pcap ring.pcap1 ring.pcap2 ring.pcap0
 
-Status: 0 done, 1 a fault, 2 refused. More: man capkit-merge";
+Exit status: 0 success, 1 error, 2 refused. More: man capkit-merge";
 
 pub const INFOS_HELP: &str = "\
 Examples:
@@ -50,7 +50,7 @@ Examples:
   Report on a compressed capture:
     zcat day.pcap.gz | capkit infos -
 
-Status: 0 done, 1 a fault, 2 refused. More: man capkit-infos";
+Exit status: 0 success, 1 error, 2 refused. More: man capkit-infos";
 
 pub const PRINT_HELP: &str = "\
 Examples:
@@ -61,14 +61,14 @@ Examples:
   Count the packets that match:
     capkit print in.pcap 'tcp[tcpflags] & tcp-syn != 0' | wc -l
 
-Status: 0 done, 1 a fault, 2 refused. More: man capkit-print";
+Exit status: 0 success, 1 error, 2 refused. More: man capkit-print";
 
 pub const COMPILE_HELP: &str = "\
 Examples:
-  Compile an expression, and match by its listing:
+  Compile an expression, and filter with its listing:
     capkit compile 'tcp port 80' > listing
     capkit print --code listing in.pcap
   Compile for captures of raw IP:
     capkit compile --link raw 'udp port 53'
 
-Status: 0 done, 1 a fault, 2 refused. More: man capkit-compile";
+Exit status: 0 success, 1 error, 2 refused. More: man capkit-compile";

@@ -41,7 +41,7 @@ pub enum Value {
 /// An argument of a subcommand.
 #[derive(Clone, Copy)]
 pub struct Argument {
-    /// By this its value is read back from clap's matches (`ids.rt`).
+    /// The key of its value in clap's matches (`ids.rt`).
     pub id: &'static str,
     /// How it is named on the command line.
     pub name: Name,
@@ -58,17 +58,17 @@ pub struct CommandRow {
     pub name: &'static str,
     /// What help says of it.
     pub about: &'static str,
-    /// What stands below the options in help.
+    /// The text below the options in help.
     pub examples: &'static str,
     /// Its arguments: the options, in the order in which help lists them, and then those by place,
     /// which help lists first.
     pub arguments: &'static [Argument],
 }
 
-/// The greatest number of 32 bits, to which counts of bytes go.
+/// The greatest 32-bit number, the limit of counts of bytes.
 const MOST_32: i64 = 4_294_967_295;
 
-const FORMAT_HELP: &str = "Format to write, pcapng if none is given{n}";
+const FORMAT_HELP: &str = "Format to write (default: pcapng){n}";
 
 const FILE: Argument = Argument {
     id: ids::FILE,
@@ -100,7 +100,7 @@ const EDIT: CommandRow = CommandRow {
             id: ids::KEEP,
             name: Name::Letter('r'),
             value: Value::Flag,
-            help: "Keep the packets of the ranges, and no others",
+            help: "Keep the packets in the ranges instead of deleting them",
         },
         Argument {
             id: ids::START,
@@ -186,7 +186,7 @@ const MERGE: CommandRow = CommandRow {
             id: ids::APPEND,
             name: Name::Letter('a'),
             value: Value::Flag,
-            help: "Join the captures, one after another, and don't merge by time",
+            help: "Concatenate the captures instead of merging by time",
         },
         Argument {
             id: ids::FORMAT,
@@ -222,7 +222,7 @@ const PRINT: CommandRow = CommandRow {
             id: ids::COUNT,
             name: Name::Letter('c'),
             value: Value::Wide("N", 1, u64::MAX),
-            help: "End after N packets that match, 1 or more",
+            help: "Stop after N matching packets, 1 or more",
         },
         Argument {
             id: ids::LINK_HEADER,
@@ -252,7 +252,7 @@ const PRINT: CommandRow = CommandRow {
             id: ids::LISTING,
             name: Name::Long("code"),
             value: Value::File,
-            help: "Program to match by, in place of an expression",
+            help: "Match with this listing instead of an expression",
         },
         FILE,
         WORD,
@@ -261,14 +261,14 @@ const PRINT: CommandRow = CommandRow {
 
 const COMPILE: CommandRow = CommandRow {
     name: "compile",
-    about: "Write the listing of a program that an expression compiles to",
+    about: "Compile an expression, and write the listing of its program",
     examples: COMPILE_HELP,
     arguments: &[
         Argument {
             id: ids::LINK,
             name: Name::Long("link"),
             value: Value::Link,
-            help: "Compile for this link type, ether if none is given{n}",
+            help: "Compile for this link type (default: ether){n}",
         },
         WORD,
     ],

@@ -24,9 +24,9 @@ pub(crate) fn rule_number(fault: CheckFault) -> u32
     }
 }
 
-/// 0 if instructions are a valid program; else the number of the first rule that they break.
-/// `index` becomes the index, from 0, of the instruction that breaks it, or 0 if the rule is on
-/// the whole, and if there is none.
+/// Returns 0 if the instructions are a valid program, otherwise the number of the first rule that
+/// they break. `index` becomes the index, from 0, of the instruction that breaks it; or 0 if the
+/// rule is about the whole program, or the program is valid.
 #[unsafe(no_mangle)]
 pub extern "C" fn capkit_check(insns: &[Insn], index: &mut usize) -> u32
     ensures { CheckLeaves insns.now index.new result }
@@ -43,9 +43,9 @@ pub extern "C" fn capkit_check(insns: &[Insn], index: &mut usize) -> u32
     }
 }
 
-/// What a valid program returns on a packet of original length `len`; `steps` becomes the number of
-/// instructions that the run met. C sees to it that the instructions passed the check, or were
-/// compiled.
+/// Runs a valid program on a packet of original length `len`, and returns its result; `steps`
+/// becomes the number of executed instructions. The C caller must pass only instructions that were
+/// compiled or passed the check.
 #[unsafe(no_mangle)]
 pub extern "C" fn capkit_run_unchecked(
     insns: &[Insn],
@@ -72,9 +72,9 @@ pub extern "C" fn capkit_matches_unchecked(insns: &[Insn], packet: &[u8], len: u
     run_insns(insns, packet, len).0
 }
 
-/// What instructions return on a packet of original length `len`, valid or not; `steps` becomes the
-/// number of those that the run met. If a run meets one that breaks a rule, or goes past the end,
-/// it returns 0 after 0 steps.
+/// Runs instructions, valid or not, on a packet of original length `len`, and returns their result;
+/// `steps` becomes the number of executed instructions. If the run reaches an instruction that
+/// breaks a rule, or goes past the end, it returns 0 and `steps` becomes 0.
 #[unsafe(no_mangle)]
 pub extern "C" fn capkit_run(insns: &[Insn], packet: &[u8], len: u32, steps: &mut usize) -> u32
     ensures { RunLeaves insns.now packet.now len result steps.new }
@@ -91,8 +91,8 @@ pub extern "C" fn capkit_matches(insns: &[Insn], packet: &[u8], len: u32) -> u32
     capkit_run_any(insns, packet, len, &mut steps)
 }
 
-/// Puts into `steps` what the machine is before each instruction that a run of a valid program
-/// meets, as far as there is room, and returns how many the run meets; what is after them stays.
+/// Records in `steps` the state before each executed instruction of a valid program, as far as
+/// there is room, and returns the number of executed instructions. Other elements don't change.
 #[unsafe(no_mangle)]
 pub extern "C" fn capkit_trace(insns: &[Insn], packet: &[u8], len: u32, steps: &mut [Step]) -> usize
     requires { IsValid insns.now }
@@ -101,8 +101,8 @@ pub extern "C" fn capkit_trace(insns: &[Insn], packet: &[u8], len: u32, steps: &
     trace(insns, packet, len, steps).1
 }
 
-/// What any instructions return on a packet of original length `len`, valid or not. If a run
-/// meets one that breaks a rule, or goes past the end, it returns 0 after 0 steps.
+/// `capkit_run` under another name: it runs any instructions, valid or not. If the run reaches an
+/// instruction that breaks a rule, or goes past the end, it returns 0 and `steps` becomes 0.
 #[unsafe(no_mangle)]
 pub extern "C" fn capkit_run_any(insns: &[Insn], packet: &[u8], len: u32, steps: &mut usize) -> u32
     ensures { RunLeaves insns.now packet.now len result steps.new }

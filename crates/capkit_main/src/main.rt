@@ -9,7 +9,7 @@ use capkit_engine::Jobs;
 use capkit_host::program::run_program;
 use std::process::ExitCode;
 
-/// Does what the words ask for, and exits with its status: 0 done, 1 a fault, 2 refused.
+/// Does what the words ask for, and exits with its status: 0 success, 1 error, 2 refused.
 fn main(rt: HostRuntime) -> ExitCode {
     ExitCode::from(run_program::<Jobs>(&rt))
 }

@@ -4,7 +4,7 @@ use Rattle.flt_bpf.specs.declared.fault.ListingFault.{ListingFault}
 use Rattle.flt_bpf.specs.declared.fault.ListingFault.TheVariants.{NotListing, Memory}
 use Rattle.flt_bpf.specs.Listing.{IsRefusedAt}
 
--- the line is the one at which the text is refused; memory may be refused whatever the text is
+-- `NotListing line`: the text is refused at this line. `Memory` may be returned for every text.
 abbrev pub IsReasonFor : List ℕ → ListingFault → Type 0
 IsReasonFor text (NotListing line) = IsRefusedAt text line
 IsReasonFor text Memory = Unit {0}

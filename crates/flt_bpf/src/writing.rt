@@ -1,4 +1,4 @@
-//! Listings, written, in the form that `reading` reads. Each line is put together from its end.
+//! Writes listings in the form that `reading` reads; each line is built from its end.
 
 ghost use Rattle.std.specs.Prelude.{◌≡◌, ℕ, ◌+◌, ◌<◌, ◌≤◌, List, [], ◌∷◌, ◌++◌};
 ghost use Rattle.std.specs.Prelude.{length, drop, decimal, IsTrue, IfErr};
@@ -11,7 +11,7 @@ use crate::reading::{BLANK, LINE_FEED};
 use cap_octet::{Output, Stopped, write_all};
 use std::alloc::Allocator;
 
-/// How many bytes a line has at most: numbers of 5, 3, 3 and 10 digits, and a byte after each.
+/// The most bytes of a line: numbers of 5, 3, 3 and 10 digits, and a byte after each.
 const MOST_LINE_BYTES: usize = 25;
 
 /// Writes the listing of a program, and takes no memory. An error is a failure of the output in

@@ -1,9 +1,10 @@
 //! From filter expressions to programs of the packet-filter machine. `cap_filter` calls
 //! [`generate`]; read that first, then `walk::Walk` and `steps::Steps`.
 //!
-//! - `program` has all stages. `folding` first makes one number of arithmetic of only numbers.
-//! - `walk` takes the nodes from the last to the first and emits their code, with `waiting` (what
-//!   waits meanwhile) and `number` (arithmetic).
+//! - `program` has all stages. `folding` first computes arithmetic on constants, and joins
+//!   negations.
+//! - `walk` takes the nodes from the last to the first and emits their code, with `waiting` (left
+//!   operands and accessors, whose code is emitted later) and `number` (arithmetic).
 //! - `steps` has a primitive's formula as tests and operators. `protocol`, `address` and `port` put
 //!   the rows of the table of primitives (`specs/Primitives.antt`) into steps; `group` puts hosts
 //!   or ports that are looked for together, `value` any other value.

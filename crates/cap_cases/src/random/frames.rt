@@ -1,8 +1,8 @@
-//! Captured bytes of packets, half of them real.
+//! Random packets with usual headers; one in three is cut.
 
 use crate::random::choices::Random;
 
-/// How many bytes a packet has at most.
+/// The most bytes of a packet.
 pub const MOST_BYTES: usize = 128;
 
 /// The link type of Ethernet.
@@ -25,7 +25,7 @@ const PROTOCOLS: [u16; 7] = [1, 6, 6, 17, 17, 58, 99];
 /// Ports that expressions name too.
 const PORTS: [u16; 5] = [53, 80, 443, 8080, 65535];
 
-/// Writes over the bytes from a place on, as far as there are some.
+/// Overwrites the bytes from a place on with these values, up to the end of the bytes.
 pub fn overwrite(bytes: &mut [u8], place: usize, values: &[u8]) {
     for (byte, value) in bytes.iter_mut().skip(place).zip(values.iter()) {
         *byte = *value;
@@ -103,7 +103,7 @@ fn write_ether(random: &mut Random, frame: &mut [u8]) {
     }
 }
 
-/// Writes the heads that are usual on a link.
+/// Writes the headers that are usual on a link.
 fn write_heads(random: &mut Random, frame: &mut [u8], link: u16) {
     let kind = random.number_of(&ETHER_TYPES);
     let network = match link {
@@ -133,7 +133,7 @@ pub struct Frame {
 }
 
 impl Frame {
-    /// Whole, or cut anywhere.
+    /// A packet with the usual headers of a link, whole or cut anywhere.
     pub fn new(random: &mut Random, link: u16) -> Self {
         let mut bytes = [0u8; MOST_BYTES];
         random.fill(&mut bytes);

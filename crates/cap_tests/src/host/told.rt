@@ -205,7 +205,7 @@ Commands:
   merge    Write the packets of captures as one capture, by time
   infos    Write a report on each capture
   print    Print or write the packets that match an expression or a listing
-  compile  Write the listing of a program that an expression compiles to
+  compile  Compile an expression, and write the listing of its program
 
 Usage: capkit <COMMAND>
 ";

@@ -1,4 +1,5 @@
--- The result of each step over the packets keeps and, before its end is reported.
+-- The result of a step over the packets, and what it keeps, before its end is reported; and the job
+-- after that.
 use Rattle.std.specs.Prelude.{◌≡◌, ◌+◌, ◌<◌, Bool, IsTrue, Some, Option, None}
 use Rattle.cap_octet.specs.Views.{OutputView}
 use Rattle.cap_tools.specs.declared.step.JobEnd.{JobEnd}
@@ -9,8 +10,8 @@ use Rattle.cap_tools.specs.Jobs.{JobView, end_status}
 use Rattle.cap_tools.specs.Bounds.{IsLight, StepReads}
 use Rattle.cap_tools.specs.inside.Bounds.{IsPaid, step_goes_on}
 
--- The result of a step, if the inputs show their bytes, and the output does; and what holds of any
--- device. Messages and steps are not touched.
+-- The result of a step. `exact` holds if contracts know the bytes of the inputs and of the output;
+-- the other clauses hold for all devices. Messages and the count of steps don't change.
 pub record IsStep (inputs_tell output_tells : Bool) (old : JobView) (r : Option JobEnd)
     (new : JobView) : Type 0 where
   pub exact : IsTrue inputs_tell → IsTrue output_tells → StepGives old.state r new.state
@@ -27,7 +28,7 @@ pub record IsStep (inputs_tell output_tells : Bool) (old : JobView) (r : Option 
   pub turns : new.turns ≡ old.turns
   pub done : r ≡ None → new.done ≡ old.done
 
--- the job that ended so, with these messages
+-- the job after this end: these messages, one step more, and the status of the end
 abbrev pub ending : JobEnd → OutputView → JobView → JobView
 ending end err j = record {
   preparing = j.preparing;
