@@ -141,8 +141,8 @@ impl<'a> InterfaceBlock<'a> {
     ghost use Rattle.cap_pcapng.specs.declared.frames.BlockType.TheVariants as kind;
 
     /// Reads the body of an interface description block, or returns the first check that it fails:
-    /// `BadBody` if it is shorter than 8 bytes, or that of one of its options. The defaults are no
-    /// name, ticks of a microsecond and the offset 0.
+    /// `BadBody` if it is shorter than 8 bytes, or that of one of its options. By default the name
+    /// is empty, a tick is a microsecond and the offset is 0.
     pub(crate) fn of_body(order: Order, body: &'a [u8]) -> Result<Self, Fault>
         ensures found { ChecksGive (body_checks kind.Interface order body.now
             ++ option_checks (parts_in_body kind.Interface order body.now)) result

@@ -57,7 +57,7 @@ tally_of ps = record {
   ascends = ascends (times ps);
 }
 
--- what is counted of packets is their tally, however many they are
+-- the tally after any number of counted packets is `tally_of` them
 abbrev pub CountsAll : Type 0
 CountsAll =
     (names : List (List ℕ)) (ps : List Captured)
@@ -127,15 +127,14 @@ first_without_time s number [] = None
 first_without_time s number (p ∷ ps) =
     if has_no_time_after_shift s number p.packet then Some p.offset else first_without_time s (number + 1) ps
 
--- how a job ends by the place of such a packet: by the fault of its time there; without one it goes
--- on
+-- the end of a job by the place of such a packet: `TimeOutOfRange` at it; None without one
 abbrev pub end_at_time : Option ℕ → Option SequenceEnd
 end_at_time None = None
 end_at_time (Some offset) = Some (FaultIn 0 TimeOutOfRange offset)
 
 -- An edit of fewer than 2^63 packets ends by a fault at the first that is selected and whose moved
--- time is below 0 or above 2^63 - 1 nanoseconds, and goes on if there is none; what passes is
--- what is unique of what is selected before it.
+-- time is below 0 or above 2^63 - 1 nanoseconds, and goes on if there is none; those that pass are
+-- the unique ones of those selected before it.
 abbrev pub EndsWithoutTime : Type 0
 EndsWithoutTime = (s : EditRule) (ps : List Placed) → length ps < 2 ^ 63
     → ((apply_events (Edit s) (AsReports []) no_progress (arriving ps)).end

@@ -1,4 +1,4 @@
--- What is reported of how a command ended.
+-- The messages on the end of a command.
 use Rattle.std.specs.Prelude.{◌≡◌, ℕ, ◌+◌, Bool, IsTrue, List, [], ◌∷◌, ◌++◌, Result, codes}
 use Rattle.std.specs.Fmt.{decimal}
 use Rattle.cap_octet.specs.declared.fault.Fault.{Fault}
@@ -31,11 +31,11 @@ write_failed_message name = codes "capkit: " ++ name ++ codes ": write failed" +
 abbrev pub no_memory_message : List ℕ
 no_memory_message = codes "capkit: no memory" ++ line_feed
 
--- what is wrong with an expression
+-- the message on a refused expression
 abbrev pub expression_message : List ℕ → List ℕ
 expression_message text = codes "capkit: expression: " ++ text ++ line_feed
 
--- what is wrong with a listing, or with the program that it has
+-- the message on a refused listing, or on the program in it
 abbrev pub code_message : List ℕ → List ℕ
 code_message text = codes "capkit: code: " ++ text ++ line_feed
 

@@ -1,4 +1,4 @@
--- What a job makes of the packets that come: the output, the message and the status.
+-- The outcome of a job on its packets: the output, the message and the status.
 use Rattle.std.specs.Prelude.{◌≡◌, ℕ, zero, suc, ◌+◌, List, [], ◌∷◌, ◌++◌, Option, None, Some, Bool, true, false}
 use Rattle.std.specs.List.{flat_map}
 use Rattle.std.specs.Option.{option_or}
@@ -18,7 +18,7 @@ use Rattle.cap_process.specs.Reports.{Report, nothing_counted, report_text, repo
 
 -- ---- forms
 
--- in which form packets and reports are written
+-- the form in which packets and reports are written
 pub data Form : Type 0 where
   AsCapture : (format : Format) → Form
   -- each report, by the names of the inputs
@@ -40,8 +40,8 @@ form_takes_memory form ps p = false
 
 -- ---- the fold
 
--- How far a job is: how many packets are decided, what was met, the packets that passed, the
--- reports, and how it ended, if it did.
+-- The progress of a job: the number of decided packets, the state of its selector, the packets that
+-- passed, the reports, and its end, if it ended.
 pub record JobProgress : Type 0 where
   pub decided : ℕ
   pub state : SelectorState
@@ -49,7 +49,7 @@ pub record JobProgress : Type 0 where
   pub reports : List Report
   pub end : Option SequenceEnd
 
--- a job of which nothing is done
+-- a job before its first event
 abbrev pub no_progress : JobProgress
 no_progress = record { decided = 0; state = initial_state; packets = []; reports = []; end = None }
 
@@ -62,14 +62,14 @@ decide w state new end =
 abbrev pub end_with : JobProgress → SequenceEnd → JobProgress
 end_with w close = record w { end = Some close }
 
--- a packet that passes is written, which doesn't change `decided`; unless the form refuses it, if the
--- job ends
+-- the progress after a packet that passes: `decided`; but if the form refuses the packet, the job
+-- ends at it with this fault
 abbrev pub unless_refused : Option Fault → JobProgress → ℕ → Placed → (decided : JobProgress)
     → JobProgress
 unless_refused None w input p decided = decided
 unless_refused (Some fault) w input p decided = end_with w (FaultIn input fault p.offset)
 
--- how far a job is after the verdict on a packet of this input
+-- the progress after the verdict on a packet of this input
 abbrev pub apply_verdict : Form → JobProgress → ℕ → Placed → Verdict → SelectorState → JobProgress
 apply_verdict form w input p (Pass q) state =
     unless_refused (form_refuses form w.packets q) w input p (decide w state (q ∷ []) None)
@@ -88,23 +88,23 @@ end_input Count w input kind size = record w {
 }
 end_input policy w input kind size = w
 
--- how far a job that goes on is after an event
+-- the progress after an event, of a job that hasn't ended
 abbrev pub apply_event : Policy → Form → JobProgress → Event → JobProgress
 apply_event policy form w (Packet input p) =
     apply_verdict form w input p (judge policy w.state (w.decided + 1) p.packet).verdict
     (judge policy w.state (w.decided + 1) p.packet).state
 apply_event policy form w (InputEnd input kind size) = end_input policy w input kind size
 
--- what ended stays
+-- a job that ended doesn't change
 abbrev pub unless_ended : Option SequenceEnd → JobProgress → JobProgress → JobProgress
 unless_ended None w next = next
 unless_ended (Some close) w next = w
 
--- how far a job is after an event
+-- the progress after an event
 abbrev pub next_progress : Policy → Form → JobProgress → Event → JobProgress
 next_progress policy form w e = unless_ended w.end w (apply_event policy form w e)
 
--- how far a job is after these events, one after another
+-- the progress after these events, one after another
 abbrev pub apply_events : Policy → Form → JobProgress → List Event → JobProgress
 apply_events policy form w [] = w
 apply_events policy form w (e ∷ es) = apply_events policy form (next_progress policy form w e) es
@@ -113,14 +113,14 @@ apply_events policy form w (e ∷ es) = apply_events policy form (next_progress 
 abbrev pub end_unless_ended : JobProgress → SequenceEnd → JobProgress
 end_unless_ended w close = unless_ended w.end w (end_with w close)
 
--- how far a job comes over a whole sequence
+-- the progress at the end of a whole sequence
 abbrev pub final_progress : Policy → Form → Sequence → JobProgress
 final_progress policy form s =
     end_unless_ended (apply_events policy form no_progress s.events) s.end
 
--- ---- what comes of it
+-- ---- outcomes
 
--- what is printed of packets, one after another
+-- the text printed for packets, one after another
 abbrev pub lines_text : Options → List Captured → List ℕ
 lines_text options ps = flat_map (printed_text options) ps
 
@@ -130,13 +130,13 @@ output_text (AsCapture format) ps rs = text format ps
 output_text (AsReports names) ps rs = reports_text names rs
 output_text (AsLines options) ps rs = lines_text options ps
 
--- what a packet that passes adds after those before it
+-- the bytes that a packet which passes adds after those before it
 abbrev pub packet_bytes : Form → List Captured → Captured → List ℕ
 packet_bytes (AsCapture format) ps p = added_text format ps p
 packet_bytes (AsReports names) ps p = []
 packet_bytes (AsLines options) ps p = printed_text options p
 
--- what a report adds
+-- the bytes that a report adds
 abbrev pub report_bytes : Form → Report → List ℕ
 report_bytes (AsReports names) r = report_text names r
 report_bytes form r = []
@@ -146,13 +146,13 @@ abbrev pub first_link : List InputItems → Option ℕ
 first_link [] = None
 first_link (r ∷ rs) = option_or (first_link_of r.items.declared) (first_link rs)
 
--- what a clean end adds: a capture without packets has its file header or section header
+-- the bytes that a clean end adds: for a capture without packets its file header or section header
 abbrev pub closing_text : Form → Option ℕ → List Captured → List ℕ
 closing_text (AsCapture format) link [] = file_start format (link_or_ethernet link)
 closing_text form link ps = []
 
--- What the end adds. After a fault that is nothing: if no packet was kept, the output has no
--- file header either.
+-- The bytes that the end adds. After a fault there are none: if no packet was kept, the output has
+-- no file header either.
 abbrev pub text_at_end : Option SequenceEnd → Form → Option ℕ → List Captured → List ℕ
 text_at_end (Some Complete) form link ps = closing_text form link ps
 text_at_end end form link ps = []
@@ -162,7 +162,7 @@ abbrev pub final_text : Form → Option ℕ → JobProgress → List ℕ
 final_text form link w =
     output_text form w.packets w.reports ++ text_at_end w.end form link w.packets
 
--- what is reported of how a job ended; nothing of a clean end
+-- the message on the end of a job; empty for a clean end
 abbrev pub message : List (List ℕ) → Option SequenceEnd → List ℕ
 message names (Some (FaultIn input fault offset)) = fault_message (name_at names input) offset fault
 message names end = []
@@ -184,7 +184,7 @@ pub record Work : Type 0 where
   pub policy : Policy
   pub form : Form
 
--- the outcome of a job that is so far and ended
+-- the outcome of a job that ended with this progress
 abbrev pub outcome_at : Work → List (List ℕ) → List InputItems → JobProgress → Outcome
 outcome_at work names rs w = record {
   output = final_text work.form (first_link rs) w;
@@ -192,7 +192,7 @@ outcome_at work names rs w = record {
   status = status w.end;
 }
 
--- what comes of inputs with these items
+-- the outcome of a job on inputs with these items
 abbrev pub outcome : Work → List (List ℕ) → List InputItems → Outcome
 outcome work names rs =
     outcome_at work names rs (final_progress work.policy work.form (sequence_of work.order rs))
@@ -203,22 +203,22 @@ cut_at [] i items = []
 cut_at (r ∷ rs) zero items = record r { items = items } ∷ rs
 cut_at (r ∷ rs) (suc i) items = r ∷ cut_at rs i items
 
--- ---- what comes next
+-- ---- the next event
 
 -- these events are the first of an order
 pub record ComeFirst (order : Sequence) (es : List Event) : Type 0 where
   pub later : Sequence
   pub is : order ≡ with_front es later
 
--- how far a job with this work is after these events
+-- the progress of a job with this work after these events
 abbrev pub job_progress_after : Work → List Event → JobProgress
 job_progress_after work es = apply_events work.policy work.form no_progress es
 
--- what is written of a job that is so far, without what its end adds
+-- the output of a job with this progress, without what its end adds
 abbrev pub text_of_progress : Form → JobProgress → List ℕ
 text_of_progress form w = output_text form w.packets w.reports
 
--- what is written after these events
+-- the output after these events
 abbrev pub text_after : Work → List Event → List ℕ
 text_after work es = text_of_progress work.form (job_progress_after work es)
 
@@ -244,7 +244,7 @@ IsNextAnswer work rs es None bytes =
     AreAllEvents work rs es
     × (bytes ≡ closing_text work.form (first_link rs) (job_progress_after work es).packets)
 
--- A packet comes next after these events that passes, isn't refused, and takes memory to be
+-- The packet that comes next after these events passes, isn't refused, and takes memory to be
 -- written.
 pub record NeedsMemory (work : Work) (rs : List InputItems) (es : List Event) (input : ℕ)
     (packet : Placed) : Type 0 where

@@ -9,7 +9,7 @@ use Rattle.cap_octet.specs.declared.format.Format.TheVariants as format
 use Rattle.cap_io.specs.declared.source.Kind.{Kind}
 use Rattle.cap_io.specs.declared.source.Kind.TheVariants as kind
 
--- what is counted of the packets of a file: how many, the sums of original and captured lengths,
+-- the counts of the packets of a file: their number, the sums of original and captured lengths,
 -- the least, the greatest and the last time, and whether no time is less than the one before it
 pub record Tally : Type 0 where
   pub count : ℕ
@@ -46,7 +46,7 @@ tally_with t p = record {
   ascends = t.ascends && nat_le t.last p.time;
 }
 
--- what is reported of an input: which it is, its format, its size in bytes, and its packets
+-- the report of an input: its index, its format, its size in bytes, and the tally of its packets
 pub record Report : Type 0 where
   pub input : ℕ
   pub kind : Option Kind
@@ -79,7 +79,7 @@ abbrev pub lines : List (List ℕ × List ℕ) → List ℕ → List ℕ
 lines [] following = following
 lines ((label, value) ∷ more) following = label ++ (58 ∷ 32 ∷ (value ++ 10 ∷ lines more following))
 
--- labels and values on a file's format, how many packets it has, its size and the sizes of its
+-- labels and values on a file's format, its number of packets, its size and the sizes of its
 -- packets
 abbrev pub size_lines : Option Kind → ℕ → Tally → List (List ℕ × List ℕ)
 size_lines kind size t =

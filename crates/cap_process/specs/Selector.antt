@@ -1,4 +1,4 @@
--- What a contract sees of a selector.
+-- The view of a selector.
 use Rattle.std.specs.Prelude.{◌≡◌, ℕ, ◌-◌, ◌^◌, ◌≤◌, Bool, true, false, if◌then◌else◌, List, [], ◌∷◌, map, Option, None, ◌*◌, Some}
 use Rattle.cap_octet.specs.Packet.{Captured}
 use Rattle.cap_window.specs.declared.mark.Mark.{Mark}
@@ -21,14 +21,14 @@ use Rattle.cap_io.specs.Reading.{most_in_unit}
 pub record SelectorView : Type 0 where
   pub policy : Policy
   pub state : SelectorState
-  -- by which packets are judged
+  -- the programs that judge packets
   pub programs : List Content
 
 -- the state of a selector with these marks in its window
 abbrev pub state_of : ℕ → List Mark → Tally → SelectorState
 state_of passed marks tally = record { passed = passed; window = marks; tally = tally }
 
--- what an edit of the command does to packets
+-- the rule of an edit command
 abbrev pub edit_rule_of : {Z : Type 0} → command_edit.Edit Z → EditRule
 edit_rule_of edit = record {
   ranges = edit.ranges.items;
@@ -42,21 +42,20 @@ edit_rule_of edit = record {
   window = edit.window;
 }
 
--- by what a policy of the code judges
+-- the view of a `Policy` of the code
 abbrev pub policy_of : {Z : Type 0} → code_policy.Policy Z → Policy
 policy_of (policy.Edit edit) = Edit (edit_rule_of edit)
 policy_of (policy.Filter filter count) = Filter (rule_of filter) count
 policy_of policy.KeepAll = KeepAll
 policy_of policy.Count = Count
 
--- the programs by which packets are judged
+-- the programs that judge packets
 abbrev pub programs_in : {Z : Type 0} → code_policy.Policy Z → List Content
 programs_in (policy.Filter filter count) = programs_of filter
 programs_in other = []
 
--- the programs for what a rule asks, whether or not they ran: for an expression one for each link,
--- each of which accepts exactly the packets that match; none of the empty expression; or the
--- listing's
+-- the programs for a rule, whether or not they ran: for an expression one for each link, each of
+-- which accepts exactly the packets that match; none for the empty expression; or the listing's
 abbrev pub AreFor : rules.Rule → List Content → Type 0
 AreFor (by_reading empty) programs = programs ≡ []
 AreFor (by_reading (truth a)) programs = AreMade (truth a) all_links programs
@@ -72,7 +71,7 @@ abbrev pub spent_by : Policy → Captured → List Content → List Content
 spent_by (Filter rule count) p programs = spent_on rule p programs
 spent_by other p programs = programs
 
--- the most instructions that judging a packet meets
+-- the most instructions that are executed to judge a packet
 abbrev pub most_spent : Policy → ℕ
 most_spent (Filter rule count) = most_cost rule
 most_spent other = 0
@@ -92,12 +91,13 @@ abbrev pub marks_in : Option WindowView → List Mark
 marks_in None = []
 marks_in (Some w) = w.marks
 
--- among how many packets in a row, with the current one, duplicates are searched for, if they are
+-- the number of packets in a row, with the current one, among which duplicates are searched for;
+-- None if they aren't
 abbrev pub window_of : Policy → Option ℕ
 window_of (Edit s) = s.window
 window_of other = None
 
--- how many marks a window for n packets in a row has at most: n - 1; none if none is asked for
+-- the most marks in a window for n packets in a row: n - 1; 0 if no window is asked for
 abbrev pub places : Option ℕ → ℕ
 places None = 0
 places (Some n) = n - 1

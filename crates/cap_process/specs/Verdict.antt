@@ -1,5 +1,5 @@
--- What becomes of each packet of a job: by its policy, by what was met so far, and by its number
--- and the packet.
+-- The verdict on each packet of a job: by the job's policy, the state after the packets before, and
+-- the packet with its number.
 use Rattle.std.specs.Prelude.{◌≡◌, ℕ, ◌+◌, ◌-◌, ◌^◌, ◌==◌, ◌&&◌, Bool, true, false, if◌then◌else◌, nat_lt, nat_le, List, [], ◌∷◌, ◌++◌, length, take, drop, Option, None, Some}
 use Rattle.cap_octet.specs.Date.{TIME_END}
 use Rattle.cap_octet.specs.Packet.{Captured}
@@ -18,10 +18,9 @@ use Rattle.cap_window.specs.Marks.{mark_of, has_same, last}
 
 -- ---- policies
 
--- What an edit does, in the order of its steps: which packets it keeps, by their numbers and by
--- their times as they were read; how many bytes it removes at the start and at the end, and how
--- many it keeps then; by how many nanoseconds it moves times; and within how many packets in a row
--- it looks for a duplicate.
+-- An edit, in the order of its steps: which packets it keeps, by number and by time as read; the
+-- number of bytes that it removes at the start and at the end, and the most that it keeps then; the
+-- shift of times; and the number of packets in a row in which it looks for duplicates.
 pub record EditRule : Type 0 where
   pub ranges : List (ℕ × ℕ)
   pub keep : Bool
@@ -33,7 +32,7 @@ pub record EditRule : Type 0 where
   pub shift : Shift
   pub window : Option ℕ
 
--- by what a job judges packets
+-- the policy that judges a job's packets
 pub data Policy : Type 0 where
   Edit : (s : EditRule) → Policy
   Filter : (rule : Rule) → (count : Option ℕ) → Policy
@@ -41,10 +40,10 @@ pub data Policy : Type 0 where
   -- a report of each input
   Count : Policy
 
--- ---- what was met
+-- ---- the state
 
--- how many packets passed; the marks of those that came last to the search for duplicates, from the
--- oldest on; and the tally of the current input
+-- the state of a selector: the number of packets that passed; the marks of the latest packets that
+-- were compared with others, the oldest first; and the tally of the current input
 pub record SelectorState : Type 0 where
   pub passed : ℕ
   pub window : List Mark
@@ -54,9 +53,9 @@ pub record SelectorState : Type 0 where
 abbrev pub initial_state : SelectorState
 initial_state = record { passed = 0; window = []; tally = nothing_counted }
 
--- ---- what becomes of a packet
+-- ---- verdicts
 
--- what becomes of a packet; with a packet that passes, what it passes as
+-- the verdict on a packet; one that passes comes as it must be written
 pub data Verdict : Type 0 where
   Pass : (p : Captured) → Verdict
   -- it passes, and the job ends
@@ -64,7 +63,7 @@ pub data Verdict : Type 0 where
   Skip : Verdict
   Refuse : (fault : Fault) → Verdict
 
--- what becomes of a packet, and the state of the selector after it
+-- the verdict on a packet, and the state of the selector after it
 pub record Judgement : Type 0 where
   pub verdict : Verdict
   pub state : SelectorState
@@ -127,22 +126,22 @@ shifted_time (shift.Earlier by) time = if nat_le by time then Some (time - by) e
 abbrev pub with_mark : ℕ → Mark → SelectorState → SelectorState
 with_mark most mark s = record s { window = last most (s.window ++ mark ∷ []) }
 
--- A packet is skipped whose mark, the length and digest of its bytes as they are cut, is that of
--- one of the last n - 1 that were selected, those that were skipped as duplicates too. Times,
--- original lengths, link types and interfaces aren't compared. The mark enters the window all the
--- same. Without an n every packet passes.
+-- A packet is skipped if its mark (the length and digest of its bytes as they are cut) is that of
+-- one of the last n - 1 selected packets, including those skipped as duplicates. Times, original
+-- lengths, link types and interfaces aren't compared. The mark enters the window in both cases.
+-- Without an n every packet passes.
 abbrev pub unique : Option ℕ → SelectorState → Captured → Judgement
 unique None s p = passes s p
 unique (Some n) s p =
     if has_same s.window (mark_of p.bytes) then skip_judgement
     (with_mark (n - 1) (mark_of p.bytes) s) else passes (with_mark (n - 1) (mark_of p.bytes) s) p
 
--- a selected packet by its moved time: refused if there is none
+-- the judgement of a selected packet by its moved time: it is refused if there is none
 abbrev pub judgement_by_time : EditRule → SelectorState → Captured → Option ℕ → Judgement
 judgement_by_time s state p None = refuses state TimeOutOfRange
 judgement_by_time s state p (Some time) = unique s.window state (edited_packet_with s p time)
 
--- what an edit makes of the packet with this number: it is skipped if it isn't selected, or is a
+-- the judgement of an edit on the packet with this number: skipped if it isn't selected, or is a
 -- duplicate, and refused if its moved time is out of range
 abbrev pub selects : EditRule → SelectorState → ℕ → Captured → Judgement
 selects s state number p =
@@ -156,14 +155,14 @@ abbrev pub is_last : Option ℕ → ℕ → Bool
 is_last None passed = false
 is_last (Some count) passed = passed == count
 
--- the packet passes; it is the last where `count` packets passed with it
+-- the packet passes; it is the last if `count` packets passed with it
 abbrev pub counts : Option ℕ → SelectorState → Captured → Judgement
 counts count s p = record {
   verdict = if is_last count (s.passed + 1) then PassLast p else Pass p;
   state = record s { passed = s.passed + 1 };
 }
 
--- what becomes of a packet by the decision of a filter
+-- the judgement of a packet by the decision of a filter
 abbrev pub filters : Decision → Option ℕ → SelectorState → Captured → Judgement
 filters chosen.Keep count s p = counts count s p
 filters chosen.Skip count s p = skip_judgement s
@@ -171,7 +170,7 @@ filters (chosen.Refuse fault) count s p = refuses s fault
 
 -- ---- all of it
 
--- what becomes of the packet with this number by a policy
+-- the judgement of the packet with this number by a policy
 abbrev pub judge_by : Policy → SelectorState → ℕ → Captured → Judgement
 judge_by (Edit s) state number p = selects s state number p
 judge_by (Filter rule count) state number p = filters (rule_decides rule p) count state p
@@ -179,12 +178,12 @@ judge_by KeepAll state number p = passes state p
 judge_by Count state number p =
     skip_judgement (record state { tally = tally_with state.tally p })
 
--- whether a number is too great for a packet; where packets are only counted none is
+-- whether a number is too great for a packet; none is if packets are only counted
 abbrev pub is_too_many : Policy → ℕ → Bool
 is_too_many Count number = false
 is_too_many policy number = nat_le PACKET_NUMBER_END number
 
--- what becomes of the packet with this number; one whose number is too great is refused
+-- the judgement of the packet with this number; one whose number is too great is refused
 abbrev pub judge : Policy → SelectorState → ℕ → Captured → Judgement
 judge policy state number p =
     if is_too_many policy number then refuses state TooManyPackets

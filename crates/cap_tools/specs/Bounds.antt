@@ -16,9 +16,8 @@ use Rattle.cap_process.specs.Selector.{most_spent, places, spent_by_verdict, win
 use Rattle.cap_tools.specs.Packets.{JobState, asks_report}
 use Rattle.cap_tools.specs.Jobs.{JobView}
 
--- The input that is next was read on, to its next packet, its end or a fault, and no further. No
--- packet is decided, and nothing is written unless the input was read to its end and must be
--- reported.
+-- The next input was read on, to its next packet, its end or a fault, and no further. No packet is
+-- decided, and nothing is written unless the input was read to its end and must be reported.
 pub record ReadsOn (tells : Bool) (old : JobView) (input : ℕ) (answer : Result Bool Fault)
     (new : JobView) : Type 0 where
   pub next : next_of old.state.inputs ≡ next.Read input
@@ -30,8 +29,7 @@ pub record ReadsOn (tells : Bool) (old : JobView) (input : ℕ) (answer : Result
       ≡ false → new.state.output ≡ old.state.output
   pub programs : new.programs ≡ old.programs
 
--- The packet that waits of the input that is next was judged, which cost one run of a program at
--- most.
+-- The current packet of the next input was judged, which cost one run of a program at most.
 pub record JudgesOne (old : JobView) (input : ℕ) (new : JobView) : Type 0 where
   pub next : next_of old.state.inputs ≡ next.Decide input
   pub cursor : InputView
@@ -73,8 +71,8 @@ abbrev pub reads_of : List InputView → ℕ
 reads_of [] = 0
 reads_of (h ∷ hs) = end_offset h.source + reads_of hs
 
--- the most steps that a job which goes on has made, by what it read: two for each byte, one for
--- each input, and one that reads a filter
+-- the most steps that a job made which hasn't ended: two for each byte read, one for each input,
+-- and one that reads a filter
 abbrev pub most_turns : InputsView → ℕ
 most_turns f = 2 * reads_of f.cursors + length f.cursors + 1
 

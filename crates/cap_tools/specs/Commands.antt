@@ -63,8 +63,8 @@ CompileGives words link tells old turn.More new = ⊥
 CompileGives words link tells old (turn.Done status) new =
     ListsSome words link tells old status new ⊎ RefusesExpression words tells old status new
 
--- what the step does that prepares, if there is something to prepare: for a filter on any device, for
--- a compilation only if the output shows its bytes
+-- the result of a step that prepares: for a filter on all devices, for a compilation only if
+-- contracts know the bytes of the output; nothing is stated if there is nothing to prepare
 abbrev pub PreparesBy : Option Preparing → (output_tells tells : Bool) → JobView → Turn → JobView
     → Type 0
 PreparesBy None output_tells tells old r new = Unit {0}
@@ -78,12 +78,13 @@ abbrev pub preparing_left : Option Preparing → ℕ
 preparing_left None = 0
 preparing_left (Some preparing) = 1
 
--- how many steps are left at most
+-- the most steps that are left
 abbrev pub job_left : JobView → ℕ
 job_left j = preparing_left j.preparing + steps_left_in j.state.inputs.cursors
 
--- What every step of a job keeps, whatever the devices: it prepares no more, its end is known, a
--- step is counted if it was under way, and what it holds is bounded.
+-- The result of every step of a job, for all devices: nothing is left to prepare, `done` has the
+-- status if the job ended, a step is counted unless the job had ended before, and the memory that
+-- the job holds is bounded.
 pub record StepKeeps (old : JobView) (r : Turn) (new : JobView) : Type 0 where
   pub prepared : new.preparing ≡ None
   pub done : new.done ≡ done_by r
@@ -97,7 +98,7 @@ pub record StepKeeps (old : JobView) (r : Turn) (new : JobView) : Type 0 where
   pub room : room_by new.state ≡ room_by old.state
   -- a step that goes on sends no message
   pub quiet : r ≡ turn.More → new.err ≡ old.err
-  -- if nothing was prepared, the policy stays; a filter that is read becomes it
+  -- if there was nothing to prepare, the policy is unchanged; a filter that is read becomes it
   pub policy : old.preparing ≡ None → new.state.policy ≡ old.state.policy
 
 -- A step that prepares reads no input and decides no packet, and no program runs.
@@ -106,13 +107,13 @@ pub record PreparesOnly (old new : JobView) : Type 0 where
   pub decided : new.state.decided ≡ old.state.decided
   pub unspent : spent_in new.programs ≡ spent_in old.programs
 
--- what a step reads: while something is prepared nothing, else what a step over packets does
+-- the reads of a step: none if it prepares, else those of a step over packets
 abbrev pub StepReadsBy : Option Preparing → (tells goes : Bool) → JobView → JobView → Type 0
 StepReadsBy None tells goes old new = StepReads tells goes old new
 StepReadsBy (Some preparing) tells goes old new = PreparesOnly old new
 
--- what is decided of the inputs: before a filter is read, whatever it and its programs will be; for
--- a compilation nothing is said
+-- the invariant of a job: before its filter is read, with every rule and programs that reading may
+-- give; nothing is stated of a compilation
 abbrev pub DecidedBy : Option Preparing → List InputPast → List ℕ → JobView → Type 0
 DecidedBy None ss before j = Decided ss before j
 DecidedBy (Some (ReadsFilter asked)) ss before j =

@@ -1,4 +1,4 @@
--- What a contract sees of a whole job, with its messages, and how it ends.
+-- The view of a whole job, with its messages, and how a job ends.
 use Rattle.std.specs.Prelude.{◌≡◌, ℕ, ◌≤◌, Bool, true, false, List, [], length, Option, None, Some}
 use Rattle.cap_process.specs.Messages.{fault_message, write_failed_message}
 use Rattle.cap_octet.specs.Views.{OutputView}
@@ -18,16 +18,16 @@ use Rattle.cap_command.specs.Call.{Call}
 use Rattle.flt_bpf.specs.Content.{Content}
 use Rattle.cap_tools.specs.Packets.{JobState, PacketsDecided, GoesOn, StepGives}
 
--- what contracts see of a job
+-- the view of a job
 pub record JobView : Type 0 where
-  -- what is done before the first packet; nothing once it is done
+  -- the preparation before the first packet; None once it is done
   pub preparing : Option Preparing
   pub state : JobState
-  -- by which packets are judged
+  -- the programs that judge packets
   pub programs : List Content
   -- the messages
   pub err : OutputView
-  -- how many steps it made
+  -- the number of steps made
   pub turns : ℕ
   -- the status, if it ended
   pub done : Option ℕ
@@ -44,7 +44,7 @@ state_at names inputs selector output decided =
       decided = decided;
     }
 
--- a job of which nothing is done
+-- a job before its first step
 abbrev pub first_job : Assignment → Call → JobView
 first_job a call = record {
   preparing = a.preparing;
@@ -62,27 +62,26 @@ first_job a call = record {
   done = None;
 }
 
--- What holds of a job between its steps: for each input some bytes are done, their packets are
--- decided, and what comes of them is written; and each program that judges is one for its
--- expression and its link, or the listing's.
+-- The invariant of a job between its steps: some bytes of each input are done, their packets are
+-- decided, and what they add to the output is written; and the programs are those for the policy.
 pub record Decided (ss : List InputPast) (before : List ℕ) (j : JobView) : Type 0 where
   pub packets : PacketsDecided ss before j.state
   pub programs : HavePrograms j.state.policy j.programs
 
--- the message of a job that ended so: none of a clean end
+-- the message of a job with this end; empty for a clean end
 abbrev pub end_message : List (List ℕ) → List InputView → JobEnd → List ℕ
 end_message names cursors end.Complete = []
 end_message names cursors (end.FaultIn input fault) =
     fault_message (name_at names input) (offset_at cursors input) fault
 end_message names cursors end.OutputFailed = write_failed_message (name_at names (length cursors))
 
--- the status of a job that ended so
+-- the status of a job with this end
 abbrev pub end_status : JobEnd → ℕ
 end_status end.Complete = 0
 end_status other = 1
 
--- A step that ends a job ends it in one way. Its message and its status are those of the way; a
--- message that can't be written is lost.
+-- A step ends a job with one of the ends of `JobEnd`, and with the message and the status of that
+-- end. A message that can't be written is lost.
 pub record EndsJob (tells : Bool) (old : JobView) (status : ℕ) (new : JobView) : Type 0 where
   pub end : JobEnd
   pub leaves : StepGives old.state (Some end) new.state
@@ -92,14 +91,14 @@ pub record EndsJob (tells : Bool) (old : JobView) (status : ℕ) (new : JobView)
   pub quiet : status ≡ 0 → new.err ≡ old.err
   pub status_is : status ≡ end_status end
 
--- a job goes on, and what held of it holds again, of its programs too
+-- a job goes on, and its invariant (`Decided`) holds again
 pub record StaysDecided {ss : List InputPast} {before : List ℕ} {old : JobView}
     (d : Decided ss before old) (new : JobView) : Type 0 where
   pub goes : GoesOn d.packets new.state
   pub programs : HavePrograms new.state.policy new.programs
 
--- what a step over packets gives: a job that goes on reports nothing, and what held of it holds
--- again; else it ends in one way
+-- the result of a step over packets: the job goes on, reports nothing and keeps its invariant; or
+-- it ends
 abbrev pub JobGives : Bool → JobView → Turn → JobView → Type 0
 JobGives tells old turn.More new =
     (new.err ≡ old.err)

@@ -1,4 +1,4 @@
--- What a contract sees of the messages of a job.
+-- The view of a job's messages.
 use Rattle.std.specs.Prelude.{ℕ, List}
 use Rattle.cap_octet.specs.Views.{OutputView}
 

@@ -1,4 +1,4 @@
--- What a contract sees of a job under way, and what holds of it at each step.
+-- The view of a job's state, its invariant, and the result of a step over packets.
 use Rattle.std.specs.Prelude.{◌≡◌, ◌⊎◌, ℕ, zero, suc, ◌+◌, ◌≤◌, Bool, false, List, [], ◌∷◌, ◌++◌, map, Option, None, Some, Ok, Err}
 use Rattle.std.specs.List.{slice_get}
 use Rattle.cap_octet.specs.Device.{Stops}
@@ -19,22 +19,22 @@ use Rattle.cap_process.specs.Selector.{IsWithin, is_count}
 use Rattle.cap_process.specs.Outcome.{Form, JobProgress, Work, ComeFirst, cut_at, no_progress, apply_events, final_progress, final_text, output_text, closing_text, first_link, packet_bytes, report_bytes, NeedsMemory, IsNextAnswer}
 use Rattle.cap_inputs.specs.Inputs.{InputsView, InputView, InputPast, AreInputsAfter, KnowGreatest, AreSettled, ReadsInput, device_limits, next_of}
 
--- the state of a job, whatever its programs cost so far
+-- the state of a job over its packets, without its programs
 pub record JobState : Type 0 where
-  -- of its files: for the inputs, then of the output
+  -- the names of the inputs, then that of the output
   pub names : List (List ℕ)
   pub inputs : InputsView
   pub policy : Policy
   pub state : SelectorState
   pub output : Target
-  -- how many packets are decided
+  -- the number of decided packets
   pub decided : ℕ
 
--- in which form a job writes
+-- the form in which a job writes
 abbrev pub output_form : JobState → Form
 output_form m = form_to m.names m.output
 
--- in which order its packets come, how they are judged, and in which form they are written
+-- the order of a job's packets, the policy that judges them, and the form in which it writes
 abbrev pub work_of : JobState → Work
 work_of m = record { order = m.inputs.order; policy = m.policy; form = output_form m }
 
@@ -42,11 +42,11 @@ work_of m = record { order = m.inputs.order; policy = m.policy; form = output_fo
 abbrev pub written_by : JobState → List ℕ
 written_by m = written_to m.output
 
--- how often a job's output failed
+-- the number of failures of a job's output
 abbrev pub failures_by : JobState → ℕ
 failures_by m = failures_to m.output
 
--- how many bytes in all a job's output takes at least before it fails
+-- the number of bytes in all that a job's output takes at least before it fails
 abbrev pub room_by : JobState → ℕ
 room_by m = room_to m.output
 
@@ -54,7 +54,7 @@ room_by m = room_to m.output
 abbrev pub wholes_of : List InputPast → List InputItems
 wholes_of ss = map whole_input (map (λ (s : InputPast). s.text) ss)
 
--- how far the job is, with these packets and reports
+-- the progress of the job, with these packets and reports
 abbrev pub progress_at : JobState → List Captured → List Report → JobProgress
 progress_at m packets reports =
     record {
@@ -65,10 +65,9 @@ progress_at m packets reports =
       end = None;
     }
 
--- For each input some bytes are done: their packets are decided, in the job's order, with their
--- greatest time known, and the output is what is written of those that passed, or of the inputs
--- that were read to their ends. By which programs they are judged is said of the whole job
--- (`Decided`).
+-- Some bytes of each input are done: their packets are decided in the job's order, their greatest
+-- time is known, and the output has what the packets that passed add, or the reports of the inputs
+-- that were read to their ends. `Decided` adds the programs that judge packets.
 pub record PacketsDecided (ss : List InputPast) (before : List ℕ) (m : JobState) : Type 0 where
   pub following : AreInputsAfter ss m.inputs.cursors
   pub greatest : KnowGreatest ss m.inputs.cursors
@@ -85,21 +84,21 @@ pub record PacketsDecided (ss : List InputPast) (before : List ℕ) (m : JobStat
   pub passed : m.state.passed ≤ m.decided
   pub counted : IsWithin m.decided m.state.tally
 
--- whether an input that was read to its end is reported: where files are counted, one after
--- another
+-- whether an input that was read to its end is reported: if packets are only counted, and the
+-- inputs are read one after another
 abbrev pub asks_report : PacketOrder → Policy → Bool
 asks_report InTurn policy = is_count policy
 asks_report ByTime policy = false
 
--- some bytes more of an input are done, with their packets
+-- the inputs, with these bytes more of input `i` done, and their packets
 abbrev pub finish_at : List InputPast → ℕ → List ℕ → List Placed → List InputPast
 finish_at [] i bytes packets = []
 finish_at (s ∷ ss) zero bytes packets =
     record { text = s.text; done = s.done ++ bytes; packets = s.packets ++ packets } ∷ ss
 finish_at (s ∷ ss) (suc i) bytes packets = s ∷ finish_at ss i bytes packets
 
--- What a step adds to the output, if the job is at `far` before the step and at `next` after
--- it: nothing, a packet that passes, the report of an input, or what a clean end adds.
+-- The bytes that a step adds to the output, if the job's progress is `far` before the step and
+-- `next` after it: none, or those of a packet that passes, of an input's report or of a clean end.
 pub data OneAnswer (form : Form) (link : Option ℕ) (far next : JobProgress)
     (bytes : List ℕ) : Type 0 where
   nothing : next.packets ≡ far.packets → next.reports ≡ far.reports → bytes ≡ []
@@ -111,14 +110,14 @@ pub data OneAnswer (form : Form) (link : Option ℕ) (far next : JobProgress)
   closes : next.packets ≡ far.packets → next.reports ≡ far.reports → next.end ≡ Some Complete
       → bytes ≡ closing_text form link far.packets → OneAnswer form link far next bytes
 
--- What a step appends to the output is one answer, or nothing.
+-- A step appends one answer to the output, or nothing.
 pub record AppendsOnce (form : Form) (link : Option ℕ) (far next : JobProgress)
     (old new : Target) : Type 0 where
   pub bytes : List ℕ
   pub appended : written_to new ≡ written_to old ++ bytes
   pub one : OneAnswer form link far next bytes
 
--- how far a job is of which these packets are decided
+-- the progress of a job with these decided packets
 abbrev pub progress_of : {ss : List InputPast} {before : List ℕ} {m : JobState}
     → PacketsDecided ss before m → JobProgress
 progress_of {ss} {before} {m} d = progress_at m d.packets d.reports
@@ -141,11 +140,11 @@ pub record GoesOn {ss : List InputPast} {before : List ℕ} {old : JobState}
   pub order : new.inputs.order ≡ old.inputs.order
   pub limits : device_limits new.inputs.cursors ≡ device_limits old.inputs.cursors
 
--- how far a job comes over inputs with these items
+-- the progress of a job at the end of inputs with these items
 abbrev pub progress_over : JobState → List InputItems → JobProgress
 progress_over m rs = final_progress m.policy (output_form m) (sequence_of m.inputs.order rs)
 
--- the output is all that the job writes of inputs with these items, over which it ends like this
+-- the output is all that the job writes for inputs with these items, and the job ends like this
 pub record CompletesOutput {ss : List InputPast} {before : List ℕ} {old : JobState}
     (rs : List InputItems) (d : PacketsDecided ss before old) (new : JobState)
     (close : SequenceEnd) : Type 0 where
@@ -158,7 +157,7 @@ pub record CompletesOutput {ss : List InputPast} {before : List ℕ} {old : JobS
   pub device : failures_by new ≡ failures_by old
 
 -- This input was read on in this step, and its device failed or there was no memory for its next
--- unit: it is cut short there, where `after` stands.
+-- unit: it is cut short there, at the offset of `after`.
 pub record EndsByCut {ss : List InputPast} {before : List ℕ} {old : JobState}
     (d : PacketsDecided ss before old) (new : JobState) (input : ℕ) (fault : Fault)
     (after : SourceView) : Type 0 where
@@ -177,8 +176,8 @@ pub record EndsByCut {ss : List InputPast} {before : List ℕ} {old : JobState}
   pub comes : CompletesOutput (cut_at (wholes_of ss) input held) d new
       (FaultIn input fault after.offset)
 
--- what a step met: the current packet of an input, the clean end of one that it read on, or that of
--- all
+-- the event of a step: the current packet of an input, or the clean end of an input that it read
+-- on; None at the clean end of all inputs
 pub data Meets (old new : InputsView) : Option Event → Type 0 where
   a_packet : (input : ℕ) → (cursor : InputView) → (p : Captured) → next_of old ≡ next.Decide input
       → slice_get old.cursors input ≡ Some cursor → cursor.source.packet ≡ Some p → new ≡ old
@@ -187,8 +186,8 @@ pub data Meets (old new : InputsView) : Option Event → Type 0 where
       → Meets old new (Some (InputEnd input (kind_of read.source.declared) read.source.offset))
   all_ends : next_of old ≡ next.Finish → new ≡ old → Meets old new None
 
--- There was no memory to write the current packet of this input, which is the next of the order and
--- begins where `after` stands: the output stays.
+-- There was no memory to write the current packet of this input, which is next in the order and
+-- begins at the offset of `after`. The bytes of the output are unchanged.
 pub record WantsMemory {ss : List InputPast} {before : List ℕ} {old : JobState}
     (d : PacketsDecided ss before old) (new : JobState) (input : ℕ) (fault : Fault)
     (after : SourceView) : Type 0 where
@@ -215,8 +214,8 @@ pub record StopsWriting {ss : List InputPast} {before : List ℕ} {old : JobStat
   pub so_far : written_by old ≡ before ++ output_text (output_form old) d.packets d.reports
   pub stops : Stops (written_by old) bytes (written_by new)
 
--- the inputs end like this, or the current packet is refused; or the input is cut short; or there was no
--- memory
+-- the inputs end like this, or the current packet is refused; or the input is cut short; or there
+-- was no memory
 abbrev pub WhyBroken : {ss : List InputPast} {before : List ℕ} {old : JobState}
     → PacketsDecided ss before old → JobState → ℕ → Fault → SourceView → Type 0
 WhyBroken {ss} {before} {old} d new input fault after =

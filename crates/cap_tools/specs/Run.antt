@@ -1,5 +1,5 @@
 -- The result of a run of a command: its outcome on the whole inputs; or its result if a device
--- fails, or memory runs out. All of it is said by the call, and by what the run hands back.
+-- fails, or memory runs out. It is stated by the call and by what the run returns.
 use Rattle.std.specs.Prelude.{◌≡◌, ◌⊎◌, ℕ, ◌+◌, ◌-◌, ◌≤◌, List, [], ◌++◌, length, map, Option, None, Some}
 use Rattle.std.specs.List.{slice_get}
 use Rattle.cap_octet.specs.Device.{HasGiven, Stops}
@@ -36,8 +36,8 @@ form_asked names (writing.Capture format) = AsCapture format
 form_asked names writing.Text = AsReports names
 form_asked names (writing.Lines options) = AsLines options
 
--- By what its packets are judged: as the command asks; those of a print by the filter that its
--- words, or its listing, are. A compilation has no packets.
+-- The policy that judges the packets: the one that the command asks for; for a print the filter of
+-- its words or of its listing. A compilation has no packets.
 abbrev pub IsPolicy : Option Preparing → (asked policy : Policy) → Type 0
 IsPolicy None asked policy = policy ≡ asked
 IsPolicy (Some (ReadsFilter filter)) asked policy =
@@ -56,8 +56,8 @@ whole_inputs call = map (λ (input : FreshInput). whole_input input.text) call.i
 
 -- ---- the outcome of a command
 
--- why the filter of a print, or the expression of a compilation, is refused; that there was no
--- memory for it may always be why
+-- why the filter of a print, or the expression of a compilation, is refused; no memory for it is
+-- always a possible reason
 abbrev pub IsWhyRefused : Option Preparing → Refusal → Type 0
 IsWhyRefused None why = ⊥
 IsWhyRefused (Some (ReadsFilter filter)) why = IsWhy filter.words filter.code why
@@ -80,8 +80,9 @@ fault_outcome output messages = record { output = output; messages = messages; s
 -- ---- the result of a run
 
 -- Why an input is cut short after these whole units: `read failed`, if the device wasn't sure of
--- the last of the bytes that decide what follows (that it did fail isn't stated); or there was no memory for its next unit, whose
--- header states more bytes than each that the block held, or which describes an interface.
+-- the last of the bytes that decide what follows (that it did fail isn't stated); or there was no
+-- memory for its next unit, whose header states more bytes than each that the block held, or which
+-- describes an interface.
 abbrev pub IsWhyCut : Fault → FreshInput → (done rest : List ℕ) → Declared → Type 0
 IsWhyCut fault input done rest declared =
     ((fault ≡ ReadFailed)
@@ -134,8 +135,8 @@ pub record HasLeft (call : Call) (o : Outcome) (r : RunResult) : Type 0 where
 
 -- ---- the output fails
 
--- What is next after what was written: what one event of the command's work adds, or its clean end;
--- that of a compilation is its listing.
+-- The bytes that come next after those written: what one event of the command's work adds, or its
+-- clean end; for a compilation its listing.
 pub data IsAnswer (asked : Assignment) (call : Call) (written bytes : List ℕ) : Type 0 where
   packets_answer : (work : Work) → IsWork asked call work → (es : List Event) → (e : Option Event)
       → written ≡ text_after work es → IsNextAnswer work (whole_inputs call) es e bytes

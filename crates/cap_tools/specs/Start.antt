@@ -32,13 +32,13 @@ pub data Preparing : Type 0 where
   ReadsFilter : FilterAsked → Preparing
   Compiles : (words : List ℕ) → (link : Link) → Preparing
 
--- what the code's preparation does
+-- the view of a `Preparation` of the code
 abbrev pub preparing_of : {Z : Type 0} → Preparation Z → Preparing
 preparing_of (preparation.Filter print) = ReadsFilter (asked_by print)
 preparing_of (preparation.Listing compile) = Compiles (string_bytes compile.expr) compile.link
 
--- What is done first, the policy for packets, in which order they come, and what is written. A
--- print's policy is its filter, and a compilation has no packets: there the policy says nothing.
+-- The preparation, the policy for packets, their order, and what is written. The policy of a print
+-- is the filter that it reads, and a compilation has no packets: for both `policy` means nothing.
 pub record Assignment : Type 0 where
   pub preparing : Option Preparing
   pub policy : Policy
@@ -55,7 +55,7 @@ abbrev pub without_preparation : Policy → PacketOrder → Writing → Assignme
 without_preparation policy order to =
     record { preparing = None; policy = policy; order = order; writing = to }
 
--- this is done before the first packet; the policy says nothing, and the packets that a print
+-- this is done before the first packet; the policy means nothing, and the packets that a print
 -- filters come in the order of its input
 abbrev pub with_preparation : Preparing → Writing → Assignment
 with_preparation preparing to =

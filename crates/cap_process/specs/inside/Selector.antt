@@ -1,4 +1,4 @@
--- What a selector keeps, and what one verdict makes of it.
+-- The state of a selector, and its change by one verdict.
 use Rattle.std.specs.Prelude.{◌≡◌, ℕ, ◌+◌, ◌-◌, ◌^◌, ◌≤◌, Bool, true, false, length, Option, None, Result, Ok, Err, Some, []}
 use Rattle.cap_octet.specs.Packet.{Captured}
 use Rattle.cap_octet.specs.declared.fault.Fault.{Fault}
@@ -20,7 +20,7 @@ pub record PolicyState : Type 0 where
 abbrev pub policy_state : SelectorView → PolicyState
 policy_state j = record { policy = j.policy; state = j.state }
 
--- after how many packets that pass nothing more is read, if there is a limit
+-- the number of packets that may pass before a job ends, if there is a limit
 abbrev pub count_limit : Policy → Option ℕ
 count_limit (Filter rule count) = count
 count_limit policy = None
@@ -36,8 +36,8 @@ abbrev pub verdict_if : Captured → Bool → Verdict
 verdict_if p true = PassLast p
 verdict_if p false = Pass p
 
--- What a call returns of a packet with this judgement: the verdict, with the packet as it passes
--- and the state after it; or its refusal, if nothing is said of the state.
+-- A call returns this judgement of a packet: its verdict, with the packet as it passes and the
+-- state after it; or its refusal, and then nothing is stated of the state.
 abbrev pub IsVerdict : Judgement → Result code.Verdict Fault → Captured → SelectorState → Type 0
 IsVerdict j (Ok v) p state = (verdict_of v p ≡ j.verdict) × (state ≡ j.state)
 IsVerdict j (Err fault) p state = j.verdict ≡ Refuse fault
@@ -71,8 +71,8 @@ GrowsByOne old new =
 abbrev pub with_empty_tally : SelectorState → SelectorState
 with_empty_tally s = record { passed = s.passed; window = s.window; tally = nothing_counted }
 
--- what was counted is taken, and the tally begins again, where reports are asked; else there is
--- none, and nothing changes
+-- if reports are asked for, the tally is returned and begins again; otherwise None is returned and
+-- nothing changes
 abbrev pub TakesTally : Bool → PolicyState → Option Tally → PolicyState → Type 0
 TakesTally false old r new = (r ≡ None) × (new ≡ old)
 TakesTally true old r new =

@@ -1,4 +1,4 @@
--- What a step is paid by.
+-- The number of steps, bounded by the bytes read.
 use Rattle.std.specs.Prelude.{ℕ, ◌+◌, ◌≤◌, Bool, true, false, List, [], ◌∷◌, Option, None, Some}
 use Rattle.cap_tools.specs.declared.step.JobEnd.{JobEnd}
 use Rattle.cap_inputs.specs.Inputs.{InputView, InputsView}
@@ -24,8 +24,8 @@ steps_owed_in_all f = owed_in f.cursors
 abbrev pub IsPaid : InputsView → InputsView → Type 0
 IsPaid old new = steps_owed_in_all new + 1 + most_turns old ≤ steps_owed_in_all old + most_turns new
 
--- the steps that were made, with those that are owed, are no more than what was read pays for; for a
--- job that ended nothing is said
+-- the steps that were made, with those that are owed, are no more than what was read pays for;
+-- nothing is stated of a job that ended
 abbrev pub HasFewTurns : Option ℕ → ℕ → InputsView → Type 0
 HasFewTurns None turns inputs = turns + steps_owed_in_all inputs ≤ most_turns inputs
 HasFewTurns (Some status) turns inputs = Unit {0}

@@ -1,4 +1,4 @@
--- What is kept while nothing was decided, and how a run follows from its steps.
+-- A job that still has something to prepare, and the result of its first step.
 use Rattle.std.specs.Prelude.{◌≡◌, true, Option, None, Some}
 use Rattle.cap_tools.specs.declared.job.Turn.{Turn}
 use Rattle.cap_tools.specs.Start.{Preparing, ReadsFilter, Compiles}
@@ -12,12 +12,12 @@ abbrev pub HasMadeNoStep : Preparing → JobView → Type 0
 HasMadeNoStep (ReadsFilter asked) j = IsFresh j
 HasMadeNoStep (Compiles words link) j = IsFresh j × (is_text j.state.output ≡ true)
 
--- where something is still to be prepared, the job made no step
+-- if something is still to be prepared, the job made no step
 abbrev pub IsReadyIf : Option Preparing → JobView → Type 0
 IsReadyIf None j = Unit {0}
 IsReadyIf (Some preparing) j = HasMadeNoStep preparing j
 
--- the job that has still this to prepare
+-- the job with this preparation
 abbrev pub with_preparing : Option Preparing → JobView → JobView
 with_preparing p j = record {
   preparing = p;
@@ -28,6 +28,6 @@ with_preparing p j = record {
   done = j.done;
 }
 
--- What the first step of a job keeps that reads a filter or compiles: it prepares that no more.
+-- The result of the first step of a job that reads a filter or compiles, whichever it prepares.
 abbrev pub KeepsFirst : JobView → Turn → JobView → Type 0
 KeepsFirst old r new = (p : Preparing) → StepKeeps (with_preparing (Some p) old) r new

@@ -39,7 +39,7 @@ refusing refusal err j = record {
   done = Some (refusal_status refusal);
 }
 
--- what the output of a job holds, and how often it failed
+-- the bytes of a job's output, and the number of its failures
 abbrev pub output_by : JobState → OutputView
 output_by m = output_view (written_by m) (failures_by m)
 

@@ -1,4 +1,4 @@
--- What a loop of steps keeps.
+-- The invariant of a loop of steps.
 use Rattle.std.specs.Prelude.{ℕ, ◌+◌, ◌≤◌, Option, None, Some}
 use Rattle.cap_inputs.specs.inside.Inputs.{most_steps}
 

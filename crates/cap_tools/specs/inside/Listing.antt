@@ -5,8 +5,8 @@ use Rattle.flt_bpf.specs.Listing.{listing}
 use Rattle.cap_octet.specs.Views.{OutputView}
 use Rattle.cap_process.specs.Messages.{IsTold, write_failed_message}
 
--- the result of a run that ends by some message, `tells` being whether contracts know the bytes of the
--- messages' device
+-- the result of a run that ends with some message; `tells` is whether contracts know the bytes of
+-- the messages' device
 pub record Runs (leaves : List ℕ → Type 0) (tells : Bool) (err err' : OutputView) : Type 0 where
   pub message : List ℕ
   pub left : leaves message

@@ -1,4 +1,4 @@
--- What only the crate's own functions and proofs need next to specs/Packets.
+-- Helpers next to specs/Packets, for the crate's own functions and proofs.
 use Rattle.std.specs.Prelude.{◌≡◌, ◌⊎◌, ℕ, ◌+◌, ◌≤◌, Bool, true, false, List, map, Option, None, Some, Result, Ok, Err}
 use Rattle.std.specs.List.{slice_get}
 use Rattle.cap_octet.specs.Packet.{Captured}
@@ -48,7 +48,7 @@ pub record Sieve : Type 0 where
 abbrev pub sieve : PolicyState → Target → Sieve
 sieve selector output = record { selector = selector; output = output }
 
--- the verdict on a packet, and what putting it answers if it passes
+-- the verdict on a packet, and the result of writing it if it passes
 pub record Judges (p : Captured) (number : ℕ) (old : Sieve) (verdict : code.Verdict)
     (put : Result (Unit {0}) Fault) (new : Sieve) : Type 0 where
   -- as it passes
@@ -101,21 +101,21 @@ pub record ReportsOn (names : List (List ℕ)) (input : ℕ) (cursor : InputView
   pub selector_is : new.selector
       ≡ record { policy = old.selector.policy; state = with_empty_tally old.selector.state }
 
--- an input at its end is reported where reports are asked; else all stays
+-- an input at its end is reported if reports are asked for; otherwise nothing changes
 abbrev pub ClosesBy : Bool → List (List ℕ) → ℕ → InputView → Sieve → Option JobEnd → Sieve
     → Type 0
 ClosesBy false names input cursor old r new =
     (r ≡ None) × (new.selector ≡ old.selector) × (new.output ≡ old.output)
 ClosesBy true names input cursor old r new = ReportsOn names input cursor old r new
 
--- an input that was read to its end is reported, where reports are asked
+-- an input that was read to its end is reported, if reports are asked for
 pub record Closes (names : List (List ℕ)) (inputs : InputsView) (input : ℕ) (old : Sieve)
     (r : Option JobEnd) (new : Sieve) : Type 0 where
   pub cursor : InputView
   pub among : slice_get inputs.cursors input ≡ Some cursor
   pub by : ClosesBy (asks_report inputs.order old.selector.policy) names input cursor old r new
 
--- how a job ends whose current packet was not decided: the output failed, or the packet has this
+-- the end of a job whose current packet was not decided: the output failed, or the packet has this
 -- fault (it is refused, or there was no memory for it)
 abbrev pub end_of_failed_write : ℕ → Fault → JobEnd
 end_of_failed_write input WriteFailed = end.OutputFailed
