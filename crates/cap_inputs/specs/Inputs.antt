@@ -1,4 +1,4 @@
--- What a contract sees of the inputs of a job, and how far they are in their captures.
+-- The view of a job's inputs, with their positions in their captures.
 use Rattle.std.specs.Prelude.{◌≡◌, ◌&&◌, ◌||◌, if◌then◌else◌, ℕ, ◌+◌, ◌*◌, ◌-◌, ◌^◌, Bool, true, false, max, nat_le, not, List, [], ◌∷◌, ◌++◌, length, drop, map, Option, None, Some, Result, Ok, Err, unwrap_or}
 use Rattle.std.specs.Option.{option_map, option_map_or, option_to_list}
 use Rattle.std.specs.List.{list_all, list_any, position_or_len, slice_get, slice_set}
@@ -11,7 +11,7 @@ use Rattle.cap_inputs.specs.declared.inputs.Next.{Next}
 use Rattle.cap_inputs.specs.declared.inputs.Next.TheVariants as next
 use Rattle.cap_io.specs.Sequence.{InputItems, Event, Sequence, PacketOrder, InTurn, ByTime, sequence_of, sequence_in_turn, sequence_by_time, with_front}
 
--- what a contract sees of an input
+-- the view of an input
 pub record InputView : Type 0 where
   pub source : SourceView
   -- whether the current packet isn't decided yet
@@ -19,12 +19,12 @@ pub record InputView : Type 0 where
   -- the greatest time of the packets that are decided; 0 of none
   pub greatest : ℕ
 
--- what a contract sees of the inputs: in which order their packets come, and how far each is
+-- the view of the inputs: the order of their packets, and the position of each
 pub record InputsView : Type 0 where
   pub order : PacketOrder
   pub cursors : List InputView
 
--- what comes after the current packet: the items, and the number of bytes of the whole input
+-- the future of an input: the items after its current packet, and the size of the whole input
 pub record Future : Type 0 where
   pub items : Items
   pub size : ℕ
@@ -52,7 +52,7 @@ abbrev pub is_open : Phase → Bool
 is_open Ended = false
 is_open phase = true
 
--- how many inputs are at their clean ends, up to the first that isn't
+-- the number of inputs at their clean ends before the first that isn't
 abbrev pub ended_count : List InputView → ℕ
 ended_count cursors = position_or_len (λ (h : InputView). is_open h.source.phase) cursors
 
@@ -101,7 +101,7 @@ abbrev pub no_future : SourceView → Future
 no_future s =
     record { items = record { packets = []; declared = s.declared; ending = End }; size = s.offset }
 
--- what may come after the current packets: at its clean end an input has nothing more
+-- possible futures of the inputs: at its clean end an input has nothing more
 abbrev pub AreFutures : List InputView → List Future → Type 0
 AreFutures [] [] = Unit {0}
 AreFutures (h ∷ hs) (f ∷ fs) = (h.source.phase ≡ Ended → f ≡ no_future h.source) × AreFutures hs fs
@@ -170,8 +170,8 @@ steps_owed true phase = 2
 steps_owed false Ended = 0
 steps_owed false phase = 1
 
--- How many steps an input takes at most. Each step makes this less, but one that fails: each byte
--- pays for two, since a packet is read once, and then decided once.
+-- The most steps that are left of an input. Each step makes this less, except one that fails: each
+-- byte pays for two, since a packet is read once, and then decided once.
 abbrev pub input_steps_left : InputView → ℕ
 input_steps_left h =
     2 * (2 ^ 63 - h.source.given) + steps_owed h.waiting h.source.phase
@@ -204,9 +204,9 @@ has_least_key cursors h =
     && list_all
     (λ (other : InputView). not other.waiting || nat_le (key_of h) (key_of other)) cursors
 
--- The place of the input that is next, or how many inputs there are if all are at their clean
--- ends: in turn, the first that isn't at its clean end; by time, the first that must be read on,
--- or if none is, the first whose packet has the least key.
+-- The index of the next input, or the number of inputs if all are at their clean ends: in turn, the
+-- first that isn't at its clean end; by time, the first that must be read on, or if there is none,
+-- the first whose packet has the least key.
 abbrev pub place_next : PacketOrder → List InputView → ℕ
 place_next InTurn cursors = ended_count cursors
 place_next ByTime cursors =
@@ -220,7 +220,7 @@ abbrev pub next_at : ℕ → Option InputView → Next
 next_at place None = next.Finish
 next_at place (Some h) = if h.waiting then next.Decide place else next.Read place
 
--- what is next of the inputs
+-- the next action on the inputs
 abbrev pub next_of : InputsView → Next
 next_of inputs =
     next_at (place_next inputs.order inputs.cursors)
@@ -236,14 +236,14 @@ pub record MarksDecided (old : InputsView) (i : ℕ) (new : InputsView) : Type 0
   pub among : IsInput old.cursors i cursor
   pub is : new ≡ with_cursor old i (input_after_decided cursor)
 
--- the beginning of an input's current unit, or of the next one if no packet is current; 0 if
--- there is no such input
+-- the offset of an input's current unit, or of the next one if no packet is current; 0 if no input
+-- has this index
 abbrev pub offset_at : List InputView → ℕ → ℕ
 offset_at cursors i =
     unwrap_or (option_map (λ (h : InputView). h.source.offset) (slice_get cursors i)) 0
 
--- What no step changes of an input's device: how many bytes it gives at least before it fails
--- (None: it never fails), and how many in all, if no read fails.
+-- The limits of an input's device, which no step changes: the number of bytes that it gives at
+-- least before it fails (None: it never fails), and the number in all if no read fails.
 pub record DeviceLimits : Type 0 where
   pub sure : Option ℕ
   pub in_all : ℕ

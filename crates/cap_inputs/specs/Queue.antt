@@ -2,8 +2,8 @@
 use Rattle.std.specs.Prelude.{ℕ, List}
 use Rattle.cap_inputs.specs.declared.queue.Waiting.{Waiting}
 
--- what a contract sees of a queue: the entries of inputs that wait, in no stated order, and
--- for how many it has room
+-- the view of a queue: the entries of inputs that wait, in no stated order, and the number of
+-- entries that it has room for
 pub record Queue : Type 0 where
   pub waiting : List Waiting
   pub room : ℕ

@@ -18,7 +18,7 @@ use Rattle.cap_io.specs.declared.source.Kind.TheVariants.{Pcap, NsecPcap, Pcapng
 
 -- ---- units
 
--- what the units so far declare of those after them
+-- the declarations of the units so far, which later units use
 pub data Declared : Type 0 where
   Nothing : Declared
   PcapFile : (head : Head) → Declared
@@ -31,7 +31,7 @@ abbrev pub first_link_after : Option ℕ → Section → Option ℕ
 first_link_after first section =
     option_or first (option_map (λ (i : Described). i.link) (slice_get section.interfaces 0))
 
--- what is declared after a block
+-- the declarations after a block
 abbrev pub file_after : Option ℕ → Option Section → List ℕ → Declared
 file_after first before bytes =
     PcapngFile (first_link_after first (section_after before bytes)) (section_after before bytes)
@@ -75,7 +75,7 @@ pub record IsCut (text done rest : List ℕ) (packets : List Placed)
   pub last : (u more : List ℕ) (qs : List Captured) (d : Declared) → IsUnit declared u qs d
       → rest ≡ u ++ more → ⊥
 
--- ---- what a text begins with
+-- ---- the first unit of a text
 
 -- a unit of this size, its packets, and what is declared after it; or no unit, by the clean end
 -- (None) or by a fault
@@ -99,12 +99,12 @@ front_of_block first before text =
 abbrev pub is_pcapng : List ℕ → Bool
 is_pcapng text = nat_le 4 (length text) && is_section text
 
--- what follows a unit: an empty rest is the end
+-- the unit that the text after another unit begins with; the clean end if that text is empty
 abbrev pub unless_empty : List ℕ → Front → Front
 unless_empty [] front = NoUnit None
 unless_empty (b ∷ bytes) front = front
 
--- what a text begins with, after units that declare this
+-- the unit that a text begins with after units that declare this, or why there is none
 abbrev pub front_of : Declared → List ℕ → Front
 front_of Nothing text =
     if is_pcapng text then front_of_block None None text
@@ -124,18 +124,18 @@ pub data Ending : Type 0 where
   End : Ending
   FaultAt : (fault : Fault) → (offset : ℕ) → Ending
 
--- what a text holds: packets, what its units declare, and how it ends
+-- the items of a text: its packets, the declarations of its units, and its end
 pub record Items : Type 0 where
   pub packets : List Placed
   pub declared : Declared
   pub ending : Ending
 
--- how a text ends if no unit follows: by a fault at this offset, or cleanly
+-- the end of a text if no unit follows: by a fault at this offset, or cleanly
 abbrev pub ending_by : Option Fault → ℕ → Ending
 ending_by None offset = End
 ending_by (Some fault) offset = FaultAt fault offset
 
--- no packets, and how the text ends there
+-- no packets, and the end of the text there
 abbrev pub no_items : Declared → Option Fault → ℕ → Items
 no_items declared why offset =
     record { packets = []; declared = declared; ending = ending_by why offset }
@@ -163,18 +163,18 @@ items_within (suc most) declared offset text =
 unfoldable pub items_from : Declared → ℕ → List ℕ → Items
 items_from declared offset text = items_within (length text + 1) declared offset text
 
--- what a whole text holds
+-- the items of a whole text
 abbrev pub items : List ℕ → Items
 items text = items_from Nothing 0 text
 
--- ---- what is declared
+-- ---- declarations
 
 -- the kind of a pcap file of this resolution
 abbrev pub kind_by : Resolution → Kind
 kind_by Microseconds = Pcap
 kind_by Nanoseconds = NsecPcap
 
--- what the capture is; None if no unit was read
+-- the kind of the capture; None if no unit was read
 abbrev pub kind_of : Declared → Option Kind
 kind_of Nothing = None
 kind_of (PcapFile head) = Some (kind_by head.resolution)

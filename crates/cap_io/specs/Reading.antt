@@ -1,4 +1,4 @@
--- What reading one unit from a device does to its bytes and its counts.
+-- The bytes and the counts of a device when one unit is read from it.
 use Rattle.std.specs.Prelude.{◌≡◌, ℕ, ◌<◌, ◌≤◌, ◌⊎◌, true, List, [], ◌++◌, Bool, length, drop, Option, None, Some, Result, Err, is_some, is_none, unwrap_or, nat_le, ◌&&◌, if◌then◌else◌}
 use Rattle.std.specs.List.{slice_get}
 use Rattle.std.specs.Option.{option_map}
@@ -22,13 +22,13 @@ use Rattle.cap_io.specs.Capture.{Declared, Nothing, PcapFile, PcapngFile, IsUnit
 abbrev pub most_in_unit : ℕ
 most_in_unit = most_block
 
--- how often the device failed in a call: only a failed read shows that it did
+-- the number of failures of the device in a call: 1 if the call reports a failed read, else 0
 abbrev pub read_failures : {X : Type 0} → Result X Fault → ℕ
 read_failures (Err ReadFailed) = 1
 read_failures result = 0
 
--- how many bytes are taken at most of a text that begins so: no more than its unit, or if none
--- begins, than the longest unit
+-- the most bytes that are taken of a text that begins so: those of its unit, or if none begins,
+-- those of the longest unit
 abbrev pub most_taken : Front → ℕ
 most_taken (Whole size packets declared) = size
 most_taken (NoUnit why) = most_in_unit
@@ -52,16 +52,15 @@ stated_length (PcapFile head) text =
     length_by_header 16 text (field_checks head text) (record_size head text)
 stated_length (PcapngFile first section) text = block_length (Some section) text
 
--- How many bytes are a unit's header: the first 12 of a block, those in front of a record's data,
--- all of the file header of pcap. If a file begins with no header, its first four bytes show
--- that.
+-- The length of a unit's header: the first 12 bytes of a block, those before a record's data, or
+-- the whole file header of pcap. If a file begins with no header, its first four bytes show that.
 abbrev pub unit_header_length : Declared → List ℕ → ℕ
 unit_header_length Nothing text =
     if is_pcapng text then 12 else (if is_some (form_in text) then 24 else 4)
 unit_header_length (PcapFile head) text = 16
 unit_header_length (PcapngFile first section) text = 12
 
--- how many bytes are read to decide what a text begins with: a unit, or a fault in its place
+-- the number of bytes that decide whether a text begins with a unit, or a fault is in its place
 abbrev pub decisive_length : Declared → List ℕ → ℕ
 decisive_length declared text =
     unwrap_or (stated_length declared text) (unit_header_length declared text)
@@ -89,7 +88,7 @@ abbrev pub TakesMemory : ℕ → Declared → List ℕ → Type 0
 TakesMemory room declared unread =
     (room < unwrap_or (stated_length declared unread) 0) ⊎ DescribesInterface declared unread
 
--- how much of a unit of this size the buffer holds: none of the file header of pcap
+-- the number of bytes of a unit of this size that the buffer holds: 0 for the file header of pcap
 abbrev pub held_length : (before after : Declared) → ℕ → ℕ
 held_length Nothing (PcapFile head) size = 0
 held_length before after size = size
@@ -106,7 +105,7 @@ abbrev pub IsReason : Declared → List ℕ → Fault → Type 0
 IsReason declared unread fault =
     (front_of declared unread ≡ NoUnit (Some fault)) ⊎ (fault ≡ ReadFailed) ⊎ (fault ≡ NoMemory)
 
--- what is declared, by what a reader knows of the file and the interfaces of its table
+-- the declarations, by the state of a reader's file and the interfaces of its table
 abbrev pub declared_by : FileState → List Described → Declared
 declared_by state.Unknown interfaces = Nothing
 declared_by (state.Pcap head) interfaces = PcapFile head

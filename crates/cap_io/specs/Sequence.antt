@@ -4,7 +4,7 @@ use Rattle.cap_octet.specs.declared.fault.Fault.{Fault}
 use Rattle.cap_io.specs.declared.source.Kind.{Kind}
 use Rattle.cap_io.specs.Capture.{Placed, Items, Ending, End, FaultAt, kind_of, items}
 
--- ---- what comes
+-- ---- events
 
 -- a packet of an input; or an input, which is of this kind and has this size, was read to its
 -- clean end, which is an event only in turn
@@ -12,7 +12,7 @@ pub data Event : Type 0 where
   Packet : (input : ℕ) → (p : Placed) → Event
   InputEnd : (input : ℕ) → (kind : Option Kind) → (size : ℕ) → Event
 
--- how the order ends: with all inputs (of a job also with the last packet that its count allows),
+-- the end of the order: with all inputs (of a job also with the last packet that its count allows),
 -- or by the fault of one at an offset
 pub data SequenceEnd : Type 0 where
   Complete : SequenceEnd
@@ -34,7 +34,7 @@ pub record InputItems : Type 0 where
   -- the greatest time of the packets in front of that place; 0 of none
   pub greatest : ℕ
   pub items : Items
-  -- how many bytes the whole input has
+  -- the number of bytes of the whole input
   pub size : ℕ
 
 -- a whole input
@@ -47,8 +47,8 @@ whole_input text = record { greatest = 0; items = items text; size = length text
 abbrev pub packet_events : ℕ → List Placed → List Event
 packet_events input ps = map (Packet input) ps
 
--- an input's packets; and if it ends cleanly, its end and what comes of the inputs after it;
--- else the order ends by its fault
+-- an input's packets; and if it ends cleanly, its end and the events of the inputs after it;
+-- otherwise the order ends by its fault
 abbrev pub input_sequence : ℕ → InputItems → Ending → Sequence → Sequence
 input_sequence input r End more =
     with_front
@@ -73,13 +73,13 @@ pub record Entry : Type 0 where
   pub p : Placed
   pub end : SequenceEnd
 
--- how the order ends if this input ends like this
+-- the end of the order if this input ends like this
 abbrev pub end_of : ℕ → Ending → SequenceEnd
 end_of input End = Complete
 end_of input (FaultAt fault offset) = FaultIn input fault offset
 
--- how the order ends after a packet that is followed by these in its input: `Complete` if there
--- is one of these
+-- the end of the order after a packet that is followed by these in its input: `Complete` if any
+-- packet follows
 abbrev pub end_after : ℕ → Ending → List Placed → SequenceEnd
 end_after input ending [] = end_of input ending
 end_after input ending (p ∷ ps) = Complete
@@ -117,7 +117,7 @@ abbrev pub sort_entries : List Entry → List Entry
 sort_entries [] = []
 sort_entries (e ∷ es) = insert_entry e (sort_entries es)
 
--- what follows, unless the order ends by a fault in front of it
+-- the sequence that follows, unless the order ends by a fault before it
 abbrev pub unless_fault : SequenceEnd → Sequence → Sequence
 unless_fault Complete more = more
 unless_fault (FaultIn input fault offset) more =
@@ -148,7 +148,7 @@ sequence_by_time rs =
 
 -- ---- the job's order
 
--- how a job takes its inputs: one after another, or by the times of their packets
+-- the order in which a job takes its inputs: one after another, or by the times of their packets
 pub data PacketOrder : Type 0 where
   InTurn : PacketOrder
   ByTime : PacketOrder

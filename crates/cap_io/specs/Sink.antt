@@ -1,4 +1,4 @@
--- What a contract sees of a sink, and what its calls do.
+-- The view of a sink, and the results of its calls.
 use Rattle.std.specs.Prelude.{◌≡◌, ◌⊎◌, ℕ, Bool, true, ◌+◌, ◌≤◌, List, [], ◌++◌, length, Option, None, Some, Result, Ok, Err, IfErr, OnOk, unwrap_or}
 use Rattle.cap_octet.specs.Assigned.{LINKTYPE_ETHERNET}
 use Rattle.cap_octet.specs.Device.{AppendsOrStops, Stops}
@@ -11,14 +11,14 @@ use Rattle.cap_io.specs.declared.sink.SinkState.{SinkState}
 use Rattle.cap_io.specs.declared.sink.SinkState.TheVariants.{Empty, Started, Broken}
 use Rattle.cap_io.specs.Text.{Interface, appended_packet, checks_in, file_start, file_start_in, interfaces_after_packet, kept_interfaces, state_after, state_after_packet, takes_memory_in, text}
 
--- what a contract sees of a sink
+-- the view of a sink
 pub record SinkView : Type 0 where
   pub format : Format
   pub state : SinkState
   -- the interfaces of a pcapng file so far; pcap forms have none
   pub interfaces : List Interface
-  -- the bytes that the output took, a count of its failures, and how many bytes in all it takes at
-  -- least before it fails
+  -- the bytes written to the output, the number of its failures, and the number of bytes in all
+  -- that it takes at least before it fails
   pub written : List ℕ
   pub failures : ℕ
   pub room : ℕ
@@ -35,7 +35,7 @@ sink_at format written failures room =
       room = room;
     }
 
--- What the sink keeps is what it keeps where these packets were put, and no other.
+-- The state and the interfaces of the sink are those after these packets were put, and no others.
 pub record HasPut (sink : SinkView) (packets : List Captured) : Type 0 where
   pub state : sink.state ≡ state_after packets
   pub interfaces : sink.interfaces ≡ kept_interfaces sink.format packets
@@ -54,28 +54,29 @@ abbrev pub added_in : SinkView → Captured → List ℕ
 added_in sink p =
     file_start_in sink.format sink.state p.link ++ appended_packet sink.format sink.interfaces p
 
--- how often the device failed in a call: only a failed write shows that it did
+-- the number of failures of the device in a call: 1 if the call reports a failed write, else 0
 abbrev pub write_failures : {X : Type 0} → Result X Fault → ℕ
 write_failures (Err WriteFailed) = 1
 write_failures result = 0
 
--- What a put returns: a refusal if there is one. Else the packet is added; or there was no
--- memory, if it takes some; or the device failed.
+-- A put returns the refusal if there is one. Otherwise the packet is added; or there was no memory,
+-- if the packet takes some; or the device failed.
 abbrev pub IsPutAnswer : Option Fault → Bool → Result (Unit {0}) Fault → Type 0
 IsPutAnswer None takes (Ok done) = Unit {0}
 IsPutAnswer None takes (Err fault) = (fault ≡ WriteFailed) ⊎ ((fault ≡ NoMemory) × (takes ≡ true))
 IsPutAnswer (Some refusal) takes (Ok done) = ⊥
 IsPutAnswer (Some refusal) takes (Err fault) = fault ≡ refusal
 
--- The interfaces that are left of those before a packet and those after it: it is numbered before
--- its bytes are written, so if the device fails they are those after it.
+-- The interfaces of a sink after a put: those after the packet if it was added, else those before
+-- it. The interface is numbered before bytes are written, so after a failed write they are those
+-- after the packet too.
 abbrev pub interfaces_after_put : Result (Unit {0}) Fault → (before following : List Interface)
     → List Interface
 interfaces_after_put (Ok done) before following = following
 interfaces_after_put (Err WriteFailed) before following = following
 interfaces_after_put (Err fault) before following = before
 
--- what adding a packet does to a sink that did not fail, whatever the device
+-- the result of adding a packet to a sink that has not failed, for all devices
 pub record AddsPacket (old : SinkView) (p : Captured) (r : Result (Unit {0}) Fault)
     (new : SinkView) : Type 0 where
   pub answer : IsPutAnswer (refusal_in old p) (takes_memory_in old.format old.interfaces p) r
@@ -87,40 +88,40 @@ pub record AddsPacket (old : SinkView) (p : Captured) (r : Result (Unit {0}) Fau
   pub room : new.room ≡ old.room
   pub filled : r ≡ Err WriteFailed → old.room ≤ length new.written
 
--- what is written if a call ends by a fault: nothing if there was no memory, else a
--- beginning, not the whole, or nothing
+-- the bytes written if a call ends by a fault: none if there was no memory, else a prefix, maybe
+-- empty, that isn't the whole
 abbrev pub BreaksOff : Fault → List ℕ → List ℕ → List ℕ → Type 0
 BreaksOff NoMemory bytes written written' = written' ≡ written
 BreaksOff fault bytes written written' = Stops written bytes written'
 
--- what a put writes: all that the packet adds to the text; nothing of a packet that is refused;
--- else a beginning of what it adds, not the whole, or nothing
+-- the bytes that a put writes: all that the packet adds to the text; none for a refused packet;
+-- else a prefix of what it adds, maybe empty, that isn't the whole
 abbrev pub WritesPacket : Option Fault → List ℕ → List ℕ → Result (Unit {0}) Fault → List ℕ → Type 0
 WritesPacket refusal bytes written (Ok done) written' = written' ≡ written ++ bytes
 WritesPacket (Some refusal) bytes written (Err fault) written' = written' ≡ written
 WritesPacket None bytes written (Err fault) written' = BreaksOff fault bytes written written'
 
--- What a put does to a sink that has not failed: it adds the packet, and if the put fails, the
+-- The result of a put to a sink that has not failed: it adds the packet, and if the put fails, the
 -- sink has failed from then on.
 pub record PutsNext (old : SinkView) (p : Captured) (r : Result (Unit {0}) Fault)
     (new : SinkView) : Type 0 where
   pub adds : AddsPacket old p r new
   pub broken : IfErr r (λ fault. new.state ≡ Broken fault)
 
--- What a put does to a sink in this state, whatever the device. One that failed returns that fault
--- again, and stays.
+-- The result of a put to a sink in this state, for all devices. A sink that has failed returns that
+-- fault again, and is unchanged.
 abbrev pub PutsPacket : SinkState → SinkView → Captured → Result (Unit {0}) Fault → SinkView
     → Type 0
 PutsPacket (Broken fault) old p r new = (r ≡ Err fault) × (new ≡ old)
 PutsPacket state old p r new = PutsNext old p r new
 
--- what a put to a sink in this state writes; nothing if the sink has failed
+-- the bytes that a put to a sink in this state writes; none if the sink has failed
 abbrev pub PutWrites : SinkState → SinkView → Captured → Result (Unit {0}) Fault → SinkView → Type 0
 PutWrites (Broken fault) old p r new = new ≡ old
 PutWrites state old p r new =
     WritesPacket (refusal_in old p) (added_in old p) old.written r new.written
 
--- What a finish does to a sink to which nothing was put, whatever the device: the file header or
+-- The result of a finish of a sink to which nothing was put, for all devices: the file header or
 -- section header is written, or the device failed.
 pub record FinishesEmpty (old : SinkView) (link : ℕ) (r : Result (Unit {0}) Fault)
     (new : SinkView) : Type 0 where
@@ -137,15 +138,15 @@ pub record FinishesEmpty (old : SinkView) (link : ℕ) (r : Result (Unit {0}) Fa
 abbrev pub link_or_ethernet : Option ℕ → ℕ
 link_or_ethernet first = unwrap_or first LINKTYPE_ETHERNET
 
--- What a finish does to a sink in this state, whatever the device: if nothing was put it writes
--- the header, else nothing. A sink that failed returns its fault again, and stays.
+-- The result of a finish of a sink in this state, for all devices: if nothing was put it writes the
+-- header, else nothing. A sink that has failed returns its fault again, and is unchanged.
 abbrev pub Finishes : SinkState → SinkView → Option ℕ → Result (Unit {0}) Fault → SinkView → Type 0
 Finishes Empty old first r new = FinishesEmpty old (link_or_ethernet first) r new
 Finishes (Started link) old first r new = (r ≡ Ok tt) × (new ≡ old)
 Finishes (Broken fault) old first r new = (r ≡ Err fault) × (new ≡ old)
 
--- what a finish writes: the file header or section header if nothing was put, or a beginning of
--- it, not the whole, if the device failed; else nothing
+-- the bytes that a finish writes: the file header or section header if nothing was put, or a prefix
+-- of it that isn't the whole if the device failed; else none
 abbrev pub FinishWrites : SinkState → SinkView → Option ℕ → Result (Unit {0}) Fault → SinkView
     → Type 0
 FinishWrites Empty old first r new =

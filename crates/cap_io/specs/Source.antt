@@ -1,4 +1,4 @@
--- What a contract sees of a source, and what its calls do.
+-- The view of a source, and the results of its calls.
 use Rattle.std.specs.Prelude.{◌≡◌, ℕ, ◌+◌, ◌^◌, ◌<◌, ◌≤◌, Bool, true, false, List, [], ◌∷◌, ◌++◌, length, take, Option, None, Some, Result, Ok, Err, OnOk, OnErr, is_some}
 use Rattle.cap_octet.specs.Device.{HasGiven}
 use Rattle.cap_octet.specs.declared.device.Input.{Ghosts}
@@ -13,29 +13,29 @@ use Rattle.cap_io.specs.declared.next_unit.UnitReader.{UnitReader}
 use Rattle.cap_io.specs.Capture.{Declared, Nothing, PcapngFile, IsUnit, AreUnits, NoUnit, front_of}
 use Rattle.cap_io.specs.Reading.{most_in_unit, read_failures, IsReason, IsTaken, FitUnits, TakesMemory, declared_by, packet_in_unit}
 
--- how far a source is: it goes on, or it met the clean end or a fault
+-- the phase of a source: it reads on, or it met the clean end or a fault
 pub data Phase : Type 0 where
   Reading : Phase
   Ended : Phase
   Failed : (fault : Fault) → Phase
 
--- what a contract sees of a source
+-- the view of a source
 pub record SourceView : Type 0 where
   pub phase : Phase
-  -- what the units that were read declare
+  -- the declarations of the units that were read
   pub declared : Declared
   -- the current packet, and the bytes of its unit, none if no packet is current
   pub packet : Option Captured
   pub block : List ℕ
-  -- the beginning of the current unit, else of the next one
+  -- the offset of the current unit, or of the next one if no packet is current
   pub offset : ℕ
   -- the bytes that the device has left, and counts of the bytes that it gave and of its failures
   pub unread : List ℕ
   pub given : ℕ
   pub failures : ℕ
-  -- how many bytes the device gives at least before it fails; `None`: it never fails
+  -- the number of bytes that the device gives at least before it fails; `None`: it never fails
   pub sure : Option ℕ
-  -- how many bytes the buffer has room for
+  -- the number of bytes that the buffer has room for
   pub room : ℕ
 
 -- a source of which nothing is read yet
@@ -70,7 +70,7 @@ packet_at stage.Current spans declared buffer =
     packet_in_unit declared spans (take spans.size buffer)
 packet_at other spans declared buffer = None
 
--- what a contract sees of a source with these fields
+-- the view of a source with these fields
 abbrev pub view_of : {I A : Type 0} → Ghosts I → Stage → UnitReader I A → ℕ → SourceView
 view_of device stage r offset = record {
   phase = phase_at stage;
@@ -127,19 +127,19 @@ pub record IsBroken (old new : SourceView) (fault : Fault) : Type 0 where
   pub block : new.block ≡ []
   pub packet : new.packet ≡ None
 
--- this fault was met, and stays
+-- this fault was met, and the source has failed from then on
 pub record FindsFault (old new : SourceView) (fault : Fault) : Type 0 where
   pub broken : IsBroken old new fault
   pub phase : new.phase ≡ Failed fault
 
--- what an `advance` finds, by what it returned: a packet, the clean end or a fault
+-- the result of an `advance`, by what it returned: a packet, the clean end or a fault
 abbrev pub Finds : SourceView → Result Bool Fault → SourceView → Type 0
 Finds old (Ok true) new = FindsPacket old new
 Finds old (Ok false) new = FindsEnd old new
 Finds old (Err fault) new = FindsFault old new fault
 
--- What an `advance` does from this phase, on a device whose bytes contracts know. A source at its end or
--- after a fault returns that again, and stays.
+-- The result of an `advance` from this phase, on a device whose bytes contracts know. A source at
+-- its end or after a fault returns that again, and is unchanged.
 abbrev pub Advances : Phase → SourceView → Result Bool Fault → SourceView → Type 0
 Advances Reading old r new = Finds old r new
 Advances Ended old r new = (r ≡ Ok false) × (new ≡ old)
@@ -160,8 +160,8 @@ abbrev pub SectionFits : Declared → Type 0
 SectionFits (PcapngFile first section) = FitSection section.interfaces
 SectionFits declared = Unit {0}
 
--- what an `advance` of a source that has neither ended nor failed does on any device, whether it
--- shows its bytes or not: counts, and the size of what is held
+-- the bounds that an `advance` keeps of a source that has neither ended nor failed, for all
+-- devices: counts, and the size of what is held
 pub record KeepsBounds (old : SourceView) (r : Result Bool Fault) (new : SourceView) : Type 0 where
   pub given : old.given ≤ new.given
   -- a failed read is reported exactly if the device failed in this call
@@ -184,7 +184,7 @@ pub record KeepsBounds (old : SourceView) (r : Result Bool Fault) (new : SourceV
       ((old.given + end_offset new ≤ new.given + end_offset old)
       × (new.given + end_offset old ≤ old.given + end_offset new + most_in_unit))
 
--- what an `advance` does from this phase, on any device
+-- the result of an `advance` from this phase, for all devices
 abbrev pub Steps : Phase → SourceView → Result Bool Fault → SourceView → Type 0
 Steps Reading old r new = KeepsBounds old r new
 Steps Ended old r new = (r ≡ Ok false) × (new ≡ old)

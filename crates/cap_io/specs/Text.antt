@@ -17,7 +17,7 @@ use Rattle.cap_io.specs.declared.sink.SinkState.TheVariants.{Empty, Started}
 
 -- ---- the interfaces of a pcapng file
 
--- what makes two interfaces one
+-- an interface: packets with equal fields have the same one
 pub record Interface : Type 0 where
   pub link : ℕ
   pub snap : ℕ
@@ -27,7 +27,7 @@ pub record Interface : Type 0 where
 abbrev pub interface_of : Captured → Interface
 interface_of p = record { link = p.link; snap = p.snap; name = p.name }
 
--- whether two interfaces are one: for equal link type, snap length and name
+-- whether two interfaces are the same: their link types, snap lengths and names are equal
 abbrev pub is_same : Interface → Interface → Bool
 is_same i j = i.link == j.link && (i.snap == j.snap && pointwise nat_eq i.name j.name)
 
@@ -39,11 +39,11 @@ is_among interfaces i = list_any (is_same i) interfaces
 abbrev pub new_among : List Interface → Interface → List Interface
 new_among interfaces i = if is_among interfaces i then [] else i ∷ []
 
--- how many interfaces come before this one, or how many there are if it is new
+-- the index of this interface, or the number of interfaces if it is new
 abbrev pub number_among : List Interface → Interface → ℕ
 number_among interfaces i = position_or_len (is_same i) interfaces
 
--- how many interfaces a file may have
+-- the most interfaces of a file
 abbrev pub most_output_interfaces : ℕ
 most_output_interfaces = 4096
 
@@ -54,7 +54,7 @@ pub record FitFile (interfaces : List Interface) : Type 0 where
 
 -- ---- texts
 
--- what a file begins with: a file header with this link type, or a section header
+-- the start of a file: a file header with this link type, or a section header
 abbrev pub file_start : Format → ℕ → List ℕ
 file_start Pcap link = pcap.file_header Microseconds link
 file_start NsecPcap link = pcap.file_header Nanoseconds link
@@ -66,7 +66,7 @@ record_text resolution p = pcap.record_header resolution p ++ p.bytes
 
 -- ---- one packet more, by what a file keeps of those before it
 
--- the state after one packet more; that of a sink that failed stays
+-- the state after one packet more; that of a sink that failed is unchanged
 abbrev pub state_after_packet : SinkState → Captured → SinkState
 state_after_packet Empty p = Started p.link
 state_after_packet state p = state
@@ -97,13 +97,13 @@ abbrev pub takes_memory_in : Format → List Interface → Captured → Bool
 takes_memory_in Pcapng interfaces p = not (is_among interfaces (interface_of p))
 takes_memory_in format interfaces p = false
 
--- what is written in front of the first packet; nothing in front of others
+-- the bytes written before the first packet; none before others
 abbrev pub file_start_in : Format → SinkState → ℕ → List ℕ
 file_start_in format Empty link = file_start format link
 file_start_in format state link = []
 
--- the bytes of a packet itself: in pcapng its interface is described in front of it if that is
--- new, and the interface's number is how many come before it
+-- the bytes of a packet itself: in pcapng its interface is described before it if that is new, and
+-- has as its number the count of the interfaces before it
 abbrev pub appended_packet : Format → List Interface → Captured → List ℕ
 appended_packet Pcap interfaces p = record_text Microseconds p
 appended_packet NsecPcap interfaces p = record_text Nanoseconds p
@@ -132,7 +132,7 @@ refusal_of format earlier p =
 abbrev pub takes_memory : Format → List Captured → Captured → Bool
 takes_memory format earlier p = takes_memory_in format (kept_interfaces format earlier) p
 
--- what a packet adds to the text of those before it
+-- the bytes that a packet adds to the text of those before it
 abbrev pub added_text : Format → List Captured → Captured → List ℕ
 added_text format earlier p =
     file_start_in format (state_after earlier) p.link

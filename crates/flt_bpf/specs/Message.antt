@@ -1,11 +1,11 @@
--- What messages say of a refused program and of a refused text.
+-- The messages on a refused program and on a refused text.
 use Rattle.std.specs.Prelude.{ℕ, Bool, true, false, if◌then◌else◌, List, [], ◌++◌, Option, Some, None, codes, decimal}
 use Rattle.flt_bpf.specs.declared.fault.CheckFault.{CheckFault}
 use Rattle.flt_bpf.specs.declared.fault.CheckFault.TheVariants.{Empty, TooLong, UnknownCode, JumpOut, NoSuchWord, DivisionByZero, ShiftTooFar, NoReturn}
 use Rattle.flt_bpf.specs.declared.fault.ListingFault.{ListingFault}
 use Rattle.flt_bpf.specs.declared.fault.ListingFault.TheVariants as listing
 
--- what a broken rule is called
+-- the text of a broken rule
 abbrev pub check_text : CheckFault → List ℕ
 check_text Empty = codes "empty"
 check_text TooLong = codes "too long"
@@ -38,7 +38,7 @@ abbrev pub wrong_line : ListingFault → Option ℕ
 wrong_line (listing.NotListing line) = Some line
 wrong_line listing.Memory = None
 
--- what a message says of the place of a line, by its number; nothing if there is none
+-- the part of a message on a line, by its number; empty without one
 abbrev pub at_line : Option ℕ → List ℕ
 at_line None = []
 at_line (Some line) = codes " at line " ++ decimal line

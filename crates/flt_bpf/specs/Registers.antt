@@ -5,7 +5,7 @@ use Rattle.flt_bpf.specs.declared.operation.Operation.TheVariants.{LoadAbsolute,
 use Rattle.flt_bpf.specs.declared.operation.Register.TheVariants.{Accumulator, Index}
 use Rattle.flt_bpf.specs.declared.operation.Operand.TheVariants.{IndexRegister}
 
--- what an operation does depends on A
+-- whether the result of an operation depends on A
 abbrev pub reads_accumulator : Operation → Bool
 reads_accumulator (Store Accumulator) = true
 reads_accumulator (Compute operator operand) = true
@@ -15,7 +15,7 @@ reads_accumulator ReturnAccumulator = true
 reads_accumulator CopyToIndex = true
 reads_accumulator _ = false
 
--- what an operation does depends on X
+-- whether the result of an operation depends on X
 abbrev pub reads_index : Operation → Bool
 reads_index (LoadIndirect width) = true
 reads_index (Store Index) = true
@@ -24,7 +24,7 @@ reads_index (JumpIf test IndexRegister) = true
 reads_index CopyToAccumulator = true
 reads_index _ = false
 
--- an operation puts something into A
+-- whether an operation sets A
 abbrev pub sets_accumulator : Operation → Bool
 sets_accumulator (LoadAbsolute width) = true
 sets_accumulator (LoadIndirect width) = true
@@ -34,7 +34,7 @@ sets_accumulator Negate = true
 sets_accumulator CopyToAccumulator = true
 sets_accumulator _ = false
 
--- an operation puts something into X
+-- whether an operation sets X
 abbrev pub sets_index : Operation → Bool
 sets_index (Load Index source) = true
 sets_index LoadHeaderLength = true

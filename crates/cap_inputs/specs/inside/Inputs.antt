@@ -1,4 +1,4 @@
--- What inputs still have, and how many wait.
+-- Helpers on the inputs of a job: what is left of them, and which is next.
 use Rattle.std.specs.Prelude.{◌≡◌, ◌⊎◌, ◌<◌, ◌≤◌, ℕ, ◌+◌, ◌^◌, Bool, true, false, List, [], ◌∷◌, length, Option, None, unwrap_or}
 use Rattle.std.specs.Option.{option_map, option_or}
 use Rattle.cap_io.specs.Capture.{items_from, first_link_of}
@@ -13,19 +13,19 @@ abbrev pub is_in_turn : PacketOrder → Bool
 is_in_turn InTurn = true
 is_in_turn ByTime = false
 
--- what comes after a source's current packet, by what its device has left
+-- the items after a source's current packet, from the bytes that its device has left
 abbrev pub actual_future : SourceView → Future
 actual_future s = record {
   items = items_from s.declared (s.offset + length s.block) s.unread;
   size = s.offset + length s.block + length s.unread;
 }
 
--- how many packets wait of one input
+-- the number of packets of one input that wait
 abbrev pub waiting_count : Bool → ℕ
 waiting_count true = 1
 waiting_count false = 0
 
--- how many steps a job makes at most
+-- the most steps of a job
 abbrev pub most_steps : ℕ
 most_steps = 2 ^ 80
 
@@ -82,8 +82,7 @@ abbrev pub AllReady : List InputView → Type 0
 AllReady [] = Unit {0}
 AllReady (h ∷ hs) = IsReady h × AllReady hs
 
--- In turn, it is this input's turn: those in front of it are at their clean ends, it and those
--- after it aren't.
+-- It is this input's turn: those before it are at their clean ends, it and those after it aren't.
 pub record IsAtTurn (cursors : List InputView) (i : ℕ) (waiting : Bool) : Type 0 where
   pub cursor : InputView
   pub among : IsInput cursors i cursor
@@ -128,11 +127,11 @@ IsNext inputs r = IsNextIn inputs.order inputs.cursors r
 abbrev pub owed_by : InputView → ℕ
 owed_by h = steps_owed h.waiting h.source.phase
 
--- how many steps are left at most
+-- the most steps that are left
 abbrev pub steps_left : InputsView → ℕ
 steps_left f = steps_left_in f.cursors
 
--- if the current unit of an input begins, or the next one if no packet is current; 0 of no
+-- the offset of an input's current unit, or of the next one if no packet is current; 0 without an
 -- input
 abbrev pub offset_of : Option InputView → ℕ
 offset_of o = unwrap_or (option_map (λ (h : InputView). h.source.offset) o) 0
