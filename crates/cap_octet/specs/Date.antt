@@ -2,7 +2,7 @@
 use Rattle.std.specs.Prelude.{ℕ, zero, suc, ◌+◌, ◌/◌, ◌%◌, ◌^◌, List, [], ◌∷◌, ◌++◌}
 use Rattle.cap_octet.specs.Calendar.{Day, day_from_epoch}
 
--- how many nanoseconds a second has
+-- the nanoseconds of a second
 abbrev pub NANOS_PER_SECOND : ℕ
 NANOS_PER_SECOND = 1_000_000_000
 
@@ -10,7 +10,7 @@ NANOS_PER_SECOND = 1_000_000_000
 abbrev pub TIME_END : ℕ
 TIME_END = 2 ^ 63
 
--- how many nanoseconds a day has
+-- the nanoseconds of a day
 abbrev pub NANOS_PER_DAY : ℕ
 NANOS_PER_DAY = 86_400_000_000_000
 

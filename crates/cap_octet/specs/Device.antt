@@ -1,20 +1,20 @@
--- What the calls of a device do to its bytes and to the counts that contracts see.
+-- The results of a device's calls, for its bytes and for the counts that contracts see.
 use Rattle.std.specs.Prelude.{◌≡◌, ℕ, ◌+◌, ◌<◌, ◌≤◌, Bool, true, false, List, [], ◌++◌, length, take, drop, Option, None, Some, Result, Ok, Err, min}
 use Rattle.cap_octet.specs.declared.device.DeviceFault.{DeviceFault}
 use Rattle.cap_octet.specs.declared.device.Stopped.{Stopped}
 
--- how many bytes came: none in a call that failed
+-- the number of bytes that came: 0 in a call that failed
 abbrev pub count_of : {E : Type 0} → Result ℕ E → ℕ
 count_of (Ok n) = n
 count_of (Err fault) = 0
 
--- how many failures of the device a call reports: one or none
+-- the number of failures of the device that a call reports: 0 or 1
 abbrev pub failures_of : {X E : Type 0} → Result X E → ℕ
 failures_of (Ok value) = 0
 failures_of (Err fault) = 1
 
--- What holds if a device failed: it had given as many bytes in all as it was sure to. For one that
--- never fails (None) it can't hold.
+-- A device that failed had given at least as many bytes in all as it was sure to give. This is
+-- false for one that never fails (None).
 abbrev pub HasGiven : Option ℕ → ℕ → Type 0
 HasGiven None given = ⊥
 HasGiven (Some sure) given = sure ≤ given

@@ -1,4 +1,4 @@
--- What messages call a fault.
+-- The texts of faults in messages.
 use Rattle.std.specs.Prelude.{ℕ, List, codes}
 use Rattle.cap_octet.specs.declared.fault.Fault.{Fault}
 use Rattle.cap_octet.specs.declared.fault.Fault.TheVariants as fault

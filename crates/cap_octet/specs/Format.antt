@@ -9,7 +9,7 @@ use Rattle.cap_octet.specs.declared.format.Format.TheVariants.{Pcap, NsecPcap, P
 unfoldable pub all_formats : List Format
 all_formats = Pcap ∷ NsecPcap ∷ Pcapng ∷ []
 
--- what command lines and reports call a format
+-- the name of a format on command lines and in reports
 abbrev pub format_name : Format → List ℕ
 format_name Pcap = codes "pcap"
 format_name NsecPcap = codes "nsecpcap"

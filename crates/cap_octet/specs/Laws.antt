@@ -1,5 +1,5 @@
--- The days are counted in two ways: one by one, if a date is printed, and by jiff's day numbers,
--- if one is read.
+-- Days are counted in two ways: one by one when a date is printed, and by jiff's day numbers when
+-- one is read.
 use Rattle.std.specs.Prelude.{◌≡◌, ℕ, ◌≤◌, Some}
 use Rattle.cap_octet.specs.Calendar.{ymd, day_from_epoch}
 use Rattle.cap_octet.specs.Timestamp.{day_number}

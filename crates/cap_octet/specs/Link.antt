@@ -17,13 +17,13 @@ link_type Ether = LINKTYPE_ETHERNET
 link_type Raw = LINKTYPE_RAW
 link_type Cooked = LINKTYPE_LINUX_SLL
 
--- how many bytes a link's header has, after which the network header begins
+-- the length of a link's header, after which the network header begins
 abbrev pub network_offset : Link → ℕ
 network_offset Ether = ETHERNET_HEADER_LENGTH
 network_offset Raw = 0
 network_offset Cooked = LINUX_SLL_HEADER_LENGTH
 
--- how many bytes a link header has at most
+-- the most bytes of a link header
 abbrev pub longest_header : ℕ
 longest_header = 16
 
@@ -33,7 +33,7 @@ type_offset Ether = Some ETHERNET_TYPE_OFFSET
 type_offset Raw = None
 type_offset Cooked = Some LINUX_SLL_TYPE_OFFSET
 
--- what command lines and the lines of packets call a link
+-- the name of a link on command lines and in the lines of packets
 abbrev pub link_name : Link → List ℕ
 link_name Ether = codes "ether"
 link_name Raw = codes "raw"

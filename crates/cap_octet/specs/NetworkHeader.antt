@@ -1,4 +1,4 @@
--- What network header a packet has, by its link type. p are the captured bytes.
+-- The network header of a packet, by its link type. p are the captured bytes.
 use Rattle.std.specs.Prelude.{ℕ, ◌+◌, ◌/◌, nat_lt, ◌==◌, if◌then◌else◌, List, length, slice_index, Option, None, Some}
 use Rattle.std.specs.Option.{option_map_or}
 use Rattle.cap_octet.specs.Assigned.{ETHERTYPE_IPV4, ETHERTYPE_IPV6, ETHERTYPE_ARP, ETHERTYPE_RARP}
@@ -9,8 +9,8 @@ use Rattle.cap_octet.specs.declared.network.NetworkHeader.{NetworkHeader}
 use Rattle.cap_octet.specs.declared.network.NetworkHeader.TheVariants.{Known, OtherType, OtherVersion, OtherLink, Short}
 use Rattle.cap_octet.specs.declared.network.NetworkKind.TheVariants.{Ipv4, Ipv6, Arp, Rarp}
 
--- how many bytes the link header of a link type has, after which the network header begins; 0 of
--- one that isn't known
+-- the length of the link header of a link type, after which the network header begins; 0 for an
+-- unknown link type
 abbrev pub link_header_length : ℕ → ℕ
 link_header_length n = option_map_or network_offset (link_of n) 0
 
@@ -29,8 +29,8 @@ header_by_version version =
     if version == 4 then Known Ipv4 else if version == 6 then Known Ipv6 else OtherVersion version
 
 -- the network header of a packet: by the EtherType at this place in the link header; or of raw IP,
--- which has none, by the version of IP, which is the first four bits. `Short` where what it goes by
--- isn't captured.
+-- which has none, by the version of IP, which is the first four bits. `Short` if the bytes that
+-- show it aren't captured.
 abbrev pub header_after : Option ℕ → List ℕ → NetworkHeader
 header_after None p = if length p == 0 then Short else header_by_version (slice_index p 0 / 16)
 header_after (Some at) p =

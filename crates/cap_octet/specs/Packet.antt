@@ -2,7 +2,7 @@
 use Rattle.std.specs.Prelude.{ℕ, List}
 use Rattle.cap_octet.specs.declared.packet.Packet.{Packet}
 
--- what a contract sees of a packet
+-- the view of a packet
 pub record Captured : Type 0 where
   -- the link type and the snap length of its interface, or of its pcap file
   pub link : ℕ

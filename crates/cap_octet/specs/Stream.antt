@@ -25,7 +25,7 @@ ReadsOnce held calls (Ok n) buf' calls' =
 ReadsOnce held calls (Err fault) buf' calls' = calls' ≡ calls + 1
 
 -- One read of a reader into this buffer, and what the device makes of what it returned (`answer`).
--- What std says of a read is known of it: so of a reader whose bytes are known no byte is lost,
+-- All that std states of a read is known: so no byte is lost of a reader whose bytes are known,
 -- unless the read reaches 2^63 bytes in all, which is a failure.
 pub record IsOneRead (held : List ℕ) (remaining : Option (List ℕ)) (given calls : ℕ)
     (result : Result ℕ DeviceFault) (remaining' : Option (List ℕ)) (buf' : List ℕ)

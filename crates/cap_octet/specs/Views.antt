@@ -1,17 +1,17 @@
--- What a contract sees of devices that a call is made over, and that it hands back.
+-- The views of the devices that a call takes and returns.
 use Rattle.std.specs.Prelude.{ℕ, Bool, List, Option}
 use Rattle.cap_octet.specs.declared.device.Input as input
 use Rattle.cap_octet.specs.declared.device.Output as output
 
--- an input as it is handed over: the bytes that it has left, how many it gave and how often it
--- failed, and how many bytes in all it gives at least before it fails (None: it never fails)
+-- an input before a call: the bytes that it has left, the number of bytes that it gave and of its
+-- failures, and the number of bytes in all that it gives at least before it fails (None: never)
 pub record FreshInput : Type 0 where
   pub text : List ℕ
   pub given : ℕ
   pub failures : ℕ
   pub sure : Option ℕ
 
--- what a contract sees of an input before a call
+-- the view of an input before a call
 abbrev pub fresh_input : {I : Type 0} → input.Ghosts I → I → FreshInput
 fresh_input device i =
     record {
@@ -21,7 +21,7 @@ fresh_input device i =
       sure = device.sure i;
     }
 
--- an output's bytes, if it shows them, and how often it failed
+-- the bytes written to an output, if contracts know them, and the number of its failures
 pub record OutputView : Type 0 where
   pub written : List ℕ
   pub failures : ℕ
@@ -34,14 +34,14 @@ output_view written failures = record { written = written; failures = failures }
 abbrev pub device_view : {O : Type 0} → output.Ghosts O → O → OutputView
 device_view device o = output_view (device.written o) (device.failures o)
 
--- an output that a call must write to, with how many bytes in all it takes at least before it
--- fails, and whether it shows its bytes
+-- an output before a call, with the number of bytes in all that it takes at least before it fails,
+-- and whether contracts know its bytes
 pub record FreshOutput : Type 0 where
   pub view : OutputView
   pub room : ℕ
   pub tells : Bool
 
--- what a contract sees of an output before a call
+-- the view of an output before a call
 abbrev pub fresh_output : {O : Type 0} → output.Ghosts O → O → FreshOutput
 fresh_output device o =
     record { view = device_view device o; room = device.room o; tells = device.tells }

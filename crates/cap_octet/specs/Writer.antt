@@ -1,11 +1,11 @@
--- What a writer does to a device if it reports if it stopped.
+-- The result of a writer that reports how many bytes it wrote before the device failed.
 use Rattle.std.specs.Prelude.{◌≡◌, ◌+◌, ◌<◌, ℕ, List, length, Result, IfErr, IsTrue}
 use Rattle.cap_octet.specs.declared.device.Output.{Ghosts}
 use Rattle.cap_octet.specs.declared.device.Stopped.{Stopped}
 use Rattle.cap_octet.specs.Device.{WritesAll, failures_of}
 
--- It wrote these bytes; or it stopped if the device failed, and reports after how many of them,
--- fewer than all.
+-- The bytes are written; or the device failed, and the error has the number of bytes written before
+-- that, fewer than all.
 pub record WritesExactly {Device : Type 0} (d : Ghosts Device) (old : Device) (bytes : List ℕ)
     (r : Result (Unit {0}) Stopped) (new : Device) : Type 0 where
   pub front : IfErr r (λ stopped. stopped.written < length bytes)

@@ -312,7 +312,7 @@ impl<I: Input, O: Output, E: Output, A: Allocator + Copy + Drop> Job<I, O, E, A>
         self.read_input(input)
     }
 
-    /// Before an input is read on, makes the output's device pass on what it holds back, unless the
+    /// Before an input is read on, makes the output's device write its buffered bytes, unless the
     /// input's next packet is at hand. It returns false if the device couldn't.
     // Out of line, since few jobs have an output that is awaited.
     #[inline(never)]
@@ -323,9 +323,9 @@ impl<I: Input, O: Output, E: Output, A: Allocator + Copy + Drop> Job<I, O, E, A>
         self.inputs.has_next_at_hand(input) || self.output.release()
     }
 
-    /// Reads an input on: to its next packet, its clean end, if it is reported if reports are
-    /// asked for, or a fault. It returns the end if the job ends here: by that fault, or since
-    /// the report couldn't be written.
+    /// Reads an input on: to its next packet, a fault, or its clean end, at which it is reported if
+    /// reports are asked for. It returns the end of the job if the job ends here: by that fault, or
+    /// since the report couldn't be written.
     fn read_input(&mut self, input: usize) -> Option<JobEnd>
         requires prepared { self.old.preparing ≡ None }
         requires next { input_spec.IsNext self.old.state.inputs (Next.Read input) }

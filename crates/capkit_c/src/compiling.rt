@@ -24,7 +24,7 @@ pub enum Failure {
     NotUtf8(usize),
     /// Expressions aren't read on packets of this link type, except the empty one.
     LinkType,
-    /// How many instructions the program has: more than there is room for.
+    /// The number of the program's instructions: more than there is room for.
     NoRoom(usize),
 }
 
@@ -79,8 +79,8 @@ pub(crate) fn utf8_text(bytes: &[u8]) -> Result<&str, usize>
     }
 }
 
-/// Compiles a text for a link type, writes the program at the start of `insns` and returns how many
-/// instructions it has; or why not, and then `insns` is unchanged.
+/// Compiles a text for a link type, writes the program at the start of `insns` and returns the
+/// number of its instructions; or returns why not, and then `insns` is unchanged.
 fn compile_into(
     alloc: Global,
     text: &[u8],
@@ -154,12 +154,11 @@ impl Failure {
     }
 }
 
-/// Compiles the expression that a text is, for packets of a link type, into the caller's
-/// instructions.
+/// Compiles the expression in a text, for packets of a link type, into the caller's instructions.
 ///
-/// By 0 `number` is the count of instructions, which stand at the start of `insns`; what is after
-/// them stays. By any other status `insns` is unchanged, and `number` is the place of the text's
-/// fault or how many instructions there are, or is 0 if the failure has neither.
+/// If it returns 0, `number` is the count of instructions, which are at the start of `insns`; the
+/// elements after them don't change. For any other status `insns` is unchanged, and `number` is the
+/// place of the text's fault or the number of instructions, or 0 if the failure has neither.
 #[unsafe(no_mangle)]
 pub extern "C" fn capkit_compile(
     alloc: Global,

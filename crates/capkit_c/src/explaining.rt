@@ -1,4 +1,4 @@
-//! What an expression means, written out as an expression again.
+//! The meaning of an expression, written out as an expression again.
 ghost use Rattle.std.specs.Prelude.{IfOk, IfErr, string_bytes};
 ghost use Rattle.capkit_c.specs.Bounding.{IsTextFailure};
 ghost use Rattle.capkit_c.specs.Explaining.{ExplainLeaves, Explains};
@@ -10,7 +10,7 @@ use flt_explain::explain;
 use flt_words::ExprFault;
 use std::alloc::Global;
 
-/// What the expression that a text is means, written out as a text again. An error is why the first
+/// The meaning of the expression in a text, written out as a text again. An error is why the first
 /// text isn't an expression, or that memory ran out.
 fn meaning_of(alloc: Global, text: &[u8]) -> Result<String, Failure>
     ensures meaning { IfOk result (λ meaning. Explains text.now (string_bytes meaning)) }
@@ -31,10 +31,10 @@ fn meaning_of(alloc: Global, text: &[u8]) -> Result<String, Failure>
     }
 }
 
-/// Puts what an expression means into a buffer, as far as there is room: the expression again, in
-/// parentheses by its tree, with every qualifier written out. By 0 `number` is the length of the
-/// whole text; by any other status the buffer is unchanged, and `number` is the place of the text's
-/// fault, or is 0 if the failure has no place.
+/// Puts the meaning of an expression into a buffer, as far as there is room: the expression again,
+/// in parentheses by its tree, with every qualifier written out. If it returns 0, `number` is the
+/// length of the whole text; for any other status the buffer is unchanged, and `number` is the
+/// place of the text's fault, or 0 if the failure has no place.
 #[unsafe(no_mangle)]
 pub extern "C" fn capkit_explain(
     alloc: Global,

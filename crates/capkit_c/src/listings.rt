@@ -9,15 +9,15 @@ use std::alloc::Global;
 /// Why no listing was read.
 #[derive(Clone, Copy)]
 enum Failure {
-    /// The text is none: its first wrong line, from 1.
+    /// The text isn't a listing: its first wrong line, from 1.
     NotListing(usize),
-    /// How many instructions it has: more than there is room for.
+    /// The number of its instructions: more than there is room for.
     NoRoom(usize),
     Memory,
 }
 
-/// Reads a listing to the start of `insns`, and returns how many instructions it has; or why not,
-/// and then `insns` is unchanged.
+/// Reads a listing to the start of `insns`, and returns the number of its instructions; or returns
+/// why not, and then `insns` is unchanged.
 fn read_into(alloc: Global, text: &[u8], insns: &mut [Insn]) -> Result<usize, Failure>
     ensures held { IfOk result (HoldsListing text.now insns.old insns.new) }
     ensures failed { IfErr result (IsFailure text.now (length insns.old)) }
@@ -38,8 +38,9 @@ fn read_into(alloc: Global, text: &[u8], insns: &mut [Insn]) -> Result<usize, Fa
 }
 
 /// Reads a listing. If it returns 0 the first `number` of `insns` are its instructions, and those
-/// after them are unchanged. Else `insns` is unchanged: 17 isn't a listing, and `number` its first
-/// wrong line, from 1; 16 too many instructions, and `number` how many; 13 that memory ran out.
+/// after them are unchanged. Otherwise `insns` is unchanged: 17 means that the text isn't a
+/// listing, and `number` is its first wrong line, from 1; 16 that there are too many instructions,
+/// and `number` is their count; 13 that memory ran out.
 #[unsafe(no_mangle)]
 pub extern "C" fn capkit_read_listing(
     alloc: Global,

@@ -12,7 +12,7 @@ use flt_trace::run_insns;
 /// The number of a packet of another link type than the program's.
 const ANOTHER_LINK_TYPE: u32 = 226;
 
-/// What a valid program returns on a packet of a capture.
+/// Runs a valid program on a packet of a capture, and returns its result.
 fn verdict(insns: &[Insn], capture: &[u8], packet: &Packet) -> u32
     requires { IsValid insns.now }
     ensures { Returns insns.now capture.now packet.now result }
@@ -80,10 +80,10 @@ fn next_accepted(
     }
 }
 
-/// Reads on to the next packet on which a program for packets of this link type returns other than
-/// 0, and returns 0. If the next packet has another link type it returns 226: the packet is that
-/// one, and the reader is after it. Other numbers are those of `capkit_next`, or of `capkit_check`
-/// if the instructions aren't a valid program: then nothing is read.
+/// Reads on to the next packet that a program for packets of this link type accepts (on which it
+/// returns non-zero), and returns 0. If a packet has another link type it returns 226: the packet
+/// is that one, and the reader is after it. Other numbers are those of `capkit_next`, or of
+/// `capkit_check` if the instructions aren't a valid program: then nothing is read.
 #[unsafe(no_mangle)]
 pub extern "C" fn capkit_next_match(
     reader: &mut Reader,

@@ -1,5 +1,5 @@
-//! Instructions and packets as lines. A text is put into a buffer as far as there is room in front
-//! of a NUL, and the length that is returned is that of the whole (`put_text`).
+//! Instructions and packets as lines. A text is put into a buffer as far as there is room before a
+//! NUL, and the length that is returned is that of the whole text (`put_text`).
 ghost use Rattle.std.specs.Prelude.{◌≡◌, ◌≤◌, length};
 ghost use Rattle.flt_trace.specs.Text.{insn_text};
 ghost use Rattle.capkit_c.specs.Printing.{packet_line};
@@ -24,10 +24,10 @@ pub extern "C" fn capkit_insn_text(insn: &Insn, index: u32, buffer: &mut [u8]) -
     put_text(insn_text(insn, index).as_slice(), buffer)
 }
 
-/// Puts the line of a packet into a buffer, as `capkit print` prints it, or where `with_link` isn't
-/// 0 `capkit print -e`, with its line feed. `time` is in nanoseconds since 1970, `original` how
-/// many bytes the packet had on the wire. It gives the length of the line, at most 250 bytes, or 0
-/// if the time is 2^63 or more.
+/// Puts the line of a packet into a buffer, with its line feed, as `capkit print` prints it, or
+/// `capkit print -e` if `with_link` isn't 0. `time` is in nanoseconds since 1970, and `original` is
+/// the packet's length on the wire in bytes. It returns the length of the line, at most 250 bytes,
+/// or 0 if the time is 2^63 or more.
 #[unsafe(no_mangle)]
 pub extern "C" fn capkit_line(
     link_type: u16,

@@ -1,4 +1,4 @@
-//! What the numbers are called, and how a text is put into a buffer.
+//! The texts of numbers, and how a text is put into a buffer.
 ghost use Rattle.std.specs.Prelude.{◌≡◌, ◌+◌, ◌<◌, ◌∷◌, ◌++◌, drop, length};
 ghost use Rattle.capkit_c.specs.Texts.{found_text, number_text, put_text, rule_text};
 ghost use Rattle.capkit_c.specs.Texts.{status_text, version};
@@ -16,8 +16,8 @@ pub(crate) const FOUND: u32 = 200;
 /// The version of the library.
 const VERSION: [u8; 3] = [0, 1, 0];
 
-/// What a status of a compilation is called, as a message has it; empty of 0, by which there is a
-/// program, and if no status has the number.
+/// The text of a status of a compilation, as a message has it; empty for 0, the status of a
+/// compiled program, and for a number that isn't a status.
 fn status_text(status: u32) -> &'static str
     ensures { result.now ≡ status_text status }
 {
@@ -43,8 +43,7 @@ fn status_text(status: u32) -> &'static str
     }
 }
 
-/// What the rule of valid programs is called that has this number after `RULES`; empty if none
-/// has it.
+/// The text of the rule of valid programs with this number after `RULES`; empty if there is none.
 fn rule_text(rule: u32) -> &'static str
     ensures { result.now ≡ rule_text rule }
 {
@@ -61,8 +60,8 @@ fn rule_text(rule: u32) -> &'static str
     }
 }
 
-/// Puts as many bytes into a buffer as there is room for in front of a NUL, and the NUL; a buffer
-/// of no bytes is unchanged. It returns how many bytes there are, whether they had room or not.
+/// Puts as many bytes into a buffer as there is room for before a NUL, and the NUL; a buffer of no
+/// bytes is unchanged. It returns the number of all bytes, whether they had room or not.
 pub(crate) fn put_text(bytes: &[u8], buffer: &mut [u8]) -> usize
     ensures count { result ≡ length bytes.now }
     ensures put { buffer.new ≡ put_text bytes.now buffer.old }
@@ -85,7 +84,7 @@ fn put_with_nul(bytes: &[u8], buffer: &mut [u8])
     buffer[count] = 0;
 }
 
-/// What a number after `FOUND` is called, of a reading or a write; empty if it has no text.
+/// The text of a number after `FOUND`, of a reading or a write; empty if it has none.
 fn found_text(number: u32) -> &'static str
     ensures { result.now ≡ found_text number }
 {
@@ -116,7 +115,7 @@ fn found_text(number: u32) -> &'static str
     }
 }
 
-/// What any number is called that a call may return; empty of 0 and of one without a text.
+/// The text of any number that a call may return; empty for 0 and for a number without a text.
 fn number_text(number: u32) -> &'static str
     ensures { result.now ≡ number_text number }
 {
@@ -127,8 +126,8 @@ fn number_text(number: u32) -> &'static str
     }
 }
 
-/// Puts what a number that any call returned is called into a buffer, as far as there is room, and
-/// gives the whole text's length.
+/// Puts the text of a number that any call returned into a buffer, as far as there is room, and
+/// returns the length of the whole text.
 #[unsafe(no_mangle)]
 pub extern "C" fn capkit_text(number: u32, buffer: &mut [u8]) -> usize
     ensures count { result ≡ length (number_text number) }

@@ -14,9 +14,9 @@ use crate::memory::{
 };
 use crate::reading::fault_number;
 
-/// Shows C what became of bytes that should be written: returns the number of that, as
-/// `library/include/capkit.h` has it: 0 if they are written, 225 if the buffer has no room,
-/// or that of a fault. It sets the length to how many bytes they are, 0 if they are refused.
+/// Reports the result of a write to C: returns its number, as `library/include/capkit.h` has it: 0
+/// if the bytes are written, 225 if the buffer has no room, or that of a fault. It sets the length
+/// to the number of bytes, 0 if they are refused.
 fn tell_written(written: Written, length: &mut usize) -> u32
     ensures number { result ≡ written_number written }
     ensures length { length.new ≡ written_length written }

@@ -80,7 +80,7 @@ fn push_operator<A: Allocator>(
     }
 }
 
-/// How many trees are needed where `need` are, and the operands of a node. `None`: too many.
+/// The number of trees that are needed: `need`, and the operands of a node. `None`: too many.
 #[tactic(auto, using(crate::proofs::Held::one_more, crate::proofs::Held::two_more))]
 fn and_operands(node: Node, need: usize) -> Option<usize>
     ensures { IfSome result (λ all. all ≡ and_operands node need) }

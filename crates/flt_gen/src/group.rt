@@ -21,15 +21,15 @@ use flt_words::{Join, Protocol, Side, ValueType};
 use std::alloc::{AllocError, Allocator};
 use std::marker::Model;
 
-/// How many are looked for together at most. Each is put in its place among the others, so that a
-/// group takes time by the square of its length.
+/// The most members of a group. Each is inserted in order among the others, so a group takes time
+/// by the square of its length.
 const MOST_TOGETHER: usize = 4096;
 
 /// How many are looked for together at least where not each is one number: fewer are shorter one
 /// after the other.
 const FEWEST_RANGES: usize = 8;
 
-/// What a value looks for as a member of a group: numbers, of which the first `bits` bits count.
+/// The numbers that a member of a group looks for; only their first `bits` bits count.
 #[derive(Clone, Copy)]
 pub struct Member {
     pub bits: u32,
@@ -146,8 +146,8 @@ fn net_member(value: Value) -> Option<Member>
     }
 }
 
-/// What a value looks for as a member of a group: an address or network of IPv4, a port or a range
-/// of ports. `None` for a value that can't be one.
+/// A value as a member of a group: an address or network of IPv4, a port or a range of ports.
+/// `None` for a value that can't be one.
 fn member_of(value_type: ValueType, value: Value) -> Option<Member>
     ensures { result ≡ member_of value_type value }
 {
@@ -222,8 +222,8 @@ impl<A: Allocator> Group<A> {
                             && self.entries.entries().len() < MOST_TOGETHER))))
     }
 
-    /// Adds a value as a member, which stands in front of the others in the expression, if it can
-    /// be one and goes with them. `false`: it isn't added.
+    /// Adds a value, which comes before the members in the expression, if it can be a member and
+    /// goes with them. Returns `false` if it isn't added.
     pub fn add(&mut self, qualifiers: CompleteQualifiers, value: Value) -> Result<bool, AllocError>
         ensures taken { IfOk result (λ taken. larger_group qualifiers value self.old
             ≡ (if taken then Some self.new else None)) }

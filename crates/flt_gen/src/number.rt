@@ -1,9 +1,10 @@
-//! Parts of the code of arithmetic, which the walk puts together: operators, what stands between
-//! operands, accessors, and the tests that accessors ask for. (Numbers, `len`, `-` and what comes
-//! in which order are in walk.rt, from `emit_number_node` on.) An *accessor*, as `tcp[13]` or
-//! `ip[2:2]`, reads bytes of a header; its index is arithmetic too, whose value A holds before.
+//! Parts of the code of arithmetic, which the walk puts together: operators, the code between
+//! operands, accessors, and the tests that accessors need. (Numbers, `len`, `-` and the order of
+//! the parts are in walk.rt, from `emit_number_node` on.) An *accessor*, as `tcp[13]` or `ip[2:2]`,
+//! reads bytes of a header; its index is arithmetic too, whose value A holds before.
 //!
-//! Code grows from its end (`Code`): in each body here the last call emits what a run meets first.
+//! Code grows from its end (`Code`): in each body here the last call emits what a run executes
+//! first.
 
 ghost use Rattle.std.specs.Prelude.{◌≡◌, OnOk, reverse};
 ghost use Rattle.flt_emit.specs.inside.Code.{emit_base, emit_transport, emit_accessor};
@@ -57,8 +58,8 @@ pub fn takes_constant(operator: Operator, constant: u32) -> bool
     }
 }
 
-/// How much an accessor reads, by its size in bytes: 1, 2 or 4. Another counts as 4, and was
-/// refused before.
+/// The width of an accessor, by its size in bytes: 1, 2 or 4. Any other size, which was refused
+/// before, counts as 4.
 pub fn width_of(size: u32) -> Width
     ensures { result ≡ width_of size }
 {
@@ -77,8 +78,8 @@ pub fn emit_operands<A: Allocator>(code: &mut Code<A>, slot: u32) -> Result<(), 
     code.emit_plain(Operation::CopyToIndex, 0)
 }
 
-/// Emits A = the field that stands as many bytes past the place `at` as A says, where byte 0 of the
-/// frame or of the network header is: X = A, then a load at X + `at`.
+/// Emits A = the field A bytes past the place `at`, the start of the frame or of the network
+/// header: X = A, then a load at X + `at`.
 fn emit_base<A: Allocator>(code: &mut Code<A>, at: u32, width: Width) -> Result<(), AllocError>
     ensures { OnOk result (code.new ≡ emit_base at width code.old) }
 {
@@ -86,8 +87,8 @@ fn emit_base<A: Allocator>(code: &mut Code<A>, at: u32, width: Width) -> Result<
     code.emit_plain(Operation::CopyToIndex, 0)
 }
 
-/// Emits A = the field that stands as many bytes past the IPv4 header as A says: X = the header's
-/// length, A = A + X, X = A, then a load at X + the header's place.
+/// Emits A = the field A bytes past the IPv4 header: X = the header's length, A = A + X, X = A,
+/// then a load at X + the header's place.
 fn emit_transport<A: Allocator>(
     code: &mut Code<A>,
     link: Link,

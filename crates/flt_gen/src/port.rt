@@ -50,8 +50,8 @@ impl PortTest {
     }
 }
 
-/// What follows a network header: the tests of TCP and UDP, the test that the packet isn't a later
-/// fragment, which has no ports, and the places of both ports.
+/// The transport header after a network header: the tests of TCP and UDP, the test that the packet
+/// isn't a later fragment, which has no ports, and the places of both ports.
 #[derive(Clone, Copy)]
 pub struct Transport {
     pub tcp: Elementary,
@@ -62,8 +62,8 @@ pub struct Transport {
     pub destination: Offset,
 }
 
-/// What follows an IPv4 header. That has no fixed length: the ports stand at the bytes 0 and 2 past
-/// its end.
+/// The transport header after an IPv4 header. That has no fixed length: the ports are at the bytes
+/// 0 and 2 past its end.
 fn ip_transport(link: Link) -> Transport
     ensures { result ≡ ip_transport link }
 {
@@ -77,7 +77,7 @@ fn ip_transport(link: Link) -> Transport
     }
 }
 
-/// What follows an IPv6 header, which has 40 bytes: the ports stand right after it.
+/// The transport header after an IPv6 header, which has 40 bytes: the ports come right after it.
 fn ip6_transport(link: Link) -> Transport
     ensures { result ≡ ip6_transport link }
 {

@@ -39,14 +39,14 @@ fn wide_code<A: Allocator + Clone>(
 
 /// A program that accepts (returns non-zero) exactly the packets that the expression, read on the
 /// link, matches. It has at most as many instructions as the expression's bound, and none of
-/// them is met twice in a run.
+/// them is executed twice in a run.
 ///
-/// A jump (`ja`) stands only if a conditional jump's target is more than 255 instructions past
-/// the one after it, and nowhere if a program without jumps has at most 256 instructions by the
+/// It has a jump (`ja`) only if a conditional jump's target is more than 255 instructions past the
+/// one after it, and none if a program without jumps has at most 256 instructions by the
 /// expression's counts.
 ///
 /// An error is a failed allocation: for a copy of the tree's nodes, for the instructions, or for
-/// what waits while the tree is walked; or an allocator that cannot be cloned.
+/// the lists of the walk over the tree; or an allocator that cannot be cloned.
 pub fn generate<A: Allocator + Clone, B: Allocator>(
     alloc: A,
     expr: &Checked<B>,

@@ -55,8 +55,8 @@ fn equals(one: Protocol, other: Protocol) -> bool
     }
 }
 
-/// Takes a protocol out of the list, wherever it stands. It calls itself for each entry: they are
-/// few, since each protocol stands once.
+/// Removes a protocol from the list. It calls itself for each entry: they are few, since the list
+/// has each protocol once.
 fn leave_out<A: Allocator>(
     protocols: &mut Stack<Protocol, A>,
     protocol: Protocol,

@@ -49,11 +49,11 @@ use flt_words::{Comparison, Join, Operator, Protocol, Size};
 use std::alloc::{AllocError, Allocator};
 use std::marker::Model;
 
-/// What a program returns if it keeps a packet: the default snap length of tcpdump, in bytes, as
-/// its programs do.
+/// The number that a program returns if it keeps a packet: the default snap length of tcpdump, in
+/// bytes, as its programs do.
 const KEEP: u32 = 262_144;
 
-/// How far the walk has come.
+/// The state of the walk over an expression's nodes.
 #[derive(Drop)]
 pub struct Walk<A: Allocator> {
     code: Code<A>,
@@ -64,7 +64,7 @@ pub struct Walk<A: Allocator> {
     slot: u32,
     /// The left operands of `and` and `or`, which come later.
     truths: Stack<LeftTruth, A>,
-    /// What waits for the number that is next.
+    /// The accessors and left operands that wait for the next number.
     numbers: Stack<Waiting, A>,
     /// The protocols of the relation's accessors, each once; that of the leftmost one is the
     /// latest.
@@ -93,8 +93,8 @@ impl<A: Allocator> Model for Walk<A> {
 }
 
 impl<A: Allocator + Clone> Walk<A> {
-    /// A walk that has seen no node: the code is the two returns, by which a packet is kept or
-    /// isn't. An error is a failed allocation, or an allocator that cannot be cloned.
+    /// A walk before its first node: the code is the two returns, one that keeps a packet and one
+    /// that doesn't. An error is a failed allocation, or an allocator that cannot be cloned.
     pub fn new(alloc: A) -> Result<Self, AllocError>
         ensures { IfOk result (λ walk. walk ≡ start_walk) }
     {
@@ -433,9 +433,9 @@ impl<A: Allocator + Clone> Walk<A> {
         self.finish_number(link)
     }
 
-    /// Emits what stands between two operands and the code that takes them, which finds the left
-    /// one in A and the right one in X. The right one is next, and the left one waits, which goes
-    /// into the word `slot`. An error is a failed allocation, or a word that no number of 32 bits
+    /// Emits the code between two operands and the code that takes them, which finds the left one
+    /// in A and the right one in X. The right one is next, and the left one, which goes into the
+    /// word `slot`, waits. An error is a failed allocation, or a word that no number of 32 bits
     /// names.
     fn begin_operands(&mut self, slot: u32) -> Result<(), AllocError>
         ensures { OnOk result (self.new ≡ begin_operands slot self.old.code self.old) }

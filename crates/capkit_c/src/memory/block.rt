@@ -18,10 +18,10 @@ use cap_pcapng::{
 /// A packet, and the places of its parts in its unit.
 #[derive(Clone, Copy)]
 pub(crate) struct UnitPacket {
-    /// The place where its data begin in the unit, and how many bytes they are.
+    /// The place where its data begin in the unit, and their length in bytes.
     pub(crate) start: u32,
     pub(crate) length: u32,
-    /// The place where the options of its block begin in the unit, and how many bytes they are.
+    /// The place where the options of its block begin in the unit, and their length in bytes.
     pub(crate) options_start: u32,
     pub(crate) options_length: u32,
     /// The number of its interface, from 0 in its section; 0 in pcap.
@@ -42,8 +42,8 @@ pub(crate) enum Refusal {
     NoRoom,
 }
 
-/// A block that passed all of its checks, as the caller's table sees it: how many interfaces there
-/// are after it, and its packet. `cap_pcapng` has the effect without a table (`Effect` here).
+/// A block that passed all of its checks, as the caller's table sees it: the number of interfaces
+/// after it, and its packet. `cap_pcapng` has the effect without a table (`Effect` here).
 #[derive(Clone, Copy)]
 pub(crate) struct BlockEffect {
     pub(crate) interfaces: usize,
@@ -83,7 +83,7 @@ struct KnownInterfaces<'a> {
 impl Interfaces for KnownInterfaces<'_> {
     ghost list = { λ known. first_interfaces known.count known.entries.now };
 
-    /// How many there are: `count`, which is never more than the table has.
+    /// The number of interfaces: `count`, which is never more than the table has.
     fn count(&self) -> usize {
         self.count.min(self.entries.len())
     }
@@ -178,7 +178,7 @@ pub(crate) struct BlockRead {
     pub(crate) size: usize,
     /// The byte order of its section.
     pub(crate) order: Order,
-    /// How many interfaces there are after it, and its packet.
+    /// The number of interfaces after it, and its packet.
     pub(crate) effect: BlockEffect,
 }
 
@@ -201,7 +201,7 @@ pub(crate) fn read_block(
         (length table.old)) }
     ensures kept { OnErr result (table.new ≡ table.old) }
 {
-    // By 12 bytes, the length of the shortest block, its frame is known.
+    // 12 bytes, the length of the shortest block, show its frame.
     let Some(first) = text.first_chunk::<12>() else {
         return Err(Refusal::Fault(Fault::Truncated));
     };

@@ -1,4 +1,4 @@
-//! What the caller keeps of a capture, in C's layout.
+//! The caller's state of a capture, in C's layout.
 ghost use Rattle.std.specs.Prelude.{◌≡◌, ◌≤◌, [], length};
 ghost use Rattle.cap_pcapng.specs.Interface.{description_of};
 ghost use Rattle.cap_io.specs.Capture.{first_link_of};
@@ -11,8 +11,8 @@ use cap_octet::Order;
 use cap_pcap::{Head, Resolution};
 use cap_pcapng::{Clock, Interface as PcapngInterface, MOST_INTERFACES, MOST_NAME};
 
-/// How far a capture is read, and what its units declare of those after them. All zeros is the
-/// start of a capture.
+/// The position in a capture, and the declarations of the units before it. All zeros is the start
+/// of a capture.
 #[repr(C)]
 #[derive(Clone, Copy)]
 pub struct Reader {
@@ -20,7 +20,7 @@ pub struct Reader {
     pub offset: usize,
     /// The snapshot length of a pcap file, in bytes; 0 is none.
     pub snap: u32,
-    /// How many interfaces the current section of a pcapng file has so far.
+    /// The number of interfaces of a pcapng file's current section so far.
     pub interfaces: u32,
     /// The first link type of the file, if one is declared.
     pub link_type: u16,
@@ -38,7 +38,7 @@ pub struct Reader {
 #[repr(C)]
 #[derive(Clone, Copy)]
 pub struct Interface {
-    /// How many ticks make a second; 0 counts as 1.
+    /// The ticks per second; 0 counts as 1.
     pub units: u64,
     /// What is added to each time, in seconds.
     pub offset: i64,
@@ -60,11 +60,11 @@ pub struct Packet {
     pub at: usize,
     /// The place where the options of its block begin in the capture.
     pub options_at: usize,
-    /// How many bytes were captured.
+    /// The number of captured bytes.
     pub captured: u32,
-    /// How many it had on the wire.
+    /// The number of bytes that it had on the wire.
     pub original: u32,
-    /// How many bytes of options there are; 0 in pcap.
+    /// The length of the options in bytes; 0 in pcap.
     pub options_length: u32,
     /// The number of its interface, from 0 in its section; 0 in pcap.
     pub interface: u32,
@@ -91,7 +91,7 @@ fn flag_of_order(order: Order) -> u8
 }
 
 impl Reader {
-    /// What the units so far declare of the file, without its table of interfaces.
+    /// The state of the file after the units so far, without its table of interfaces.
     pub(crate) fn file_state(&self) -> FileState
         ensures { result ≡ reader_form self.now }
     {
@@ -118,8 +118,8 @@ impl Reader {
         }
     }
 
-    /// How many interfaces the section has so far, by the reader; at most as many as the table has
-    /// room for (`room`), and 256, whatever C wrote.
+    /// The number of interfaces of the section so far, by the reader; at most as many as the table
+    /// has room for (`room`), and 256, whatever C wrote.
     pub(crate) fn known_interfaces(&self, room: usize) -> usize
         ensures value { result ≡ most_known self.now room }
         ensures fits { result ≤ room }

@@ -18,7 +18,7 @@ use cap_octet::{Fault, Order};
 use cap_pcap::Head;
 use cap_pcapng::{Options, begins_section};
 
-/// What a call found.
+/// The result of a call.
 #[derive(Clone, Copy)]
 pub enum Found {
     /// A unit without a packet.
@@ -38,9 +38,9 @@ pub enum Found {
 struct ReadUnit {
     /// In bytes.
     size: usize,
-    /// What is declared of the file after it.
+    /// The state of the file after it.
     form: FileState,
-    /// How many interfaces the section has after it.
+    /// The number of interfaces of the section after it.
     interfaces: usize,
     /// Its packet, if it has one.
     packet: Option<UnitPacket>,
@@ -215,7 +215,7 @@ fn packet_at(at: usize, placed: &UnitPacket) -> Packet
     }
 }
 
-/// How many interfaces the section has so far, at most `room` and 256; none before the first unit,
+/// The number of interfaces of the section so far, at most `room` and 256; 0 before the first unit,
 /// whatever C wrote.
 fn known_interface_count(reader: &Reader, form: FileState, room: usize) -> usize
     ensures counts { Counts form reader.now room result }
@@ -229,7 +229,7 @@ fn known_interface_count(reader: &Reader, form: FileState, room: usize) -> usize
     }
 }
 
-/// Whether a capture is at its clean end, where `text` is left of it. An empty one, of which no
+/// Whether a capture of which `text` is left is at its clean end. An empty capture, of which no
 /// unit was read, isn't: its file header is missing.
 fn is_at_end(form: FileState, text: &[u8]) -> bool
     ensures over { IsTrue result → IsAtEnd form text.now }

@@ -31,7 +31,7 @@ const MOST_COMMENT: usize = 65535;
 /// The most interfaces that a file is given.
 const MOST_OUTPUT_INTERFACES: u32 = cap_io::MOST_OUTPUT_INTERFACES as u32;
 
-/// What became of bytes that should be put into a buffer.
+/// The result of putting bytes into a buffer.
 #[derive(Clone, Copy)]
 pub enum Written {
     /// They are written: this many bytes are at the start of the buffer.

@@ -21,7 +21,7 @@ pub(super) const UNWRITTEN: Insn = Insn {
     k: 0xaaaa_aaaa,
 };
 
-/// An instruction: its code, how many a test skips if it holds and where not, its number.
+/// An instruction: its code, how many a test skips if it holds and if it doesn't, its number.
 pub(super) type Row = (u16, u8, u8, u32);
 
 /// Puts rows into a place for eight instructions, and gives these.
