@@ -17,7 +17,7 @@ use Rattle.cap_pcapng.specs.declared.frames.BlockType.{BlockType}
 use Rattle.cap_pcapng.specs.declared.frames.BlockType.TheVariants as type
 use Rattle.cap_pcapng.specs.declared.frames.Frame.{Frame}
 
--- the body of the block that a text begins with: what stands between its two total lengths
+-- the body of the block that a text begins with: the bytes between its two total lengths
 abbrev pub body_in : Frame → List ℕ → List ℕ
 body_in frame text = take (frame.length - 12) (drop 8 text)
 
@@ -65,7 +65,7 @@ data_checks captured rest = (nat_le (padded_length captured) (length rest), BadB
 
 -- ---- the parts
 
--- what a block says. The rest of a packet's body is its padded data, and in an enhanced packet
+-- The parts of a block. The rest of a packet's body is its padded data, and in an enhanced packet
 -- block the options after them.
 pub data Parts : Type 0 where
   SectionParts : Parts
@@ -75,7 +75,7 @@ pub data Parts : Type 0 where
   -- any other block
   SkippedParts : Parts
 
--- what the body of a block of this type says
+-- the parts in the body of a block of this type
 abbrev pub parts_in_body : BlockType → Order → List ℕ → Parts
 parts_in_body type.Section order body = SectionParts
 parts_in_body type.Interface order body =
@@ -86,16 +86,16 @@ parts_in_body type.EnhancedPacket order body =
     (u32_in order body 12) (u32_in order body 16) order (drop 20 body)
 parts_in_body kind order body = SkippedParts
 
--- what the block of this frame says, which a text begins with
+-- the parts of the block with this frame that a text begins with
 abbrev pub parts_in : Frame → List ℕ → Parts
 parts_in frame text = parts_in_body frame.block_type frame.order (body_in frame text)
 
--- what an interface description block that was read says, without places in memory
+-- the parts of an interface description block that was read, without places in memory
 abbrev pub parts_of_interface : InterfaceBlock → Parts
 parts_of_interface b =
     InterfaceParts b.interface.link b.interface.snap b.options.order b.options.rest.now
 
--- what a block that was read says, without places in memory
+-- the parts of a block that was read, without places in memory
 abbrev pub parts_of : Block → Parts
 parts_of a.Section = SectionParts
 parts_of (a.Interface b) = parts_of_interface b
@@ -115,9 +115,9 @@ abbrev pub option_checks : Parts → List (Bool × Fault)
 option_checks (InterfaceParts link snap order options) = list_checks [] (options_in order options)
 option_checks parts = []
 
--- The first check that the block fails which a text begins with, after those of its frame; None
--- if it fails none. Those that need the interfaces before it are in `Unit`: one of them, of how
--- many there are, comes before those of options.
+-- The first check that the block which a text begins with fails, after those of its frame; None if
+-- it fails none. The checks that need the interfaces before it are in `Unit`: one of them, of the
+-- number of interfaces, comes before those of options.
 abbrev pub block_fault : Frame → List ℕ → Option Fault
 block_fault frame text =
     first_failing

@@ -1,4 +1,4 @@
--- What a block does among the interfaces of its section: what it brings there, and its packet.
+-- The effect of a block: its packet, and the interfaces of its section after it.
 use Rattle.std.specs.Prelude.{◌≡◌, ℕ, ◌+◌, ◌-◌, length, ◌^◌, ◌<◌, ◌≤◌, ◌⊎◌, Bool, false, List, [], ◌∷◌, ◌++◌, take, drop, Option, None, Some, true, is_some}
 use Rattle.std.specs.List.{slice_get}
 use Rattle.std.specs.Option.{option_map}
@@ -93,23 +93,23 @@ pub record Enters (frame : Frame) (interfaces : List Described) (block : List �
   pub fits : FitsIfAny spans frame.length
   pub known : KnowsIfAny interfaces' spans
 
--- the place where the packet of a block lies, by what the block does; None if it has none
+-- the place of a block's packet, by the block's effect; None if it has no packet
 abbrev pub packet_in_effect : BlockEffect → Option PacketSpans
 packet_in_effect (effect.Packet spans) = Some spans
 packet_in_effect other = None
 
--- the interfaces of the section after a block, by what the block does
+-- the interfaces of the section after a block, by the block's effect
 abbrev pub interfaces_after : BlockEffect → List Described → List Described
 interfaces_after effect.Section interfaces = []
 interfaces_after (effect.Interface i) interfaces = interfaces ++ description_of i ∷ []
 interfaces_after other interfaces = interfaces
 
--- a block passed all of its checks after those of its frame, and does this
+-- a block passed all of its checks after those of its frame, and has this effect
 abbrev pub HasEffect : Frame → List Described → List ℕ → BlockEffect → Type 0
 HasEffect frame interfaces block does =
     Enters frame interfaces block (packet_in_effect does) (interfaces_after does interfaces)
 
--- if the block has a packet, its spans are as the block says
+-- if the block has a packet, its spans are as the block states
 abbrev pub LiesAsSaid : Parts → BlockEffect → Type 0
 LiesAsSaid parts (effect.Packet spans) = LieAsSaid parts spans
 LiesAsSaid parts other = Unit {0}

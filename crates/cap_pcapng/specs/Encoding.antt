@@ -52,7 +52,7 @@ interface_body link snap name =
 abbrev pub interface_text : (link snap : ℕ) → (name : List ℕ) → List ℕ
 interface_text link snap name = block_text 1 (interface_body link snap name)
 
--- what is in front of the options in an interface description block of this total length
+-- the bytes before the options in an interface description block of this total length
 abbrev pub interface_header : (size link snap : ℕ) → List ℕ
 interface_header size link snap =
     little_bytes 4 1 ++ little_bytes 4 size ++ little_bytes 2 link ++ little_bytes 2 0
@@ -75,7 +75,7 @@ packet_body number p =
 abbrev pub packet_block : (number : ℕ) → Captured → List ℕ
 packet_block number p = block_text 6 (packet_body number p)
 
--- what is in front of the data in an enhanced packet block of this total length
+-- the bytes before the data in an enhanced packet block of this total length
 abbrev pub packet_header : (size number : ℕ) → Captured → List ℕ
 packet_header size number p =
     little_bytes 4 6 ++ little_bytes 4 size ++ little_bytes 4 number

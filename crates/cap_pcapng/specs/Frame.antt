@@ -1,4 +1,4 @@
--- What stands at both ends of every block, and the checks of it, in order
+-- The frame of every block: its first 12 bytes, and their checks, in order
 -- (draft-ietf-opsawg-pcapng, "General Block Structure" and "Section Header Block").
 use Rattle.std.specs.Prelude.{ℕ, ◌%◌, ◌==◌, ◌&&◌, ◌||◌, not, if◌then◌else◌, Bool, List, [], ◌∷◌, nat_le, Option, Some, None, is_some, unwrap_or}
 use Rattle.cap_octet.specs.Checks.{first_failing}
@@ -72,7 +72,7 @@ frame_checks section text =
 abbrev pub frame_fault : Option Order → List ℕ → Option Fault
 frame_fault section text = first_failing (frame_checks section text)
 
--- what a block's first 12 bytes say of it
+-- the frame that a block's first 12 bytes state
 abbrev pub frame_in : Option Order → List ℕ → Frame
 frame_in section text = record {
   order = order_in section text;

@@ -15,7 +15,7 @@ pub record Described : Type 0 where
   pub snap : ℕ
   -- empty if there is none
   pub name : List ℕ
-  -- how many ticks make a second, and the seconds that are added
+  -- the ticks per second, and the seconds that are added
   pub units : ℕ
   pub offset : ℤ
 
@@ -30,7 +30,7 @@ description_of i =
       offset = i.clock.offset;
     }
 
--- how many interfaces a section may have
+-- the most interfaces of a section
 abbrev pub most_interfaces : ℕ
 most_interfaces = 256
 
@@ -39,8 +39,8 @@ pub record FitSection (interfaces : List Described) : Type 0 where
   pub count : length interfaces ≤ most_interfaces
   pub names : All (λ i. length i.name ≤ 255) interfaces
 
--- the interface of this link type and snap length that options describe; what they don't say is an
--- empty name, ticks of a microsecond and an offset of 0
+-- the interface of this link type and snap length that options describe; by default its name is
+-- empty, a tick is a microsecond and the offset is 0
 abbrev pub described_by : (link snap : ℕ) → Order → List CodedValue → Described
 described_by link snap order options = record {
   link = link;

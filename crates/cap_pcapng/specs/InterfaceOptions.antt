@@ -66,10 +66,10 @@ fitting_options [] = []
 fitting_options (Err fault ∷ items) = fitting_options items
 fitting_options (Ok option ∷ items) = option ∷ fitting_options items
 
--- how many ticks make a second, by the resolution that a value is
+-- the ticks per second, by the resolution in a value
 abbrev pub units_in_value : List ℕ → ℕ
 units_in_value value = units_per_second (slice_index value 0)
 
--- the offset that a value is: seconds, in two's complement
+-- the offset in a value: seconds, in two's complement
 abbrev pub offset_in_value : Order → List ℕ → ℤ
 offset_in_value order value = cast_signed w64 (number_in order 8 value 0)

@@ -13,7 +13,7 @@ pub record CodedValue : Type 0 where
   pub code : ℕ
   pub value : List ℕ
 
--- how many bytes the option at the start of a text has, as its length states, without its padding
+-- the size of the option at the start of a text, as its length states, without its padding
 abbrev pub option_size : Order → List ℕ → ℕ
 option_size order text = 4 + u16_in order text 2
 

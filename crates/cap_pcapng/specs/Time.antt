@@ -24,10 +24,10 @@ representable_time ticks units offset = time_by (nanoseconds ticks units offset)
 abbrev pub is_resolution : ℕ → Bool
 is_resolution byte = if nat_lt byte 128 then nat_le byte 12 else nat_le (byte - 128) 32
 
--- how many ticks of this resolution make a second
+-- the ticks per second of this resolution
 abbrev pub units_per_second : ℕ → ℕ
 units_per_second byte = if nat_lt byte 128 then 10 ^ byte else 2 ^ (byte - 128)
 
--- how many ticks make a second if no resolution is given: they are microseconds
+-- the ticks per second if no resolution is given: they are microseconds
 abbrev pub microseconds : ℕ
 microseconds = 1000000

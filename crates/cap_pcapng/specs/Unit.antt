@@ -16,7 +16,7 @@ use Rattle.cap_pcapng.specs.Padding.{padded_length}
 use Rattle.cap_pcapng.specs.Time.{representable_time}
 use Rattle.cap_pcapng.specs.declared.frames.Frame.{Frame}
 
--- what a section declares so far: its byte order, and its interfaces by their numbers
+-- the declarations of a section so far: its byte order, and its interfaces by their numbers
 pub record Section : Type 0 where
   pub order : Order
   pub interfaces : List Described
@@ -37,7 +37,7 @@ frame_after before text = frame_in (order_before before) text
 abbrev pub block_size : Option Section → List ℕ → ℕ
 block_size before text = (frame_after before text).length
 
--- what the block says that a text begins with
+-- the parts of the block that a text begins with
 abbrev pub parts_after : Option Section → List ℕ → Parts
 parts_after before text = parts_in (frame_after before text) text
 
@@ -86,7 +86,7 @@ pub record IsBlock (before : Option Section) (bytes : List ℕ) : Type 0 where
   pub passes : unit_fault before bytes ≡ None
   pub whole : length bytes ≡ block_size before bytes
 
--- ---- what it declares and holds
+-- ---- declarations and packets
 
 -- The section after a block: a section header begins one without interfaces, and an interface gets
 -- the next number.
@@ -100,7 +100,7 @@ section_by before order (InterfaceParts link snap own options) =
     }
 section_by before order parts = record { order = order; interfaces = interfaces_before before }
 
--- what is declared after the block that these bytes are
+-- the section after the block with these bytes
 abbrev pub section_after : Option Section → List ℕ → Section
 section_after before bytes =
     section_by before (frame_after before bytes).order (parts_after before bytes)

@@ -176,8 +176,8 @@ pub record EndCame (declared : Declared) (unread : List ℕ) (declared' : Declar
   pub same : declared' ≡ declared
   pub rest : unread' ≡ []
 
--- what came of a unit, by what the reader returned: one without a packet, one with a packet, or the
--- clean end
+-- the result of reading a unit, by what the reader returned: a unit without a packet, one with a
+-- packet, or the clean end
 abbrev pub UnitCame : Declared → List ℕ → List ℕ → PacketSpans → NextUnit → Declared → List ℕ
     → Type 0
 UnitCame declared unread buffer spans (next_unit.Other size) declared' unread' =
@@ -187,13 +187,13 @@ UnitCame declared unread buffer spans next_unit.Packet declared' unread' =
 UnitCame declared unread buffer spans next_unit.End declared' unread' =
     EndCame declared unread declared' unread'
 
--- how many bytes the unit that came has; 0 at the end
+-- the size of the unit that was read; 0 at the end
 abbrev pub unit_size : PacketSpans → NextUnit → ℕ
 unit_size spans (next_unit.Other size) = size
 unit_size spans next_unit.Packet = spans.size
 unit_size spans next_unit.End = 0
 
--- what holds on any device of the unit that came
+-- the bounds of the unit that was read, for all devices
 abbrev pub IsSized : PacketSpans → NextUnit → List ℕ → ℕ → Type 0
 IsSized spans (next_unit.Other size) buffer given = (0 < size) × (given < 2 ^ 63)
 IsSized spans next_unit.Packet buffer given = FitsBuffer spans buffer × (given < 2 ^ 63)

@@ -1,4 +1,4 @@
--- What a source holds between calls, and what one call takes.
+-- The invariant of a source between calls, and the result of reading one unit.
 use Rattle.std.specs.Prelude.{◌≡◌, ℕ, ◌+◌, ◌^◌, ◌<◌, ◌≤◌, Bool, true, false, IsTrue, List, [], length, None, Result, Ok, Err, OnOk, OnErr, is_some}
 use Rattle.cap_octet.specs.Device.{HasGiven}
 use Rattle.cap_octet.specs.declared.device.Input.{Ghosts}
@@ -28,7 +28,7 @@ HasInterfaceIfCurrent stage.Current spans declared = HasInterface declared spans
 HasInterfaceIfCurrent stage.Ended spans declared = Unit {0}
 HasInterfaceIfCurrent (stage.Failed fault) spans declared = Unit {0}
 
--- what holds of each source's fields
+-- the invariant of a source's fields
 pub record IsSound {I A : Type 0} (device : Ghosts I) (stage : Stage) (r : UnitReader I A)
     (offset : ℕ) : Type 0 where
   pub fits : offset + length (block_at stage r.spans r.buffer.items) < 2 ^ 63
@@ -38,14 +38,13 @@ pub record IsSound {I A : Type 0} (device : Ghosts I) (stage : Stage) (r : UnitR
   pub consistent : IsConsistent r.file r.table
   pub bounded : length r.buffer.items ≤ most_in_unit
 
--- what reading on to the next packet finds, by what was returned; the caller notes a fault
+-- the result of reading on to the next packet, by what was returned; the caller notes a fault
 abbrev pub Continues : SourceView → Result Bool Fault → SourceView → Type 0
 Continues old (Ok true) new = FindsPacket old new
 Continues old (Ok false) new = FindsEnd old new
 Continues old (Err fault) new = IsBroken old new fault
 
--- a source that has left its current unit, if there was one: its offset is the beginning of the next
--- one
+-- a source past its current unit, if there was one: its offset is that of the next unit
 abbrev pub past_unit : SourceView → SourceView
 past_unit s = record {
   phase = s.phase;
@@ -66,15 +65,15 @@ pub record IsBetween (s : SourceView) : Type 0 where
   pub block : s.block ≡ []
   pub packet : s.packet ≡ None
 
--- what reading one unit finds, by what was returned: a packet, a unit without one, the clean end,
--- or a fault
+-- the result of reading one unit, by what was returned: a packet, a unit without one, the clean
+-- end, or a fault
 abbrev pub FindsNext : SourceView → Result NextUnit Fault → SourceView → Type 0
 FindsNext old (Ok next_unit.Packet) new = FindsPacket old new
 FindsNext old (Ok (next_unit.Other size)) new = SkipsUnits old new new.unread
 FindsNext old (Ok next_unit.End) new = FindsEnd old new
 FindsNext old (Err fault) new = IsBroken old new fault
 
--- what reading one unit does on any device: counts, and the size of what is held
+-- the bounds of reading one unit, for all devices: counts, and the size of what is held
 pub record NextBounds (old : SourceView) (r : Result NextUnit Fault)
     (new : SourceView) : Type 0 where
   pub given : old.given ≤ new.given

@@ -1,4 +1,4 @@
--- What only the crate's own functions and proofs need next to specs/Effect.
+-- Helpers next to specs/Effect, for the crate's own functions and proofs.
 use Rattle.std.specs.Prelude.{◌≡◌, ℕ, ◌+◌, ◌-◌, ◌^◌, ◌<◌, ◌≤◌, ◌⊎◌, List, length, take, drop, None, Some, true, is_some, if◌then◌else◌, nat_lt}
 use Rattle.std.specs.List.{slice_get}
 use Rattle.cap_octet.specs.Checks.{first_failing}

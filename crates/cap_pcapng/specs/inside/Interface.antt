@@ -1,4 +1,4 @@
--- What is found of an interface while its options are read, one after another.
+-- The options found while an interface's options are read, one after another.
 use Rattle.std.specs.Prelude.{◌≡◌, ◌≤◌, ℕ, length, IfSome, ◌==◌, if◌then◌else◌, Bool, false, List, is_some}
 use Rattle.std.specs.Option.{option_map, option_copied, option_or}
 use Rattle.cap_octet.specs.declared.number.Order.{Order}
@@ -11,14 +11,14 @@ use Rattle.cap_pcapng.specs.declared.interface.FoundOptions.{FoundOptions}
 abbrev pub HasShortName : FoundOptions → Type 0
 HasShortName found = IfSome found.name (λ name. length name.now ≤ 255)
 
--- what was found in these options
+-- the options found in this list
 pub record IsFound (order : Order) (options : List CodedValue) (found : FoundOptions) : Type 0 where
   pub name : option_copied found.name ≡ first_value name_code options
   pub units : found.units ≡ option_map units_in_value (first_value resolution_code options)
   pub offset : found.offset ≡ option_map (offset_in_value order) (first_value offset_code options)
   pub short : HasShortName found
 
--- what is found once this option is read after those before it
+-- the options found once this option is read after those before it
 pub record Adds (order : Order) (before : FoundOptions) (option : CodedValue)
     (after : FoundOptions) : Type 0 where
   pub name : option_copied after.name
