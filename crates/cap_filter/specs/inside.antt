@@ -1,2 +1,2 @@
--- What no promise rests on: it helps the crate's own functions and proofs, and those of other crates here.
+-- Helpers for functions and proofs of this crate and of other crates: no promise rests on them.
 pub mod Programs

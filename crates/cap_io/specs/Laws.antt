@@ -52,7 +52,7 @@ pub record GoesByPackets (sink : SinkView) (packets : List Captured) (p : Captur
   pub interfaces : interfaces_after_packet sink.format sink.interfaces p
       ≡ kept_interfaces sink.format (packets ++ p ∷ [])
 
--- what a sink to which these packets were put does with one more goes by all of them
+-- each put to a sink to which these packets were put goes by all of them (`GoesByPackets`)
 abbrev pub EachPutGoesByPackets : Type 0
 EachPutGoesByPackets =
     (sink : SinkView) (packets : List Captured) (p : Captured) → HasPut sink packets

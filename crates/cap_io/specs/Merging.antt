@@ -1,4 +1,4 @@
--- What the order of a merge is, in the words of lists: the packets of its inputs, sorted.
+-- The order of a merge, as lists: the packets of its inputs, sorted.
 use Rattle.std.specs.Prelude.{◌≡◌, ◌⊎◌, ℕ, ◌<◌, ◌≤◌, nat_eq, if◌then◌else◌, List, [], ◌∷◌, ◌++◌, map, IsPermutation}
 use Rattle.cap_io.specs.Sequence.{Entry, Event, Packet, Complete, InputItems, ByTime, all_entries, sequence_of}
 
@@ -17,7 +17,7 @@ abbrev pub AreSorted : List Entry → Type 0
 AreSorted [] = Unit {0}
 AreSorted (e ∷ es) = IsNoLaterThan e es × AreSorted es
 
--- those of one input, in the order in which they stand
+-- the entries of one input, in their order in the list
 abbrev pub of_input : ℕ → List Entry → List Entry
 of_input input [] = []
 of_input input (e ∷ es) =

@@ -33,7 +33,7 @@ pub record IsAt (text done : List ℕ) (packets : List Placed) (waiting : Bool)
     (s : SourceView) : Type 0 where
   -- the text is its done, then pending, then unread bytes
   pub whole : text ≡ done ++ (pending waiting s.block ++ s.unread)
-  -- what is done is whole units with these packets
+  -- the done bytes are whole units with these packets
   pub units : AreUnits Nothing 0 done packets s.declared
   -- the source counts the done bytes and the pending ones
   pub place : s.offset + length s.block ≡ length (done ++ pending waiting s.block)
@@ -45,8 +45,8 @@ pub record IsAt (text done : List ℕ) (packets : List Placed) (waiting : Bool)
   pub fit : FitUnits s.room Nothing done s.declared
   pub held : length s.block ≤ s.room
 
--- These items are those of the whole units at the start of a text, ended by a fault at the place where the next
--- unit would begin.
+-- These items are those of the whole units at the start of a text, ended by a fault at the place
+-- where the next unit would begin.
 pub record IsCutShort (text : List ℕ) (fault : Fault) (items : Items) : Type 0 where
   pub done : List ℕ
   pub rest : List ℕ
@@ -54,7 +54,7 @@ pub record IsCutShort (text : List ℕ) (fault : Fault) (items : Items) : Type 0
   pub units : AreUnits Nothing 0 done items.packets items.declared
   pub ending : items.ending ≡ FaultAt fault (length done)
 
--- how many bytes a device gives in all, if no read fails
+-- the number of bytes that a device gives in all, if no read fails
 abbrev pub given_in_all : SourceView → ℕ
 given_in_all s = s.given + length s.unread
 

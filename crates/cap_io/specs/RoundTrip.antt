@@ -1,4 +1,4 @@
--- Which packets a format carries: what is written of them reads back as they are.
+-- The packets that a format carries: their text reads back as these packets.
 use Rattle.std.specs.Prelude.{◌≡◌, ℕ, ◌%◌, ◌^◌, ◌<◌, ◌≤◌, List, [], ◌∷◌, ◌++◌, length, map, None}
 use Rattle.cap_octet.specs.Packet.{Captured}
 use Rattle.cap_octet.specs.declared.format.Format.{Format}
@@ -17,8 +17,8 @@ pub record InRange (p : Captured) : Type 0 where
   pub orig : p.orig < 2 ^ 32
   pub comment : length p.comment ≤ 65535
 
--- what a pcap form shows of each packet next to its link type, time, original length and bytes: the
--- snap length of the file header, no name, and no comment
+-- a packet of which a pcap form keeps all but parts of its time: it has the snap length of the file
+-- header, no name, and no comment
 pub record IsPlain (p : Captured) : Type 0 where
   pub snap : p.snap ≡ most_captured
   pub name : p.name ≡ []
@@ -53,12 +53,12 @@ pub record ReadsBack (text : List ℕ) (ps : List Captured) : Type 0 where
   pub packets : map (λ (q : Placed). q.packet) (items text).packets ≡ ps
   pub ending : (items text).ending ≡ End
 
--- what is written of one packet or more that this format carries reads back as these packets
+-- the text of one or more packets that this format carries reads back as these packets
 abbrev pub Back : Format → Type 0
 Back format =
     (p : Captured) (ps : List Captured) → Carries format (p ∷ ps)
     → ReadsBack (text format (p ∷ ps)) (p ∷ ps)
 
--- in each format what is written of one packet or more that it carries reads back as these packets
+-- in each format the text of one or more packets that it carries reads back as these packets
 abbrev pub ItemsBack : Type 0
 ItemsBack = (format : Format) → Back format

@@ -47,8 +47,8 @@ pub record PacketStands (order : Order) (interfaces : List Described) (parts : P
   pub is_lent : held_packet order interfaces spans (span_bytes spans.bytes block)
       (span_bytes spans.options block) ≡ Some packet
 
--- the number of a packet's interface, and the places of its data and its options, as in its block: an
--- enhanced packet has its data after 28 bytes, and its options after the padding of the data; a
+-- the number of a packet's interface, and the places of its data and its options, as in its block:
+-- an enhanced packet has its data after 28 bytes, and its options after the padding of the data; a
 -- simple packet is of interface 0, has its data after 12 bytes, and has no options
 abbrev pub LieAsSaid : Parts → PacketSpans → Type 0
 LieAsSaid (EnhancedParts number ticks captured orig order rest) spans =

@@ -57,9 +57,9 @@ type_in section text =
 abbrev pub length_in : Option Order → List ℕ → ℕ
 length_in section text = u32_in (order_in section text) text 4
 
--- The checks of a block's first 12 bytes, in order, after a section of this byte order or after none:
--- with no section before it a block is a section header; a section header has the byte-order magic;
--- the total length is a multiple of four, at least 12 and at most that of the longest block.
+-- The checks of a block's first 12 bytes, in order, after a section of this byte order or after
+-- none: with no section before it a block is a section header; a section header has the byte-order
+-- magic; the total length is a multiple of four, at least 12 and at most that of the longest block.
 abbrev pub frame_checks : Option Order → List ℕ → List (Bool × Fault)
 frame_checks section text =
     (is_section text || is_some section, NotACaptureFile)

@@ -1,4 +1,4 @@
--- What an edit makes of packets that come one after another: what is unique of what is selected.
+-- The packets that an edit passes on, as lists: the unique ones of those that it selects.
 use Rattle.std.specs.Prelude.{ℕ, ◌+◌, ◌-◌, Bool, false, if◌then◌else◌, List, [], ◌∷◌, ◌++◌, Option, None, Some}
 use Rattle.cap_octet.specs.Packet.{Captured}
 use Rattle.cap_window.specs.declared.mark.Mark.{Mark}
@@ -25,8 +25,8 @@ abbrev pub is_repeated : Option ℕ → List Mark → Mark → Bool
 is_repeated None before m = false
 is_repeated (Some n) before m = has_same (last (n - 1) before) m
 
--- the packets whose mark (length and digest) none of the n - 1 just before them has, where these
--- marks came before the first; all packets without an n
+-- the packets whose mark (length and digest) none of the n - 1 marks just before has; `before` are
+-- the marks before the first packet; all packets without an n
 abbrev pub unique_after : Option ℕ → List Mark → List Captured → List Captured
 unique_after n before [] = []
 unique_after n before (p ∷ ps) =

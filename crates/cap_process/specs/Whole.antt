@@ -1,5 +1,5 @@
--- What whole commands write, in the words of lists: the packets of their inputs, which of them
--- pass, and up to the first that isn't written.
+-- The output of whole commands, as lists: the packets of their inputs that pass, up to the first
+-- that isn't written.
 use Rattle.std.specs.Prelude.{◌≡◌, ℕ, zero, suc, ◌+◌, ◌^◌, ◌<◌, Bool, true, false, if◌then◌else◌, nat_le, List, [], ◌∷◌, ◌++◌, length, take, Option, None, Some, IfSome}
 use Rattle.std.specs.List.{sum_by}
 use Rattle.std.specs.Option.{is_some, option_or}
@@ -33,15 +33,13 @@ abbrev pub written_unless : Option Fault → Captured → List Captured → List
 written_unless None p rest = p ∷ rest
 written_unless (Some fault) p rest = []
 
--- those of the packets that are written, where these were before them: up to the first that the
--- form refuses
+-- the packets that are written after those in `before`: all up to the first that the form refuses
 abbrev pub packets_written : Form → List Captured → List Captured → List Captured
 packets_written form before [] = []
 packets_written form before (p ∷ ps) =
     written_unless (form_refuses form before p) p (packets_written form (before ++ p ∷ []) ps)
 
--- what the end of a command adds that ends with this status: with 0, which is a clean end, what
--- that adds; else nothing
+-- the bytes that the end of a command with this status adds: those of a clean end for 0, else none
 abbrev pub closing_if : (status : ℕ) → Form → Option ℕ → List Captured → List ℕ
 closing_if zero form link ps = closing_text form link ps
 closing_if (suc n) form link ps = []
@@ -93,13 +91,13 @@ EndsUnlessRefused names (Some fault) end o = EndsAtPacket names fault o
 
 -- ---- edit
 
--- what an edit that writes this format does
+-- the work of an edit that writes this format
 abbrev pub edit_work : EditRule → Format → Work
 edit_work s format = record { order = InTurn; policy = Edit s; form = AsCapture format }
 
--- An edit of a file with fewer than 2^63 packets writes what is unique of what is selected of them,
--- up to the first whose moved time is out of range or that the format refuses; for none, if it
--- ends with status 0, the start of a file.
+-- An edit of a file with fewer than 2^63 packets writes the unique ones of the selected packets, up
+-- to the first whose moved time is out of range or that the format refuses; if there are none, and
+-- it ends with status 0, the start of a file.
 abbrev pub EditWrites : Type 0
 EditWrites =
     (s : EditRule) (format : Format) (names : List (List ℕ)) (file : List ℕ)
@@ -111,8 +109,8 @@ EditWrites =
     (packets_written (AsCapture format) []
     (unique_after s.window [] (packets_selected s 1 (file_packets file))))
 
--- how an edit ends whose packets are all written: at the place of a packet whose moved time is out
--- of range, if there is one, else as the file does
+-- the end of an edit whose packets are all written: at the place of a packet whose moved time is
+-- out of range, if there is one, else that of the file
 abbrev pub edit_end : Option ℕ → Ending → SequenceEnd
 edit_end (Some offset) ending = FaultIn 0 TimeOutOfRange offset
 edit_end None ending = end_of 0 ending
@@ -132,7 +130,7 @@ EditEnds =
 
 -- ---- print
 
--- what a print by this filter does, which ends after `count` packets, if there is a count
+-- the work of a print by this filter, which ends after `count` packets, if there is a count
 abbrev pub print_work : Rule → Option ℕ → Form → Work
 print_work rule count form = record { order = InTurn; policy = Filter rule count; form = form }
 
@@ -169,12 +167,12 @@ rule_end rule ending [] = end_of 0 ending
 rule_end rule ending (p ∷ ps) =
     end_by_decision (rule_decides rule p.packet) p (rule_end rule ending ps)
 
--- whether as many pass as may, if there is a count
+-- whether at least `count` packets are kept; false without a count
 abbrev pub is_reached : (count : Option ℕ) → (kept : ℕ) → Bool
 is_reached None kept = false
 is_reached (Some count) kept = nat_le count kept
 
--- how a print ends whose packets are all written
+-- the end of a print whose packets are all written
 abbrev pub print_end : Rule → Option ℕ → Items → SequenceEnd
 print_end rule count file =
     if is_reached count (length (packets_kept rule (packets_of file.packets))) then Complete
@@ -194,7 +192,7 @@ PrintEnds =
 
 -- ---- merge
 
--- what a merge in this order that writes this format does
+-- the work of a merge in this order that writes this format
 abbrev pub merge_work : PacketOrder → Format → Work
 merge_work order format = record { order = order; policy = KeepAll; form = AsCapture format }
 
@@ -230,7 +228,7 @@ MergeEnds =
 
 -- ---- infos
 
--- what a report on the inputs of these names does
+-- the work of a report on the inputs of these names
 abbrev pub infos_work : List (List ℕ) → Work
 infos_work names = record { order = InTurn; policy = Count; form = AsReports names }
 
@@ -252,7 +250,7 @@ reports_of input (r ∷ rs) =
     })
     (reports_of (input + 1) rs)
 
--- What `infos` writes is the report of each input in turn, up to the first that ends by a fault.
+-- `infos` writes the report of each input in turn, up to the first that ends by a fault.
 abbrev pub InfosReports : Type 0
 InfosReports =
     (names : List (List ℕ)) (rs : List InputItems)

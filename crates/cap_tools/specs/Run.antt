@@ -89,7 +89,8 @@ IsWhyCut fault input done rest declared =
     × HasGiven input.sure (input.given + length done + (decisive_length declared rest - 1)))
     ⊎ ((fault ≡ NoMemory) × MemoryEndsAt done rest declared)
 
--- an input ends by a fault at the place where one of its units would begin; before that it has these items
+-- an input ends by a fault at the place where one of its units would begin; before that it has
+-- these items
 pub record IsCutInput (call : Call) (place : ℕ) (held : Items) : Type 0 where
   pub input : FreshInput
   pub among : slice_get call.inputs place ≡ Some input

@@ -1,4 +1,4 @@
--- What no promise rests on: it helps the crate's own functions and proofs, and those of other crates here.
+-- Helpers for functions and proofs of this crate and of other crates: no promise rests on them.
 pub mod Counts
 pub mod Emitted
 pub mod Folding

@@ -24,9 +24,9 @@ use Rattle.cap_io.specs.declared.file_state.FileState.TheVariants as state
 use Rattle.cap_io.specs.Capture.{Declared, Nothing, PcapFile, PcapngFile, IsUnit, NoUnit, first_link_after, front_of}
 use Rattle.cap_io.specs.Reading.{most_in_unit, read_failures, IsTaken, TakesMemory, held_length, IsReason, declared_by, packet_in_unit}
 
--- What reading a unit, or what follows its first `front` bytes, did to a device: with them `count`
--- bytes came, or at most `most` on an error. A failed read is reported exactly if the device failed
--- in this call.
+-- The counts of a device after a unit, or what follows its first `front` bytes, was read: with them
+-- `count` bytes came, or at most `most` on an error. A failed read is reported exactly if the
+-- device failed in this call.
 pub record Moves {I X : Type 0} (device : Ghosts I) (old new : I) (front : ℕ) (count : X → ℕ)
     (most : ℕ) (r : Result X Fault) : Type 0 where
   pub counted : IfOk r (λ x. device.given new + front ≡ device.given old + count x)
@@ -213,8 +213,8 @@ BeginsBlock state.Unknown front = is_section front ≡ true
 BeginsBlock (state.Pcap head) front = ⊥
 BeginsBlock (state.Pcapng order first) front = Unit {0}
 
--- What reading a unit whose first bytes had come did: to the device, to the buffer, to the place of a
--- packet in it, and to what is known of the file. A fault doesn't change what is known.
+-- The result of reading a unit whose first bytes had come: for the device, the buffer, the place of
+-- a packet in it, and what is known of the file. A fault doesn't change what is known.
 pub record ReadsUnit {I A : Type 0} (device : Ghosts I) (old : UnitReader I A) (front : List ℕ)
     (r : Result NextUnit Fault) (new : UnitReader I A) : Type 0 where
   pub moves : Moves device old.input new.input (length front) (unit_size new.spans) most_in_unit r

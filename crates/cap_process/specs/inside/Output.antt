@@ -18,7 +18,7 @@ pub record PutsInto (p : Captured) (old : SinkView) (r : Result (Unit {0}) Fault
   pub puts : sinks.PutsPacket old.state old p r sink
   pub writes : PutWrites old.state old p r sink
 
--- what is printed of a packet is appended to lines, or the device failed
+-- the text printed for a packet is appended to lines, or the device failed
 pub record Prints (bytes written : List ℕ) (failures : ℕ) (r : Result (Unit {0}) Fault)
     (lines : List ℕ → ℕ → Target) (new : Target) : Type 0 where
   pub after : List ℕ
@@ -26,7 +26,7 @@ pub record Prints (bytes written : List ℕ) (failures : ℕ) (r : Result (Unit 
   pub fault : IfErr r (λ fault. fault ≡ WriteFailed)
   pub is : new ≡ lines after (failures + failures_of r)
 
--- a packet is written into a capture or as a line; a text stays
+-- a packet is written into a capture or as a line; a text is unchanged
 abbrev pub PutsIntoOutput : Captured → Target → Result (Unit {0}) Fault → Target → Type 0
 PutsIntoOutput p (Capture sink) r new = PutsInto p sink r new
 PutsIntoOutput p (Text written failures room) r new =
@@ -47,7 +47,7 @@ is_text (Capture sink) = false
 is_text (Text written failures room) = true
 is_text (Lines options written failures room) = false
 
--- a report or a listing is appended to a text; other outputs stay
+-- a report or a listing is appended to a text; other outputs are unchanged
 abbrev pub Reports : List ℕ → Target → Result (Unit {0}) DeviceFault → Target → Type 0
 Reports bytes (Capture sink) r new = (r ≡ Ok tt) × (new ≡ Capture sink)
 Reports bytes (Text written failures room) r new = AppendsText bytes written failures room r new
