@@ -7,7 +7,7 @@ use Rattle.flt_bpf.specs.declared.insn.Insn.{Insn}
 use Rattle.flt_bpf.specs.declared.operation.AluOperation.TheVariants.{ShiftLeft, ShiftRight}
 use Rattle.flt_bpf.specs.declared.operation.Operand.TheVariants.{IndexRegister}
 use Rattle.flt_bpf.specs.declared.operation.Operation.{Operation}
-use Rattle.flt_bpf.specs.declared.operation.Operation.TheVariants.{LoadAbsolute, LoadIndirect, Load, LoadHeaderLength, Store, Compute, Jump, JumpIf, ReturnConstant, ReturnAccumulator, CopyToIndex}
+use Rattle.flt_bpf.specs.declared.operation.Operation.TheVariants.{LoadAbsolute, LoadIndirect, Load, LoadHeaderLength, Store, Compute, Jump, JumpIf, CopyToIndex}
 use Rattle.flt_bpf.specs.declared.operation.Register.TheVariants.{Index}
 use Rattle.flt_bpf.specs.declared.operation.Source.TheVariants.{Immediate, Memory, Length}
 
@@ -57,21 +57,19 @@ abbrev pub runs_alike_on_libpcap : Bool → Insn → Bool
 runs_alike_on_libpcap small i = operation_alike_on_libpcap (operation_of i.code) i.k small
 
 -- by what holds of the places after an instruction: whether at the n-th of them a word is live,
--- which means that a run from there on may read it before it writes it; past the last one nothing
--- is
+-- which means that a run from there on may read it before it writes it, if it also goes on past
+-- returns, as Linux's check of programs does; past the last one nothing is
 abbrev pub is_live_at : List Bool → ℕ → Bool
 is_live_at following n = slice_index_or following n false
 
--- whether a run may read M[w] before it writes it, from an instruction on, by its operation and by
--- what holds of the places after it
+-- whether M[w] is live before an instruction, by its operation and by what holds of the places
+-- after it
 abbrev pub operation_wants : Option Operation → ℕ → Insn → List Bool → Bool
 operation_wants (Some (Load register Memory)) w i following = (i.k == w) || is_live_at following 0
 operation_wants (Some (Store register)) w i following = not (i.k == w) && is_live_at following 0
 operation_wants (Some Jump) w i following = is_live_at following i.k
 operation_wants (Some (JumpIf test operand)) w i following =
     is_live_at following i.jt || is_live_at following i.jf
-operation_wants (Some ReturnConstant) w i following = false
-operation_wants (Some ReturnAccumulator) w i following = false
 operation_wants _ w i following = is_live_at following 0
 
 -- whether word w is live before an instruction, by what holds of the places after it

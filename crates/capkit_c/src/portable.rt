@@ -90,8 +90,9 @@ fn all_run_alike_on_libpcap(insns: &[Insn], small: bool) -> bool
 }
 
 /// Whether a word of memory is live at one of the instructions after the current one: whether a run
-/// from there on may read the word before it writes it. `following` says so of each of them, the
-/// next one first, and `place` is the index there; past the last one no word is live.
+/// from there on may read the word before it writes it, if it also goes on past returns. `following`
+/// says so of each of them, the next one first, and `place` is the index there; past the last one
+/// no word is live.
 fn is_live_at(following: &[bool], place: usize) -> bool
     ensures { result ≡ is_live_at following.now place }
 {
@@ -102,7 +103,8 @@ fn is_live_at(following: &[bool], place: usize) -> bool
 }
 
 /// Whether a word of memory is live before an instruction: whether a run from there on may read it
-/// before it writes it. `following` says the same of each instruction after this one.
+/// before it writes it, if it also goes on past returns. Linux's check of programs goes on past
+/// them. `following` says the same of each instruction after this one.
 fn is_live_before(insn: &Insn, word: u32, following: &[bool]) -> bool
     ensures { result ≡ is_live_before word insn.now following.now }
 {
@@ -113,14 +115,12 @@ fn is_live_before(insn: &Insn, word: u32, following: &[bool]) -> bool
         Some(Operation::JumpIf(_, _)) => {
             is_live_at(following, insn.jt as usize) || is_live_at(following, insn.jf as usize)
         }
-        Some(Operation::ReturnConstant | Operation::ReturnAccumulator) => false,
         _ => is_live_at(following, 0),
     }
 }
 
-/// Marks of each instruction whether a word of memory is live before it: whether a run from there
-/// on may read the word before it writes it. It goes from the last instruction to the first, since
-/// jumps go forward.
+/// Marks of each instruction whether a word of memory is live before it. It goes from the last
+/// instruction to the first, since jumps go forward.
 fn mark_live(insns: &[Insn], word: u32, marks: &mut [bool])
     requires { length marks.old ≡ length insns.now }
     ensures { marks.new ≡ live_places word insns.now }
@@ -133,8 +133,9 @@ fn mark_live(insns: &[Insn], word: u32, marks: &mut [bool])
     }
 }
 
-/// Whether a run of the program may read a word of memory before it writes it. The machine here
-/// finds 0 then, libpcap's what was in its memory before, and Linux refuses the program.
+/// Whether a run of the program, which also goes on past returns, may read a word of memory before
+/// it writes it. The machine here finds 0 then, libpcap's what was in its memory before, and Linux
+/// refuses the program.
 fn may_read_unwritten(insns: &[Insn], word: u32) -> bool
     requires { length insns.now ≤ MOST_ATTACHED }
     ensures { result ≡ is_live_at (live_places word insns.now) 0 }
@@ -145,7 +146,8 @@ fn may_read_unwritten(insns: &[Insn], word: u32) -> bool
     is_live_at(marks, 0)
 }
 
-/// Whether it is sure, only by the jumps, that no run reads a word of memory before it writes it.
+/// Whether it is sure, only by the jumps, that no run reads a word of memory before it writes it,
+/// and that Linux's check doesn't find one that does.
 fn no_word_read_unwritten(insns: &[Insn]) -> bool
     requires { length insns.now ≤ MOST_ATTACHED }
     ensures { result ≡ none_read_unwritten WORDS insns.now }
