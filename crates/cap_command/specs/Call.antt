@@ -2,9 +2,9 @@
 use Rattle.std.specs.Prelude.{ℕ, Bool, List}
 use Rattle.cap_octet.specs.Views.{FreshInput, FreshOutput, OutputView}
 
--- A call, apart from its command: the names of the inputs, then of the output; the inputs; the output,
--- with how many bytes it takes in all, at least, before it fails; and the messages' device, with
--- whether contracts know its bytes.
+-- A call, apart from its command: the names of the inputs, then of the output; the inputs; the
+-- output, with how many bytes it takes in all, at least, before it fails; and the messages' device,
+-- with whether contracts know its bytes.
 pub record Call : Type 0 where
   pub names : List (List ℕ)
   pub inputs : List FreshInput

@@ -131,8 +131,8 @@ over-right : (a : SequenceEnd) → first_end a Complete ≡ a
 over-right Complete = refl
 over-right (FaultIn i f o) = refl
 
--- An input whose current packet has the least key, the lowest input of those: its packet comes first, and what is left
--- after it is the merge of what is left.
+-- An input whose current packet has the least key, the lowest input of those: its packet comes
+-- first, and what is left after it is the merge of what is left.
 pub merged-next : (xs ys : List InputItems) (g : ℕ) (p : Placed) (items : Items) (ps : List Placed) (size : ℕ) → items.packets ≡ p ∷ ps
     → fault_without_packets 0 (xs ++ record { greatest = g; items = items; size = size } ∷ ys) ≡ Complete → AllOver (max g p.packet.time) xs → AllFrom (max g p.packet.time) ys
     → sequence_by_time (xs ++ record { greatest = g; items = items; size = size } ∷ ys)
@@ -169,7 +169,8 @@ merged-next xs ys g p items ps size is whole over from =
     ∙ ap sequence_of_entries first
     ∙ ap (λ (c : SequenceEnd). with_front (Packet n p ∷ []) (unless_fault c (sequence_of_entries (sort_entries (all_entries 0 (xs ++ r' ∷ ys)))))) (sym left_broken)
 
--- an input that ends by a fault, where none before it does and it has no packet left: nothing more comes
+-- an input that ends by a fault, where none before it does and it has no packet left: nothing more
+-- comes
 pub merged-broken : (xs ys : List InputItems) (r : InputItems) (fault : Fault) (offset : ℕ) → fault_without_packets 0 xs ≡ Complete → end_at (length xs) r ≡ FaultIn (length xs) fault offset
     → sequence_by_time (xs ++ r ∷ ys) ≡ record { events = []; end = FaultIn (length xs) fault offset }
 merged-broken xs ys r fault offset none is =

@@ -166,8 +166,8 @@ impl<I: Input, A: Allocator> InputCursor<I, A> {
         self.source.kind()
     }
 
-    /// The beginning of the current unit, in bytes from the start of the file, and 0 before anything is
-    /// read; after a fault, the beginning of its unit; at the clean end, the number of
+    /// The beginning of the current unit, in bytes from the start of the file, and 0 before
+    /// anything is read; after a fault, the beginning of its unit; at the clean end, the number of
     /// bytes.
     pub fn offset(&self) -> u64
         ensures { result ≡ self.now.source.offset }

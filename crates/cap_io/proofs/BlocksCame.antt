@@ -31,8 +31,8 @@ pub record WholeCame (section : Option Order) (text buffer : List ℕ) (frame : 
   pub says : frame_in section (take frame.length buffer) ≡ frame
   pub splits : text ≡ take frame.length buffer ++ unread'
 
--- Why no block came: a fault is in its place, or the device failed, or memory ran out. At most the block was taken,
--- and where the device failed fewer bytes than decide what stands there.
+-- Why no block came: a fault is in its place, or the device failed, or memory ran out. At most the
+-- block was taken, and where the device failed fewer bytes than decide what stands there.
 pub record BlockMissing (before : Option Section) (text unread' : List ℕ) (fault : Fault) : Type 0 where
   pub why : (unit_fault before text ≡ Some fault) ⊎ (fault ≡ ReadFailed) ⊎ (fault ≡ NoMemory)
   pub count : ℕ

@@ -1,4 +1,5 @@
--- The order of a merge is sorted, has each packet once, and keeps those of each input in their places.
+-- The order of a merge is sorted, has each packet once, and keeps those of each input in their
+-- places.
 use Rattle.std.proofs.Common.{◌≡◌, inl, inr, ℕ, ◌+◌, ◌<◌, ◌≤◌, ◌&&◌, ◌||◌, Bool, true, false, if◌then◌else◌, max, List, [], ◌∷◌, ◌++◌, refl, sym, ◌∙◌, ap, arith, subst}
 use Rattle.std.specs.Prelude.{nat_lt, nat_eq, IsPermutation}
 use Rattle.std.proofs.lemmas.Bool.Decides.{nat_tests}

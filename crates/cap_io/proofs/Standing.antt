@@ -149,7 +149,8 @@ IsAt-items text done packets s at =
     let decided = IsAt-decided text done packets s at in
     rw decided.1.whole (items-begin (done ++ s.block) s.unread (packets ++ record { offset = s.offset; packet = (at.waits refl).packet } ∷ []) s.declared decided.1.units)
 
--- why there was no unit: the text has a fault there; or it is cut short by a failed read or because memory runs out
+-- why there was no unit: the text has a fault there; or it is cut short by a failed read or because
+-- memory runs out
 pub record FaultyText (text : List ℕ) (packets : List Placed) (s' : SourceView) (fault : Fault) : Type 0 where
   pub items : items text ≡ record { packets = packets; declared = s'.declared; ending = FaultAt fault s'.offset }
 

@@ -25,8 +25,8 @@ pub fn put_extends_text()
 {}
 
 /// A merge has all packets of its inputs, each once, sorted by the greatest time in their own input
-/// up to and with them, then by their input and their place there; up to and with the last packet of
-/// the first input that ends by a fault.
+/// up to and with them, then by their input and their place there; up to and with the last packet
+/// of the first input that ends by a fault.
 pub fn merges_sort()
     ensures { MergesSort }
 {}

@@ -154,8 +154,8 @@ impl<I: Input, A: Allocator> Source<I, A> {
         }
     }
 
-    /// The beginning of the current unit, in bytes from the start of the file, and 0 before the first
-    /// `advance`; after a fault, if the unit that has it begins; at a clean end, the number of
+    /// The beginning of the current unit, in bytes from the start of the file, and 0 before the
+    /// first `advance`; after a fault, the beginning of its unit; at a clean end, the number of
     /// bytes.
     pub fn offset(&self) -> u64
         ensures { result ≡ self.now.offset }

@@ -79,8 +79,8 @@ pub written-again : (w b w1 w2 : List ℕ) (c n k : ℕ) → w1 ≡ w ++ take c 
 written-again w b w1 w2 c n k first next le =
     next ∙ (rw (first, take-take n k (drop c b) le, take-add c n b) (simp append_assoc))
 
--- A read that takes bytes which a reader holds takes them of what is left of it: of nothing that is known where it has no
--- room for any.
+-- A read that takes bytes which a reader holds takes them of what is left of it: of nothing that is
+-- known where it has no room for any.
 pub held-consumed : (without : Bool) (held : List ℕ) (known after : Option (List ℕ)) (n : ℕ) → n ≤ length held
     → DropsConsumable (if without then None else prepend_known held known) after (Some (length held)) n
     → Consumes (if without then None else prepend_known held known) after (take n held)

@@ -13,7 +13,8 @@ fn is_digit(radix: u32, byte: u8) -> bool
     (byte as char).is_digit(radix)
 }
 
-/// Whether all bytes are digits of a radix in ASCII; for a letter both cases count. `true` for none.
+/// Whether all bytes are digits of a radix in ASCII; for a letter both cases count. `true` for
+/// none.
 pub fn are_digits(radix: u32, text: &[u8]) -> bool
     requires low { 2 ≤ radix }
     requires high { radix ≤ 16 }

@@ -8,8 +8,8 @@ use std::fmt;
 /// The faults, in the order of their numbers, 1 to 21.
 #[derive(Clone, Copy, Debug, PartialEq, Eq)]
 pub enum Fault {
-    /// 1: the file has fewer than four bytes, or the first four aren't a magic number, or a block of
-    /// another type is in front of the first section header.
+    /// 1: the file has fewer than four bytes, or the first four aren't a magic number, or a block
+    /// of another type is in front of the first section header.
     NotACaptureFile,
     /// 2: the file ends inside a file header, a record or a block, and has at least four bytes.
     Truncated,

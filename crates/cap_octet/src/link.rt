@@ -64,8 +64,8 @@ impl Link {
         }
     }
 
-    /// The place in its header of the EtherType of the network header. Raw IP has none: packets begin
-    /// with a version of IP.
+    /// The place in its header of the EtherType of the network header. Raw IP has none: packets
+    /// begin with a version of IP.
     #[inline]
     pub fn type_offset(self) -> Option<usize>
         ensures value { result ≡ type_offset self }

@@ -72,7 +72,7 @@ fn header_by_version(version: u8) -> NetworkHeader
 }
 
 /// The network header of a packet whose link header has the EtherType at this place, big-endian;
-/// `None` is raw IP, if the version of IP is the packet's first four bits. `Short` if these
+/// `None` is raw IP, whose first four bits are the version of IP. `Short` if these
 /// bytes aren't captured.
 #[inline]
 fn header_after(type_offset: Option<usize>, bytes: &[u8]) -> NetworkHeader

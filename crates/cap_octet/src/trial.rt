@@ -1,6 +1,6 @@
-//! Devices for tests, over memory: they move a few bytes per call and fail when a test asks, and the
-//! input counts its reads. The first clauses of a method are those of its trait with this device's
-//! ghost members put in (`tells`, `failures` and so on).
+//! Devices for tests, over memory: they move a few bytes per call and fail when a test asks, and
+//! the input counts its reads. The first clauses of a method are those of its trait with this
+//! device's ghost members put in (`tells`, `failures` and so on).
 ghost use Rattle.std.specs.Prelude.{◌≡◌, ℕ, ◌+◌, ◌-◌, ◌≤◌, ◌<◌, ◌^◌, IsTrue, List, [], length};
 ghost use Rattle.std.proofs.Common.{rules};
 ghost use Rattle.std.specs.Prelude.{Some, None, true, IfOk, IsErr, OnErr, OnOk, min, is_some};

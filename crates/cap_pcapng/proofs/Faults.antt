@@ -1,4 +1,5 @@
--- What holds of the faults of all checks holds of the first that fails; and which faults options have.
+-- What holds of the faults of all checks holds of the first that fails; and which faults options
+-- have.
 use Rattle.std.proofs.Common.{◌≡◌, ℕ, zero, suc, Bool, true, false, List, [], ◌∷◌, ◌++◌, length, drop, Some, Result, Ok, Err, cond, subst}
 use Rattle.std.specs.Prelude.{◌==◌, is_some, if◌then◌else◌}
 use Rattle.std.specs.List.{AllByRecursion}

@@ -60,7 +60,8 @@ is_some-copied : (name : Option (Bor (List ℕ))) → is_some (option_copied nam
 is_some-copied None = refl
 is_some-copied (Some x) = refl
 
--- a list of checks that is empty unless a code is one of three, and then where one of its code was found
+-- a list of checks that is empty unless a code is one of three, and then where one of its code was
+-- found
 by_code : (is_name is_resolution is_offset given name units offset : Bool) (a b c : List (Bool × Fault))
     → (is_name ≡ true → given ≡ name) → (is_resolution ≡ true → given ≡ units) → (is_offset ≡ true → given ≡ offset)
     → cond given [] (cond is_name a (cond is_resolution b (cond is_offset c [])))

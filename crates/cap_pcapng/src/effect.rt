@@ -160,9 +160,9 @@ fn enhanced_packet_spans<T: Interfaces>(
     })
 }
 
-/// The place of the packet of a simple packet block of `size` bytes, one of interface 0 at time 0; or
-/// the first check that it fails: there is no interface (`UnknownInterface`), its data with their
-/// padding end outside the body (`BadBody`).
+/// The place of the packet of a simple packet block of `size` bytes, one of interface 0 at time 0;
+/// or the first check that it fails: there is no interface (`UnknownInterface`), its data with
+/// their padding end outside the body (`BadBody`).
 fn simple_packet_spans<T: Interfaces>(
     table: &T,
     block: &SimpleBlock<'_>,

@@ -1,4 +1,5 @@
--- How whole commands end: at the first packet that the form refuses, else as the verdicts on packets say.
+-- How whole commands end: at the first packet that the form refuses, else as the verdicts on
+-- packets say.
 use Rattle.std.proofs.Common.{◌≡◌, ℕ, zero, suc, ◌+◌, ◌-◌, ◌^◌, ◌<◌, ◌≤◌, ◌&&◌, ◌==◌, Bool, true, false, if◌then◌else◌, nat_le, List, [], ◌∷◌, ◌++◌, length, Option, None, Some, refl, sym, ◌∙◌, ap, arith, subst}
 use Rattle.std.proofs.lemmas.List.{append_assoc, append-nil}
 use Rattle.std.specs.Option.{IfSome, is_none, option_or}

@@ -237,7 +237,8 @@ noted (Some n) state before p b kept is =
       kept = ap (λ (ms : List Mark). last (n - 1) (ms ++ m ∷ [])) kept ∙ last-last (n - 1) before m;
     }
 
--- how far a job is after packets, the first with this number, where these passed and these marks came before
+-- how far a job is after packets, the first with this number, where these passed and these marks
+-- came before
 record Follows (s : EditRule) (number : ℕ) (before : List Mark) (out : List Captured) (ps : List Placed) (w : JobProgress) : Type 0 where
   passed : w.packets ≡ out ++ unique_after s.window before (packets_selected s number (packets_of ps))
   kept : IsKept s.window (before ++ marks (packets_selected s number (packets_of ps))) w.state.window

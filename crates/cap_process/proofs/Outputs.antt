@@ -102,7 +102,8 @@ stayed-written : (refusal : Option Fault) (bytes output_text output_text' : List
 stayed-written None bytes output_text output_text' is writes = writes
 stayed-written (Some fault) bytes output_text output_text' is writes = writes
 
--- why a packet that passes isn't put into a capture: the format refuses it; there was no memory; or the device failed
+-- why a packet that passes isn't put into a capture: the format refuses it; there was no memory; or
+-- the device failed
 abbrev pub WhyUnput : Fault → SinkView → List Captured → Captured → SinkView → Type 0
 WhyUnput WriteFailed old ps q new = (refusal_of old.format ps q ≡ None) × (new.failures ≡ old.failures + 1) × Stops old.written (added_text old.format ps q) new.written
 WhyUnput NoMemory old ps q new = (refusal_of old.format ps q ≡ None) × (takes_memory old.format ps q ≡ true) × (new.written ≡ old.written) × (new.failures ≡ old.failures)

@@ -1,4 +1,5 @@
--- What whole commands write: the verdicts on packets make a list, of which the form refuses the rest.
+-- What whole commands write: the verdicts on packets make a list, of which the form refuses the
+-- rest.
 use Rattle.std.proofs.Common.{◌≡◌, ℕ, zero, suc, ◌+◌, ◌-◌, ◌^◌, ◌<◌, ◌&&◌, Bool, true, false, if◌then◌else◌, nat_le, max, List, [], ◌∷◌, ◌++◌, length, take, Option, None, Some, refl, sym, ◌∙◌, ap, arith, subst}
 use Rattle.std.proofs.lemmas.List.{append_assoc, append-nil}
 use Rattle.std.specs.Option.{IfSome}

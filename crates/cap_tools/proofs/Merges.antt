@@ -9,7 +9,8 @@ use Rattle.cap_tools.proofs.Splits.{Fit}
 use Rattle.cap_tools.proofs.Coming.{hand_is}
 use Rattle.cap_inputs.proofs.Order.{IsOver, IsFrom, end_at, AllOver, AllFrom, merged-next}
 
--- a packet waits, whose greatest time so far is over the key, or at least the key; or the input is at its clean end
+-- a packet waits, whose greatest time so far is over the key, or at least the key; or the input is
+-- at its clean end
 pub data InputOver (k : ℕ) (h : InputView) : Type 0 where
   waits_over : (p : Captured) → h.waiting ≡ true → h.source.packet ≡ Some p → k < max h.greatest p.time → InputOver k h
   ended_over : h.waiting ≡ false → h.source.phase ≡ Ended → InputOver k h
@@ -66,7 +67,8 @@ none-broken k n [] (f ∷ fs) from fits = absurd fits
 none-broken k n (h ∷ hs) [] from fits = absurd fits
 none-broken k n (h ∷ hs) (f ∷ fs) from fits = ap (λ (c : SequenceEnd). first_end c (fault_without_packets (n + 1) (inputs_left hs fs))) (whole-one k n h f from.0 fits.0) ∙ none-broken k (n + 1) hs fs from.1 fits.1
 
--- the input with the least key, the lowest input of those, is decided: whatever comes, its packet is next
+-- the input with the least key, the lowest input of those, is decided: whatever comes, its packet
+-- is next
 pub merge-decides : (xs ys : List InputView) (h : InputView) (p : Captured) (fs gs : List Future) (f : Future) → h.waiting ≡ true → h.source.packet ≡ Some p
     → InputsOver (max h.greatest p.time) xs → InputsFrom (max h.greatest p.time) ys → AreFutures xs fs → AreFutures ys gs → fault_without_packets 0 (inputs_left xs fs ++ items_left h f ∷ inputs_left ys gs) ≡ Complete
     → sequence_by_time (inputs_left xs fs ++ items_left h f ∷ inputs_left ys gs) ≡ with_front (Packet (length (inputs_left xs fs)) (first_is h p) ∷ []) (sequence_by_time (inputs_left xs fs ++ items_left (input_after_decided h) f ∷ inputs_left ys gs))

@@ -93,7 +93,8 @@ finish-here (a ∷ us) vs s i bytes packets place = rw (← place) (ap (λ (l : 
 
 -- ---- what has come, when one input goes on
 
--- For each future after the change there is one before it: the whole is the same, and what is left begins with the new events.
+-- For each future after the change there is one before it: the whole is the same, and what is left
+-- begins with the new events.
 pub record Carries (s s' : InputPast) (xs ys : List InputView) (h h' : InputView) (order : PacketOrder) (new : List Event) (f' : Future) : Type 0 where
   pub future : Future
   pub fit : Fit h future

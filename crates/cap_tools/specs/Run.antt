@@ -104,8 +104,8 @@ pub record IsCutInput (call : Call) (place : ℕ) (held : Items) : Type 0 where
 -- what it defines if an input is cut short;
 -- what is written of some events, if there was no memory to write the next packet;
 -- nothing but a message, if there was no memory to begin. No clause can say that an allocation
--- failed: so each case of no memory may be left wherever its facts hold, the last one, and that of a
--- filter or an expression, always; but then it is exactly this.
+-- failed: so each case of no memory may be left wherever its facts hold, the last one, and that of
+-- a filter or an expression, always; but then it is exactly this.
 pub data IsOutcome (asked : Assignment) (call : Call) : Outcome → Type 0 where
   of_packets : (work : Work) → IsWork asked call work
       → IsOutcome asked call (outcome work call.names (whole_inputs call))

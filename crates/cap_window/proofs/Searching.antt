@@ -1,4 +1,5 @@
--- A search for an equal mark goes down the tree of its hash, by the bits of the mark that is looked for.
+-- A search for an equal mark goes down the tree of its hash, by the bits of the mark that is looked
+-- for.
 use Rattle.std.proofs.Common.{◌≡◌, ◌≢◌, ℕ, ◌+◌, ◌-◌, ◌<◌, ◌≤◌, inl, inr, Bool, not, List, length, refl, sym, ap, ◌∙◌, subst, arith, IsTrue}
 use Rattle.std.proofs.lemmas.Bool.{eq-eqb, cases_order}
 use Rattle.cap_window.specs.Marks.{is_same_mark}

@@ -97,8 +97,8 @@ raised ms ls class wanted depth limit d limit' d' (Topped _ _ _ _ _ top place st
 abbrev pub IsSameOutside : List Mark → (old new : List Links) → (Mark → Bool) → ℕ → Type 0
 IsSameOutside ms old new class place = (j : ℕ) → (j ≤ place → IsTrue (class (mark_at ms j)) → ⊥) → links_at new j ≡ links_at old j
 
--- The mark at `place` gets to the top of the tree of a class, whose top before is d places below it. Once it has its links, and so
--- those below, all are placed.
+-- The mark at `place` gets to the top of the tree of a class, whose top before is d places below
+-- it. Once it has its links, and so those below, all are placed.
 pub record IsPlacing (ms : List Mark) (start now : List Links) (first : Mark → Bool) (newest depth place d : ℕ) : Type 0 where
   pub class : Mark → Bool
   pub wanted : Mark → Bool
@@ -162,7 +162,8 @@ step_of : (ms : List Mark) (ls : List Links) (class wanted : Mark → Bool) (dep
 step_of ms ls class wanted depth limit d (Empty _ _ _ _ _ past none) = omega arith
 step_of ms ls class wanted depth limit d (Topped _ _ _ _ _ there at step belongs none below) = step
 
--- the tree of one bit below the top becomes one below the mark that takes its place, where the top is none of it
+-- the tree of one bit below the top becomes one below the mark that takes its place, where the top
+-- is none of it
 moved : (ms : List Mark) (now done : List Links) (class wanted : Mark → Bool) (depth place top d d' : ℕ) (bit : Bool)
     → HasTop ms now class (but wanted (mark_at ms place)) depth place top → place ≡ top + d → place + 1 < 2 ^ 32
     → ((j : ℕ) → j < top → IsTrue (marks_with_bit class depth bit (mark_at ms j)) → links_at done j ≡ links_at now j)

@@ -89,8 +89,8 @@ impl<A: Allocator> Window<A> {
         found
     }
 
-    /// Whether an equal mark is in the window. If so, it is in the tree of this mark's hash, at the place where
-    /// the way down by this mark's bits meets it.
+    /// Whether an equal mark is in the window. If so, it is in the tree of this mark's hash, at the
+    /// place where the way down by this mark's bits meets it.
     fn contains(&self, mark: &Mark) -> bool
         ensures { IsTrue result ↔ Contains self.now.marks mark.now }
     {

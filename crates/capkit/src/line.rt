@@ -54,9 +54,9 @@ fn line_of_matches(
 /// The line that the words after the program's name ask for.
 ///
 /// An error is the first of these that holds: clap refuses the words (even if it is out of
-/// memory), there are more than 512 ranges or 256 inputs, a word isn't a range, a word isn't a time or
-/// no number of seconds, options exclude each other, a name is used twice; or an allocation fails
-/// after clap's parse.
+/// memory), there are more than 512 ranges or 256 inputs, a word isn't a range, a word isn't a time
+/// or no number of seconds, options exclude each other, a name is used twice; or an allocation
+/// fails after clap's parse.
 ///
 /// These exclude each other: `--later` and `--earlier` of an edit; for a print, the words of an
 /// expression and `--code`, `-w` and `-e` or `-x`, and `--format` if there is no `-w`.

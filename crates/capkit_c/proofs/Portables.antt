@@ -1,4 +1,5 @@
--- A portable program reads no word that it didn't write, and does nothing that libpcap or Linux does otherwise.
+-- A portable program reads no word that it didn't write, and does nothing that libpcap or Linux
+-- does otherwise.
 use Rattle.std.proofs.Common.{◌≡◌, ◌↔◌, ◌⊎◌, inl, inr, ℕ, zero, suc, ◌+◌, ◌-◌, ◌%◌, ◌^◌, ◌<◌, ◌≤◌, List, [], ◌∷◌, length, drop, get_or, Bool, true, false, Option, Some, None, refl, sym, ap, ◌∙◌, subst, arith}
 use Rattle.std.specs.Prelude.{◌==◌, nat_lt, nat_le, ◌&&◌, ◌||◌, not, if◌then◌else◌, slice_get, slice_set, bit_and}
 use Rattle.std.specs.List.{list_all}

@@ -27,8 +27,8 @@ file_link_type n = if n == DLT_RAW then LINKTYPE_RAW else n
 abbrev pub are_blanks : List ℕ → Bool
 are_blanks text = list_all is_blank text
 
--- the link that a text is compiled for: that of the link type; the empty expression reads no header,
--- so it is compiled for an unknown link type as for Ethernet
+-- the link that a text is compiled for: that of the link type; the empty expression reads no
+-- header, so it is compiled for an unknown link type as for Ethernet
 pub data IsLinkFor (text : List ℕ) (link_type : ℕ) : Link → Type 0 where
   of_link_type : {link : Link} → link_of (file_link_type link_type) ≡ Some link
       → IsLinkFor text link_type link

@@ -15,8 +15,8 @@ abbrev pub IsTooLong : List ℕ → (room count : ℕ) → Type 0
 IsTooLong text room count =
     (room < count) × ((insns : List Insn) × IsListing text insns × (length insns ≡ count))
 
--- 0 and the instructions; or 17 and the first wrong line, 16 and how many instructions there are, or
--- 13 if memory ran out, and the instructions are as they were
+-- 0 and the instructions; or 17 and the first wrong line, 16 and how many instructions there are,
+-- or 13 if memory ran out, and the instructions are as they were
 pub data ListingLeaves (text : List ℕ) (old new : List Insn) (number : ℕ) (status : ℕ) : Type 0 where
   is_read : HoldsListing text old new number → status ≡ 0 → ListingLeaves text old new number status
   no_listing : IsRefusedAt text number → new ≡ old → status ≡ 17

@@ -46,8 +46,8 @@ operation_alike _ k small = true
 abbrev pub runs_alike : Bool → Insn → Bool
 runs_alike small i = operation_alike (operation_of i.code) i.k small
 
--- whether an operation surely does the same on libpcap's machine, where X and k are not added modulo
--- 2^32; `small` says that X is below 2^30
+-- whether an operation surely does the same on libpcap's machine, where X and k are not added
+-- modulo 2^32; `small` says that X is below 2^30
 abbrev pub operation_alike_on_libpcap : Option Operation → ℕ → Bool → Bool
 operation_alike_on_libpcap (Some (LoadIndirect width)) k small = small && nat_lt k sign_bit
 operation_alike_on_libpcap _ k small = true
@@ -98,8 +98,8 @@ is_portable insns =
     && (list_all (runs_alike (list_all keeps_x_small insns)) insns && none_read_unwritten WORDS insns)
     then 1 else 0
 
--- the machines on which a valid program surely runs the same, as far as its instructions show, of at most
--- 4,096: 1 is libpcap's machine, 2 Linux's, and their sum both; 0 is neither
+-- the machines on which a valid program surely runs the same, as far as its instructions show, of
+-- at most 4,096: 1 is libpcap's machine, 2 Linux's, and their sum both; 0 is neither
 abbrev pub portability : List Insn → ℕ
 portability insns =
     if is_portable insns == 1 then 3

@@ -41,9 +41,9 @@ pub record DeclaresOne (declared : Declared) (text : List ℕ)
   pub front : front_of declared text ≡ Whole size [] (PcapngFile first section)
   pub more : section.interfaces ≡ interfaces ++ interface ∷ []
 
--- the interface's number, and where data and options lie in the unit that a text begins with, as the
--- unit says: a record's data are after its header of 16 bytes, and it has no interface (0) and no
--- options
+-- the interface's number, and where data and options lie in the unit that a text begins with, as
+-- the unit says: a record's data are after its header of 16 bytes, and it has no interface (0) and
+-- no options
 abbrev pub UnitHas : Declared → List ℕ → PacketSpans → Type 0
 UnitHas Nothing text spans = ⊥
 UnitHas (PcapFile head) text spans =

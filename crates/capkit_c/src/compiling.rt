@@ -54,8 +54,8 @@ fn are_blanks(text: &[u8]) -> bool
     text.iter().all(|byte| is_blank(*byte))
 }
 
-/// The link that a text is compiled for. The empty expression reads no header, so it is compiled for
-/// every link type. `None` if another text is given with an unknown link type.
+/// The link that a text is compiled for. The empty expression reads no header, so it is compiled
+/// for every link type. `None` if another text is given with an unknown link type.
 fn link_for(text: &[u8], link_type: u16) -> Option<Link>
     ensures found { IfSome result (IsLinkFor text.now link_type) }
     ensures unknown { IfNone result (HasNoLink text.now link_type) }

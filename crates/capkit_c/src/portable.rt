@@ -90,9 +90,9 @@ fn all_run_alike_on_libpcap(insns: &[Insn], small: bool) -> bool
 }
 
 /// Whether a word of memory is live at one of the instructions after the current one: whether a run
-/// from there on may read the word before it writes it, if it also goes on past returns. `following`
-/// says so of each of them, the next one first, and `place` is the index there; past the last one
-/// no word is live.
+/// from there on may read the word before it writes it, if it also goes on past returns.
+/// `following` says so of each of them, the next one first, and `place` is the index there; past
+/// the last one no word is live.
 fn is_live_at(following: &[bool], place: usize) -> bool
     ensures { result ≡ is_live_at following.now place }
 {

@@ -27,7 +27,8 @@ pub fn finish<'a, W: Write + Drop>(
     requires { status ≤ 2 }
     ensures within { IfOk result (λ ended. ended ≤ 2) }
 
-    // The job's message reports its failed write, so it isn't reported here; and it isn't a success.
+    // The job's message reports its failed write, so it isn't reported here; and it isn't a
+    // success.
     ensures exact { is_some target.cause ≡ true → IsOkAnd result (λ ended. 0 < ended) }
 {
     let (mut target, cause) = target.into_inner();

@@ -17,8 +17,8 @@ pub trait Engine {
     ghost leaves: { Command Global → Call → RunResult → Type 0 };
 
     /// Runs a proper command. `names` are those of the inputs, then of the output. It returns the
-    /// status (0, 1 or 2), and hands back the output and the messages' device. If contracts know the bytes
-    /// of inputs and output, its result is what the engine states of the command.
+    /// status (0, 1 or 2), and hands back the output and the messages' device. If contracts know
+    /// the bytes of inputs and output, its result is what the engine states of the command.
     fn run<I: Input + Drop, O: Output, E: Output>(
         alloc: Global,
         command: Command,

@@ -14,8 +14,8 @@ const USAGE_OF: &str = "\nUsage: capkit ";
 /// The head of the list of commands in the help of the program.
 const COMMANDS: &str = "\nCommands:\n";
 
-/// The option in `HINTS` that is a number with a dash before it; for such a word clap shows the dash
-/// and the first digit.
+/// The option in `HINTS` that is a number with a dash before it; for such a word clap shows the
+/// dash and the first digit.
 const NEGATIVE: &str = "-N";
 
 /// Options of other tools, one per line: the command, the option, and after the colon what does the

@@ -28,5 +28,6 @@ pub mod words;
 /// that can't be opened or created.
 pub const FAULT: u8 = 1;
 
-/// The status of words that aren't a command line, and of an expression or a listing that is refused.
+/// The status of words that aren't a command line, and of an expression or a listing that is
+/// refused.
 pub const USAGE: u8 = 2;

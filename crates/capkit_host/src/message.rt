@@ -5,8 +5,8 @@ use crate::hints::{add_commands, hint_for_refusal};
 use std::alloc::{AllocError, Allocator, Global};
 use std::{fmt, io};
 
-/// What clap's advice to pass a word after `--` begins with. The advice fails, since that word isn't
-/// the name of a file, and no range or part of an expression either.
+/// What clap's advice to pass a word after `--` begins with. The advice fails, since that word
+/// isn't the name of a file, and no range or part of an expression either.
 const VALUE_TIP: &str = "  tip: to pass '";
 
 /// What each line of clap's advice begins with.

@@ -136,7 +136,7 @@ impl<'a> Progress<'a> {
     }
 
     /// Where progress may be shown, counts bytes that were read just now, and shows it on standard
-    /// error if it is due; but not from the background, if the line could meet what is typed.
+    /// error if it is due; but not from the background: the line could meet what is typed.
     fn count(&self, bytes: usize) {
         if let Some(start) = self.start {
             // If the clock can't be read, nothing is shown.
@@ -194,7 +194,7 @@ impl<'a> Progress<'a> {
         Some(share.min(100))
     }
 
-    /// Ends progress: erases its line, if there is one; but not from the background, if that
+    /// Ends progress: erases its line, if there is one; but not from the background: that
     /// would erase what is typed.
     pub fn end(&self) {
         if self.is_shown.get() && !is_in_its_foreground(self.rt) {

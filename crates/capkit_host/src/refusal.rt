@@ -31,8 +31,8 @@ pub fn tell_refusal(rt: &(impl AllocGlobal + Print + Errors), error: &clap::Erro
     };
 }
 
-/// Reports why words aren't a command line, or prints what the user asked to know of it, and returns
-/// whether such an answer could be written; true if none is asked.
+/// Reports why words aren't a command line, or prints what the user asked to know of it, and
+/// returns whether such an answer could be written; true if none is asked.
 fn tell_usage(rt: &(impl AllocGlobal + Print + Errors), usage: &Usage) -> bool {
     match usage {
         Usage::Refused(error) if error.use_stderr() => tell_refusal(rt, error),

@@ -75,9 +75,9 @@ fn host_fit(value: Value, protocol: Option<Protocol>) -> Fit
     }
 }
 
-/// The fit of a value of the type `net`: an IPv4 address or its first parts, without more, with a mask or
-/// with the length of a prefix, or an IPv6 address, without more or with the length of a prefix. A number
-/// is the first byte of an IPv4 address.
+/// The fit of a value of the type `net`: an IPv4 address or its first parts, without more, with a
+/// mask or with the length of a prefix, or an IPv6 address, without more or with the length of a
+/// prefix. A number is the first byte of an IPv4 address.
 fn net_fit(value: Value, protocol: Option<Protocol>) -> Fit
     ensures { result ≡ fit_of ValueType.Net value protocol }
 {

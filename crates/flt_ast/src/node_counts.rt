@@ -2,8 +2,8 @@
 //! docs/inside/COMPILER.md has the table.
 //!
 //! A number of tests fits a byte: no node counts as more than the 15 of `portrange` without a
-//! protocol, for both sides. The bounds in the clauses, up to 27, are greater than the counts because
-//! they take a direction for 8 tests, the most that `side_tests` returns.
+//! protocol, for both sides. The bounds in the clauses, up to 27, are greater than the counts
+//! because they take a direction for 8 tests, the most that `side_tests` returns.
 
 ghost use Rattle.std.specs.Prelude.{◌≡◌, ◌≤◌};
 ghost use Rattle.flt_ast.specs.Counts.{side_tests, proto_tests, check_tests, ether_tests};

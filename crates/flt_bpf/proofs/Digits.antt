@@ -1,4 +1,5 @@
--- What the reader takes for a number is one, and the numbers that are written are taken for themselves.
+-- What the reader takes for a number is one, and the numbers that are written are taken for
+-- themselves.
 use Rattle.std.proofs.Common.{◌≡◌, ℕ, zero, suc, ◌^◌, ◌<◌, List, [], ◌∷◌, length, Bool, true, false, Some, None, refl, ap, arith}
 use Rattle.std.specs.Prelude.{nat_lt, not, ◌==◌, ◌&&◌, if◌then◌else◌, All, decimal}
 use Rattle.std.specs.Str.Parse.{AllDigits, digits_value}

@@ -1,4 +1,5 @@
--- What the reader computes of a text: the instructions exactly where it is their listing, else the first wrong line.
+-- What the reader computes of a text: the instructions exactly where it is their listing, else the
+-- first wrong line.
 use Rattle.std.proofs.Common.{◌≡◌, ℕ, zero, suc, ◌+◌, ◌≤◌, List, [], ◌∷◌, length, Bool, true, false, Option, Some, None, Result, Ok, Err, refl, sym, ap, ◌∙◌, subst, arith}
 use Rattle.std.specs.Prelude.{nat_lt, if◌then◌else◌}
 use Rattle.std.specs.List.{AllZip}

@@ -120,9 +120,9 @@ abbrev pub masked_field : Offset → Width → Option ℕ → MaskedField
 masked_field offset width mask = record { offset = offset; width = width; mask = mask }
 
 -- one of several numbers on a side, or on either; `src and dst` is never asked for like this, and
--- doesn't match here. The source is compared with only the first numbers before the destination is looked at: so
--- a packet that ends between the two is read as by tests of one after the other. After the
--- destination the source is known not to be one of the first
+-- doesn't match here. The source is compared with only the first numbers before the destination is
+-- looked at: so a packet that ends between the two is read as by tests of one after the other.
+-- After the destination the source is known not to be one of the first
 abbrev pub any_sides : Direction → Sides → Option ℕ → Numbers → Formula
 any_sides (direction.One Source) at mask numbers =
     Among (masked_field at.source at.width mask) numbers.all

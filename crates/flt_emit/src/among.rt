@@ -25,7 +25,7 @@ fn are_few(items: &[Interval]) -> bool
     }
 }
 
-/// The place where the first of some intervals begins; 0 if there is none.
+/// The lowest number of the first of some intervals; 0 if there is none.
 fn low_of(items: &[Interval]) -> u32
     ensures { result ≡ low_of items.now }
 {

@@ -33,9 +33,9 @@ fn explained_tokens<A: Allocator + Clone>(
 /// Writes out what an expression means, as an expression of the language.
 ///
 /// Each operand is in parentheses, unless it is one word or an accessor; a value that isn't
-/// resolved always means this. Each value of a resolved tree has all its qualifiers before it, but that
-/// `proto` has no direction: `tcp port 80 or 443` is `(tcp src or dst port 80) or (tcp src or dst
-/// port 443)`. Accessors have their size. Numbers are in decimal, and names stay names.
+/// resolved always means this. Each value of a resolved tree has all its qualifiers before it, but
+/// that `proto` has no direction: `tcp port 80 or 443` is `(tcp src or dst port 80) or (tcp src or
+/// dst port 443)`. Accessors have their size. Numbers are in decimal, and names stay names.
 ///
 /// The text may be longer than an expression may be, or nest deeper. If it is not, the resolved
 /// tree of a text is read back from it (`laws::explained_back`, `laws::writable`). Trees that no

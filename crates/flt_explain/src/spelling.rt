@@ -184,8 +184,8 @@ fn push_dotted<A: Allocator>(
     }
 }
 
-/// The byte of half a MAC address at the place at which a byte counts `weight`: a power of 256, and 1
-/// for the last one.
+/// The byte of half a MAC address at the place at which a byte counts `weight`: a power of 256, and
+/// 1 for the last one.
 fn byte_of(half: u64, weight: u64) -> u8
     requires { 0 < weight }
     ensures { result ≡ octet weight half }
@@ -223,8 +223,8 @@ fn push_mac<A: Allocator>(text: &mut String<A>, address: u64) -> Result<(), Allo
     push_three_bytes(text, address % 0x100_0000)
 }
 
-/// The group of half an IPv6 address at the place at which a group counts `weight`: a power of 65,536,
-/// and 1 for the last one.
+/// The group of half an IPv6 address at the place at which a group counts `weight`: a power of
+/// 65,536, and 1 for the last one.
 fn group_of(half: u128, weight: u128) -> u16
     requires { 0 < weight }
     ensures { result ≡ group_at weight half }

@@ -31,7 +31,8 @@ use Rattle.flt_gen.specs.Primitives.{after, any_proto, mac_tests, check_formula,
 use Rattle.flt_gen.specs.inside.Counts.{first_ends, tests, nodes, words}
 use Rattle.flt_gen.proofs.Ascending.{Searchable, Searches}
 
--- a formula without comparisons, with at most n tests, in which all numbers that are searched ascend
+-- a formula without comparisons, with at most n tests, in which all numbers that are searched
+-- ascend
 pub record Bare (f : Formula) (n : ℕ) : Type 0 where
   pub no_nodes : nodes f ≡ 0
   pub no_words : words f ≡ 0

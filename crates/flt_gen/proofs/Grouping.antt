@@ -1,4 +1,5 @@
--- The formula of a truth in which hosts or ports are looked for together reads as the truth's own, and has no more tests.
+-- The formula of a truth in which hosts or ports are looked for together reads as the truth's own,
+-- and has no more tests.
 use Rattle.std.proofs.Common.{◌≡◌, ℕ, suc, ◌+◌, ◌-◌, ◌*◌, ◌^◌, ◌<◌, ◌≤◌, max, min, List, [], ◌∷◌, length, Bool, true, false, Option, Some, None, refl, sym, ap, ap₂, ◌∙◌, subst, arith}
 use Rattle.std.specs.Prelude.{◌==◌, ◌||◌, ◌&&◌, nat_lt, nat_le, bit_and, if◌then◌else◌}
 use Rattle.std.proofs.Math.Nat.{suc-mul}
@@ -61,7 +62,8 @@ entries_tests (e ∷ es) = count.value_tests e.qualifiers e.value + entries_test
 abbrev group_tests : Group → ℕ
 group_tests group = entries_tests group.entries
 
--- a group with members, the first of which looks for m: what its lists are, and how its members read
+-- a group with members, the first of which looks for m: what its lists are, and how its members
+-- read
 pub record Held (group : Group) (m : Member) (ms : List Member) : Type 0 where
   pub first_is : group.first ≡ m.numbers
   pub good : Goods (m ∷ ms) group.bits

@@ -1,4 +1,5 @@
--- The code of a formula has no fault and no jump, and no more instructions and branches than are counted.
+-- The code of a formula has no fault and no jump, and no more instructions and branches than are
+-- counted.
 use Rattle.std.proofs.Common.{◌≡◌, ℕ, zero, suc, ◌+◌, ◌-◌, ◌*◌, ◌/◌, ◌<◌, ◌≤◌, List, [], ◌∷◌, length, take, drop, Bool, true, false, cond, Option, Some, None, refl, sym, ap, ◌∙◌, arith, length-drop, length-take}
 use Rattle.std.specs.Prelude.{◌≢◌, nat_lt, ◌==◌, not, ◌&&◌, if◌then◌else◌, count_by}
 use Rattle.std.proofs.lemmas.Bool.Decides.{nat_tests}
@@ -52,7 +53,8 @@ pub record Sound (c : List Insn) : Type 0 where
   pub valid : IsValidUnlessLong c
   pub no_jump : HasNoJump c
 
--- such code that was put in front of code c: at most m instructions, which are w with each branch counted three times
+-- such code that was put in front of code c: at most m instructions, which are w with each branch
+-- counted three times
 pub record Grows (c d : List Insn) (m w : ℕ) : Type 0 where
   pub sound : Sound d
   pub longer : length c ≤ length d

@@ -1,4 +1,5 @@
--- Words of IPv6 addresses of which no bit counts: the formula reads the same, and has no more tests.
+-- Words of IPv6 addresses of which no bit counts: the formula reads the same, and has no more
+-- tests.
 use Rattle.std.proofs.Common.{◌≡◌, ℕ, ◌+◌, ◌-◌, ◌*◌, ◌/◌, ◌%◌, ◌^◌, ◌≤◌, List, [], ◌∷◌, length, Bool, true, false, Option, Some, None, refl, sym, ap, ◌∙◌, arith}
 use Rattle.std.specs.Prelude.{◌==◌, ◌&&◌, nat_le, if◌then◌else◌, bit_and}
 use Rattle.std.specs.Int.Bits.{and_zero_r}

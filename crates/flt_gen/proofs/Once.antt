@@ -1,4 +1,5 @@
--- The tests of a protocol's accessors stand once: the formula reads the same, and has no more tests.
+-- The tests of a protocol's accessors stand once: the formula reads the same, and has no more
+-- tests.
 use Rattle.std.proofs.Common.{◌≡◌, ℕ, ◌+◌, ◌≤◌, List, [], ◌∷◌, true, refl, sym, ap, ◌∙◌, arith}
 use Rattle.flt_words.specs.declared.token.Comparison.{Comparison}
 use Rattle.flt_words.specs.declared.token.Protocol.{Protocol}

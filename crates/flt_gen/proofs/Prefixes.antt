@@ -1,4 +1,5 @@
--- Networks as intervals: what is asked under the mask of one prefix can be asked under that of a longer one.
+-- Networks as intervals: what is asked under the mask of one prefix can be asked under that of a
+-- longer one.
 use Rattle.std.proofs.Common.{◌≡◌, ℕ, suc, ◌+◌, ◌-◌, ◌*◌, ◌/◌, ◌^◌, ◌<◌, ◌≤◌, Bool, true, false, Some, None, refl, sym, ap, ◌∙◌, arith, pow_mono, inl, inr}
 use Rattle.std.specs.Prelude.{◌==◌, ◌&&◌, nat_lt, nat_le, bit_and, if◌then◌else◌}
 use Rattle.std.proofs.Math.Nat.{div-mul-le_self, lt-div-mul-add, le-div_iff_mul-le, mul-le-mul_right, pow-succ', suc-mul}

@@ -146,7 +146,8 @@ module _ (p : List ℕ) (n : ℕ) where
       masked_tops t.mask (emit_comparison t.comparison Constant t.value hit miss c) x _
       (comparison_tops t.comparison Constant t.value (under_mask t.mask x) t.value hit miss v w c (λ s q. q.1) (λ s q. refl) (leads_in p n (λ s q. q.0) h) (leads_in p n (λ s q. q.0) m))))
 
-  -- in some intervals, where it may be known that A is no lower than the first; else it leads anywhere
+  -- in some intervals, where it may be known that A is no lower than the first; else it leads
+  -- anywhere
   record Found (a : ℕ) (from : Bool) (low : ℕ) (inside : Bool) (e : Block) (v w : ℕ) : Type 0 where
     value : ℕ
     leads : Leads p n (Has a) e.code e.entry value

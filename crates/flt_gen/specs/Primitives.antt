@@ -283,8 +283,8 @@ abbrev pub port_test : Option Protocol → Direction → Ports → PortTest
 port_test protocol direction ports =
     record { protocol = protocol; direction = direction; ports = ports }
 
--- Values with their qualifiers. What doesn't fit was refused before: most of that isn't one here and
--- above, and of the rest nothing depends on what it is (a host of fewer parts, a port's mask).
+-- Values with their qualifiers. What doesn't fit was refused before: most of that isn't one here
+-- and above, and of the rest nothing depends on what it is (a host of fewer parts, a port's mask).
 
 -- `host` with an address of any kind
 abbrev pub host_formula : Link → Option Protocol → Direction → Value → Formula

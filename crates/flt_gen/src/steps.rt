@@ -95,7 +95,7 @@ fn join_touching<A: Allocator>(
 impl<A: Allocator> Steps<A> {
     ghost use Rattle.flt_gen.specs.inside.Steps.{with_step, no_steps, IsPut, IsJoined};
 
-    /// Begins a formula without numbers that are looked for: no step is present yet.
+    /// Begins a formula without numbers that are looked for: there is no step yet.
     pub fn begin_alone(&mut self)
         ensures { self.new ≡ no_steps no_numbers }
     {
@@ -105,7 +105,7 @@ impl<A: Allocator> Steps<A> {
         self.others.clear();
     }
 
-    /// Begins a formula: no step is present yet, and these numbers are looked for, those that come
+    /// Begins a formula: there is no step yet, and these numbers are looked for, those that come
     /// first, all and all but the first. They ascend by their beginnings; those that touch are
     /// joined.
     pub fn begin(

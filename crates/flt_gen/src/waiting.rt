@@ -74,8 +74,8 @@ fn leave_out<A: Allocator>(
 }
 
 /// Adds the protocol of an accessor as the latest. The earlier ones are of the accessors on its
-/// right: if one of them has the same protocol, that entry goes, since its tests come once, at
-/// the leftmost accessor is.
+/// right: if one of them has the same protocol, that entry goes, since its tests come once,
+/// at the leftmost accessor.
 pub fn add_accessor<A: Allocator>(
     protocols: &mut Stack<Protocol, A>,
     protocol: Protocol,

@@ -1,4 +1,5 @@
--- A value with nothing before it, as tokens and as the machine reads it. A number alone waits, since it may be arithmetic.
+-- A value with nothing before it, as tokens and as the machine reads it. A number alone waits,
+-- since it may be arithmetic.
 use Rattle.std.proofs.Common.{◌≡◌, ℕ, suc, ◌-◌, ◌<◌, ◌≤◌, List, ◌∷◌, length, drop, refl, ap, ◌∙◌, arith, Some, None, Bool, true, false}
 use Rattle.flt_words.specs.declared.token.TokenKind.{TokenKind}
 use Rattle.flt_words.specs.declared.token.TokenKind.TheVariants as token

@@ -80,7 +80,8 @@ join_step : (j : Join) (ts : List TokenKind) (fs : List Frame) (x : Operand) (d 
 join_step j ts fs x d e h truth =
     rw (no_prefix_at (token.Join j) ts x tt, reduce_stays 7 fs x d (loose 7 fs (lit≤ tt) (λ e. absurd (omega arith)) h), le_true 7 (operand_precedence fs) h, truth)
 
--- the machine comes from the tokens ts with nothing read to rest with an operand that is the number, or the truth
+-- the machine comes from the tokens ts with nothing read to rest with an operand that is the
+-- number, or the truth
 record ReadsNumber (ts : List TokenKind) (fs : List Frame) (d : List Node) (e : List Node) (rest : List TokenKind) : Type 0 where
   operand : Operand
   nodes : List Node

@@ -1,4 +1,5 @@
--- What the parser keeps stands for the tokens before: each frame for its left side, the operand for a number or a truth.
+-- What the parser keeps stands for the tokens before: each frame for its left side, the operand for
+-- a number or a truth.
 use Rattle.std.proofs.Common.{◌≡◌, ℕ, suc, zero, ◌+◌, ◌≤◌, ◌⊎◌, inl, inr, ⊎_elim, List, [], ◌∷◌, refl, sym, ap, ◌∙◌, subst, arith, Option, Some, None, Bool, true, false, nat_le, if◌then◌else◌, lit≤, zero-le}
 use Rattle.std.proofs.lemmas.Bool.{leb-true}
 use Rattle.std.proofs.str.Laws.{order}
@@ -57,8 +58,8 @@ either_number n (Some m) = applied Divide (literal n) (literal m)
 abbrev pub either_truth : ℕ → Option ℕ → TruthTree
 either_truth n m = bare (value.Number n (prefix_mask m))
 
--- an operand between two places: a number no looser than m and than there is room for, or a truth, which is a
--- chain only where both allow it
+-- an operand between two places: a number no looser than m and than there is room for, or a truth,
+-- which is a chain only where both allow it
 abbrev pub Between : ℕ → ℕ → Operand → List Node → List Node → List TokenKind → List TokenKind → Type 0
 Between m r operand.Number d e mid rest = (k : ℕ) × (a : NumberTree) × (k ≤ m) × (k ≤ r) × (k ≤ 4) × Number k mid a rest × (e ≡ number_onto a d)
 Between m r operand.Truth d e mid rest = (a : TruthTree) × (Truth 0 mid a rest ⊎ ((7 ≤ m) × (7 ≤ r) × Truth 1 mid a rest)) × (e ≡ truth_onto a d)

@@ -72,7 +72,8 @@ qualifiers_suffix (qualifiers p d k) = joined_suffix _ _ _ (joined_suffix _ _ _ 
 pub whole_suffix : {ts mid rest : List TokenKind} {q : Qualifiers} {v : Value} → ReadsQualifiers ts q mid → ReadsValue mid v rest → IsSuffix ts rest
 whole_suffix qs v = joined_suffix _ _ _ (qualifiers_suffix qs) (value_suffix v)
 
--- a type, a direction or a protocol stands first, the last with neither a bracket nor a cast after it
+-- a type, a direction or a protocol stands first, the last with neither a bracket nor a cast after
+-- it
 abbrev is_front : List TokenKind → Bool
 is_front (token.Protocol p ∷ ts) = ends_protocol ts
 is_front (token.Side s ∷ ts) = true

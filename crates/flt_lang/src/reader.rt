@@ -143,8 +143,9 @@ impl<A: Allocator> Reader<A> {
 
     // ---- the beginning of an operand
 
-    /// Reads the tokens at the beginning of an operand, of which `first` is the first: how many more than
-    /// one are used up, and the operand, if that is all of it. `NotAnExpression` if none begins.
+    /// Reads the tokens at the beginning of an operand, of which `first` is the first: how many
+    /// more than one are used up, and the operand, if that is all of it. `NotAnExpression` if none
+    /// begins.
     fn begin_operand(
         &mut self,
         first: TokenKind,
@@ -544,8 +545,8 @@ impl<A: Allocator> Reader<A> {
         }
     }
 
-    /// After the last token, when the end acts as a closing one (precedence 8): the frames that wait
-    /// are completed, and one truth has to be left. `NotAnExpression` if none is, or what can
+    /// After the last token, when the end acts as a closing one (precedence 8): the frames that
+    /// wait are completed, and one truth has to be left. `NotAnExpression` if none is, or what can
     /// only be a number, if a frame can't be completed, or a parenthesis or bracket is open.
     fn finish(&mut self, operand: Option<Operand>) -> Result<(), ExprFault>
         ensures ok { OnOk result (finish operand self.old.frames self.old.nodes

@@ -255,7 +255,8 @@ impl<A: Allocator> Layout<A> {
         self.emit(with_offsets(insn, jt as u8, jf as u8))
     }
 
-    /// Notes the place of the wide instruction that was laid out last: the beginning of the code now.
+    /// Notes the place of the wide instruction that was laid out last: the beginning of the code
+    /// now.
     fn push_place(&mut self) -> Result<(), AllocError>
         ensures { OnOk result (self.new ≡ with_entry self.old.code self.old.jumps self.old) }
     {

@@ -273,7 +273,8 @@ module _ (p : List ℕ) (n : ℕ) where
       (into_both p n (Follows d is p n) (ends d is) (lost d is) Accumulator (field p j.k w.0) (other s a x) s'' (λ y e. fit c (u ∷ v ∷ is) ls l all low 2 0 true false q.4 (record s'' { accumulator = y }) y x (λ z. refl) (λ z. cc)))))
   direct_good c _ ls l all low j i f s a x = cc
 
-  -- the header length and a load after it, for a number and the header length that are added in A and go to X
+  -- the header length and a load after it, for a number and the header length that are added in A
+  -- and go to X
   indirect_is : (o : Option Operation) → is_indirect o ≡ true → (w : Width) × (o ≡ Some (LoadIndirect w))
   indirect_is (Some (LoadIndirect w)) e = (w, refl)
   indirect_is _ e = cc
@@ -483,7 +484,8 @@ module _ (p : List ℕ) (n : ℕ) where
   or_either A true b e f g = f refl
   or_either A false b e f g = g e
 
-  -- the instruction j and the code after its place are as good as the instruction i and those after it
+  -- the instruction j and the code after its place are as good as the instruction i and those after
+  -- it
   abbrev Good : List Insn → Landing → Insn → Insn → State → ℕ → ℕ → List Insn → Type 0
   Good c l j i s a x is = AsGood (j ∷ code_from c (l.place - 1)) (i ∷ is) p n 0 0 (other s a x) s
 

@@ -1,6 +1,6 @@
 //! Whether a program does what an old one does: instruction by instruction, with what is read.
 //! `old` is an instruction of the old program, `after` are those after it, `following` the landings
-//! of these, and `new` is the instruction of the new program if that of `old` lands.
+//! of these, and `new` is the instruction of the new program at the landing of `old`.
 //!
 //! Clauses cite definitions of the same names (without `is_`), which look as the code does; what
 //! follows from them is `Shortens`, the contract of `replaces`.
@@ -49,8 +49,8 @@ fn leads_to(place: usize, skipped: usize, to: usize) -> bool
 }
 
 /// Whether a way from a place of the new program, which skips `new` instructions there and `old` in
-/// the old program, leads to the landing of the instruction there, and what is read from there on is
-/// the same in both programs. `accumulator` and `index` are whether A and X are the same.
+/// the old program, leads to the landing of the instruction there, and what is read from there on
+/// is the same in both programs. `accumulator` and `index` are whether A and X are the same.
 fn landing_fits(
     following: &[Landing],
     old: usize,
@@ -70,8 +70,8 @@ fn landing_fits(
     }
 }
 
-/// Whether both programs go on the same way after an instruction that both have, here with this operation:
-/// all its ways lead to landings that fit.
+/// Whether both programs go on the same way after an instruction that both have, here with this
+/// operation: all its ways lead to landings that fit.
 fn goes_on(
     operation: Operation,
     new: Wide,
@@ -371,7 +371,7 @@ fn lands_at(
     }
 }
 
-/// Whether the new program omits an instruction: all its ways land if it lands; and it does
+/// Whether the new program omits an instruction: all its ways land as it does; and it does
 /// nothing that is seen from there on, or the packet is rejected there.
 #[tactic(auto, unfolding(crate::specs::inside::Alike::left_out))]
 fn is_left_out(code: &[Wide], new: Wide, landing: Landing, old: Wide, following: &[Landing]) -> bool
@@ -444,8 +444,8 @@ fn are_alike(code: &[Wide], old: &[Wide], landings: &[Landing]) -> bool
     true
 }
 
-/// Whether the first instruction of the old code lands if the new code, of this length, begins:
-/// as many instructions from its end as it has. Code without instructions has no beginning.
+/// Whether the first instruction of the old code lands at the start of the new code, of this
+/// length: as many instructions from its end as it has. Code without instructions has no beginning.
 fn begins(landings: &[Landing], len: usize) -> bool
     ensures { result ≡ begins landings.now len }
 {

@@ -1,7 +1,7 @@
 //! The abstract state at an instruction: what is known of the packet, of A and of X in each run
 //! that reaches it, and the join of two such states. Clauses cite definitions of the same names, or
-//! of a function that changes what is known, the one that says its effect: the proofs show that what
-//! is known by these holds in each run.
+//! of a function that changes what is known, the one that says its effect: the proofs show that
+//! what is known by these holds in each run.
 //!
 //! `code` and `k` are those of a load: together they say which bytes of the packet it takes.
 
@@ -483,8 +483,8 @@ fn held_after(held: Held, insn: Wide) -> Held
     }
 }
 
-/// Which header's length X holds after an instruction that isn't a test, by which it held. `None`:
-/// none that is known.
+/// Which header's length X holds after an instruction that isn't a test, by the one it held before.
+/// `None`: none that is known.
 fn index_after(index: Option<u32>, insn: Wide) -> Option<u32>
     ensures { result ≡ index_after (operation_of insn.code) index insn }
 {

@@ -1,5 +1,5 @@
-//! Code of fewer instructions for other code: tests go on as far as what is known there decides,
-//! and one instruction replaces several that do the same.
+//! Makes code shorter and faster: tests go on as far as what is known there decides, and one
+//! instruction replaces several that do the same.
 //!
 //! `flt_gen` calls [`threaded`], then [`shortened`], and both once more.
 //!

@@ -30,7 +30,7 @@ const NOWHERE: Landing = Landing {
     index: false,
 };
 
-/// What the new code's space holds if no instruction is written yet.
+/// What the new code's space holds at a place without an instruction.
 const EMPTY: Wide = Wide {
     code: 0,
     yes: 0,
@@ -127,8 +127,8 @@ struct Shortening<'a> {
     backwards: &'a mut [Wide],
     /// How many instructions the new code has.
     len: usize,
-    /// The places of the new code's tests, each at the first free entry from the one on if it is
-    /// looked for first (`first_entry`). 0 is free.
+    /// The places of the new code's tests, each at the first free entry from `first_entry`
+    /// on. 0 is free.
     tests: &'a mut [usize],
 }
 
@@ -145,7 +145,7 @@ impl Shortening<'_> {
         }
     }
 
-    /// The entry of the table if a test with these targets is looked for first.
+    /// The entry of the table at which the search for a test with these targets begins.
     fn first_entry(&self, insn: Wide, yes: usize, no: usize) -> usize {
         let mut mixed = usize::from(insn.code);
         for part in [insn.k as usize, yes, no] {
@@ -480,9 +480,9 @@ impl Shortening<'_> {
     }
 
     /// Emits an instruction that isn't a test and no return for the one at `at`, and notes its
-    /// landing. After it the run goes on if the instruction at `next` of the old code lands. If
-    /// the same instruction is in front of that already, none is put; if another one is, the block
-    /// is put again.
+    /// landing. After it the run goes on at the landing of the instruction at `next` of the old
+    /// code. If the same instruction is in front of that already, none is put; if another one is,
+    /// the block is put again.
     fn emit_plain(&mut self, at: usize, insn: Wide, next: usize) {
         let landing = self.landing_at(next);
         let Some(operation) = decode(insn.code) else {

@@ -39,8 +39,8 @@ const SHORT_CODE: usize = 64;
 pub struct Spot {
     /// An index of the code after the test.
     pub place: usize,
-    /// The field that A would hold after the whole way. `None`: it would be as it was if the
-    /// walk began.
+    /// The field that A would hold after the whole way. `None`: it would be as it was at the
+    /// start of the walk.
     pub other: Option<Field>,
 }
 
@@ -49,12 +49,12 @@ pub struct Spot {
 pub struct Reached {
     /// The current position.
     pub spot: Spot,
-    /// The last place on its way if a run may go on instead of the one if the walk began.
+    /// The last place on its way at which a run may go on, instead of at the walk's start.
     pub best: usize,
 }
 
-/// The field that A would hold if a walk is, if it would hold one: `other` of the spot, or what
-/// A holds if the walk began, `held`.
+/// The field that A would hold at the place of a walk, if any: `other` of the spot, or what A holds
+/// at the start of the walk, `held`.
 fn field_at(held: Held, other: Option<Field>) -> Option<Field>
     ensures { result ≡ field_at held other }
 {
@@ -65,8 +65,8 @@ fn field_at(held: Held, other: Option<Field>) -> Option<Field>
     }
 }
 
-/// What `other` of a spot is if A would hold this field: `None` if that is what A holds at the place where
-/// the walk began, `held`.
+/// What `other` of a spot is if A would hold this field: `None` if that is what A holds at the
+/// place where the walk began, `held`.
 fn other_field(held: Held, field: Field) -> Option<Field>
     ensures { result ≡ other_field held field }
 {
@@ -209,7 +209,7 @@ fn is_free(code: &[Wide], place: usize) -> bool
     }
 }
 
-/// Whether a run may go on if a walk is, instead of the walk's beginning: A is as it would be
+/// Whether a run may go on at the place of a walk, instead of at its start: A is as it would be
 /// after the whole way, or it doesn't matter what A holds.
 fn can_stop(code: &[Wide], spot: Spot) -> bool
     ensures { result ≡ can_stop code.now spot }
@@ -353,8 +353,8 @@ fn thread_test(
 }
 
 /// The instruction with each target as far on as what is known decides, if a run comes there. Notes
-/// what is known at the place where the run goes on. The next instruction is at the place `from` of the whole
-/// code. What is known `here` may change, and isn't needed any more.
+/// what is known at the place where the run goes on. The next instruction is at the place `from` of
+/// the whole code. What is known `here` may change, and isn't needed any more.
 fn thread_insn(
     seen: &mut [Known],
     from: usize,

@@ -1,4 +1,5 @@
--- A run that asks each instruction whether it breaks a rule: its steps, and that it is the machine's run where none does.
+-- A run that asks each instruction whether it breaks a rule: its steps, and that it is the
+-- machine's run where none does.
 use Rattle.std.proofs.Common.{◌≡◌, ℕ, zero, suc, ◌+◌, ◌-◌, ◌<◌, ◌≤◌, List, length, true, Option, Some, None, refl, sym, ap, ◌∙◌, subst, arith}
 use Rattle.std.specs.Prelude.{slice_get, IsSomeAnd}
 use Rattle.std.specs.Option.{is_some}

@@ -10,7 +10,7 @@ use Rattle.flt_trace.specs.declared.walk.Step.{Step}
 abbrev pub step_state : Step → State
 step_state s = record { accumulator = s.accumulator; index = s.index; memory = s.memory }
 
--- after t instructions the run of a program is if a step says, in the state that it shows
+-- after t instructions the run of a program is at the place of a step, in the state that it shows
 abbrev pub IsAfter : List Insn → List ℕ → ℕ → ℕ → Step → Type 0
 IsAfter prog p n t s = machine prog p n t ≡ Stands s.place (step_state s)
 

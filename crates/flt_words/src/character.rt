@@ -12,8 +12,8 @@ pub(crate) fn is_blank(byte: u8) -> bool
 }
 
 /// Whether a word may begin with a byte, and so whether it may end with it: a letter, a digit or,
-/// outside brackets, a colon, as in `::1`. `inside` is whether the byte is in brackets, if a
-/// colon is a token: `tcp[0:2]`.
+/// outside brackets, a colon, as in `::1`. `inside` is whether the byte is in brackets, in
+/// which a colon is a token: `tcp[0:2]`.
 pub(crate) fn starts_word(inside: bool, byte: u8) -> bool
     ensures { result ≡ starts_word inside byte }
 {

@@ -49,7 +49,8 @@ impl From<AllocError> for ExprFault {
     }
 }
 
-/// For `?`: if an allocation fails, the value that it was for is dropped, and the error is `Memory`.
+/// For `?`: if an allocation fails, the value that it was for is dropped, and the error is
+/// `Memory`.
 impl<T: Drop> From<AllocFailed<T>> for ExprFault {
     ghost use Rattle.std.specs.Prelude.{◌≡◌};
     ghost use Rattle.flt_words.specs.declared.fault.ExprFault.TheVariants.{Memory};
@@ -86,8 +87,8 @@ impl ExprFault {
         }
     }
 
-    /// The place of the fault, in bytes of the text from 1. `None` if the refusal is of the whole, or
-    /// out of memory.
+    /// The place of the fault, in bytes of the text from 1. `None` if the refusal is of the whole,
+    /// or out of memory.
     pub fn place(&self) -> Option<u32>
         ensures { result ≡ place_of self.now }
     {

@@ -66,8 +66,9 @@ fn first_symbol(inside: bool, rest: &[u8]) -> Option<(TokenKind, usize)>
     Some((kind, 1))
 }
 
-/// The token with which a text begins, and its length in bytes. `place` is the place at which that text begins,
-/// from 1, and `inside` whether that is in brackets. An error is E2, E3 or E4 at this place.
+/// The token with which a text begins, and its length in bytes. `place` is the place at which that
+/// text begins, from 1, and `inside` whether that is in brackets. An error is E2, E3 or E4 at this
+/// place.
 fn first_token(inside: bool, place: u32, rest: &[u8]) -> Result<(TokenKind, usize), ExprFault>
     requires { 0 < length rest.now }
     ensures { MatchResult result (λ token. IsToken inside place rest.now token.0 token.1)

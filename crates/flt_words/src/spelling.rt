@@ -92,7 +92,7 @@ pub(crate) fn keyword_of(word: &[u8]) -> Option<TokenKind>
 }
 
 /// The token of the symbol that these bytes are, or `None` for other bytes. `inside` is whether
-/// they are in brackets, if the colon is one.
+/// they are in brackets: the colon is one only there.
 #[tactic(auto, unfolding(crate::specs::Spellings::symbols))]
 pub(crate) fn symbol_of(inside: bool, piece: &[u8]) -> Option<TokenKind>
     ensures { result ≡ symbol_of inside piece.now }

@@ -65,8 +65,8 @@ abbrev pub waiting_total : List InputView → ℕ
 waiting_total [] = 0
 waiting_total (h ∷ hs) = waiting_count h.waiting + waiting_total hs
 
--- the queue of a merge has just the inputs whose packets wait, with their keys; the inputs that must
--- be read on don't wait
+-- the queue of a merge has just the inputs whose packets wait, with their keys; the inputs that
+-- must be read on don't wait
 pub record IsQueued (cursors : List InputView) (next last : ℕ) (q : Queue) : Type 0 where
   pub entered : (key input : ℕ) → is_entered q.waiting key input ≡ waits_with cursors key input
   pub counted : length q.waiting ≡ waiting_total cursors

@@ -13,8 +13,8 @@ use Rattle.cap_pcapng.specs.declared.frames.Frame.{Frame}
 use Rattle.cap_pcapng.specs.declared.effect.PacketSpans.{PacketSpans}
 use Rattle.cap_pcapng.specs.Effect.{is_interface, held_packet, IsBlockFault, LieAsSaid}
 
--- The place of the packet of a block of this size: its data begin at `start` in the block and are the
--- first bytes of what is left of the body (`rest`), in which its options lie too.
+-- The place of the packet of a block of this size: its data begin at `start` in the block and are
+-- the first bytes of what is left of the body (`rest`), in which its options lie too.
 pub record PacketFound (order : Order) (interfaces : List Described) (parts : Parts)
     (start size : ℕ) (rest : List ℕ) (spans : PacketSpans) : Type 0 where
   pub whole : spans.size ≡ size

@@ -144,8 +144,8 @@ fn link_types(rt: HostRuntime) -> Result<(), Fail> {
     Ok(())
 }
 
-/// A text, a link type, the room for instructions, and the status with its number. All texts but the
-/// last ones are the empty expression; 14 and 147 are unknown link types.
+/// A text, a link type, the room for instructions, and the status with its number. All texts but
+/// the last ones are the empty expression; 14 and 147 are unknown link types.
 const BLANKS: &[(&[u8], u16, usize, (u32, usize))] = &[
     (b"", 1, 2, (0, 1)),
     (b"", 14, 1, (0, 1)),

@@ -4,7 +4,7 @@ use Rattle.std.specs.declared.alloc.AllocError.{AllocError}
 use Rattle.flt_bpf.specs.declared.insn.Insn.{Insn}
 use Rattle.flt_emit.specs.inside.Code.{Block, block}
 
--- if the call succeeds, the code is that of the block, which is entered if the call says;
+-- if the call succeeds, the code is that of the block, whose entry the call returns;
 -- nothing is said of a call that fails
 abbrev pub Emits : Result ℕ AllocError → Block → List Insn → Type 0
 Emits result e after = IfOk result (λ entry. e ≡ block after entry)

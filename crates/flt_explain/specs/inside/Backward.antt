@@ -66,7 +66,8 @@ abbrev pub is_more : List Node → Bool
 is_more [] = false
 is_more (n ∷ rest) = true
 
--- what waits and the tokens, once the nodes from a place on are written; the last one isn't an operand
+-- what waits and the tokens, once the nodes from a place on are written; the last one isn't an
+-- operand
 abbrev pub write_nodes : List Node → WriterState
 write_nodes [] = record { pending = []; tokens = [] }
 write_nodes (n ∷ rest) = write_node (is_more rest) n (write_nodes rest)

@@ -119,9 +119,9 @@ abbrev pub agree : Bool → Bool → Bool
 agree true b = b
 agree false b = not b
 
--- a value with these qualifiers, of which this number of bits count, may join the members: any may if there
--- are none; else one with the type, the protocol and the direction of the group, if there is room,
--- and if of both all bits of an address count or of neither
+-- a value with these qualifiers, of which this number of bits count, may join the members: any may
+-- if there are none; else one with the type, the protocol and the direction of the group, if there
+-- is room, and if of both all bits of an address count or of neither
 abbrev pub goes_with : CompleteQualifiers → ℕ → Group → List Entry → Bool
 goes_with q bits group [] = true
 goes_with q bits group (e ∷ es) =
@@ -154,8 +154,8 @@ net_by _ _ = None
 abbrev pub net_member : Value → Option Member
 net_member v = net_by (prefix_bits v) (ip4_net v)
 
--- what a value looks for as a member: an address, whatever its parts and its mask, a network, a port
--- or ports; none of other types and values
+-- what a value looks for as a member: an address, whatever its parts and its mask, a network, a
+-- port or ports; none of other types and values
 abbrev pub member_of : ValueType → Value → Option Member
 member_of Net v = net_member v
 member_of Host (value.Dotted dotted m) = Some (found_member 32 dotted.address dotted.address)

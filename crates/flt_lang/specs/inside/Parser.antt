@@ -276,8 +276,8 @@ abbrev pub sized_of : List TokenKind → List Node → Option Primitive
 sized_of (token.Size s ∷ token.Number n ∷ ts) d = Some (1, Some operand.Truth, node.Sized s n ∷ d)
 sized_of _ d = None
 
--- the state after the tokens at the beginning of an operand, of which this one is the first; none if
--- none begins like this
+-- the state after the tokens at the beginning of an operand, of which this one is the first; none
+-- if none begins like this
 abbrev pub begin_at : TokenKind → List TokenKind → List Frame → List Node → Option Begun
 begin_at (token.Protocol p) ts fs d = protocol_begins p (protocol_role ts) ts fs d
 begin_at (token.Side s) ts fs d = with_frames fs (primitive ts d)

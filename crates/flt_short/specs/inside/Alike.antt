@@ -34,8 +34,8 @@ landing_fits_at (Some l) far place a x =
 abbrev pub landing_fits : List Landing → ℕ → ℕ → ℕ → Bool → Bool → Bool
 landing_fits ls k far place a x = landing_fits_at (slice_get ls k) far place a x
 
--- both programs go on the same way after an instruction that both have, here with this operation: all its
--- ways fit, and it isn't `ja`
+-- both programs go on the same way after an instruction that both have, here with this operation:
+-- all its ways fit, and it isn't `ja`
 abbrev pub goes_on : Operation → Insn → Landing → Insn → List Landing → Bool
 goes_on Jump j l i ls = false
 goes_on (JumpIf test operand) j l i ls =
@@ -161,8 +161,8 @@ code_from c place = drop (length c - place) c
 abbrev pub same_target : ℕ → ℕ → ℕ → ℕ → Bool
 same_target far len other_far other_len = len - far == other_len - other_far
 
--- two instructions with this operation go on the same way: they return, or lead to the same places, or what
--- follows both is the same
+-- two instructions with this operation go on the same way: they return, or lead to the same places,
+-- or what follows both is the same
 abbrev pub goes_on_alike : Option Operation → Insn → ℕ → Insn → ℕ → Bool → Bool
 goes_on_alike None i len j other_len rest = false
 goes_on_alike (Some Jump) i len j other_len rest = false
@@ -194,7 +194,7 @@ lands_at_if c (Some l) place a x =
 abbrev pub lands_at : List Insn → List Landing → ℕ → ℕ → Bool → Bool → Bool
 lands_at c ls k place a x = lands_at_if c (slice_get ls k) place a x
 
--- i, of which this is the operation, has no instruction in the new code: all its ways land if it
+-- i, of which this is the operation, has no instruction in the new code: all its ways land as it
 -- lands, at j; and it does nothing that is seen from there on, or the packet is rejected there
 unfoldable pub left_out : List Insn → Option Operation → Insn → Landing → Insn → List Landing → Bool
 left_out c None j l i ls = false
@@ -227,7 +227,7 @@ are_alike c [] ls = true
 are_alike c (i ∷ is) [] = false
 are_alike c (i ∷ is) (l ∷ ls) = stands c l i is ls && are_alike c is ls
 
--- the first instruction of the old code lands if the new code, of this length, begins; code
+-- the first instruction of the old code lands at the start of the new code, of this length; code
 -- without instructions has no beginning
 abbrev pub begins : List Landing → ℕ → Bool
 begins [] len = false

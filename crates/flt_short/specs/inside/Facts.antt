@@ -1,4 +1,4 @@
--- What is known of a packet, and of A and X, if a run reaches an instruction. `code` and `k`
+-- What is known of a packet, and of A and X, at an instruction that a run reaches. `code` and `k`
 -- together are those of a load: they say which bytes of the packet it takes. Elsewhere `k` is what
 -- is known at a place. `i` is an instruction.
 use Rattle.std.specs.Prelude.{ℕ, suc, ◌==◌, not, Bool, true, false, if◌then◌else◌, ◌&&◌, ◌||◌, List, [], ◌∷◌, length, map, replicate, Option, Some, None, slice_set}

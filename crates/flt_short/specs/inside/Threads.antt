@@ -1,5 +1,5 @@
 -- Tests that go on as far as what is known there decides. In a walk a place is an index of the code
--- c that follows the test, k is what is known if the walk began, s a spot, and i an instruction.
+-- c that follows the test, k is what is known at its start, s a spot, and i an instruction.
 use Rattle.std.specs.Prelude.{ℕ, zero, suc, ◌+◌, ◌^◌, ◌==◌, nat_lt, Bool, true, false, if◌then◌else◌, ◌&&◌, ◌||◌, List, [], ◌∷◌, length, Option, Some, None, slice_get}
 use Rattle.std.specs.Option.{is_none, option_and_then, option_map, option_map_or}
 use Rattle.flt_bpf.specs.declared.insn.Insn.{Insn}
@@ -20,19 +20,19 @@ use Rattle.flt_short.specs.declared.thread.Reached.{Reached}
 use Rattle.flt_short.specs.inside.Facts.{same_field, same_optional, decided, is_captured, field_of, masked_field, known_after, known_by, known_by_test}
 use Rattle.flt_short.specs.inside.Arrivals.{known_at, arrived}
 
--- the field that A would hold if a walk is, if it would hold one: the other one of the spot, if
--- there is one, or else what A holds if the walk began
+-- the field that A would hold at the place of a walk, if any: the other one of the spot, if there
+-- is one, or else what A holds at the start of the walk
 abbrev pub field_at : Held → Option Field → Option Field
 field_at h (Some f) = Some f
 field_at (held.Field f) None = Some f
 field_at _ None = None
 
--- a field that A would hold, if that isn't what A holds if the walk began
+-- a field that A would hold, if that isn't what A holds at the start of the walk
 abbrev pub other_field : Held → Field → Option Field
 other_field (held.Field same) f = if same_field same f then None else Some f
 other_field _ f = Some f
 
--- a walk is at a place, and A would hold another field or the same as if it began
+-- a walk is at a place, and A would hold another field or the same as at its start
 abbrev pub spot_at : ℕ → Option Field → Spot
 spot_at place other = record { place = place; other = other }
 
@@ -93,7 +93,7 @@ abbrev pub is_free : List Insn → ℕ → Bool
 is_free c place =
     option_map_or (λ i. is_free_by (operation_of i.code) c place) (slice_get c place) false
 
--- a run may go on if a walk is, instead of the walk's beginning: A is as it would be after the
+-- a run may go on at the place of a walk, instead of at its start: A is as it would be after the
 -- whole way, or it doesn't matter what A holds
 abbrev pub can_stop : List Insn → Spot → Bool
 can_stop c s = nat_lt s.place (length c) && (is_none s.other || is_free c s.place)
@@ -133,8 +133,8 @@ number_at c place = option_and_then (λ i. number_by (operation_of i.code) i) (s
 abbrev pub agreed : ℕ → ℕ → ℕ → ℕ
 agreed first second best = if nat_lt best first && first == second then first else best
 
--- the place where a run may go on instead of the place `from`: at `best`, or, if the walk ended at a test
--- whether this field is this number, if the walks by both outcomes agree
+-- the place where a run may go on instead of the place `from`: at `best`, or, if the walk ended at
+-- a test whether this field is this number, if the walks by both outcomes agree
 abbrev pub target_by : Option Field → Option ℕ → Known → List Insn → ℕ → ℕ → ℕ
 target_by (Some f) (Some n) k c from best =
     agreed (walk_from (known_by k f n true) c from).best
@@ -175,8 +175,8 @@ is_reached _ = true
 abbrev pub threaded_insn : Option Operation → Known → Insn → List Insn → Insn
 threaded_insn op k i c = if is_reached k.held then threaded_by op k i c else i
 
--- what is known at each place once runs go on at the place where a test leads; the code after it begins at the
--- place `from`
+-- what is known at each place once runs go on at the place where a test leads; the code after it
+-- begins at the place `from`
 abbrev pub with_ways : ℕ → Option Operation → Known → Insn → List Known → List Known
 with_ways from op k i seen =
     arrived (arrived seen (from + i.jt) (known_by_test op k.held k i.k true))

@@ -1,4 +1,5 @@
--- `grind` proves both at once; the search that comes before it by itself takes most of the time of this function's proof.
+-- `grind` proves both at once; the search that comes before it by itself takes most of the time of
+-- this function's proof.
 use Rattle.std.proofs.Common.{arith}
 use Rattle.std.proofs.lemmas.Grind.{common_steps}
 use Rattle.cap_inputs.proofs.inputs.cursors_of.Goals as goal

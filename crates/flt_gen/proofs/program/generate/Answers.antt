@@ -1,4 +1,5 @@
--- The code of the nodes, threaded and shortened twice, is code of the expression, and what is laid out of it keeps every promise.
+-- The code of the nodes, threaded and shortened twice, is code of the expression, and what is laid
+-- out of it keeps every promise.
 use Rattle.std.proofs.Common.{sym, subst}
 use Rattle.flt_gen.specs.Correct.{IsProgramOf}
 use Rattle.flt_gen.specs.Counts.{short_bound_of}

@@ -1,4 +1,5 @@
--- Where an answer is `grind` alone, the search that the check tries before it takes most of the time.
+-- Where an answer is `grind` alone, the search that the check tries before it takes most of the
+-- time.
 use Rattle.std.proofs.Common.{◌≡◌, ◌+◌, ℕ, List, true, false, subst, sym, Some, arith}
 use Rattle.std.proofs.lemmas.Grind.{common_steps}
 use Rattle.cap_inputs.specs.Inputs.{InputPast}

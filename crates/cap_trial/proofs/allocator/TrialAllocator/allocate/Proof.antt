@@ -1,4 +1,5 @@
--- A growth that is admitted is the inner allocator's; the refused one has no memory. Assumes `Logic`.
+-- A growth that is admitted is the inner allocator's; the refused one has no memory. Assumes
+-- `Logic`.
 use Rattle.std.proofs.Common.{◌≡◌, ℕ, Bool, ◌+◌, ◌^◌, ◌<◌, true, false, List, [], ◌∷◌, Ok, Err, refl, w64, Bor}
 use Rattle.std.proofs.VecSteps.Shapes.{after}
 use Rattle.std.proofs.raw_atomic.Walks.{proved}
