@@ -12,39 +12,35 @@ class Bad(Exception):
     """What is no listing of a valid program, and why."""
 
 
-def numbers_of(line, place):
-    """The numbers of a line, counted from 1."""
-    words = line.split()
+def why_wrong(lines, place):
+    """What is wrong in the first wrong line of a text, counted from 1."""
+    words = lines[place - 1].split() if place <= len(lines) else []
     for word in words:
-        if not (word.isascii() and word.isdigit()):
-            raise Bad(f"line {place}: {word[:20]!r} is no number; {FORM}")
-    return [int(word) for word in words]
-
-
-def instruction_of(line, place):
-    """The four numbers of an instruction."""
-    numbers = numbers_of(line, place)
-    if len(numbers) != 4:
-        raise Bad(f"line {place}: {len(numbers)} numbers, not four: code, jt, jf and k")
-    for number, (name, bits) in zip(numbers, WIDTHS.items()):
+        if not word.isdigit():
+            return f"line {place}: {word[:20]!r} is no number; {FORM}"
+    if place == 1 and len(words) != 1:
+        return f"line 1: {len(words)} numbers, not one, the count of instructions; {FORM}"
+    if place == 1:
+        return f"line 1: {words[0]} is no count of at most {library.MOST_INSNS} instructions; {FORM}"
+    if place > int(lines[0]) + 1 or place > len(lines):
+        return f"line 1 counts {lines[0]} instructions, and {len(lines) - 1} lines follow"
+    if len(words) != 4:
+        return f"line {place}: {len(words)} numbers, not four: code, jt, jf and k"
+    for number, (name, bits) in zip(map(int, words), WIDTHS.items()):
         if number >= 1 << bits:
-            raise Bad(f"line {place}: {name} is {number}, and at most {(1 << bits) - 1} fits")
-    return tuple(numbers)
+            return f"line {place}: {name} is {number}, and at most {(1 << bits) - 1} fits"
+    return f"line {place}: {FORM}"
 
 
 def instructions_of(text):
-    """The instructions of a listing, which its first line counts."""
-    lines = text.split("\n")
-    while lines and not lines[-1].strip():
-        lines.pop()
-    if not lines:
+    """The instructions of a listing in ASCII, as the library reads it."""
+    lines = text.rstrip().split("\n")
+    if lines == [""]:
         raise Bad(f"it is empty; {FORM}")
-    count = numbers_of(lines[0], 1)
-    if len(count) != 1:
-        raise Bad(f"line 1: {len(count)} numbers, not one, the count of instructions; {FORM}")
-    if count[0] != len(lines) - 1:
-        raise Bad(f"line 1 counts {count[0]} instructions, and {len(lines) - 1} lines follow")
-    return [instruction_of(line, place) for place, line in enumerate(lines[1:], 2)]
+    try:
+        return library.listed(text.rstrip().encode())
+    except library.NotAListing as error:
+        raise Bad(why_wrong(lines, error.line)) from error
 
 
 def program_of(text):

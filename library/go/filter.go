@@ -3,11 +3,6 @@ package capkit
 // #include <capkit.h>
 import "C"
 
-import (
-	"fmt"
-	"strings"
-)
-
 // Instruction is an instruction of a program, with the codes of classic BPF.
 type Instruction struct {
 	Code   uint16
@@ -173,12 +168,19 @@ func (f *Filter) IsPortable() bool {
 
 // String is the program as capkit compile and tcpdump -ddd print it.
 func (f *Filter) String() string {
-	var listing strings.Builder
-	fmt.Fprintln(&listing, len(f.insns))
-	for _, it := range f.Instructions() {
-		fmt.Fprintln(&listing, it.Code, it.JT, it.JF, it.K)
+	buffer := make([]byte, f.listingInto(nil)+1) // for a NUL
+	return string(buffer[:f.listingInto(buffer)])
+}
+
+// listingInto puts the listing into a buffer, as far as there is room; the length of the whole. It
+// panics if memory runs out, as Go does.
+func (f *Filter) listingInto(buffer []byte) int {
+	var length C.size_t
+	insns, count := f.program()
+	if C.capkit_write_listing(insns, count, (*C.char)(start(buffer)), C.size_t(len(buffer)), &length) != C.CAPKIT_OK {
+		panic("capkit: out of memory")
 	}
-	return listing.String()
+	return int(length)
 }
 
 // Expression is an expression that is compiled for each link type when a packet has it first. It is

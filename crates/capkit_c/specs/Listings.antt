@@ -1,7 +1,11 @@
--- The result of reading a listing for C.
+-- The result of reading a listing for C, and of writing one.
 use Rattle.std.specs.Prelude.{◌≡◌, ℕ, ◌<◌, ◌≤◌, List, length, take, drop}
+use Rattle.flt_bpf.specs.declared.fault.CheckFault.{CheckFault}
 use Rattle.flt_bpf.specs.declared.insn.Insn.{Insn}
-use Rattle.flt_bpf.specs.Listing.{IsListing, IsRefusedAt}
+use Rattle.flt_bpf.specs.Listing.{IsListing, IsRefusedAt, listing}
+use Rattle.flt_bpf.specs.Valid.{BreaksFirst, IsValid}
+use Rattle.capkit_c.specs.Running.{rule_number}
+use Rattle.capkit_c.specs.Texts.{put_text}
 
 -- the first `count` instructions are those of the listing, and the others are as they were
 pub record HoldsListing (text : List ℕ) (old new : List Insn) (count : ℕ) : Type 0 where
@@ -24,3 +28,20 @@ pub data ListingLeaves (text : List ℕ) (old new : List Insn) (number : ℕ) (s
   no_room : IsTooLong text (length old) number → new ≡ old → status ≡ 16
       → ListingLeaves text old new number status
   no_memory : number ≡ 0 → new ≡ old → status ≡ 13 → ListingLeaves text old new number status
+
+-- as much of the listing of a valid program as fits is put into the buffer, and `number` is the
+-- length of the whole
+pub record PutsListing (insns : List Insn) (old new : List ℕ) (number : ℕ) : Type 0 where
+  pub valid : IsValid insns
+  pub put : new ≡ put_text (listing insns) old
+  pub count : number ≡ length (listing insns)
+
+-- 0 and the listing; or the number of the first rule that the instructions break, or 13 if memory
+-- ran out, with the length 0, and the buffer is as it was
+pub data ListingTells (insns : List Insn) (old new : List ℕ) (number : ℕ) (status : ℕ)
+    : Type 0 where
+  is_put : PutsListing insns old new number → status ≡ 0 → ListingTells insns old new number status
+  breaks : (rule : CheckFault) (index : ℕ) → BreaksFirst insns rule index
+      → status ≡ rule_number rule → number ≡ 0 → new ≡ old
+      → ListingTells insns old new number status
+  memory_out : status ≡ 13 → number ≡ 0 → new ≡ old → ListingTells insns old new number status

@@ -1,10 +1,17 @@
-//! Listings of instructions, read into the caller's memory.
+//! Listings of instructions, read into the caller's memory and written to it.
 ghost use Rattle.std.specs.Prelude.{◌≡◌, IfOk, IfErr, OnErr, length};
 ghost use Rattle.capkit_c.specs.Listings.{HoldsListing, ListingLeaves};
-ghost use Rattle.capkit_c.specs.inside.Listings.{IsFailure};
+ghost use Rattle.capkit_c.specs.Listings.{ListingTells, PutsListing};
+ghost use Rattle.capkit_c.specs.inside.Listings.{IsFailure, IsUnlisted};
 
-use flt_bpf::{Insn, ListingFault, read_listing};
+use crate::running::rule_number;
+use crate::texts::put_text;
+use cap_octet::MemOutput;
+use flt_bpf::{CheckFault, Insn, ListingFault, check, read_listing, write_listing};
 use std::alloc::Global;
+
+/// How many bytes a line has at most: numbers of 5, 3, 3 and 10 digits, and a byte after each.
+const MOST_LINE_BYTES: usize = 25;
 
 /// Why no listing was read.
 #[derive(Clone, Copy)]
@@ -65,6 +72,69 @@ pub extern "C" fn capkit_read_listing(
         }
         Err(Failure::Memory) => {
             *number = 0;
+            13
+        }
+    }
+}
+
+/// Why no listing was written.
+#[derive(Clone, Copy)]
+enum Unlisted {
+    /// The first rule of valid programs that the instructions break.
+    Invalid(CheckFault),
+    Memory,
+}
+
+/// Puts the listing of a program into a buffer, as far as there is room, and returns how long the
+/// whole is; or why there is none, and then the buffer is unchanged.
+fn put_listing(alloc: Global, insns: &[Insn], buffer: &mut [u8]) -> Result<usize, Unlisted>
+    ensures put { IfOk result (PutsListing insns.now buffer.old buffer.new) }
+    ensures failed { IfErr result (IsUnlisted insns.now) }
+    ensures kept { OnErr result (buffer.new ≡ buffer.old) }
+{
+    let Ok(copy) = Vec::from_slice(alloc, insns) else {
+        return Err(Unlisted::Memory);
+    };
+    let program = match check(copy) {
+        Ok(program) => program,
+        Err((rule, _)) => return Err(Unlisted::Invalid(rule)),
+    };
+    // The line of the count, and one for each instruction.
+    let most_bytes = MOST_LINE_BYTES * (program.insns().len() + 1);
+    let Ok(mut text) = vec![in alloc; 0; most_bytes] else {
+        return Err(Unlisted::Memory);
+    };
+    let mut output = MemOutput::new(&mut text);
+    match write_listing(&program, &mut output) {
+        Ok(()) => Ok(put_text(output.written(), buffer)),
+        // The text has room for the longest listing of this many instructions.
+        Err(_) => Err(Unlisted::Memory),
+    }
+}
+
+/// Puts the listing of a program into a buffer, as far as there is room. If it returns 0 `length` is
+/// that of the whole listing. Else the buffer is unchanged and `length` is 0: 101 to 108 are the
+/// first rule of valid programs that the instructions break, and 13 is that memory ran out.
+#[unsafe(no_mangle)]
+pub extern "C" fn capkit_write_listing(
+    alloc: Global,
+    insns: &[Insn],
+    buffer: &mut [u8],
+    length: &mut usize,
+) -> u32
+    ensures { ListingTells insns.now buffer.old buffer.new length.new result }
+{
+    match put_listing(alloc, insns, buffer) {
+        Ok(count) => {
+            *length = count;
+            0
+        }
+        Err(Unlisted::Invalid(rule)) => {
+            *length = 0;
+            rule_number(rule)
+        }
+        Err(Unlisted::Memory) => {
+            *length = 0;
             13
         }
     }

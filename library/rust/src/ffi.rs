@@ -75,6 +75,10 @@ extern "C" {
         insns: *const crate::Instruction, count: usize, packet: *const u8, captured: usize,
         original: u32, steps: *mut crate::Step, room: usize,
     ) -> usize;
+    pub fn capkit_write_listing(
+        insns: *const crate::Instruction, count: usize, buffer: *mut u8, room: usize,
+        length: *mut usize,
+    ) -> u32;
     pub fn capkit_insn_text(
         insn: *const crate::Instruction, index: u32, buffer: *mut u8, room: usize,
     ) -> usize;

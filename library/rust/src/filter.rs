@@ -154,6 +154,27 @@ impl Filter {
         &self.0
     }
 
+    /// Puts the listing into a buffer, as far as there is room, and a NUL; the length of the whole.
+    /// It is an error if memory runs out.
+    fn listing_into(&self, buffer: &mut [u8]) -> Result<usize, fmt::Error> {
+        let mut length = 0;
+        // SAFETY: the pointers and lengths are those of the program and of the buffer.
+        let status = unsafe {
+            ffi::capkit_write_listing(
+                self.0.as_ptr(),
+                self.0.len(),
+                buffer.as_mut_ptr(),
+                buffer.len(),
+                &mut length,
+            )
+        };
+        if status == ffi::OK {
+            Ok(length)
+        } else {
+            Err(fmt::Error)
+        }
+    }
+
     /// Where else the program gives the same answers, as far as `capkit_portability` can say: on
     /// libpcap, and on a Linux socket.
     pub fn runs_on(&self) -> (bool, bool) {
@@ -170,8 +191,10 @@ impl Filter {
 
 impl fmt::Display for Filter {
     fn fmt(&self, f: &mut fmt::Formatter) -> fmt::Result {
-        writeln!(f, "{}", self.0.len())?;
-        self.0.iter().try_for_each(|i| writeln!(f, "{} {} {} {}", i.code, i.jt, i.jf, i.k))
+        let length = self.listing_into(&mut [])?;
+        let mut buffer = vec![0; length + 1];
+        self.listing_into(&mut buffer)?;
+        f.write_str(&String::from_utf8_lossy(&buffer[..length]))
     }
 }
 

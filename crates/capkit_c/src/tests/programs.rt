@@ -2,7 +2,7 @@
 
 use crate::bounding::capkit_bound;
 use crate::compiling::capkit_compile;
-use crate::listings::capkit_read_listing;
+use crate::listings::{capkit_read_listing, capkit_write_listing};
 use crate::portable::capkit_is_portable;
 use crate::running::{
     capkit_check, capkit_matches, capkit_matches_unchecked, capkit_run, capkit_run_any,
@@ -297,5 +297,69 @@ fn listings_are_read(rt: HostRuntime) -> Result<(), Fail> {
     let row = [(22, 0, 0, 0)];
     let mut place = [UNWRITTEN; 8];
     assert!(rt; answer_of(filled(&row, &mut place), &[]) == Some((0, 1)));
+    Ok(())
+}
+
+/// Whether a program's listing is this text, in every room, and reads back to the program.
+fn is_listed(alloc: Global, insns: &[Insn], expected: &[u8]) -> bool {
+    for room in 0..=72 {
+        let (mut buffer, mut length) = ([0xaa; 72], 77);
+        let status = capkit_write_listing(alloc, insns, &mut buffer[..room], &mut length);
+        let fits = expected.len().min(room.saturating_sub(1));
+        let is_ended = room == 0 || buffer[fits] == 0;
+        let is_kept = buffer.iter().skip(fits + 1).all(|byte| *byte == 0xaa);
+        if (status, length) != (0, expected.len()) || !is_ended || !is_kept {
+            return false;
+        }
+        if !buffer.starts_with(&expected[..fits]) {
+            return false;
+        }
+    }
+    let (mut read, mut count) = ([UNWRITTEN; 8], 77);
+    let status = capkit_read_listing(alloc, expected, &mut read, &mut count);
+    status == 0 && read.get(..count) == Some(insns)
+}
+
+#[test]
+fn listings_are_written(rt: HostRuntime) -> Result<(), Fail> {
+    let mut place = [UNWRITTEN; 8];
+    let ipv4 = filled(&IPV4, &mut place);
+    let expected = b"4\n40 0 0 12\n21 0 1 2048\n6 0 0 262144\n6 0 0 0\n";
+    assert!(rt; is_listed(rt.alloc(), ipv4, expected));
+    // The longest numbers that a valid instruction has.
+    let rows = [(53, 0, 0, 4_294_967_295), (21, 0, 0, 0), (22, 0, 0, 0)];
+    let mut place = [UNWRITTEN; 8];
+    let expected = b"3\n53 0 0 4294967295\n21 0 0 0\n22 0 0 0\n";
+    assert!(rt; is_listed(rt.alloc(), filled(&rows, &mut place), expected));
+    for (rows, rule, _) in CHECKS {
+        let (mut place, mut buffer, mut length) = ([UNWRITTEN; 8], [0xaa; 40], 77);
+        let insns = filled(rows, &mut place);
+        let status = capkit_write_listing(rt.alloc(), insns, &mut buffer, &mut length);
+        assert!(rt; status == *rule && (length > 0) == (*rule == 0), "rule {rule}");
+        assert!(rt; *rule == 0 || buffer == [0xaa; 40], "rule {rule}");
+    }
+    Ok(())
+}
+
+#[test]
+fn a_long_listing(rt: HostRuntime) -> Result<(), Fail> {
+    let longest = Insn {
+        code: 7,
+        jt: 255,
+        jf: 255,
+        k: 4_294_967_295,
+    };
+    let mut insns = vec![in rt.alloc(); longest; 32_769]?;
+    insns[32_767].code = 22;
+    let (mut buffer, mut length) = (vec![in rt.alloc(); 0; 819_226]?, 77);
+    let status = capkit_write_listing(rt.alloc(), &insns, &mut buffer, &mut length);
+    assert!(rt; status == 102 && length == 0);
+    insns.truncate(32_768);
+    let status = capkit_write_listing(rt.alloc(), &insns, &mut buffer, &mut length);
+    // The line of the count; 21 bytes for each instruction, and 22 for that of code 22.
+    assert!(rt; status == 0 && length == 6 + 21 * 32_767 + 22);
+    let (mut read, mut count) = (vec![in rt.alloc(); UNWRITTEN; 32_768]?, 77);
+    let status = capkit_read_listing(rt.alloc(), &buffer[..length], &mut read, &mut count);
+    assert!(rt; status == 0 && count == 32_768 && read.as_slice() == insns.as_slice());
     Ok(())
 }

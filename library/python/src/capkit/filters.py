@@ -169,8 +169,16 @@ class Filter:
     @property
     def listing(self) -> str:
         """The program as `capkit compile` and `tcpdump -ddd` print it."""
-        lines = [" ".join(map(str, instruction)) for instruction in self.instructions]
-        return "\n".join([str(self._count), *lines, ""])
+        buffer = c.create_string_buffer(self._listing_into(None, 0) + 1)
+        self._listing_into(buffer, len(buffer))
+        return buffer.value.decode()
+
+    def _listing_into(self, buffer: Any, room: int) -> int:
+        """Puts the listing into a buffer, as far as there is room; the length of the whole."""
+        length = c.c_size_t()
+        if native.write_listing(self._insns, self._count, buffer, room, c.byref(length)):
+            raise MemoryError  # since the program is valid
+        return length.value
 
     @property
     def runs_on(self) -> Elsewhere:
