@@ -335,7 +335,10 @@ fn listings_are_written(rt: HostRuntime) -> Result<(), Fail> {
         let (mut place, mut buffer, mut length) = ([UNWRITTEN; 8], [0xaa; 40], 77);
         let insns = filled(rows, &mut place);
         let status = capkit_write_listing(rt.alloc(), insns, &mut buffer, &mut length);
-        assert!(rt; status == *rule && (length > 0) == (*rule == 0), "rule {rule}");
+        assert!(rt;
+            status == *rule && (length > 0) == (*rule == 0),
+            "rule {rule}"
+        );
         assert!(rt; *rule == 0 || buffer == [0xaa; 40], "rule {rule}");
     }
     Ok(())
