@@ -16,13 +16,13 @@ use crate::program::MOST_INSTRUCTIONS;
 use cap_octet::digits::decimal_value;
 use std::alloc::Allocator;
 
-/// How many bytes a listing may have.
+/// The most bytes of a listing.
 pub const MOST_BYTES: usize = 1_048_576;
 
-/// What stands between the numbers of a line.
+/// The byte between the numbers of a line.
 pub(crate) const BLANK: u8 = b' ';
 
-/// What ends a line.
+/// The byte that ends a line.
 pub(crate) const LINE_FEED: u8 = b'\n';
 
 /// A text up to the first of some byte, and what follows that byte, if there is one.
@@ -71,8 +71,8 @@ struct FirstNumber<'a> {
     rest: &'a [u8],
 }
 
-/// What follows the blanks at the beginning of a text; all of a text that begins with none. Before
-/// a line's next number several blanks are as one, so both texts have the same numbers.
+/// The text without the blanks at its start. Several blanks between two numbers count as one, so
+/// both texts have the same numbers.
 fn after_blanks(text: &[u8]) -> &[u8]
     ensures { later_numbers (slice_split (λ b. b == BLANK) text.now) ≡ line_numbers result.now }
 {
@@ -84,9 +84,8 @@ fn after_blanks(text: &[u8]) -> &[u8]
     &text[text.len()..]
 }
 
-/// The number at the beginning of a line, if it is one and a blank follows it, and the rest of the
-/// line from the next number on. `None` for another line, which has at most one number or has other
-/// things than numbers.
+/// The number before the first blank of a line, and the line from its next number on. `None` if
+/// there is no blank, or no number before it.
 fn first_number(line: &[u8]) -> Option<FirstNumber<'_>>
     ensures first { IfSome result (λ first. line_numbers line.now
         ≡ after (Some first.number) (line_numbers first.rest.now)) }
@@ -98,7 +97,7 @@ fn first_number(line: &[u8]) -> Option<FirstNumber<'_>>
     Some(FirstNumber { number, rest })
 }
 
-/// The number that a line is; `None` if it has a blank or isn't one.
+/// The value of a line that is one number; `None` for any other line.
 fn only_number(line: &[u8]) -> Option<u64>
     ensures { result ≡ only_of (line_numbers line.now) }
 {
@@ -163,9 +162,8 @@ fn first_line(text: &[u8]) -> FirstLine<'_>
     }
 }
 
-/// `count` instructions, one on each line of a text: what follows the first line of a listing. An
-/// error has the number of the first wrong line, if the first line of this text is line 2, or is
-/// a failed allocation.
+/// Reads `count` instructions, one per line; `text` is a listing from its line 2 on. Errors:
+/// `NotListing` with the first wrong line of the listing, or `Memory`.
 fn insns_on_lines<A: Allocator>(
     alloc: A,
     count: usize,
@@ -217,9 +215,9 @@ fn insns_of_listing<A: Allocator>(alloc: A, text: &[u8]) -> Result<Vec<Insn, A>,
 }
 
 /// The instructions of a listing. The reader also takes several blanks between numbers, leading
-/// zeros up to 10 digits a number, and a last line without a line feed. An error is `NotListing`
-/// with the first wrong line, which is line 1 of a text over 1,048,576 bytes, or a failed
-/// allocation.
+/// zeros (at most 10 digits per number), and a last line without a line feed. Errors:
+/// `NotListing(n)`, n being the first wrong line (1 for a text over 1,048,576 bytes), or `Memory`
+/// if an allocation fails.
 pub fn read_listing<A: Allocator>(alloc: A, text: &[u8]) -> Result<Vec<Insn, A>, ListingFault>
     ensures listing { IfOk result (λ insns. IsListing text.now insns.items) }
     ensures refused { IfErr result (IsReasonFor text.now) }

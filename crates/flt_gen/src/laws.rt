@@ -7,9 +7,9 @@ pub fn masks_join()
     ensures { MasksJoin }
 {}
 
-/// By IPv4, IPv6, ARP and RARP an expression means the network headers that a line names so. The
-/// packets that it rejects are those of which too little is captured for a network header, and none
-/// if the link has no header of this kind.
+/// `ip`, `ip6`, `arp` and `rarp` match exactly the packets that have this network header in a
+/// printed line. They reject exactly those of which too little is captured for one; none on a link
+/// that can't carry the kind (ARP and RARP on raw IP).
 pub fn kinds_agree()
     ensures kind { MatchesKind }
     ensures short { RejectsShort }

@@ -1,8 +1,9 @@
-//! Whether a program does what an old one does: instruction by instruction, with what is read.
+//! Checks, instruction by instruction, that a new program does what an old one does. A and X must
+//! be the same only if they may be read later.
 //! `old` is an instruction of the old program, `after` are those after it, `following` the landings
 //! of these, and `new` is the instruction of the new program at the landing of `old`.
 //!
-//! Clauses cite definitions of the same names (without `is_`), which look as the code does; what
+//! Most clauses cite definitions that mirror the code, with the same names or without `is_`; what
 //! follows from them is `Shortens`, the contract of `replaces`.
 
 ghost use Rattle.std.specs.Prelude.{◌≡◌, ◌≢◌, ◌↔◌, ◌+◌, ◌-◌, ◌%◌, ◌^◌, ◌==◌, ◌&&◌, nat_lt, length};
@@ -41,16 +42,16 @@ fn implies(one: bool, other: bool) -> bool
 }
 
 /// Whether an instruction at a place of the new program that skips `skipped` others goes on at the
-/// place `to`, which is one: 0 is nowhere.
+/// place `to`, and `to` isn't 0 (nowhere).
 fn leads_to(place: usize, skipped: usize, to: usize) -> bool
     ensures { result ≡ ((nat_lt 0 to && nat_lt to place) && place - to - 1 == skipped) }
 {
     (0 < to && to < place) && place - to - 1 == skipped
 }
 
-/// Whether a way from a place of the new program, which skips `new` instructions there and `old` in
-/// the old program, leads to the landing of the instruction there, and what is read from there on
-/// is the same in both programs. `accumulator` and `index` are whether A and X are the same.
+/// Whether the old instruction after `old` skipped ones lands at the place where the new program,
+/// from `place`, goes on after `new` skipped ones, and the registers that are read from there on
+/// are the same. `accumulator` and `index` are whether A and X are the same.
 fn landing_fits(
     following: &[Landing],
     old: usize,
@@ -128,8 +129,8 @@ pub fn is_masked_test(mask: Wide, test: Wide) -> bool
         && test.k == 0
 }
 
-/// Whether `new` is a test of bits that asks what a mask and a test of what is left for 0 do: it
-/// holds if that test fails.
+/// Whether `new` is the test of bits that replaces a mask and a test of the result for 0; its
+/// outcome is the opposite.
 fn is_bits_test(new: Wide, mask: Wide, test: Wide) -> bool
     ensures { result ≡ (is_masked_test mask test && (new.code == ANY_BIT && mask.k == new.k)) }
 {
@@ -164,7 +165,7 @@ fn is_one_test(
 }
 
 /// The code of the load at a fixed place that takes as many bytes as the load at X whose code is
-/// `indirect`. `None`: that is another instruction's code.
+/// `indirect`. `None` if it isn't a load at X.
 pub fn direct_code(indirect: u16) -> Option<u16>
     ensures { result ≡ direct_code (operation_of indirect) }
 {
@@ -227,8 +228,8 @@ pub fn adds_header(number: Wide, length: Wide, add: Wide, to_index: Wide) -> boo
 }
 
 /// Whether two pairs of instructions have the same first one, for the length of a header, and then
-/// load equally many bytes at X, each at its own `k`. (That it loads a header's length,
-/// `adds_header` shows.)
+/// load equally many bytes at X, each at its own `k`. (`adds_header` checks that the first one
+/// loads a header's length.)
 fn loads_alike(old_length: Wide, new_length: Wide, old_load: Wide, new_load: Wide) -> bool
     ensures { result ≡ loads_alike old_length new_length old_load new_load }
 {
@@ -266,8 +267,9 @@ fn is_header_load(
     }
 }
 
-/// Whether the `k` of a load at X is the sum of a number and that of the load it is instead of,
-/// and what is read after it is the same in both programs. It is in front of the landing's place.
+/// Whether the `k` of a load at X is the sum of a number and that of the load it is instead of, and
+/// what is read after it is the same in both programs. `place` is that of the header's length, in
+/// front of the load.
 fn is_sum_loaded(number: u32, old_k: u32, new_k: u32, place: usize, following: &[Landing]) -> bool
     ensures { result ≡ ((number + old_k) % 2 ^ 32 == new_k
         && landing_fits following.now 4 0 (place - 1) true false) }
@@ -283,8 +285,9 @@ pub fn is_rejection(insn: Wide) -> bool
     insn.code == Operation::ReturnConstant.code() && insn.k == 0
 }
 
-/// Whether after an operation the run goes on at the next instruction whatever the packet is, and
-/// no word of memory is another one.
+/// Whether an operation is one of these: a load of a number or of the length, a copy, a negation,
+/// or arithmetic other than `/` and `%`. After it the run goes on at the next instruction on every
+/// packet, and memory is unchanged.
 pub fn is_sure(operation: Operation) -> bool
     ensures { result ≡ is_sure operation }
 {
@@ -464,7 +467,7 @@ fn has_no_jump(code: &[Wide]) -> bool
 
 /// Whether a program is seen to replace an old one: it does the same by its landings, breaks no
 /// rule but perhaps that on the length, has no more instructions and no more tests, and has no
-/// jump. A no says nothing.
+/// jump. `false` doesn't mean that it may not replace it.
 pub fn replaces(code: &[Wide], old: &[Wide], landings: &[Landing]) -> bool
     ensures { IsTrue result → Shortens code.now old.now }
 {

@@ -1,12 +1,11 @@
 //! The same code with fewer instructions, by peephole rules and tail merging: those that no run
-//! reaches are omitted, a block that exists already isn't emitted again, and one instruction
-//! replaces several that do the same.
+//! reaches are omitted, a block that exists already isn't emitted again, and fewer instructions
+//! replace several that do the same.
 //! `at` is an index of the old code; `place` counts from the end of the new code, 0 is nowhere. A
 //! *landing* (`alike.rt`) is such a place, and whether A and X are read from there on.
 //!
-//! Nothing here is trusted, so no function but the last two has a clause: `replaces` of `alike.rt`
-//! compares the new code with the old one by the landings that are noted here. Where something is
-//! left out by mistake, the new code isn't taken.
+//! Only the last two functions have clauses; the others need not be right. `replaces` (`alike.rt`)
+//! checks the new code by the landings noted here; if it returns `false`, the old code is kept.
 
 ghost use Rattle.std.specs.Prelude.{IfOk};
 ghost use Rattle.std.specs.Option.{IfSome};
@@ -86,8 +85,8 @@ fn with_offsets(insn: Wide, yes: usize, no: usize) -> Option<Wide> {
     }
 }
 
-/// An instruction as it is put again `farther` instructions earlier: a test has greater offsets to
-/// the same targets. `None`: these have more than 32 bits.
+/// A copy of an instruction for `farther` instructions further in front: a test gets greater
+/// offsets to the same targets. `None` if they exceed 32 bits.
 fn with_farther_targets(insn: Wide, farther: usize) -> Option<Wide> {
     match decode(insn.code) {
         Some(Operation::JumpIf(_, _)) => with_offsets(
@@ -287,8 +286,8 @@ impl Shortening<'_> {
         Some((*length, Wide { k, ..*load }))
     }
 
-    /// Whether the instruction of the old code at an index puts a number into A. It is asked first,
-    /// since that is quick.
+    /// Whether the instruction of the old code at an index puts a number into A. Checked first,
+    /// because it is quick.
     fn is_number_at(&self, at: usize) -> bool {
         let code = Operation::Load(Register::Accumulator, Source::Immediate).code();
         match self.insns.get(at) {
@@ -297,9 +296,8 @@ impl Shortening<'_> {
         }
     }
 
-    /// Whether the instruction `before` ones in front puts a number into A, and is joined with
-    /// those after it, of which the one at `at` is one: with two (`direct_load_at`), or with four
-    /// (`header_load_at`).
+    /// Whether the instruction `before` ones earlier puts a number into A and is joined with the
+    /// next two (`direct_load_at`) or four (`header_load_at`), among them the one at `at`.
     fn is_joined_by(&self, at: usize, before: usize) -> bool {
         let number = at.saturating_sub(before);
         at >= before
@@ -344,9 +342,9 @@ impl Shortening<'_> {
         }
     }
 
-    /// The place of a test in the new code that is as this one and has these targets, if there is
-    /// one. For several it is one after the same instruction as this one is after (`is_front_at`),
-    /// if there is such a one, since that instruction can be shared too.
+    /// The place in the new code of a test with the same code and `k` as this one and with these
+    /// targets, if there is one; preferably one after the same instruction as this one
+    /// (`is_front_at`), which can then be shared too.
     fn find_same_test(&self, at: usize, insn: Wide, yes: usize, no: usize) -> Option<usize> {
         let mut found = None;
         let mut entry = self.first_entry(insn, yes, no);
@@ -479,7 +477,7 @@ impl Shortening<'_> {
             || self.rejects(next.place) && goes_on_or_rejects(operation)
     }
 
-    /// Emits an instruction that isn't a test and no return for the one at `at`, and notes its
+    /// Emits an instruction that is neither a test nor a return for the one at `at`, and notes its
     /// landing. After it the run goes on at the landing of the instruction at `next` of the old
     /// code. If the same instruction is in front of that already, none is put; if another one is,
     /// the block is put again.
@@ -508,7 +506,7 @@ impl Shortening<'_> {
         self.land(at, landing_before(operation, place, landing));
     }
 
-    /// Emits an instruction of the old code that is joined to no other one.
+    /// Emits an instruction of the old code that isn't joined with others.
     fn emit_alone(&mut self, at: usize, insn: Wide) {
         match decode(insn.code) {
             Some(Operation::JumpIf(_, _)) => self.emit_test(at, insn, at),
@@ -573,8 +571,8 @@ fn shorten(
     shortening.read_all()
 }
 
-/// Leaves out what stands in front of the new code: what landed there lands nowhere.
-/// Returns how many instructions are left of `len`.
+/// Returns the length of the new code without the instructions in front of its entry; what landed
+/// at these lands nowhere.
 fn leave_out_front(landings: &mut [Landing], len: usize) -> usize {
     let entry = match landings.first() {
         Some(first) if first.place > 0 && first.place < len => first.place,
@@ -603,9 +601,9 @@ fn replacement<A: Allocator>(
     replaces(&backwards, insns, landings).then_some(backwards)
 }
 
-/// Code that replaces the old one: it gives the same answers, in no more instructions. If it
-/// can't be made, as for code in which a run reaches a jump (`ja`), it is the old code. An error is
-/// a failed allocation, or an allocator that cannot be cloned.
+/// Code that replaces the old one: it returns the same on each packet, in no more instructions. If
+/// it can't be made, as for code in which a run reaches a jump (`ja`), it is the old code. An error
+/// is a failed allocation, or an allocator that cannot be cloned.
 pub fn shortened<A: Allocator + Clone>(
     alloc: A,
     insns: Vec<Wide, A>,

@@ -1,5 +1,6 @@
-//! Jump threading. From each target of a test a walk goes on as far as what is known there decides;
-//! the test's new target is the last place on this way at which a run may go on instead.
+//! Jump threading. A walk starts at each target of a test and passes instructions as long as what
+//! is known decides what they do. The test's new target is the last place of the walk at which a
+//! run may go on instead. If the walk ends at a test, `target` tries both of its outcomes too.
 //!
 //! In a walk a place is an index of the code that follows the test. Clauses cite definitions of the
 //! same names; what follows from these is `Threads`, the contract of `threaded`.
@@ -25,12 +26,11 @@ use flt_bpf::Wide;
 use flt_bpf::operation::{AluOperation, Operand, Operation, Register, Source, Test, decode};
 use std::alloc::{AllocError, Allocator};
 
-/// How many instructions a walk passes at most, so that it ends soon.
+/// The most instructions that a walk passes, so that it ends soon.
 const FUEL: usize = 128;
 
-/// The most instructions of code of which it is first asked whether a load occurs twice
-/// (`repeats_a_load`). That takes time by the square of the length, so longer code is threaded
-/// without asking.
+/// Code of at most this many instructions is threaded only if a load occurs twice in it
+/// (`repeats_a_load`). The search takes quadratic time, so longer code is always threaded.
 const SHORT_CODE: usize = 64;
 
 /// The position of a walk. A run that goes on there instead of at the walk's start has in A what A
@@ -258,7 +258,8 @@ fn walk_from(known: &Known, code: &[Wide], from: usize) -> Reached
     reached
 }
 
-/// The number with which the instruction at a place compares A, if it tests whether A is a number.
+/// The number with which the instruction at a place compares A, if it tests A for equality with a
+/// number.
 fn number_at(code: &[Wide], place: usize) -> Option<u32>
     ensures { result ≡ number_at code.now place }
 {
@@ -311,8 +312,8 @@ fn target(known: &Known, code: &[Wide], from: usize) -> usize
     }
 }
 
-/// How many instructions a test skips once its target is as far on as what is known decides, in
-/// place of `skipped`.
+/// The offset of a test to its target moved as far as what is known decides, or `skipped` if that
+/// doesn't fit 32 bits.
 fn threaded_offset(known: &Known, following: &[Wide], skipped: u32) -> u32
     ensures { result ≡ threaded_offset known.now following.now skipped }
 {
@@ -352,9 +353,9 @@ fn thread_test(
     insn
 }
 
-/// The instruction with each target as far on as what is known decides, if a run comes there. Notes
-/// what is known at the place where the run goes on. The next instruction is at the place `from` of
-/// the whole code. What is known `here` may change, and isn't needed any more.
+/// Threads one instruction: only a test that a run reaches may change. Notes what is known at each
+/// place where the run goes on. The next instruction is at the place `from` of the whole code. What
+/// is known `here` may change, and isn't needed any more.
 fn thread_insn(
     seen: &mut [Known],
     from: usize,
@@ -384,7 +385,7 @@ fn thread_insn(
     }
 }
 
-/// Threads all instructions, each by what is known where runs reach it from those in front.
+/// Threads all instructions, each with what is known on every way to it.
 fn thread_all(seen: &mut [Known], insns: &mut [Wide])
     ensures { insns.new ≡ flow 0 seen.old insns.old }
 {
@@ -452,8 +453,8 @@ fn is_among(insns: &[Wide], insn: Wide) -> bool {
 }
 
 /// The same code, in which each test goes on as far as what is known there decides. It returns the
-/// same on each packet. Short code in which no load occurs twice stays as it is, since hardly
-/// anything is decided in it. An error is a failed allocation.
+/// same on each packet. Short code in which no load occurs twice is returned unchanged, since
+/// hardly anything is decided in it. An error is a failed allocation.
 pub fn threaded<A: Allocator>(alloc: A, insns: Vec<Wide, A>) -> Result<Vec<Wide, A>, AllocError>
     ensures { IfOk result (λ new. Threads new.items insns.items) }
 {

@@ -1,4 +1,4 @@
-//! Which bytes of a text stand between tokens, and which words are made of. Other bytes are symbols
+//! Classes of bytes: blanks, which separate tokens, and the bytes of words. Other bytes are symbols
 //! (`spelling`), or begin no token.
 
 ghost use Rattle.std.specs.Prelude.{◌≡◌};

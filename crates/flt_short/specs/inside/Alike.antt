@@ -130,8 +130,9 @@ header_load js l i is ls = false
 abbrev pub rejects : Insn → Bool
 rejects i = i.code == code_of ReturnConstant && i.k == 0
 
--- after an operation the run goes on at the next instruction whatever the packet is, and no word of
--- memory is another one
+-- an operation is one of these: a load of a number or of the length, a copy, a negation, or
+-- arithmetic other than `/` and `%`; after it the run goes on at the next instruction on every
+-- packet, and memory is unchanged
 abbrev pub is_sure : Operation → Bool
 is_sure (Load register Immediate) = true
 is_sure (Load register Length) = true
