@@ -27,14 +27,14 @@ target_of written failures room (device.Text output) =
 target_of written failures room (device.Lines options line output) =
     Lines options (written output) (failures output) (room output)
 
--- a target as a job begins with it, over an output that took these bytes before
+-- the target with which a job begins; its output took these bytes before
 abbrev pub target_at : Writing → List ℕ → ℕ → ℕ → Target
 target_at (writing.Capture format) written failures room =
     Capture (sink_at format written failures room)
 target_at writing.Text written failures room = Text written failures room
 target_at (writing.Lines options) written failures room = Lines options written failures room
 
--- in which form packets and reports are written into a target
+-- the form in which packets and reports are written to a target
 abbrev pub form_to : List (List ℕ) → Target → Form
 form_to names (Capture sink) = AsCapture sink.format
 form_to names (Text written failures room) = AsReports names
@@ -63,7 +63,7 @@ abbrev pub HasFewOutputInterfaces : Target → Type 0
 HasFewOutputInterfaces (Capture sink) = FitFile sink.interfaces
 HasFewOutputInterfaces target = Unit {0}
 
--- After what the output held before, what is written is the text of these packets, or of these
+-- The output has the bytes that it held before, and after them these packets as a capture, these
 -- reports, or the lines of these packets.
 abbrev pub HasWrittenTo : List ℕ → List (List ℕ) → Target → List Captured → List Report → Type 0
 HasWrittenTo before names (Capture sink) packets reports = HasPackets before sink packets

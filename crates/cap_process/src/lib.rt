@@ -1,8 +1,8 @@
-//! What a job makes of packets: which pass, as what, and what is written of them.
+//! Selects and edits the packets of a job, and writes its output.
 //!
 //! Only `cap_tools` calls it. [`Selector`] judges each packet by its policy, and changes it if it
-//! is edited. [`JobOutput`] writes what passes, as a capture or as lines, or else reports or a
-//! listing. [`Report`] is what is known of an input for `infos`.
+//! is edited. [`JobOutput`] writes the kept packets as a capture or as lines, or it writes reports
+//! or a listing. [`Report`] has the facts of an input that `infos` prints.
 #![tactic(auto)]
 
 mod edit;

@@ -1,4 +1,5 @@
-//! Each path of the public surface, with its type, so that one that goes missing doesn't compile.
+//! Uses each path of the public surface with its type, so these tests don't compile if one is
+//! missing.
 
 mod captures;
 mod devices;

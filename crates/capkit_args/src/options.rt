@@ -136,7 +136,7 @@ const EDIT: CommandRow = CommandRow {
             id: ids::LATER,
             name: Name::Long("later"),
             value: Value::Text("S"),
-            help: "Move times S seconds later, as 0.000000001",
+            help: "Move times S seconds later (up to 9 decimals)",
         },
         Argument {
             id: ids::EARLIER,
@@ -172,14 +172,14 @@ const EDIT: CommandRow = CommandRow {
             id: ids::RANGE,
             name: Name::Place,
             value: Value::Words,
-            help: "Packets by their numbers from 1 on: N, or N-M from N to M",
+            help: "Packet numbers, from 1: N, or N-M for N to M",
         },
     ],
 };
 
 const MERGE: CommandRow = CommandRow {
     name: "merge",
-    about: "Write the packets of captures as one capture, by time",
+    about: "Merge captures into one, by time",
     examples: MERGE_HELP,
     arguments: &[
         Argument {

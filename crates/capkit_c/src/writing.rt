@@ -14,9 +14,9 @@ use crate::memory::{
 };
 use crate::reading::fault_number;
 
-/// Reports the result of a write to C: returns its number, as `library/include/capkit.h` has it: 0
-/// if the bytes are written, 225 if the buffer has no room, or that of a fault. It sets the length
-/// to the number of bytes, 0 if they are refused.
+/// Returns the number that `library/include/capkit.h` gives the result of a write: 0 if the unit is
+/// written, 225 if the buffer has no room for it, or that of the fault if it is refused. `length`
+/// becomes the size of the unit, or 0 if it is refused.
 fn tell_written(written: Written, length: &mut usize) -> u32
     ensures number { result ≡ written_number written }
     ensures length { length.new ≡ written_length written }
@@ -54,8 +54,8 @@ pub extern "C" fn capkit_write_file_header(
 }
 
 /// Puts a record of a pcap file, as `capkit_write_file_header` puts the header. `time` is in
-/// nanoseconds since 1970. If no record holds the packet, it is 204 (`TooLong`) or 210
-/// (`TimeOutOfRange`), with the length 0.
+/// nanoseconds since 1970. If the packet is refused, the result is 204 (`TooLong`) or 210
+/// (`TimeOutOfRange`), and the length is 0.
 #[unsafe(no_mangle)]
 pub extern "C" fn capkit_write_record(
     nanoseconds: u32,
@@ -83,8 +83,8 @@ pub extern "C" fn capkit_write_section(buffer: &mut [u8], length: &mut usize) ->
     tell_written(write_section(buffer), length)
 }
 
-/// Puts an interface description block, as `capkit_write_file_header` puts a header. A name that is
-/// too long is 208 (`BadOption`), with the length 0.
+/// Puts an interface description block, as `capkit_write_file_header` puts a header. If the name
+/// has over 255 bytes, the result is 208 (`BadOption`), and the length is 0.
 #[unsafe(no_mangle)]
 pub extern "C" fn capkit_write_interface(
     link_type: u16,
@@ -100,8 +100,8 @@ pub extern "C" fn capkit_write_interface(
 }
 
 /// Puts an enhanced packet block, as `capkit_write_file_header` puts a header. `time` is in
-/// nanoseconds since 1970. If no block holds the packet, it is 204 (`TooLong`), 208 (`BadOption`),
-/// 210 (`TimeOutOfRange`) or 221 (`TooManyOutputInterfaces`), with the length 0.
+/// nanoseconds since 1970. If the packet is refused, the result is 204 (`TooLong`), 208
+/// (`BadOption`), 210 (`TimeOutOfRange`) or 221 (`TooManyOutputInterfaces`), and the length is 0.
 #[unsafe(no_mangle)]
 pub extern "C" fn capkit_write_packet(
     interface: u32,

@@ -202,7 +202,7 @@ const NO_COMMAND: &str = "error: 'capkit' requires a subcommand but one was not 
 
 Commands:
   edit     Select packets of a capture, change them, and leave out duplicates
-  merge    Write the packets of captures as one capture, by time
+  merge    Merge captures into one, by time
   infos    Write a report on each capture
   print    Print or write the packets that match an expression or a listing
   compile  Compile an expression, and write the listing of its program

@@ -1,5 +1,5 @@
--- The result of a step over the packets, and what it keeps, before its end is reported; and the job
--- after that.
+-- `IsStep`: what one step returns and changes, before an end of the job is reported. `ending`: the
+-- job after that report.
 use Rattle.std.specs.Prelude.{◌≡◌, ◌+◌, ◌<◌, Bool, IsTrue, Some, Option, None}
 use Rattle.cap_octet.specs.Views.{OutputView}
 use Rattle.cap_tools.specs.declared.step.JobEnd.{JobEnd}
