@@ -177,8 +177,14 @@ def folded(line):
     return [first + " \\", *folded("    " + line[len(first) :].strip())]
 
 
+def system(version):
+    """The line for the foot of a manual page: the program with its number, the first two words of its version."""
+    return [f'.Os "{roff(" ".join(version.split()[:2]))}"']
+
+
 def manual_parts(help, version):
     return {
+        "@system": system(version),
         "@synopsis": synopsis(help),
         "@commands": tagged(("Cm " + command.form, command) for command in help.commands),
         "@arguments": tagged(("Ar " + argument.value, argument) for argument in help.arguments),
@@ -253,7 +259,7 @@ def paragraphs(text):
             lines = []
 
 
-def language_parts():
+def language_parts(version):
     """The sections of the page on the filter language."""
     shown, was_header = [], True
     for kind, lines in paragraphs(LANGUAGE.read_text().partition("\n")[2]):
@@ -265,7 +271,7 @@ def language_parts():
             shape = {"table": table, "code": code, "points": points}.get(kind, lambda them: map(roff_text, them))
             shown += shape(lines)
         was_header = kind == "header"
-    return {"@language": shown}
+    return {"@system": system(version), "@language": shown}
 
 
 # ---- the completion for bash
@@ -405,7 +411,7 @@ def pages():
     commands = [help_of(name, texts[f"capkit {name} -h"]) for name in (command.form for command in program.commands)]
     parts = {f"capkit-{help.name}.1": manual_parts(help, version) for help in commands}
     parts["capkit.1"] = manual_parts(program, version)
-    parts["capkit-filter.7"] = language_parts()
+    parts["capkit-filter.7"] = language_parts(version)
     parts["capkit.bash"] = bash_parts(program, commands)
     parts["_capkit"] = zsh_parts(program, commands)
     parts["capkit.fish"] = fish_parts(program, commands)

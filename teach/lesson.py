@@ -59,7 +59,7 @@ def refusal_of(text, error):
     if error.place is not None and text.isprintable():
         before = text.encode(errors="surrogateescape")[: error.place - 1]
         lines += ["", f"  {text}", "  " + " " * len(before.decode(errors="replace")) + "^"]
-    lines.append('docs/FILTER.md, "When it is refused", says what to write instead.')
+    lines.append('docs/FILTER.md, "When an expression is refused", says what to write instead.')
     return "\n".join(lines)
 
 

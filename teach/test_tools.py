@@ -115,7 +115,7 @@ class Expressions(Tools):
         said = self.refused("lesson.py", "tcp prt 80", DAY, told=told)
         lines = said.split("\n")
         self.assertEqual(lines[3].index("^"), lines[2].index("prt"))
-        self.assertIn("When it is refused", said)
+        self.assertIn("When an expression is refused", said)
 
     def test_each_reason(self):
         for text, told in [
