@@ -33,12 +33,12 @@ def why_wrong(lines, place):
 
 
 def instructions_of(text):
-    """The instructions of a listing in ASCII, as the library reads it."""
-    lines = text.rstrip().split("\n")
+    """The instructions of a listing in ASCII, as the library reads it; other spaces are blanks."""
+    lines = [" ".join(line.split()) for line in text.rstrip().split("\n")]
     if lines == [""]:
         raise Bad(f"it is empty; {FORM}")
     try:
-        return library.listed(text.rstrip().encode())
+        return library.listed("\n".join(lines).encode())
     except library.NotAListing as error:
         raise Bad(why_wrong(lines, error.line)) from error
 
