@@ -362,7 +362,10 @@ fn a_long_listing(rt: HostRuntime) -> Result<(), Fail> {
     // The line of the count; 21 bytes for each instruction, and 22 for that of code 22.
     assert!(rt; status == 0 && length == 6 + 21 * 32_767 + 22);
     let (mut read, mut count) = (vec![in rt.alloc(); UNWRITTEN; 32_768]?, 77);
-    let status = capkit_read_listing(rt.alloc(), &buffer[..length], &mut read, &mut count);
+    let Some(text) = buffer.get(..length) else {
+        return Err(Fail::from("longer than its room"));
+    };
+    let status = capkit_read_listing(rt.alloc(), text, &mut read, &mut count);
     assert!(rt; status == 0 && count == 32_768 && read.as_slice() == insns.as_slice());
     Ok(())
 }
