@@ -3,22 +3,20 @@
 
 usage: salvage.py [-F FORMAT] [-n ROW] IN OUT        (- is standard input or output)
 
-Two rules:
-
-1. What capkit reads is right. A file that it reads to its end is written as `capkit edit` writes it;
-   in another one nothing is guessed before the first fault.
+1. What capkit reads is right. A file that it reads to its end is written as `capkit edit` does; in
+   another one nothing is guessed before the first fault.
 2. After a fault the first chain wins: a row of records (or blocks) with consistent lengths. It is
-   believed if it is longer than what a packet carries (64 KiB, and 32 records), or of at least ROW
-   records (3) and leads to the end of the file or to a file header. Another one of ROW records may be
-   a capture inside a lost packet: it is believed only if its time isn't more than a second before
-   the last packet, nor more than a day after it. Blocks before any packet need no time. Of chains
+   believed if it is longer than what a packet carries (64 KiB, and 32 records), or if it has ROW
+   records (3) or more and leads to the end of the file or to a file header. Another one of ROW
+   records may be a capture inside a lost packet: it is believed if it is at most a second earlier
+   than the last packet, and at most a day later. Blocks before any packet need no time. Of chains
    that meet, the one with most records before wins. No chain has fractions that are its captured
-   lengths: that is the true chain, read four bytes off. A file header counts if a chain follows.
+   lengths: that is the true one, read four bytes off. A file header needs a chain after it.
 
-Put right in place, and reported, are: a fraction of a second or more (0, if another record follows),
-a damaged length (if the other one leads to the chain), a time out of range (0), the version and the
-upper half of the link type field of a pcap file, options of an interface that capkit refuses (none),
-and text mode: if each line feed comes after a carriage return, and capkit reads further without.
+Put right in place, and reported, are: a fraction of a second or more (0, if a record follows), a
+damaged length (if the other one leads to the chain), a time out of range (0), the version and the
+upper half of the link type field of a pcap file, options of an interface that capkit refuses, and
+text mode (if each line feed comes after a carriage return, and capkit reads further without those).
 
 Rule 1 is bent in four places; without each of them packets were made up when this was tested:
 - Of the last eight records before a fault, those in the way of the chain are dropped.
@@ -27,14 +25,13 @@ Rule 1 is bent in four places; without each of them packets were made up when th
 - Reading stops if it has slid into the true chain four bytes off, though capkit reads on.
 
 Made-up packets are still possible: if damage stands right before a packet that carries a capture of
-the last second, if the section header of a pcapng file is lost with its interfaces, and in a file
-that is no capture but looks like one. Interfaces of pcapng after damage are left out with their
-packets, since their numbers aren't known. How much is tried is bounded, so that 100 MB take less
-than 10 seconds: if most places look like records, only each 4,096th byte is looked at after a while.
+the last second, and in what is no capture but looks like one. Interfaces of pcapng after damage are
+left out with their packets, since their numbers aren't known. How much is tried is bounded: if most
+places look like records, only each 4,096th byte is looked at after a while.
 
 IN isn't changed; it is copied only if it is a pipe or in text mode. OUT is written under a name of
 its own and renamed. Standard error has a line for each of the first 20 places, and a last one with
-packets, places and bytes left out. The status is 0 if IN was in order, 1 if it wasn't or nothing was
+packets, places, bytes left out. The status is 0 if IN was in order, 1 if it wasn't or nothing was
 written, 2 if the command line is wrong. Needs Python 3.10 and capkit in PATH.
 """
 import argparse
@@ -54,8 +51,7 @@ MAGICS = {form: magic for magic, form in FORMS.items()}
 SECTION, INTERFACE, OBSOLETE, SIMPLE, ENHANCED = 0x0A0D0D0A, 1, 2, 3, 6
 LEAST = {SECTION: 28, INTERFACE: 20, SIMPLE: 16, ENHANCED: 32}
 SECTION_TYPE, ORDER_MAGIC = b"\n\r\r\n", 0x1A2B3C4D
-SECTIONS = {struct.pack(order + "IHH", ORDER_MAGIC, 1, minor): order
-            for order in "<>" for minor in (0, 2)}
+SECTIONS = {struct.pack(it + "IHH", ORDER_MAGIC, 1, minor): it for it in "<>" for minor in (0, 2)}
 HEADER = re.compile(b"|".join(map(re.escape, [*FORMS, SECTION_TYPE])))
 LONGEST, LONGEST_BLOCK, MOST_INTERFACES, ETHERNET = 262_144, 1_048_576, 256, 1
 # How much of the file is held, and how much of it is looked through at once.
@@ -64,7 +60,7 @@ HELD, AHEAD, ZONE = 8 << 20, 3 << 20, 1 << 20
 INSIDE, UNITS = 65_552, 32
 # How many steps may be tried: at first, and one more for so many bytes.
 PATIENCE, BYTES_A_STEP = 300_000, 64
-DOUBTED, NOTES, NEAR, EARLIER = 8, 20, 86_400, 1
+DOUBTED, NOTES, NEAR, EARLIER, NO_TIME = 8, 20, 86_400, 1, float("nan")
 
 
 class Refused(Exception):
@@ -77,7 +73,7 @@ class Source:
     def __init__(self, held, name, row):
         self.held, self.name, self.row = held, name, row
         self.size = os.fstat(held.fileno()).st_size
-        self.data, self.base, self.tried, self.time = b"", 0, 0, None
+        self.data, self.base, self.tried, self.time = b"", 0, 0, NO_TIME
 
     def load(self, at, ahead=AHEAD):
         """Holds the bytes from a place on, as many as asked for or all that are left."""
@@ -113,10 +109,9 @@ class Output:
 
     def keep(self, begin, end):
         """Keeps bytes of the file as they are."""
-        if self.kept[1] != begin:
+        if begin != self.kept[1]:
             self.settle()
-            self.kept = begin, begin
-        self.kept = self.kept[0], end
+        self.kept = self.kept[0] if begin == self.kept[1] else begin, end
 
     def settle(self):
         """Writes what is kept."""
@@ -129,11 +124,11 @@ class Output:
         """Writes to capkit. A capture of pcap becomes pcapng by a capkit of its own before."""
         self.settle()
         pipe = subprocess.PIPE
-        self.final = self.final or subprocess.Popen(self.words, stdin=pipe)
+        self.final = self.final or subprocess.Popen(self.words, stdin=pipe, bufsize=ZONE)
         if self.header and not self.piece:
             self.final.stdin.flush()
             words = ["capkit", "edit", "-F", "pcapng", "-", "-"]
-            self.piece = subprocess.Popen(words, stdin=pipe, stdout=self.final.stdin)
+            self.piece = subprocess.Popen(words, stdin=pipe, stdout=self.final.stdin, bufsize=ZONE)
             self.piece.stdin.write(self.header)
         (self.piece or self.final).stdin.write(data)
 
@@ -161,6 +156,7 @@ class Reader:
     def __init__(self, source, out, order):
         self.source, self.out, self.order = source, out, order
         self.last, (self.likely, self.back) = collections.deque(maxlen=DOUBTED), self.LIKELY[order]
+        self.unpack = struct.Struct(order + "IIII").unpack_from
 
     def numbers(self, form, at):
         self.source.load(at, 32)
@@ -181,7 +177,7 @@ class Reader:
         is_next = len(bounds) > 1 and capture_at(source, self.out, bounds[-1])
         is_end = bounds[-1] == source.size or is_headed and end
         if len(bounds) > self.source.row and not (is_next or is_end):
-            is_end = self.is_sure if source.time is None else self.is_near(start)
+            is_end = self.is_near(start) or self.is_sure and source.time is NO_TIME
         return bounds if is_next or is_end and len(bounds) > source.row else None
 
     def places(self, begin, end):
@@ -197,8 +193,7 @@ class Reader:
             at = found.start() + (1 if source.may_try(place) else 4096)
 
     def first(self, begin, end, passes):
-        """The first chain between two places, but none of the records before `passes`; of chains
-        that meet the one with most units before they do."""
+        """The first chain between two places, or the one that it meets with most units before."""
         for place in self.places(begin, end):
             best = self.chain(place)
             if not best or place < passes and place in self.last:
@@ -208,18 +203,16 @@ class Reader:
                 meets = min(set(bounds).intersection(best), default=None)
                 if meets and bounds.index(meets) > best.index(meets):
                     best = bounds
-            return best[self.carried(best) :]
+            return self.without_carried(best)
         return None
 
-    def carried(self, bounds):
-        """How many units at the start of a chain a lost packet may have carried: those before the
-        last packet's time, if they are no longer than a packet, and three follow that aren't."""
-        if self.source.time is None:
-            return 0
-        early = itertools.takewhile(lambda it: self.when(it) < self.source.time - EARLIER, bounds[:-4])
-        count = len(list(early))
-        is_short = bounds[count] - bounds[0] <= INSIDE
-        return count if is_short and all(map(self.is_near, bounds[count : count + 3])) else 0
+    def without_carried(self, bounds):
+        """A chain without the units at its start that a lost packet may have carried: those before
+        the last packet's time, if they are no longer than a packet, and three others follow."""
+        first = self.source.time - EARLIER
+        late = list(itertools.dropwhile(lambda it: self.when(it) < first, bounds[:-1]))
+        is_carried = len(late) > 3 and late[0] - bounds[0] <= INSIDE
+        return late + bounds[-1:] if is_carried and all(map(self.is_near, late[:3])) else bounds
 
     def doubted(self, at):
         """From where on a chain may go over a fault, and what it goes over: the fault, or a record
@@ -238,7 +231,7 @@ class Records(Reader):
     LIKELY = {"<": (re.compile(rb"(?s)\0(?<!\0{4})(?<=[\0-\4].)..[\0-\4]\0"), 11),
               ">": (re.compile(rb"(?s)\0[\0-\4](?!\0\0)..\0[\0-\4]"), 8)}
 
-    def __init__(self, source, out, order, units, link=ETHERNET):
+    def __init__(self, source, out, order, units=None, link=ETHERNET):
         super().__init__(source, out, order)
         self.units, self.link, self.is_odd = units, link, False
 
@@ -265,8 +258,8 @@ class Records(Reader):
         return at + 16 + captured if 0 < captured <= original <= LONGEST else None
 
     def chain(self, start, is_headed=False):
-        """No chain whose fractions are captured lengths: that is another one, 4 bytes on. Nor one that
-        begins with a fraction out of range, but if there were others."""
+        """No chain whose fractions are captured lengths: that is another one, 4 bytes on; nor one
+        that begins with a fraction out of range, but if there were others before."""
         bounds = super().chain(start, is_headed)
         heads = [self.head(it) for it in (bounds or [])[:-1][:3]]
         is_odd = heads and self.units and heads[0][1] >= self.units and not self.is_odd
@@ -274,14 +267,13 @@ class Records(Reader):
 
     def read(self, at):
         """Reads records as capkit does, up to a fault, and returns its place."""
-        source, out, last, units = self.source, self.out, self.last, self.units
-        unpack, size = struct.Struct(self.order + "IIII").unpack_from, source.size
-        data, base, begin = b"", at, at
+        source, out, last, units, unpack = self.source, self.out, self.last, self.units, self.unpack
+        size, begin, held, count = source.size, at, 0, 0
         last.clear()
         while at + 16 <= size:
-            if at - base + 16 > len(data):
+            if at + 16 > held:
                 source.load(at)
-                data, base = source.data, source.base
+                data, base, held = source.data, source.base, source.base + len(source.data)
             _, part, captured, original = unpack(data, at - base)
             end = at + 16 + captured
             if part >= units or part == captured or end > size or not 0 < captured <= LONGEST:
@@ -294,14 +286,15 @@ class Records(Reader):
                     at = begin = end
                     continue
             last.append(at)
-            out.packets += 1
+            count += 1
             at = end
+        out.packets += count
         out.keep(begin, at)
         return at
 
     def is_fault(self, at):
-        """Whether capkit reads no record at a place, but for one whose fraction is out of range and
-        that another one follows, or whether reading has slid into a chain 4 bytes off."""
+        """Whether capkit reads no record at a place, nor one with a fraction out of range that
+        another one follows, or whether reading has slid into a chain 4 bytes off."""
         _, part, captured, original = self.head(at)
         if captured > LONGEST or at + 16 + captured > self.source.size or not captured | original:
             return True
@@ -320,17 +313,15 @@ class Records(Reader):
         self.out.note(at, why if captured != was else f"a fraction of {part}, written as 0")
         if part >= self.units:
             self.is_odd, part = True, 0
-        self.out.put(struct.pack(self.order + "IIII", seconds, part, captured, original))
-        self.out.keep(at + 16, at + 16 + captured)
+        header = struct.pack(self.order + "IIII", seconds, part, captured, original)
+        self.out.put(header + self.source.get(at + 16, captured))
         self.out.packets += 1
 
     def settle(self, at, place):
-        """Drops the records before a fault that are in the way of the chain that begins at a place,
-        and keeps the one that leads there by a length. Returns the end of what is kept."""
-        last = self.last
-        odd, half = [it for it in last if not self.step(it)], len(last) // 2
-        while last and (last[-1] + 16 + self.head(last[-1])[2] > place
-                        or last[-1] in odd and len(odd) <= half):
+        """Drops records in the way of the chain at a place; returns the end of what is kept."""
+        last, odd = self.last, [it for it in self.last if not self.step(it)]
+        odd = odd if 2 * len(odd) <= len(last) else []
+        while last and (last[-1] in odd or last[-1] + 16 + self.head(last[-1])[2] > place):
             at = last.pop()
             self.out.packets -= 1
             self.out.kept = self.out.kept[0], at
@@ -358,19 +349,15 @@ class Blocks(Reader):
         self.out.begin(b"")
         if self.source.get(at, 4) != SECTION_TYPE:
             self.out.note(at, "no section header")
-            body = struct.pack(self.order + "IHHq", ORDER_MAGIC, 1, 0, -1)
-            self.out.put(self.block(SECTION, body) + self.described)
-
-    def block(self, kind, body):
-        size = struct.pack(self.order + "I", 12 + len(body))
-        return struct.pack(self.order + "I", kind) + size + body + size
+            header = (SECTION, 28, ORDER_MAGIC, 1, 0, -1, 28)
+            self.out.put(struct.pack(self.order + "IIIHHqI", *header) + self.described)
 
     def when(self, at):
         """The time of a packet; no number if it isn't known."""
         header = self.source.get(at, 20).ljust(20, b"\0")
         kind, _, face, high, low = struct.unpack(self.order + "IIIII", header)
         is_known = kind == ENHANCED and face < len(self.faces)
-        return (high << 32 | low) / self.faces[face][2] if is_known else float("nan")
+        return (high << 32 | low) / self.faces[face][2] if is_known else NO_TIME
 
     def step(self, at):
         """Where a block ends; past the end of the file if it is cut; None if it is none."""
@@ -396,7 +383,7 @@ class Blocks(Reader):
         return at
 
     def take(self, at, end, block, is_whole=True):
-        """Keeps a block, as it is or put right, or leaves it out if capkit doesn't read it."""
+        """Keeps a block, as it is or put right, or leaves it out if capkit refuses it."""
         kind, right, why = struct.unpack_from(self.order + "I", block)[0], block, ""
         if kind == SECTION:
             self.faces, self.described, self.is_torn = [], b"", False
@@ -404,11 +391,10 @@ class Blocks(Reader):
             right, why = self.interface(block) if kind == INTERFACE else self.enhanced(block)
         elif kind == OBSOLETE or kind == SIMPLE and not self.faces:
             right, why = b"", "an obsolete packet block, or a simple one of no interface"
+        self.out.packets += bool(right) and kind in (SIMPLE, ENHANCED)
         if not right:
             self.out.leave_out(at, end, f" ({why})")
-            return
-        self.out.packets += kind in (SIMPLE, ENHANCED)
-        if right is block and is_whole:
+        elif right is block and is_whole:
             self.out.keep(at, end)
         else:
             self.out.note(at, why or "a block with a damaged length, put right")
@@ -427,8 +413,8 @@ class Blocks(Reader):
         unit, offset = found.get(9, b"\6"), found.get(14, bytes(8))
         is_time = len(unit) == 1 and (unit[0] <= 12 or 128 <= unit[0] <= 160) and len(offset) == 8
         if not is_time or place > end or len(found.get(2, b"")) > 255:
-            block, why = self.block(INTERFACE, block[8:16]), "an interface, written without options"
-            unit, offset = b"\6", bytes(8)
+            size, unit, offset = struct.pack(self.order + "I", 20), b"\6", bytes(8)
+            block, why = block[:4] + size + block[8:16] + size, "an interface, without its options"
         second = 10 ** unit[0] if unit[0] < 128 else 2 ** (unit[0] - 128)
         offset = struct.unpack(self.order + "q", offset)[0]
         greatest = -(-(self.out.most - offset * 10**9) * second // 10**9) - 1
@@ -437,21 +423,18 @@ class Blocks(Reader):
         return block, why
 
     def enhanced(self, block):
-        """A packet, with the other length or the least time if need be."""
-        face, high, low, captured, original = struct.unpack_from(self.order + "IIIII", block, 8)
+        """A packet, with the least time if its own is out of range."""
+        face, high, low, captured = self.unpack(block, 8)
         if face >= len(self.faces):
             return b"", "a packet whose interface isn't known"
-        why = ""
         if 32 + captured > len(block):
-            if not 0 <= len(block) - 32 - original < 4:
-                return b"", "a captured length that doesn't fit"
-            why, captured = f"a captured length of {captured}, written as {original}", original
+            return b"", "a captured length that doesn't fit"
         least, greatest, second = self.faces[face]
         self.source.time = (high << 32 | low) / second
-        if not least <= high << 32 | low <= greatest:
-            why, high, low = "a time out of range, written as 0", least >> 32, least % 2**32
-        fields = struct.pack(self.order + "IIIII", face, high, low, captured, original)
-        return block[:8] + fields + block[28:] if why else block, why
+        if least <= high << 32 | low <= greatest:
+            return block, ""
+        time = struct.pack(self.order + "II", least >> 32, least % 2**32)
+        return block[:12] + time + block[20:], "a time out of range, written as 0"
 
     def settle(self, at, place):
         """Keeps the block at a fault if one of its lengths leads to the chain that was found."""
@@ -459,7 +442,8 @@ class Blocks(Reader):
         if 12 <= size <= LONGEST_BLOCK and size % 4 == 0:
             block, length = self.source.get(at, size), struct.pack(self.order + "I", size)
             kind = struct.unpack_from(self.order + "I", block)[0]
-            is_known = (kind <= 10 or kind == SECTION) and LEAST.get(kind, 12) <= size
+            is_section = kind == SECTION and block[8:16] in SECTIONS
+            is_known = is_section or kind <= 10 and LEAST.get(kind, 12) <= size
             if is_known and length in (block[4:8], block[-4:]):
                 self.take(at, place, block[:4] + length + block[8:-4] + length, False)
                 return place
@@ -487,7 +471,7 @@ def capture_at(source, out, at):
 def find(source, out, readers, begin, passes):
     """The next chain, or the header before one: its place, its reader, and where that reads."""
     while begin < source.size:
-        end = min(begin + ZONE, source.size)
+        end = begin + ZONE
         chains = [(bounds[0], it) for it in readers if (bounds := it.first(begin, end, passes))]
         place, reader = min(chains, key=lambda it: it[0], default=(end, None))
         source.load(begin, ZONE + AHEAD)
@@ -507,8 +491,7 @@ def find(source, out, readers, begin, passes):
 
 def salvage(source, out):
     """Reads as capkit does up to a fault, finds where to go on, and so on."""
-    guessed = [Records(source, out, it, None) for it in "<>"]
-    guessed += [Blocks(source, out, it) for it in "<>"]
+    guessed = [kind(source, out, order) for kind in (Records, Blocks) for order in "<>"]
     capture = capture_at(source, out, 0)
     place, other, at = (0, *capture) if capture else find(source, out, guessed, 0, 0)
     out.leave_out(0, place)
@@ -518,26 +501,24 @@ def salvage(source, out):
             other.begin(place)
             if reader:
                 out.note(place, "another capture begins")
-        reader, was = other, place
-        at = reader.read(at)
-        if at == source.size:
+        reader = seen[type(other), other.order] = other
+        fault = reader.read(at)
+        if fault == source.size:
             break
-        begin, passes = reader.doubted(at)
-        seen[type(reader), reader.order] = reader
+        begin, passes = reader.doubted(fault)
         source.tried += 40
-        begin = max(begin, was + 1) if source.may_try(at) else at + 4096
-        fault, (place, other, at) = at, find(source, out, list(seen.values()), begin, passes)
+        begin = max(begin, place + 1) if source.may_try(fault) else fault + 4096
+        place, other, at = find(source, out, list(seen.values()), begin, passes)
         out.leave_out(reader.settle(fault, place), place)
 
 
 def copied(held, is_text=False):
     """A copy of a file, which has no name; of one in text mode without what that has added."""
-    copy = tempfile.TemporaryFile()
+    copy = tempfile.TemporaryFile(buffering=0)
     while part := held.read(ZONE):
         while is_text and part.endswith(b"\r") and (more := held.read(1)):
             part += more
         copy.write(part.replace(b"\r\n", b"\n") if is_text else part)
-    copy.flush()
     return copy
 
 
@@ -545,29 +526,26 @@ def infos(held):
     """Whether capkit reads a file to its end, and its number of packets or the fault's place."""
     held.seek(0)
     done = subprocess.run(["capkit", "infos", "-"], stdin=held, capture_output=True)
-    pattern = rb"offset (\d+): " if done.returncode else rb"(?m)^Packets: (\d+)$"
-    found = re.search(pattern, done.stderr if done.returncode else done.stdout)
+    found = re.search(rb"offset (\d+): ", done.stderr) if done.returncode else \
+        re.search(rb"(?m)^Packets: (\d+)$", done.stdout)
     return done.returncode == 0, int(found[1]) if found else -1
 
 
 def work(given, path):
     """Writes OUT by a path; returns how many packets, places, and bytes left out of how many."""
-    held = sys.stdin.buffer if given.IN == "-" else open(given.IN, "rb")
+    held = sys.stdin.buffer.raw if given.IN == "-" else open(given.IN, "rb", buffering=0)
     held = held if os.path.isfile(held.fileno()) else copied(held)
     source = Source(held, given.IN, max(given.row, 1))
+    out, start = Output(source, given.form, path), source.get(0, ZONE)
     is_sound, number = infos(held)
+    held.seek(0)
     if is_sound:
-        held.seek(0)
-        words = ["capkit", "edit", "-F", given.form, "-", path]
-        done = subprocess.run(words, stdin=held, stderr=subprocess.PIPE)
-        if done.returncode == 0:
+        if subprocess.run(out.words, stdin=held).returncode == 0:
             return number, 0, 0, source.size
         # A time that pcapng has and pcap hasn't is put right like damage.
-        if path == given.OUT or b"time out of range" not in done.stderr:
-            raise Refused(done.stderr.decode(errors="replace").strip())
-    out, start = Output(source, given.form, path), source.get(0, ZONE)
-    if 3 <= start.count(b"\n") == start.count(b"\r\n"):
-        held.seek(0)
+        if path == given.OUT:
+            raise Refused("capkit doesn't write its packets")
+    elif 3 <= start.count(b"\n") == start.count(b"\r\n"):
         text = copied(held, True)
         if infos(text) > (is_sound, number):
             out.note(0, "text mode is undone: places are those of the file as it was")
