@@ -18,16 +18,16 @@ damaged length (if the other one leads to the chain), a time out of range (0), t
 upper half of the link type field of a pcap file, options of an interface that capkit refuses, and
 text mode (if each line feed comes after a carriage return, and capkit reads further without those).
 
-Rule 1 is bent in four places; without each of them packets were made up when this was tested:
+Rule 1 is bent in four places, each of which keeps packets from being made up:
 - Of the last eight records before a fault, those in the way of the chain are dropped.
 - So are up to half of these eight if their lengths are impossible.
 - A record without bytes is a packet only if it has an original length: zeros have none.
 - Reading stops if it has slid into the true chain four bytes off, though capkit reads on.
 
 Made-up packets are still possible: if damage stands right before a packet that carries a capture of
-the last second, and in what is no capture but looks like one. Interfaces of pcapng after damage are
-left out with their packets, since their numbers aren't known. How much is tried is bounded: if most
-places look like records, only each 4,096th byte is looked at after a while.
+the last second, if a section header is lost with its interfaces, and in a file that only looks like
+a capture. Interfaces after damage are left out with their packets: their numbers aren't known. How
+much is tried is bounded: if most places look like records, only each 4,096th byte is looked at.
 
 IN isn't changed; it is copied only if it is a pipe or in text mode. OUT is written under a name of
 its own and renamed. Standard error has a line for each of the first 20 places, and a last one with
