@@ -29,10 +29,9 @@ the last second, if a section header is lost with its interfaces, and in a file 
 a capture. Interfaces after damage are left out with their packets: their numbers aren't known. How
 much is tried is bounded: if most places look like records, only each 4,096th byte is looked at.
 
-IN isn't changed; it is copied only if it is a pipe or in text mode. OUT is written under a name of
-its own and renamed. Standard error has a line for each of the first 20 places, and a last one with
-packets, places, bytes left out. The status is 0 if IN was in order, 1 if it wasn't or nothing was
-written, 2 if the command line is wrong. Needs Python 3.10 and capkit in PATH.
+IN isn't changed; it is copied only if it is a pipe or in text mode. OUT gets its name at the end.
+Standard error has a line for each of the first 20 places, and one with sums. The status is 0 if IN
+was in order, 1 if not or nothing was written, 2 if the command line is wrong. Needs Python 3.10.
 """
 import argparse
 import collections
@@ -442,8 +441,7 @@ class Blocks(Reader):
         if 12 <= size <= LONGEST_BLOCK and size % 4 == 0:
             block, length = self.source.get(at, size), struct.pack(self.order + "I", size)
             kind = struct.unpack_from(self.order + "I", block)[0]
-            is_section = kind == SECTION and block[8:16] in SECTIONS
-            is_known = is_section or kind <= 10 and LEAST.get(kind, 12) <= size
+            is_known = kind <= 10 and LEAST.get(kind, 12) <= size or block[8:16] in SECTIONS
             if is_known and length in (block[4:8], block[-4:]):
                 self.take(at, place, block[:4] + length + block[8:-4] + length, False)
                 return place
@@ -461,8 +459,8 @@ def capture_at(source, out, at):
         major, minor, link = struct.unpack(order + "HH12xI", header[4:])
         is_right = (major, minor) == (2, 4) and link <= 0xFFFF
         if not at and not is_right:
-            out.note(at, f"version {major}.{minor} and a link type field of {link:#x}, "
-                         f"written as 2.4 and {link & 0xFFFF}")
+            right = f"written as 2.4 and {link & 0xFFFF}"
+            out.note(at, f"version {major}.{minor} and a link type field of {link:#x}, {right}")
         if not at or is_right:
             return Records(source, out, order, units, link & 0xFFFF), at + 24
     return None
@@ -471,6 +469,9 @@ def capture_at(source, out, at):
 def find(source, out, readers, begin, passes):
     """The next chain, or the header before one: its place, its reader, and where that reads."""
     while begin < source.size:
+        if not source.get(begin, INSIDE).strip(b"\0"):
+            begin += INSIDE - 16
+            continue
         end = begin + ZONE
         chains = [(bounds[0], it) for it in readers if (bounds := it.first(begin, end, passes))]
         place, reader = min(chains, key=lambda it: it[0], default=(end, None))
@@ -526,9 +527,9 @@ def infos(held):
     """Whether capkit reads a file to its end, and its number of packets or the fault's place."""
     held.seek(0)
     done = subprocess.run(["capkit", "infos", "-"], stdin=held, capture_output=True)
-    found = re.search(rb"offset (\d+): ", done.stderr) if done.returncode else \
-        re.search(rb"(?m)^Packets: (\d+)$", done.stdout)
-    return done.returncode == 0, int(found[1]) if found else -1
+    pattern = rb"(?m)^Packets: (\d+)$|^capkit: .*offset (\d+): "
+    found = re.search(pattern, done.stdout or done.stderr)
+    return done.returncode == 0, int(found[1] or found[2]) if found else -1
 
 
 def work(given, path):
@@ -590,9 +591,8 @@ def main():
     finally:
         if part != path and os.path.exists(part):
             os.remove(part)
-    damage = f"{places} place{'s' if places != 1 else ''} of damage"
-    print(f"{given.OUT}: {packets} packets, {damage}, {left_out} of {size} bytes left out",
-          file=sys.stderr)
+    damage = f"{places} place{'s' * (places != 1)} of damage, {left_out} of {size} bytes left out"
+    print(f"{given.OUT}: {packets} packets, {damage}", file=sys.stderr)
     sys.exit(1 if places else 0)
 
 
