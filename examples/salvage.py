@@ -195,7 +195,7 @@ class Reader:
         """The first chain between two places, or the one that it meets with most units before."""
         for place in self.places(begin, end):
             best = self.chain(place)
-            if not best or place < passes and place in self.last:
+            if not best or place < passes and (place in self.last or best[-1] <= passes):
                 continue
             for other in self.places(place + 1, min(place + 4096, best[-1])):
                 bounds = self.chain(other) or []
@@ -294,10 +294,10 @@ class Records(Reader):
     def is_fault(self, at):
         """Whether capkit reads no record at a place, nor one with a fraction out of range that
         another one follows, or whether reading has slid into a chain 4 bytes off."""
-        _, part, captured, original = self.head(at)
+        seconds, part, captured, original = self.head(at)
         if captured > LONGEST or at + 16 + captured > self.source.size or not captured | original:
             return True
-        is_odd, is_off = part >= self.units, part == captured
+        is_odd, is_off = part >= self.units, part == captured and seconds < self.units
         return is_odd and not self.is_pair(at) or is_off and self.is_pair(at - 4)
 
     def is_pair(self, at):
