@@ -48,7 +48,7 @@ FORMS = {b"\xd4\xc3\xb2\xa1": ("<", 10**6), b"\x4d\x3c\xb2\xa1": ("<", 10**9),
          b"\xa1\xb2\xc3\xd4": (">", 10**6), b"\xa1\xb2\x3c\x4d": (">", 10**9)}
 MAGICS = {form: magic for magic, form in FORMS.items()}
 SECTION, INTERFACE, OBSOLETE, SIMPLE, ENHANCED = 0x0A0D0D0A, 1, 2, 3, 6
-LEAST = {SECTION: 28, INTERFACE: 20, SIMPLE: 16, ENHANCED: 32}
+LEAST = {SECTION: 28, INTERFACE: 20, OBSOLETE: 12, SIMPLE: 16, ENHANCED: 32}
 SECTION_TYPE, ORDER_MAGIC = b"\n\r\r\n", 0x1A2B3C4D
 SECTIONS = {struct.pack(it + "IHH", ORDER_MAGIC, 1, minor): it for it in "<>" for minor in (0, 2)}
 HEADER = re.compile(b"|".join(map(re.escape, [*FORMS, SECTION_TYPE])))
@@ -156,10 +156,20 @@ class Reader:
         self.source, self.out, self.order = source, out, order
         self.last, (self.likely, self.back) = collections.deque(maxlen=DOUBTED), self.LIKELY[order]
         self.unpack = struct.Struct(order + "IIII").unpack_from
+        self.sizes = struct.Struct(order + "II").unpack_from
 
     def numbers(self, form, at):
         self.source.load(at, 32)
         return struct.unpack_from(self.order + form, self.source.data, at - self.source.base)
+
+    def read(self, at):
+        """Reads units as capkit does, up to a fault, and returns its place."""
+        before = None
+        self.last.clear()
+        while at != before:
+            self.source.load(at)
+            before, at = at, self.read_held(at)
+        return at
 
     def is_near(self, at):
         return -EARLIER <= self.when(at) - self.source.time <= NEAR
@@ -223,6 +233,10 @@ class Reader:
         return begin, at
 
 
+def is_record(captured, original):
+    return 0 < captured <= original <= LONGEST
+
+
 class Records(Reader):
     """The records of pcap."""
     is_sure = False
@@ -254,7 +268,7 @@ class Records(Reader):
         if at + 16 > self.source.size:
             return self.source.size + 1
         captured, original = self.numbers("II", at + 8)
-        return at + 16 + captured if 0 < captured <= original <= LONGEST else None
+        return at + 16 + captured if is_record(captured, original) else None
 
     def chain(self, start, is_headed=False):
         """No chain whose fractions are captured lengths: that is another one, 4 bytes on; nor one
@@ -264,32 +278,38 @@ class Records(Reader):
         is_odd = heads and self.units and heads[0][1] >= self.units and not self.is_odd
         return None if is_odd or sum(it[1] == it[2] for it in heads) > 1 else bounds
 
-    def read(self, at):
-        """Reads records as capkit does, up to a fault, and returns its place."""
+    def read_held(self, at):
+        """Reads records in the bytes held, up to a fault; those at their end may be left."""
         source, out, last, units, unpack = self.source, self.out, self.last, self.units, self.unpack
-        size, begin, held, count = source.size, at, 0, 0
-        last.clear()
-        while at + 16 <= size:
-            if at + 16 > held:
-                source.load(at)
-                data, base, held = source.data, source.base, source.base + len(source.data)
-            _, part, captured, original = unpack(data, at - base)
-            end = at + 16 + captured
-            if part >= units or part == captured or end > size or not 0 < captured <= LONGEST:
-                if self.is_fault(at):
+        data, base, changed, count = source.data, source.base, None, 0
+        place = begin = done = at - base
+        size = source.size - base
+        stop = len(data) - (16 if len(data) == size else 2 * LONGEST)
+        while place <= stop:
+            _, part, captured, original = unpack(data, place)
+            end, is_odd = place + 16 + captured, part >= units
+            if is_odd or part == captured or end > size or not 0 < captured <= LONGEST:
+                is_pair = is_odd and end <= stop and is_record(captured, original)
+                is_pair = is_pair and is_record(*unpack(data, end)[2:])
+                if not is_pair and self.is_fault(base + place):
                     break
-                if part >= units:
-                    out.keep(begin, at)
-                    self.put(at, captured)
-                    last.clear()
-                    at = begin = end
-                    continue
-            last.append(at)
+            last.append(base + place)
+            if is_odd:
+                last.clear()
+                if out.places < NOTES:
+                    out.note(base + place, f"a fraction of {part}, written as 0")
+                else:
+                    out.places += 1
+                changed = changed or bytearray(data)
+                changed[place + 4 : place + 8] = b"\0\0\0\0"
+                self.is_odd, done = True, end
             count += 1
-            at = end
+            place = end
         out.packets += count
-        out.keep(begin, at)
-        return at
+        if changed:
+            out.put(memoryview(changed)[begin:done])
+        out.keep(base + done, base + place)
+        return base + place
 
     def is_fault(self, at):
         """Whether capkit reads no record at a place, nor one with a fraction out of range that
@@ -339,8 +359,11 @@ class Blocks(Reader):
 
     def __init__(self, source, out, order):
         super().__init__(source, out, order)
-        # Of each interface of the section the least and greatest ticks, and the ticks of a second;
-        # their blocks; whether one may be missing before the next.
+        self.renew()
+
+    def renew(self):
+        """A section begins: of each of its interfaces the least and greatest ticks, and the ticks
+        of a second; their blocks; whether one may be missing before the next."""
         self.faces, self.described, self.is_torn = [], b"", False
 
     def begin(self, at):
@@ -374,18 +397,53 @@ class Blocks(Reader):
             is_right &= self.source.get(at + 8, 8) in SECTIONS
         return at + length if is_right else None
 
-    def read(self, at):
-        """Reads blocks as capkit does, up to one that is none, and returns its place."""
-        while (end := self.step(at)) and end <= self.source.size:
-            self.take(at, end, self.source.get(at, end - at))
-            at = end
-        return at
+    def read_held(self, at):
+        """Reads blocks in the bytes held, up to one that is none or isn't held as a whole."""
+        source, out, faces, unpack = self.source, self.out, self.faces, self.unpack
+        data, base, sizes = source.data, source.base, self.sizes
+        place, begin, stop = at - base, at - base, len(data)
+        while place + 12 <= stop:
+            kind, length = sizes(data, place)
+            end = place + length
+            if length & 3 or not 12 <= length <= LONGEST_BLOCK or end > stop:
+                break
+            if data[place + 4 : place + 8] != data[end - 4 : end]:
+                break
+            if kind not in LEAST:
+                place = end
+                continue
+            is_plain = kind == SIMPLE and faces or kind == SECTION
+            if length < LEAST[kind]:
+                break
+            if kind == ENHANCED:
+                face, high, low, captured = unpack(data, place + 8)
+                if 32 + captured > length:
+                    break
+                if face < len(faces):
+                    least, greatest, second = faces[face]
+                    time = high << 32 | low
+                    source.time = time / second
+                    is_plain = least <= time <= greatest
+            elif kind == SECTION:
+                if data[place + 8 : place + 16] not in SECTIONS:
+                    break
+                self.renew()
+            if is_plain:
+                out.packets += kind != SECTION
+            else:
+                if begin < place:
+                    out.keep(base + begin, base + place)
+                self.take(kind, base + place, base + end, data[place:end])
+                begin = end
+            faces, place = self.faces, end
+        out.keep(base + begin, base + place)
+        return base + place
 
-    def take(self, at, end, block, is_whole=True):
+    def take(self, kind, at, end, block, is_whole=True):
         """Keeps a block, as it is or put right, or leaves it out if capkit refuses it."""
-        kind, right, why = struct.unpack_from(self.order + "I", block)[0], block, ""
+        right, why = block, ""
         if kind == SECTION:
-            self.faces, self.described, self.is_torn = [], b"", False
+            self.renew()
         elif kind in (INTERFACE, ENHANCED):
             right, why = self.interface(block) if kind == INTERFACE else self.enhanced(block)
         elif kind == OBSOLETE or kind == SIMPLE and not self.faces:
@@ -440,10 +498,10 @@ class Blocks(Reader):
         size = place - at
         if 12 <= size <= LONGEST_BLOCK and size % 4 == 0:
             block, length = self.source.get(at, size), struct.pack(self.order + "I", size)
-            kind = struct.unpack_from(self.order + "I", block)[0]
+            kind = self.sizes(block)[0]
             is_known = kind <= 10 and LEAST.get(kind, 12) <= size or block[8:16] in SECTIONS
             if is_known and length in (block[4:8], block[-4:]):
-                self.take(at, place, block[:4] + length + block[8:-4] + length, False)
+                self.take(kind, at, place, block[:4] + length + block[8:-4] + length, False)
                 return place
         self.is_torn = True
         return at
