@@ -3,30 +3,27 @@
 
 usage: salvage.py [-F FORMAT] [-n ROW] IN OUT        (- is standard input or output)
 
-1. What capkit reads is right. A file that it reads to its end is written as `capkit edit` does; in
-   another one nothing is guessed before the first fault.
+1. What capkit reads is right: a file that it reads to its end is written as `capkit edit` does, and
+   in another one nothing is guessed before the first fault.
 2. After a fault the first chain wins: a row of records (or blocks) with consistent lengths. It is
    believed if it is longer than what a packet carries (64 KiB, and 32 records), or if it has ROW
-   records (3) or more and leads to the end of the file or to a file header. Another one of ROW
-   records may be a capture inside a lost packet: it is believed if it is at most a second earlier
-   than the last packet, and at most a day later. Blocks before any packet need no time. Of chains
-   that meet, the one with most records before wins. No chain has fractions that are its captured
-   lengths: that is the true one, read four bytes off. A file header needs a chain after it.
+   records (3) or more and leads to the end of the file or to a file header with a chain. Another
+   one of ROW records, which a lost packet may have carried, is at most a second earlier than the
+   last packet and a day later; blocks before any packet need no time. Of chains that meet, the one
+   with most records before wins. One whose fractions are captured lengths is 4 bytes off: no chain.
 
 Put right in place, and reported, are: a fraction of a second or more (0, if a record follows), a
 damaged length (if the other one leads to the chain), a time out of range (0), the version and the
 upper half of the link type field of a pcap file, options of an interface that capkit refuses, and
 text mode (if each line feed comes after a carriage return, and capkit reads further without those).
 
-Rule 1 is bent in four places, each of which keeps packets from being made up:
-- Of the last eight records before a fault, those in the way of the chain are dropped.
-- So are up to half of these eight if their lengths are impossible.
-- A record without bytes is a packet only if it has an original length: zeros have none.
-- Reading stops if it has slid into the true chain four bytes off, though capkit reads on.
+Rule 1 is bent to keep packets from being made up. Of the last eight records before a fault, those
+in the way of the chain are dropped, and up to half of the eight if their lengths are impossible. A
+record without bytes needs an original length. Reading stops if it has slid four bytes off a chain.
 
-Made-up packets are still possible: if damage stands right before a packet that carries a capture of
-the last second, if a section header is lost with its interfaces, and in a file that only looks like
-a capture. Interfaces after damage are left out with their packets: their numbers aren't known. How
+Packets may still be made up: if damage stands right before a packet that carries a capture of the
+last second, if a section header is lost with its interfaces, and in a file that only looks like a
+capture. Interfaces after damage are left out with their packets: their numbers aren't known. How
 much is tried is bounded: if most places look like records, only each 4,096th byte is looked at.
 
 IN isn't changed; it is copied only if it is a pipe or in text mode. OUT gets its name at the end.
@@ -53,17 +50,10 @@ SECTION_TYPE, ORDER_MAGIC = b"\n\r\r\n", 0x1A2B3C4D
 SECTIONS = {struct.pack(it + "IHH", ORDER_MAGIC, 1, minor): it for it in "<>" for minor in (0, 2)}
 HEADER = re.compile(b"|".join(map(re.escape, [*FORMS, SECTION_TYPE])))
 LONGEST, LONGEST_BLOCK, MOST_INTERFACES, ETHERNET = 262_144, 1_048_576, 256, 1
-# How much of the file is held, and how much of it is looked through at once.
-HELD, AHEAD, ZONE = 8 << 20, 3 << 20, 1 << 20
-# What no packet's inside exceeds, and how many units a chain that does has at least.
-INSIDE, UNITS = 65_552, 32
-# How many steps may be tried: at first, and one more for so many bytes.
-PATIENCE, BYTES_A_STEP = 300_000, 64
+HELD, AHEAD, ZONE = 8 << 20, 3 << 20, 1 << 20  # of the file, held and looked through at once
+INSIDE, UNITS = 65_552, 32  # what no packet's inside exceeds, and the units of a chain that does
+PATIENCE, BYTES_A_STEP = 300_000, 64  # steps that may be tried at first, and one for so many bytes
 DOUBTED, NOTES, NEAR, EARLIER, NO_TIME = 8, 20, 86_400, 1, float("nan")
-
-
-class Refused(Exception):
-    """What keeps anything from being written."""
 
 
 class Source:
@@ -75,11 +65,12 @@ class Source:
         self.data, self.base, self.tried, self.time = b"", 0, 0, NO_TIME
 
     def load(self, at, ahead=AHEAD):
-        """Holds the bytes from a place on, as many as asked for or all that are left."""
+        """Holds the bytes from a place on; returns these, which may begin before, and where."""
         end = self.base + len(self.data)
         if not self.base <= at or at + ahead > end < self.size:
             self.data = b""
             self.data, self.base = self.get(at, HELD), at
+        return self.data, self.base
 
     def get(self, at, size):
         return os.pread(self.held.fileno(), size, at)
@@ -108,9 +99,11 @@ class Output:
 
     def keep(self, begin, end):
         """Keeps bytes of the file as they are."""
-        if begin != self.kept[1]:
+        if begin == self.kept[1]:
+            self.kept = self.kept[0], end
+        elif begin < end:
             self.settle()
-        self.kept = self.kept[0] if begin == self.kept[1] else begin, end
+            self.kept = begin, end
 
     def settle(self):
         """Writes what is kept."""
@@ -133,10 +126,8 @@ class Output:
 
     def end(self, process):
         """Waits for a capkit: if it fails, it has said why."""
-        if process:
-            process.communicate()
-            if process.returncode:
-                raise Refused("capkit doesn't write its packets")
+        if process and process.communicate() and process.returncode:
+            raise ChildProcessError("capkit doesn't write its packets")
 
     def note(self, at, text):
         self.places += 1
@@ -155,20 +146,18 @@ class Reader:
     def __init__(self, source, out, order):
         self.source, self.out, self.order = source, out, order
         self.last, (self.likely, self.back) = collections.deque(maxlen=DOUBTED), self.LIKELY[order]
-        self.unpack = struct.Struct(order + "IIII").unpack_from
-        self.sizes = struct.Struct(order + "II").unpack_from
+        self.sizes, self.unpack = (struct.Struct(order + it).unpack_from for it in ("II", "IIII"))
 
-    def numbers(self, form, at):
-        self.source.load(at, 32)
-        return struct.unpack_from(self.order + form, self.source.data, at - self.source.base)
+    def head(self, at, form="IIII"):
+        data, base = self.source.load(at, 32)
+        return struct.unpack_from(self.order + form, data, at - base)
 
     def read(self, at):
         """Reads units as capkit does, up to a fault, and returns its place."""
         before = None
         self.last.clear()
         while at != before:
-            self.source.load(at)
-            before, at = at, self.read_held(at)
+            before, at = at, self.read_held(at, *self.source.load(at))
         return at
 
     def is_near(self, at):
@@ -191,15 +180,13 @@ class Reader:
 
     def places(self, begin, end):
         """Where units could begin between two places; not all of them if they are too many."""
-        source = self.source
-        source.load(begin, ZONE + AHEAD)
-        data, base = source.data, source.base
+        data, base = self.source.load(begin, ZONE + AHEAD)
         at, stop = begin - base + self.back, end - base + self.back + 5
         while found := self.likely.search(data, at, stop):
             place = found.start() - self.back + base
             yield place
-            source.tried += 2
-            at = found.start() + (1 if source.may_try(place) else 4096)
+            self.source.tried += 2
+            at = found.start() + (1 if self.source.may_try(place) else 4096)
 
     def first(self, begin, end, passes):
         """The first chain between two places, or the one that it meets with most units before."""
@@ -216,16 +203,14 @@ class Reader:
         return None
 
     def without_carried(self, bounds):
-        """A chain without the units at its start that a lost packet may have carried: those before
-        the last packet's time, if they are no longer than a packet, and three others follow."""
+        """A chain without what a lost packet may have carried: its start, if it is too early."""
         first = self.source.time - EARLIER
         late = list(itertools.dropwhile(lambda it: self.when(it) < first, bounds[:-1]))
         is_carried = len(late) > 3 and late[0] - bounds[0] <= INSIDE
         return late + bounds[-1:] if is_carried and all(map(self.is_near, late[:3])) else bounds
 
     def doubted(self, at):
-        """From where on a chain may go over a fault, and what it goes over: the fault, or a record
-        before it whose lengths are odd though those before are not. Sets the time before it."""
+        """Where a chain may begin, and what it goes over: a fault or a damaged record before it."""
         last = list(itertools.takewhile(self.step, self.last))
         begin = self.last[0] + 1 if self.last else at
         if last:
@@ -233,20 +218,12 @@ class Reader:
         return begin, at
 
 
-def is_record(captured, original):
-    return 0 < captured <= original <= LONGEST
-
-
 class Records(Reader):
     """The records of pcap."""
-    is_sure = False
+    is_sure, units, link, is_odd = False, None, ETHERNET, False
     # The lengths' high bytes, the captured one not being 0; and how far in a record they are.
     LIKELY = {"<": (re.compile(rb"(?s)\0(?<!\0{4})(?<=[\0-\4].)..[\0-\4]\0"), 11),
               ">": (re.compile(rb"(?s)\0[\0-\4](?!\0\0)..\0[\0-\4]"), 8)}
-
-    def __init__(self, source, out, order, units=None, link=ETHERNET):
-        super().__init__(source, out, order)
-        self.units, self.link, self.is_odd = units, link, False
 
     def begin(self, at):
         """The file header of what is written."""
@@ -257,9 +234,6 @@ class Records(Reader):
         header = struct.pack(self.order + "HHIIII", 2, 4, 0, 0, LONGEST, self.link)
         self.out.begin(MAGICS[self.order, self.units] + header)
 
-    def head(self, at):
-        return self.numbers("IIII", at)
-
     def when(self, at):
         return self.head(at)[0]
 
@@ -267,30 +241,30 @@ class Records(Reader):
         """Where a record ends; past the end of the file if it is cut; None if it is none."""
         if at + 16 > self.source.size:
             return self.source.size + 1
-        captured, original = self.numbers("II", at + 8)
-        return at + 16 + captured if is_record(captured, original) else None
+        captured, original = self.head(at + 8, "II")
+        return at + 16 + captured if 0 < captured <= original <= LONGEST else None
 
     def chain(self, start, is_headed=False):
-        """No chain whose fractions are captured lengths: that is another one, 4 bytes on; nor one
-        that begins with a fraction out of range, but if there were others before."""
+        """No chain is 4 bytes off, nor begins with a fraction out of range if that is the first."""
         bounds = super().chain(start, is_headed)
         heads = [self.head(it) for it in (bounds or [])[:-1][:3]]
         is_odd = heads and self.units and heads[0][1] >= self.units and not self.is_odd
         return None if is_odd or sum(it[1] == it[2] for it in heads) > 1 else bounds
 
-    def read_held(self, at):
+    def read_held(self, at, data, base):
         """Reads records in the bytes held, up to a fault; those at their end may be left."""
-        source, out, last, units, unpack = self.source, self.out, self.last, self.units, self.unpack
-        data, base, changed, count = source.data, source.base, None, 0
+        out, last, units, unpack = self.out, self.last, self.units, self.unpack
         place = begin = done = at - base
-        size = source.size - base
+        size, changed = self.source.size - base, None
         stop = len(data) - (16 if len(data) == size else 2 * LONGEST)
         while place <= stop:
             _, part, captured, original = unpack(data, place)
             end, is_odd = place + 16 + captured, part >= units
             if is_odd or part == captured or end > size or not 0 < captured <= LONGEST:
-                is_pair = is_odd and end <= stop and is_record(captured, original)
-                is_pair = is_pair and is_record(*unpack(data, end)[2:])
+                is_pair = is_odd and end <= stop and 0 < captured <= original <= LONGEST
+                if is_pair:
+                    _, _, captured, original = unpack(data, end)
+                    is_pair = 0 < captured <= original <= LONGEST
                 if not is_pair and self.is_fault(base + place):
                     break
             last.append(base + place)
@@ -303,52 +277,43 @@ class Records(Reader):
                 changed = changed or bytearray(data)
                 changed[place + 4 : place + 8] = b"\0\0\0\0"
                 self.is_odd, done = True, end
-            count += 1
+            out.packets += 1
             place = end
-        out.packets += count
         if changed:
             out.put(memoryview(changed)[begin:done])
         out.keep(base + done, base + place)
         return base + place
 
     def is_fault(self, at):
-        """Whether capkit reads no record at a place, nor one with a fraction out of range that
-        another one follows, or whether reading has slid into a chain 4 bytes off."""
+        """Whether no record (of any fraction) begins at a place, or reading is off by 4 bytes."""
         seconds, part, captured, original = self.head(at)
         if captured > LONGEST or at + 16 + captured > self.source.size or not captured | original:
             return True
-        is_odd, is_off = part >= self.units, part == captured and seconds < self.units
-        return is_odd and not self.is_pair(at) or is_off and self.is_pair(at - 4)
-
-    def is_pair(self, at):
-        """Whether two records, or the last one, begin at a place."""
-        end = self.step(at)
-        return end and (end == self.source.size or self.step(end))
-
-    def put(self, at, captured):
-        """Writes a record with another captured length, or the fraction 0 if it was too great."""
-        seconds, part, was, original = self.head(at)
-        why = f"a captured length of {was}, written as {captured}"
-        self.out.note(at, why if captured != was else f"a fraction of {part}, written as 0")
-        if part >= self.units:
-            self.is_odd, part = True, 0
-        header = struct.pack(self.order + "IIII", seconds, part, captured, original)
-        self.out.put(header + self.source.get(at + 16, captured))
-        self.out.packets += 1
+        is_odd = part >= self.units
+        is_off = part == captured and seconds < self.units and at >= 4
+        end = self.step(at - 4 * is_off) if is_odd or is_off else None
+        is_pair = end and (end == self.source.size or self.step(end))
+        return not is_pair if is_odd else is_pair
 
     def settle(self, at, place):
-        """Drops records in the way of the chain at a place; returns the end of what is kept."""
+        """Drops records in the way of a chain, or puts one right; returns the end of those kept."""
         last, odd = self.last, [it for it in self.last if not self.step(it)]
         odd = odd if 2 * len(odd) <= len(last) else []
         while last and (last[-1] in odd or last[-1] + 16 + self.head(last[-1])[2] > place):
             at = last.pop()
             self.out.packets -= 1
             self.out.kept = self.out.kept[0], at
-        if at + 16 <= place < self.source.size:
-            for length in self.head(at)[2:]:
-                if at + 16 + length == place and 0 < length <= LONGEST:
-                    self.put(at, length)
-                    return place
+        size = place - at - 16
+        if place < self.source.size and 0 < size <= LONGEST and size in self.head(at)[2:]:
+            seconds, part, was, original = self.head(at)
+            why = f"a captured length of {was}, written as {size}"
+            self.out.note(at, why if size != was else f"a fraction of {part}, written as 0")
+            if part >= self.units:
+                self.is_odd, part = True, 0
+            header = struct.pack(self.order + "IIII", seconds, part, size, original)
+            self.out.put(header + self.source.get(at + 16, size))
+            self.out.packets += 1
+            return place
         return at
 
 
@@ -356,15 +321,9 @@ class Blocks(Reader):
     """The blocks of pcapng."""
     is_sure = True
     LIKELY = {"<": (re.compile(rb"[\1-\3\6]\0\0\0"), 0), ">": (re.compile(rb"\0\0\0[\1-\3\6]"), 0)}
-
-    def __init__(self, source, out, order):
-        super().__init__(source, out, order)
-        self.renew()
-
-    def renew(self):
-        """A section begins: of each of its interfaces the least and greatest ticks, and the ticks
-        of a second; their blocks; whether one may be missing before the next."""
-        self.faces, self.described, self.is_torn = [], b"", False
+    # Of each interface of the section the least and greatest ticks, and the ticks of a second;
+    # their blocks; whether one may be missing before the next.
+    faces, described, is_torn = (), b"", False
 
     def begin(self, at):
         """A section header, if there is none."""
@@ -376,8 +335,8 @@ class Blocks(Reader):
 
     def when(self, at):
         """The time of a packet; no number if it isn't known."""
-        header = self.source.get(at, 20).ljust(20, b"\0")
-        kind, _, face, high, low = struct.unpack(self.order + "IIIII", header)
+        header = self.source.get(at, 24).ljust(24, b"\0")
+        (kind, _), (face, high, low, _) = self.sizes(header), self.unpack(header, 8)
         is_known = kind == ENHANCED and face < len(self.faces)
         return (high << 32 | low) / self.faces[face][2] if is_known else NO_TIME
 
@@ -385,82 +344,67 @@ class Blocks(Reader):
         """Where a block ends; past the end of the file if it is cut; None if it is none."""
         if at + 12 > self.source.size:
             return self.source.size + 1
-        kind, length = self.numbers("II", at)
+        kind, length = self.head(at, "II")
         if not LEAST.get(kind, 12) <= length <= LONGEST_BLOCK or length % 4:
             return None
         if at + length > self.source.size:
             return at + length if kind <= 10 else None
-        is_right = self.numbers("I", at + length - 4)[0] == length
+        is_right = self.head(at + length - 4, "I")[0] == length
         if kind == ENHANCED:
-            is_right &= 32 + self.numbers("I", at + 20)[0] <= length
+            is_right &= 32 + self.head(at + 20, "I")[0] <= length
         elif kind == SECTION:
             is_right &= self.source.get(at + 8, 8) in SECTIONS
         return at + length if is_right else None
 
-    def read_held(self, at):
+    def read_held(self, at, data, base):
         """Reads blocks in the bytes held, up to one that is none or isn't held as a whole."""
-        source, out, faces, unpack = self.source, self.out, self.faces, self.unpack
-        data, base, sizes = source.data, source.base, self.sizes
-        place, begin, stop = at - base, at - base, len(data)
+        out, sizes, stop = self.out, self.sizes, len(data)
+        place = begin = at - base
         while place + 12 <= stop:
             kind, length = sizes(data, place)
             end = place + length
-            if length & 3 or not 12 <= length <= LONGEST_BLOCK or end > stop:
+            is_block = LEAST.get(kind, 12) <= length <= LONGEST_BLOCK and end <= stop
+            if not is_block or length & 3 or data[place + 4 : place + 8] != data[end - 4 : end]:
                 break
-            if data[place + 4 : place + 8] != data[end - 4 : end]:
-                break
-            if kind not in LEAST:
-                place = end
-                continue
-            is_plain = kind == SIMPLE and faces or kind == SECTION
-            if length < LEAST[kind]:
-                break
-            if kind == ENHANCED:
-                face, high, low, captured = unpack(data, place + 8)
-                if 32 + captured > length:
+            if kind in LEAST:
+                block = data[place:end]
+                right, why = self.right(kind, block)
+                if right is None:
                     break
-                if face < len(faces):
-                    least, greatest, second = faces[face]
-                    time = high << 32 | low
-                    source.time = time / second
-                    is_plain = least <= time <= greatest
-            elif kind == SECTION:
-                if data[place + 8 : place + 16] not in SECTIONS:
-                    break
-                self.renew()
-            if is_plain:
-                out.packets += kind != SECTION
-            else:
-                if begin < place:
+                if right is not block:
                     out.keep(base + begin, base + place)
-                self.take(kind, base + place, base + end, data[place:end])
-                begin = end
-            faces, place = self.faces, end
+                    self.put(base + place, base + end, right, why)
+                    begin = end
+            place = end
         out.keep(base + begin, base + place)
         return base + place
 
-    def take(self, kind, at, end, block, is_whole=True):
-        """Keeps a block, as it is or put right, or leaves it out if capkit refuses it."""
-        right, why = block, ""
-        if kind == SECTION:
-            self.renew()
-        elif kind in (INTERFACE, ENHANCED):
-            right, why = self.interface(block) if kind == INTERFACE else self.enhanced(block)
-        elif kind == OBSOLETE or kind == SIMPLE and not self.faces:
-            right, why = b"", "an obsolete packet block, or a simple one of no interface"
-        self.out.packets += bool(right) and kind in (SIMPLE, ENHANCED)
+    def put(self, at, end, right, why):
+        """Writes a block that was put right, or leaves it out if capkit refuses it."""
         if not right:
-            self.out.leave_out(at, end, f" ({why})")
-        elif right is block and is_whole:
-            self.out.keep(at, end)
-        else:
-            self.out.note(at, why or "a block with a damaged length, put right")
-            self.out.put(right)
+            return self.out.leave_out(at, end, f" ({why})")
+        self.out.note(at, why)
+        self.out.put(right)
+
+    def right(self, kind, block):
+        """A block as it is or put right, empty if capkit refuses it, None if it is none; and why"""
+        if kind == ENHANCED:
+            return self.enhanced(block)
+        if kind == INTERFACE:
+            return self.interface(block)
+        if kind == SECTION and block[8:16] not in SECTIONS:
+            return None, ""
+        if kind == SECTION:
+            self.faces, self.described, self.is_torn = (), b"", False
+        elif kind == OBSOLETE or kind == SIMPLE and not self.faces:
+            return b"", "an obsolete packet block, or a simple one of no interface"
+        self.out.packets += kind == SIMPLE
+        return block, ""
 
     def interface(self, block):
         """An interface, without its options if capkit doesn't read them; none after damage."""
         if self.is_torn or len(self.faces) == MOST_INTERFACES:
-            self.faces, self.described, self.is_torn = [], b"", True
+            self.faces, self.described, self.is_torn = (), b"", True
             return b"", "an interface whose number isn't known"
         found, code, place, end, why = {}, 1, 16, len(block) - 4, ""
         while code and place + 4 <= end:
@@ -475,20 +419,21 @@ class Blocks(Reader):
         second = 10 ** unit[0] if unit[0] < 128 else 2 ** (unit[0] - 128)
         offset = struct.unpack(self.order + "q", offset)[0]
         greatest = -(-(self.out.most - offset * 10**9) * second // 10**9) - 1
-        self.faces.append((max(0, -offset * second), greatest, second))
+        self.faces += ((max(0, -offset * second), greatest, second),)
         self.described += block
         return block, why
 
     def enhanced(self, block):
         """A packet, with the least time if its own is out of range."""
         face, high, low, captured = self.unpack(block, 8)
+        if 32 + captured > len(block):
+            return None, "a captured length that doesn't fit"
         if face >= len(self.faces):
             return b"", "a packet whose interface isn't known"
-        if 32 + captured > len(block):
-            return b"", "a captured length that doesn't fit"
-        least, greatest, second = self.faces[face]
-        self.source.time = (high << 32 | low) / second
-        if least <= high << 32 | low <= greatest:
+        (least, greatest, second), ticks = self.faces[face], high << 32 | low
+        self.source.time = ticks / second
+        self.out.packets += 1
+        if least <= ticks <= greatest:
             return block, ""
         time = struct.pack(self.order + "II", least >> 32, least % 2**32)
         return block[:12] + time + block[20:], "a time out of range, written as 0"
@@ -501,7 +446,8 @@ class Blocks(Reader):
             kind = self.sizes(block)[0]
             is_known = kind <= 10 and LEAST.get(kind, 12) <= size or block[8:16] in SECTIONS
             if is_known and length in (block[4:8], block[-4:]):
-                self.take(kind, at, place, block[:4] + length + block[8:-4] + length, False)
+                right, why = self.right(kind, block[:4] + length + block[8:-4] + length)
+                self.put(at, place, right, why or "a block with a damaged length, put right")
                 return place
         self.is_torn = True
         return at
@@ -515,12 +461,13 @@ def capture_at(source, out, at):
     if header[:4] in FORMS and len(header) == 24:
         order, units = FORMS[header[:4]]
         major, minor, link = struct.unpack(order + "HH12xI", header[4:])
-        is_right = (major, minor) == (2, 4) and link <= 0xFFFF
+        reader = Records(source, out, order)
+        reader.units, reader.link = units, link & 0xFFFF
+        is_right = (major, minor, link) == (2, 4, reader.link)
         if not at and not is_right:
-            right = f"written as 2.4 and {link & 0xFFFF}"
+            right = f"written as 2.4 and {reader.link}"
             out.note(at, f"version {major}.{minor} and a link type field of {link:#x}, {right}")
-        if not at or is_right:
-            return Records(source, out, order, units, link & 0xFFFF), at + 24
+        return (reader, at + 24) if is_right or not at else None
     return None
 
 
@@ -533,8 +480,7 @@ def find(source, out, readers, begin, passes):
         end = begin + ZONE
         chains = [(bounds[0], it) for it in readers if (bounds := it.first(begin, end, passes))]
         place, reader = min(chains, key=lambda it: it[0], default=(end, None))
-        source.load(begin, ZONE + AHEAD)
-        data, base = source.data, source.base
+        data, base = source.load(begin, ZONE + AHEAD)
         for found in HEADER.finditer(data, begin - base, place - base + 3):
             at = found.start() + base
             if at and source.may_try(at) and (capture := capture_at(source, out, at)):
@@ -585,8 +531,7 @@ def infos(held):
     """Whether capkit reads a file to its end, and its number of packets or the fault's place."""
     held.seek(0)
     done = subprocess.run(["capkit", "infos", "-"], stdin=held, capture_output=True)
-    pattern = rb"(?m)^Packets: (\d+)$|^capkit: .*offset (\d+): "
-    found = re.search(pattern, done.stdout or done.stderr)
+    found = re.search(rb"(?m)^Packets: (\d+)$|^capkit:.*offset (\d+): ", done.stdout or done.stderr)
     return done.returncode == 0, int(found[1] or found[2]) if found else -1
 
 
@@ -601,9 +546,8 @@ def work(given, path):
     if is_sound:
         if subprocess.run(out.words, stdin=held).returncode == 0:
             return number, 0, 0, source.size
-        # A time that pcapng has and pcap hasn't is put right like damage.
-        if path == given.OUT:
-            raise Refused("capkit doesn't write its packets")
+        if path == given.OUT:  # else a time that pcap hasn't is put right like damage
+            raise ChildProcessError("capkit doesn't write its packets")
     elif 3 <= start.count(b"\n") == start.count(b"\r\n"):
         text = copied(held, True)
         if infos(text) > (is_sound, number):
@@ -612,9 +556,8 @@ def work(given, path):
     try:
         salvage(source, out)
         if not out.packets:
-            raise Refused("no capture is found in it")
-        out.settle()
-        out.end(out.piece)
+            raise OSError("no capture is found in it")
+        out.begin(b"")
         out.end(out.final)
     finally:
         for process in filter(None, (out.piece, out.final)):
@@ -643,9 +586,8 @@ def main():
         packets, places, left_out, size = work(given, part)
         if part != path:
             os.replace(part, path)
-    except (OSError, Refused) as error:
-        name, reason = getattr(error, "filename", None), getattr(error, "strerror", None)
-        sys.exit(f"salvage.py: {name or given.IN}: {reason or error}")
+    except OSError as error:
+        sys.exit(f"salvage.py: {error.filename or given.IN}: {error.strerror or error}")
     finally:
         if part != path and os.path.exists(part):
             os.remove(part)
