@@ -1,6 +1,7 @@
-//! The abstract state at each place. Here a place is the index of an instruction from the beginning
-//! of the code, not a distance to its end as in `shorten.rt`. Clauses cite definitions of the same
-//! names; the proofs show that what is known by them holds in each run.
+//! The abstract state (`facts.rt`) at each place: what is known there on all ways to it. Here a
+//! place is the index of an instruction from the beginning of the code, not a distance to its end
+//! as in `shorten.rt`. Clauses cite definitions of the same names; the proofs show that what is
+//! known holds in each run.
 
 ghost use Rattle.std.specs.Prelude.{IfOk, ◌≡◌};
 ghost use Rattle.flt_short.specs.inside.Arrivals.{known_at, arrived, at_start};

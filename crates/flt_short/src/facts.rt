@@ -1,7 +1,7 @@
 //! The abstract state at an instruction: what is known of the packet, of A and of X in each run
-//! that reaches it, and the join of two such states. Clauses cite definitions of the same names, or
-//! of a function that changes what is known, the one that says its effect: the proofs show that
-//! what is known by these holds in each run.
+//! that reaches it, and the join of two such states. Clauses cite definitions of the same names; a
+//! function that changes what is known cites the definition of its effect. The proofs show that
+//! what is known holds in each run.
 //!
 //! `code` and `k` are those of a load: together they say which bytes of the packet it takes.
 
