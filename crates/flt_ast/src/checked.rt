@@ -1,4 +1,5 @@
-//! Expressions of which code can be made: what `flt_lang::check` returns and the compiler takes.
+//! Checked expressions, of which code can be made: `flt_lang::check` returns them, and the compiler
+//! takes them.
 
 ghost use Rattle.std.specs.Prelude.{◌≡◌, ◌≤◌, false};
 ghost use Rattle.flt_ast.specs.Resolved.{IsResolved, some_primitive};

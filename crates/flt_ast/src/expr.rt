@@ -1,4 +1,4 @@
-//! Expressions: a tree as the list of its nodes.
+//! Expressions: a tree as the list of its nodes, operands first.
 
 ghost use Rattle.std.specs.Prelude.{◌≡◌};
 ghost use Rattle.flt_ast.specs.Nodes.{expr_nodes};

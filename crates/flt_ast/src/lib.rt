@@ -1,5 +1,5 @@
-//! The tree of an expression of pcap-filter(7): values with what stands before them, and nodes with
-//! what each one counts as, which values fit, and which trees code can be made of.
+//! The tree of an expression of pcap-filter(7): values with their qualifiers, nodes with what each
+//! one counts as, which values fit, and which trees code can be made of.
 //!
 //! `flt_lang` makes the tree, `flt_gen` compiles it, and `flt_explain` writes it out. An [`Expr`]
 //! is a tree, as a list of [`Node`]s. A [`Checked`] is a tree of which code can be made.

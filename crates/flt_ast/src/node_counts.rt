@@ -1,5 +1,5 @@
-//! How many elementary tests a primitive counts as: at least those of the formula that it means.
-//! docs/inside/COMPILER.md has the table.
+//! The number of elementary tests that a primitive counts as: at least the number in the formula
+//! that it means. docs/inside/COMPILER.md has the table.
 //!
 //! A number of tests fits a byte: no node counts as more than the 15 of `portrange` without a
 //! protocol, for both sides. The bounds in the clauses, up to 27, are greater than the counts

@@ -1,5 +1,5 @@
-//! The tests that primitives are made of, as data: each looks at one field of a packet, or the link
-//! type itself decides it. `table.rt` has them for each link, `emit.rt` their code.
+//! The tests that primitives are made of, as data: each looks at one field of a packet, unless the
+//! link type itself decides the test. `table.rt` has the tests for each link, `emit.rt` their code.
 
 use flt_bpf::operation::Width;
 use flt_words::Comparison;

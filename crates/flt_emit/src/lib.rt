@@ -1,5 +1,5 @@
-//! Code for the packet-filter machine, written from its last instruction on: tests of fields, whose
-//! targets may be at any distance.
+//! Emits code for the packet-filter machine, from its last instruction to the first: tests of
+//! fields, whose targets may be at any distance.
 //!
 //! Only `flt_gen` calls it, to emit the code of primitives. An [`Elementary`] is a test as data,
 //! [`Code`] is the code so far, and its `emit_elementary` puts the code of a test in front.

@@ -1,4 +1,5 @@
-//! The table of elementary tests, for every link. A doc says what holds if the test is yes.
+//! The table of elementary tests, for every link. The doc of each function says what holds if its
+//! test matches.
 
 ghost use Rattle.std.specs.Prelude.{◌≡◌, ◌≤◌, IfSome, Some, None};
 ghost use Rattle.cap_octet.specs.Link.{longest_header, network_offset};

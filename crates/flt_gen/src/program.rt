@@ -1,5 +1,5 @@
-//! The program of an expression, by all stages: its arithmetic is folded, the walk writes plain
-//! code, which is threaded and shortened, twice, and laid out.
+//! Compiles an expression in all stages: its nodes are folded, the walk emits plain code, the code
+//! is threaded and shortened, both twice, and is laid out.
 
 ghost use Rattle.std.specs.Prelude.{◌≡◌, ◌≤◌, IfOk, reverse};
 ghost use Rattle.flt_gen.specs.Correct.{IsProgramOf};

@@ -1,4 +1,4 @@
-//! Which expressions code can be made of: the last step before the compiler.
+//! Checks whether code can be made of an expression: the last step before the compiler.
 
 ghost use Rattle.std.specs.Prelude.{◌≡◌, IfOk, IfErr, Some, None};
 ghost use Rattle.flt_ast.specs.Resolved.{IsResolved};

@@ -1,5 +1,5 @@
-//! Values and what stands before them. Each reader begins at the first of its tokens, takes as many
-//! as it can, and returns what it read and how many tokens that is.
+//! Reads values and the qualifiers before them. Each reader begins at the first of its tokens,
+//! takes as many as it can, and returns what it read and how many tokens that is.
 
 ghost use Rattle.std.specs.Prelude.{◌≡◌, ◌∷◌, List, IsTrue, IfSome, IfNone};
 ghost use Rattle.std.specs.Prelude.{Some, None, length, slice_get, drop, ◌<◌, ◌≤◌};

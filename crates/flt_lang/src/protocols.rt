@@ -1,4 +1,5 @@
-//! The places of a protocol: without a value, before a bracket, before `broadcast` or `multicast`.
+//! The places of a protocol among tokens: without a value, before a bracket, before `broadcast` or
+//! `multicast`.
 
 ghost use Rattle.std.specs.Prelude.{◌≡◌, ◌⊎◌, ◌<◌, length};
 ghost use Rattle.flt_lang.specs.Grammar.{stands_alone, is_accessor, has_casts, kinds_of};

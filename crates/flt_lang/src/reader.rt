@@ -1,5 +1,5 @@
-//! The parser's state and its steps. It reads the tokens once, by operator precedence with one
-//! stack of frames, and decides late which sort an operand is of.
+//! The state of the parser, and its steps. The parser reads the tokens once, by operator precedence
+//! with one stack of frames, and decides late which sort an operand is of.
 
 ghost use Rattle.std.specs.Prelude.{◌≡◌, ◌≤◌, ◌<◌, ◌∷◌, [], IfErr, IfNone, IfOk, IfSome};
 ghost use Rattle.std.specs.Prelude.{MatchOption, OnOk, length, reverse, List, Some, None, Err};

@@ -1,8 +1,8 @@
 //! The counts of an expression before it is checked, and whether it divides by 0, each in one pass
 //! over its nodes.
 //!
-//! Of each there are two functions: a loop over the nodes, whose contract is about this list, and
-//! one whose contract is about the tree.
+//! Each has two functions: a loop over the nodes, whose contract is about this list, and one whose
+//! contract is about the tree.
 
 ghost use Rattle.std.specs.Prelude.{◌≡◌, ◌≤◌, ◌*◌, ◌^◌, sum_by, fold, false};
 ghost use Rattle.flt_ast.specs.Counts.{tests_of, nodes_of, words_of, bound_of};

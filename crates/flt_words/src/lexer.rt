@@ -1,4 +1,5 @@
-//! The tokens of a text, from its first byte on: at each place the longest word or symbol is one.
+//! Cuts a text into tokens, from its first byte on: at each place the longest word or symbol is the
+//! next token.
 
 ghost use Rattle.std.specs.Prelude.{◌≡◌, ◌≢◌, ◌<◌, ◌+◌, ◌==◌, ◌≤◌, IfErr, IfOk, MatchOption};
 ghost use Rattle.std.specs.Prelude.{MatchResult, Ok, Err, None, Some, length};
