@@ -6,14 +6,14 @@ ghost use Rattle.flt_ast.specs.Nets.{ip4_net, ip6_net, is_past_mask};
 
 use crate::value::{NetMask, Value};
 
-/// A network of IPv4, or a host's address with the mask of all bits.
+/// An IPv4 network; a host's address has a mask of all bits.
 #[derive(Clone, Copy)]
 pub struct Ip4Net {
     pub address: u32,
     pub mask: u32,
 }
 
-/// A network of IPv6, or a host's address with the mask of all bits.
+/// An IPv6 network; a host's address has a mask of all bits.
 #[derive(Clone, Copy)]
 pub(crate) struct Ip6Net {
     pub address: u128,
@@ -53,8 +53,8 @@ impl Value {
         }
     }
 
-    /// Whether the address has bits set that the mask leaves out (E9). A value that isn't a network
-    /// has none.
+    /// Whether the address has bits set outside the mask (E9); `false` for a value that isn't a
+    /// network.
     pub(crate) fn is_past_mask(self) -> bool
         ensures { result ≡ is_past_mask self }
     {
@@ -78,22 +78,22 @@ fn ip4_mask(parts: u8, mask: NetMask) -> u32
     }
 }
 
-/// The mask of the first `len` of 32 bits; all of them where `len` is 32 or more.
+/// The mask of the first `len` of 32 bits; all of them if `len` is 32 or more.
 fn ip4_prefix_mask(len: u32) -> u32
     ensures { result ≡ first_bits 32 len }
 {
-    // Without a bit it is 0: a shift of 32 bits by 32 isn't defined.
+    // No bits are a case of their own: a shift of 32 bits by 32 isn't defined.
     match 32u32.saturating_sub(len) {
         32 => 0,
         rest => u32::MAX - ((1 << rest) - 1),
     }
 }
 
-/// The mask of the first `len` of 128 bits; all of them where `len` is 128 or more.
+/// The mask of the first `len` of 128 bits; all of them if `len` is 128 or more.
 fn ip6_prefix_mask(len: u32) -> u128
     ensures { result ≡ first_bits 128 len }
 {
-    // Without a bit it is 0: a shift of 128 bits by 128 isn't defined.
+    // No bits are a case of their own: a shift of 128 bits by 128 isn't defined.
     match 128u32.saturating_sub(len) {
         128 => 0,
         rest => u128::MAX - ((1 << rest) - 1),

@@ -7,9 +7,9 @@
 //! (`alike.rt`) is the place for an instruction of the old code, and whether A and X are read from
 //! there on.
 //!
-//! Only the last two functions have clauses; the others need not be right. `replaces` (`alike.rt`)
-//! checks the new code by the landings noted here; if it returns `false`, the new code isn't taken:
-//! the old code is kept.
+//! Only the last two functions have clauses; a mistake in another one can't change a program's
+//! answers. `replaces` (`alike.rt`) checks the new code with the landings noted here; if it returns
+//! `false`, the old code is kept.
 
 ghost use Rattle.std.specs.Prelude.{IfOk};
 ghost use Rattle.std.specs.Option.{IfSome};
