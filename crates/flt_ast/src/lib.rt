@@ -5,7 +5,6 @@
 //! is a tree, as a list of [`Node`]s. A [`Checked`] is a tree of which code can be made.
 #![tactic(auto)]
 
-mod checked;
 mod expr;
 mod fits;
 mod net;
@@ -14,8 +13,7 @@ mod node_counts;
 mod qualifiers;
 mod value;
 
-pub use checked::Checked;
-pub use expr::Expr;
+pub use expr::{Checked, Expr};
 pub use net::Ip4Net;
 pub use node::Node;
 pub use qualifiers::{CompleteQualifiers, Direction, Qualifiers};
