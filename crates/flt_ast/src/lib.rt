@@ -7,14 +7,12 @@
 
 mod expr;
 mod fits;
-mod net;
 mod node;
 mod node_counts;
 mod qualifiers;
 mod value;
 
 pub use expr::{Checked, Expr};
-pub use net::Ip4Net;
 pub use node::Node;
 pub use qualifiers::{CompleteQualifiers, Direction, Qualifiers};
-pub use value::{Dotted, NetMask, Value};
+pub use value::{Dotted, Ip4Net, NetMask, Value};
