@@ -15,7 +15,6 @@ mod primitive;
 mod protocols;
 mod reader;
 mod resolving;
-mod sums;
 
 pub use checking::check;
 pub use counts::{bound, nodes, tests, words};
