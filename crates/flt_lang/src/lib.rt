@@ -12,7 +12,6 @@ pub mod laws;
 mod nesting;
 mod parser;
 mod primitive;
-mod protocols;
 mod reader;
 mod resolving;
 
