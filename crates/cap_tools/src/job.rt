@@ -16,7 +16,7 @@ use crate::messages::Messages;
 use crate::start::{Assignment, Preparation, assignment_of, read_filter};
 use crate::step::{JobEnd, close, decide, end_after, end_of_failed_write};
 use cap_command::{Command, Compile, Print};
-use cap_filter::compile::compile_text;
+use cap_filter::expression::compile_text;
 use cap_filter::filter::Filter;
 use cap_filter::refusal::Refusal;
 use cap_inputs::{InputCursor, Inputs, Next};
