@@ -14,8 +14,8 @@ use Rattle.flt_words.specs.declared.fault.ExprFault.TheVariants as expression
 use Rattle.flt_bpf.specs.declared.fault.ListingFault.TheVariants as listing_fault
 use Rattle.flt_bpf.specs.Listing.{listing}
 use Rattle.cap_tools.proofs.Compilations.{CompileLeaves}
-use Rattle.cap_filter.specs.declared.refusal.Refusal.{Refusal}
-use Rattle.cap_filter.specs.declared.refusal.Refusal.TheVariants as refusal
+use Rattle.cap_filter.specs.declared.filter.Refusal.{Refusal}
+use Rattle.cap_filter.specs.declared.filter.Refusal.TheVariants as refusal
 use Rattle.cap_process.specs.Messages.{fault_message, refusal_message, write_failed_message}
 use Rattle.cap_filter.specs.Refusals.{refusal_status}
 use Rattle.cap_octet.specs.Views.{OutputView, output_view}

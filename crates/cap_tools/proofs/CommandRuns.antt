@@ -9,8 +9,8 @@ use Rattle.cap_octet.specs.Views.{OutputView, output_view}
 use Rattle.cap_process.specs.Messages.{IsTold}
 use Rattle.cap_tools.specs.inside.Listing.{Runs, ListingLeaves}
 use Rattle.cap_tools.proofs.Compilations.{CompileLeaves}
-use Rattle.cap_filter.specs.declared.refusal.Refusal.{Refusal}
-use Rattle.cap_filter.specs.declared.refusal.Refusal.TheVariants.{Expression}
+use Rattle.cap_filter.specs.declared.filter.Refusal.{Refusal}
+use Rattle.cap_filter.specs.declared.filter.Refusal.TheVariants.{Expression}
 use Rattle.cap_filter.specs.Refusals.{refusal_status}
 use Rattle.flt_words.specs.declared.fault.ExprFault.{ExprFault}
 use Rattle.flt_words.specs.declared.fault.ExprFault.TheVariants.{Memory}

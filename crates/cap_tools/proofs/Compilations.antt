@@ -4,7 +4,7 @@ use Rattle.flt_bpf.specs.declared.insn.Insn.{Insn}
 use Rattle.flt_words.specs.declared.fault.ExprFault.{ExprFault}
 use Rattle.cap_octet.specs.declared.link.Link.{Link}
 use Rattle.cap_octet.specs.Views.{OutputView}
-use Rattle.cap_filter.specs.declared.refusal.Refusal.TheVariants.{Expression}
+use Rattle.cap_filter.specs.declared.filter.Refusal.TheVariants.{Expression}
 use Rattle.cap_filter.specs.Compilation.{IsCompiled}
 use Rattle.cap_filter.specs.Expressions.{IsTextFault}
 use Rattle.cap_filter.specs.Refusals.{refusal_status}

@@ -5,18 +5,14 @@
 //! is a tree, as a list of [`Node`]s. A [`Checked`] is a tree of which code can be made.
 #![tactic(auto)]
 
-mod checked;
 mod expr;
 mod fits;
-mod net;
 mod node;
 mod node_counts;
 mod qualifiers;
 mod value;
 
-pub use checked::Checked;
-pub use expr::Expr;
-pub use net::Ip4Net;
+pub use expr::{Checked, Expr};
 pub use node::Node;
 pub use qualifiers::{CompleteQualifiers, Direction, Qualifiers};
-pub use value::{Dotted, NetMask, Value};
+pub use value::{Dotted, Ip4Net, NetMask, Value};

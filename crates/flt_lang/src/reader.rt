@@ -19,8 +19,10 @@ ghost use Rattle.flt_ast.specs.declared.node.Node.{Node};
 ghost use Rattle.flt_lang.specs.Grammar.{kinds_of};
 
 use crate::frame::{Frame, Operand, Sort, operand_precedence, token_precedence};
-use crate::primitive::{kind_at, read_value, read_value_with_qualifiers};
-use crate::protocols::{ProtocolRole, has_casts, is_accessor, protocol_role, stands_alone};
+use crate::primitive::{
+    ProtocolRole, has_casts, is_accessor, kind_at, protocol_role, read_value,
+    read_value_with_qualifiers, stands_alone,
+};
 use flt_ast::{Expr, NetMask, Node, Value};
 use flt_words::{ExprFault, Operator, Protocol, Token, TokenKind};
 use std::alloc::{AllocError, Allocator};
