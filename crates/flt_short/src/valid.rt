@@ -91,7 +91,7 @@ fn is_test(insn: &Wide) -> bool
     matches!(decode(insn.code), Some(Operation::JumpIf(_, _)))
 }
 
-/// How many tests the code has.
+/// The number of tests in the code.
 pub fn count_tests(code: &[Wide]) -> usize
     ensures { result ≡ count_by (λ i. is_branch (operation_of i.code)) code.now }
 {
