@@ -32,8 +32,8 @@ pub fn arrive(seen: &mut [Known], place: usize, known: &Known)
     }
 }
 
-/// The states before code of this length is read: a run reaches place 0, where nothing is known,
-/// and none reaches another place.
+/// The states before code of this length is read: a run reaches place 0, with nothing known, and
+/// none reaches another place.
 pub fn at_start<A: Allocator>(alloc: A, len: usize) -> Result<Vec<Known, A>, AllocError>
     ensures { IfOk result (λ seen. seen.items ≡ at_start len) }
 {
