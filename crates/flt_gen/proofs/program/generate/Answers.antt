@@ -1,9 +1,6 @@
 -- The code of the nodes, threaded and shortened twice, is code of the expression, and what is laid
 -- out of it keeps every promise.
-use Rattle.std.proofs.Common.{sym, subst}
-use Rattle.flt_gen.specs.Correct.{IsProgramOf}
-use Rattle.flt_gen.specs.Counts.{short_bound_of}
-use Rattle.flt_bpf.specs.Layout.{JumpsAreNeeded, IsShort}
+use Rattle.flt_gen.proofs.Common.{sym, subst, IsProgramOf, short_bound_of, JumpsAreNeeded, IsShort}
 use Rattle.flt_gen.proofs.Whole.{IsMadeOf, made_short, laid_program, laid_valid, laid_short}
 use Rattle.flt_gen.proofs.program.generate.Goals as goal
 
