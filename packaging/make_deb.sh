@@ -5,7 +5,7 @@
 #
 # The package goes to out/. PROGRAM is the built program; where none is given, ./capkit builds it first. The maintainer is
 # DEBFULLNAME and DEBEMAIL, else git's user. Its time is SOURCE_DATE_EPOCH, else that of the commit, or of CHANGELOG.md
-# where there is no commit, as in a tarball. It needs Python 3, dpkg-dev and binutils, and no rights of root.
+# where there is no commit, as in a tarball. It needs Python 3 with jinja2, dpkg-dev and binutils, and no rights of root.
 
 set -eu
 umask 022
