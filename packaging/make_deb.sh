@@ -64,10 +64,10 @@ gzip -9n "$tree"/usr/share/man/man?/*
 # The documents that a user reads, the samples, and what the recipes and lessons call beside them.
 install -m 644 "$root"/samples/* "$documents/samples/"
 install -m 644 "$root/bench/make_capture.py" "$documents/bench/"
-for file in lesson show draw fields library listing markup page pictures runs sides tree words; do
+for file in lesson show draw fields library listing page pictures runs sides tree words; do
     install -D -m 644 -t "$documents/teach" "$root/teach/$file.py"
 done
-install -m 644 "$root/teach/page.css" "$root/teach/page.js" "$documents/teach/"
+install -m 644 "$root"/teach/page.[chj]* "$documents/teach/"
 install -D -m 644 -t "$documents/docs" "$root/docs/lesson.png" "$root/docs/lesson.html"
 # shellcheck disable=SC2046  # the pages have names without spaces
 for page in README.md $(cd "$root" && echo docs/*.md) docs/inside/FORMATS.md docs/inside/MACHINE.md; do
@@ -92,7 +92,7 @@ Architecture: $architecture
 Maintainer: $name <$email>
 Installed-Size: $(du -sk --apparent-size "$tree/usr" | cut -f 1)
 Depends: $needs
-Suggests: python3-capkit
+Suggests: python3-capkit, python3-jinja2
 Section: net
 Priority: optional
 Description: workbench for saved packet captures

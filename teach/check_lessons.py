@@ -23,7 +23,7 @@ import check_access
 import check_captures
 import library
 import listing
-import markup
+import page
 
 HERE = pathlib.Path(__file__).resolve().parent
 SAMPLES = HERE.parent / "samples"
@@ -98,7 +98,7 @@ def check_packet(name, tab, place, packet, programs):
         end = f" {steps} step{'s' if steps > 1 else ''}."
         CHECK.true(f"{what}: {reason!r} ends by {end!r}", reason.endswith(end))
         CHECK.equal(f"{what}: steps of capkit_run", steps, counted)
-        is_drawn = len(program.instructions) <= markup.MOST_DRAWN
+        is_drawn = len(program.instructions) <= page.MOST_DRAWN
         CHECK.equal(f"{what}: boxes", lit, steps if is_drawn else 0)
         CHECK.equal(f"{what}: matches", reason.startswith("It matches"), answer != 0)
         if answer:

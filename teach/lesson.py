@@ -15,7 +15,6 @@ import sys
 
 import library
 import listing
-import markup
 import page
 import sides
 
@@ -32,7 +31,7 @@ class Refused(Exception):
 
 def report(text):
     """Writes a message, in which what isn't a character of a line is shown by its number."""
-    print(f"lesson.py: {markup.visible(text)}", file=sys.stderr)
+    print(f"lesson.py: {page.visible(text)}", file=sys.stderr)
 
 
 def arguments_of(words):
@@ -103,7 +102,7 @@ def packets_of(name, most):
     try:
         for packet in library.capkit.packets(source):
             if len(packets) == most:
-                notes.append(f"The page has the first {markup.counted(most)}; the capture has more.")
+                notes.append(f"The page has the first {page.counted(most)}; the capture has more.")
                 break
             packets.append(packet)
     except library.capkit.CaptureError as error:
@@ -138,7 +137,7 @@ def main(words):
         return make(arguments)
     except Refused as error:
         for line in str(error).split("\n"):
-            print(f"lesson.py: {markup.visible(line)}" if line else "", file=sys.stderr)
+            print(f"lesson.py: {page.visible(line)}" if line else "", file=sys.stderr)
         return 2
     except BrokenPipeError:
         return 1
