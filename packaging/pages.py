@@ -125,34 +125,26 @@ def fish(text):
 
 def roff_text(text):
     """A text of Markdown: code and what is bold in bold, what is stressed in italics, links by their text."""
-    pieces = re.split(r"(`[^`]+`)", text)
-    shown = "".join(bold(piece[1:-1]) if piece.startswith("`") else emphasis(piece) for piece in pieces)
-    return shown if shown[:1] not in ".'" else r"\&" + shown
+    text = re.sub(r"\[([^]`]*)\]\([^`)]*\)", r"\1", roff(text))
+    text = re.sub(r"`([^`]+)`|\*\*([^*]+)\*\*", r"\\fB\1\2\\fP", text)
+    text = re.sub(r"(?<![\w*])\*([^* ][^*]*)\*(?!\w)", r"\\fI\1\\fP", text)
+    return text if text[:1] not in ".'" else r"\&" + text
 
 
-def bold(code):
-    return rf"\fB{roff(code)}\fP"
-
-
-def emphasis(text):
-    text = re.sub(r"\[([^]]*)\]\([^)]*\)", r"\1", text)
-    text = re.sub(r"\*\*([^*]+)\*\*", r"\\fB\1\\fP", roff(text))
-    return re.sub(r"(?<![\w*])\*([^* ][^*]*)\*(?!\w)", r"\\fI\1\\fP", text)
+def header(lines):
+    mark, _, name = lines[0].partition(" ")
+    return [".Ss " + roff(name) if len(mark) == 3 else ".Sh " + roff(name.upper())]
 
 
 def table(lines):
     """A table as a list of its first cells, each with the others: by their names, if there are several."""
     rows = [[cell.strip().replace("\\|", "|") for cell in re.split(r"(?<!\\)\|", line)[1:-1]] for line in lines]
-    names, *rows = rows[:1] + rows[2:]
+    names, _, *rows = rows
     shown = [".Bl -tag -width Ds"]
     for first, *others in rows:
         shown.append('.It "' + r"\&" + roff_text(first).replace('"', r"\(dq") + '"')
-        named = [(name, cell) for name, cell in zip(names[1:], others) if cell]
-        if len(names) == 2:
-            shown += [roff_text(cell) for _, cell in named]
-        else:
-            for place, (name, cell) in enumerate(named):
-                shown += [".br"] * (place > 0) + [roff_text(f"*{name}*: {cell}")]
+        named = [cell if len(names) == 2 else f"*{name}*: {cell}" for name, cell in zip(names[1:], others) if cell]
+        shown.append("\n.br\n".join(map(roff_text, named)))
     return shown + [".El"]
 
 
@@ -168,35 +160,18 @@ def points(lines):
     return shown + [".El"]
 
 
-def paragraphs(text):
-    """The parts of a page of Markdown: the kind of each, and its lines."""
-    kinds = {"`": "code", "#": "header", "|": "table", "-": "points"}
-    lines, is_fenced = [], False
-    for line in [*text.splitlines(), ""]:
-        is_fenced ^= line.startswith("```")
-        if line or is_fenced:
-            lines.append(line)
-        elif lines:
-            kind = kinds.get(lines[0][0], "text")
-            if kind == "code" and not lines[0].startswith("```"):
-                kind = "text"
-            yield kind, lines[1:-1] if kind == "code" else lines
-            lines = []
+def paragraph(lines):
+    return [".Pp", *map(roff_text, lines)]
 
 
 def language():
     """The sections of the page on the filter language."""
-    shown, was_header = [], True
-    for kind, lines in paragraphs(LANGUAGE.read_text().partition("\n")[2]):
-        if kind == "header":
-            mark, _, name = lines[0].partition(" ")
-            shown.append((".Ss " if len(mark) == 3 else ".Sh ") + roff(name.upper() if len(mark) == 2 else name))
-        else:
-            shown += [".Pp"] * (not was_header and kind == "text")
-            shape = {"table": table, "code": code, "points": points}.get(kind, lambda them: map(roff_text, them))
-            shown += shape(lines)
-        was_header = kind == "header"
-    return "\n".join(shown)
+    shapes, shown = {"#": header, "|": table, "-": points}, []
+    page = LANGUAGE.read_text().partition("\n")[2]
+    for fenced, lines in re.findall(r"^```\n((?:.*\n)*?)```$|^((?:.+\n)+)", page, re.MULTILINE):
+        shown += code(fenced.splitlines()) if fenced else shapes.get(lines[0], paragraph)(lines.splitlines())
+    # A paragraph directly below a header needs no space.
+    return re.sub(r"\A\.Pp\n|(?<=\n)(\.S[hs] .*\n)\.Pp\n", r"\1", "\n".join(shown))
 
 
 # ---- all pages
