@@ -152,9 +152,10 @@ class Tab:
 
     def faults(self):
         """Errors and warnings that the page caused so far."""
-        thrown = [it["exceptionDetails"]["text"] for it in self.events_of("Runtime.exceptionThrown")]
+        thrown = self.events_of("Runtime.exceptionThrown")
         entries = [it["entry"] for it in self.events_of("Log.entryAdded")]
-        return thrown + [it["text"] for it in entries if it["level"] in ("error", "warning")]
+        found = [it["exceptionDetails"]["text"] for it in thrown]
+        return found + [it["text"] for it in entries if it["level"] in ("error", "warning")]
 
     def fetched(self):
         """The addresses that the page asked for, but its own."""

@@ -96,20 +96,6 @@ def tree_picture(root, name):
 # ---- the ways through a program: instructions below each other, jumps on both sides
 
 
-def ways_of(insn, place):
-    """Where an instruction leads: (the index there, "yes", "no" or "next")."""
-    code, jt, jf, k = insn
-    if code & words.CLASS == words.RETURN:
-        return []
-    if code == 5:
-        return [(place + 1 + k, "next")]
-    if code & words.CLASS != words.JUMP:
-        return [(place + 1, "next")]
-    if jt == jf:
-        return [(place + 1 + jt, "next")]
-    return [(place + 1 + jt, "yes"), (place + 1 + jf, "no")]
-
-
 def lanes_of(instructions):
     """The jumps past the next instruction, gathered by their kind and their target, each in a lane.
 
@@ -117,7 +103,7 @@ def lanes_of(instructions):
     """
     sources = {}
     for place, insn in enumerate(instructions):
-        for target, kind in ways_of(insn, place):
+        for target, kind in words.ways_of(insn, place):
             if target != place + 1:
                 sources.setdefault((kind, target), []).append(place)
     lanes, ends = {}, {"left": [], "right": []}
@@ -188,7 +174,7 @@ class Flow:
         x, y = self.x + self.box_width / 2, y_of(place) + BOX / 2
         return "".join(
             f'<path class="{kind}" data-way="{place}-{target}" d="M{x:g} {y:g}v{ROW - BOX}"/>'
-            for target, kind in ways_of(self.instructions[place], place)
+            for target, kind in words.ways_of(self.instructions[place], place)
             if target == place + 1
         )
 
