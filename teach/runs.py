@@ -239,7 +239,7 @@ def fault_of(program, trace, packet):
     if not size:
         return "it divides by X, which is 0"
     at = read_at(insn, trace.indexes[-1])
-    which = f"byte {at}" if size == 1 else f"bytes {at} to {at + size - 1}"
+    which = words.bytes_text(size, at)
     return f"it loads {which}, counted from 0, and {len(packet.data)} were captured"
 
 

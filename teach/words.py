@@ -52,10 +52,10 @@ def joined(one, other):
 
 
 def bytes_text(size, place, base=""):
-    """The bytes of a packet that a load reads, counted from 0."""
+    """Which bytes of a packet a load reads, counted from 0."""
     if size == 1:
         return f"byte {base}{place}"
-    return f"{size} bytes from byte {base}{place}"
+    return f"bytes {base}{place} to {base}{place + size - 1}"
 
 
 def fields_at(known, link, place, size):
@@ -105,7 +105,9 @@ def load_text(known, link, code, k):
     if mode == 0x80:
         return "the length of the packet on the wire"
     size = SIZES.get(code & 0x18, 4)
-    where = bytes_text(size, k, "X + " if mode == 0x40 else "")
+    where = f"byte {'X + ' if mode == 0x40 else ''}{k}"
+    if size > 1:
+        where = f"{size} bytes from {where}"
     field = load_field(known, link, code, k)
     return f"the {field} ({where})" if field else where
 
@@ -120,10 +122,7 @@ def subject_of(known, link, code, k):
     field = load_field(known, link, code, k)
     if field:
         return f"the {field}"
-    base = "X + " if mode == 0x40 else ""
-    if size == 1:
-        return f"the number in byte {base}{k}"
-    return f"the number in bytes {base}{k} to {base}{k + size - 1}"
+    return f"the number in {bytes_text(size, k, 'X + ' if mode == 0x40 else '')}"
 
 
 def field_of(known):
@@ -134,28 +133,30 @@ def field_of(known):
 def test_text(known, code, k):
     """The question that a test asks."""
     operator, subject = code & 0xF0, known.subject or "A"
-    if code & 8:
-        return {
-            0x10: f"is {subject} X?", 0x20: f"is {subject} above X?",
-            0x30: f"is {subject} at least X?", 0x40: f"has {subject} a bit of X?",
-        }[operator]  # fmt: skip
     if operator == 0x40:
-        if known.field == "flags and fragment offset" and k == 0x1FFF:
-            return "is it a later fragment?"
-        bits = "the bit" if k & (k - 1) == 0 else "one of the bits"
-        return f"is {bits} {k:#x} set in {subject}?"
-    value = value_text(field_of(known), k)
+        return bits_text(known, subject, code, k)
+    how = {0x10: "", 0x20: "above ", 0x30: "at least "}[operator]
+    if code & 8:
+        return f"is {subject} {how}X?"
     if known.mask is not None and known.field is None:
         is_address = subject.endswith("address") and not PART.search(subject)
         network = network_text(k, known.mask) if is_address and operator == 0x10 else None
         if network:
             return f"is {subject.replace('address', 'network')} {network}?"
-        how = {0x10: "", 0x20: "above ", 0x30: "at least "}[operator]
         return f"are the bits {known.mask:#x} of {subject} {how}{k:#x}?"
     if known.field == "version":
         subject = "the version"
-    return {0x10: f"is {subject} {value}?", 0x20: f"is {subject} above {value}?",
-            0x30: f"is {subject} at least {value}?"}[operator]  # fmt: skip
+    return f"is {subject} {how}{value_text(field_of(known), k)}?"
+
+
+def bits_text(known, subject, code, k):
+    """The question of a test for one of several bits."""
+    if code & 8:
+        return f"has {subject} a bit of X?"
+    if known.field == "flags and fragment offset" and k == 0x1FFF:
+        return "is it a later fragment?"
+    bits = "the bit" if k & (k - 1) == 0 else "one of the bits"
+    return f"is {bits} {k:#x} set in {subject}?"
 
 
 def text_of(known, link, insn):
