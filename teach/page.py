@@ -1,12 +1,13 @@
 """The page of a lesson: one file, with its style, its script and its data inside.
 
 The browser takes no script and no style but these two, by their digests in the page's policy, and
-fetches nothing. What comes from a capture is data (JSON in which `<` is written as a number), and
-is put on the page as text alone.
+fetches nothing. What comes from a capture is text, which the template escapes, or data (JSON in
+which `<` is written as a number), which the script puts on the page as text alone.
 """
 import base64
 import hashlib
 import pathlib
+import re
 import sys
 import unicodedata
 
@@ -140,14 +141,23 @@ def has_memory(program):
     return any(isinstance(runs.written_by(insn), int) for insn in program.instructions)
 
 
+def pieces(line):
+    """The line of a packet in parts: its date, its time, the parts of a second, and the rest."""
+    return re.match(r"(\S+ )?([0-9:]+)?(\.[0-9]+)?(.*)", line, re.DOTALL).groups("")
+
+
+MARKS = {
+    runs.KEPT: ("✓", "matches", "keeps"), runs.NOT_KEPT: ("✗", "doesn't match", "drops"),
+    runs.REJECTED: ("!", "is rejected", "odd"), " ": ("–", "isn't filtered", "odd"),
+}  # fmt: skip
 TEMPLATES = jinja2.Environment(
     loader=jinja2.FileSystemLoader(HERE), autoescape=True, trim_blocks=True, lstrip_blocks=True,
 )  # fmt: skip
 TEMPLATES.policies["json.dumps_kwargs"] = {"separators": (",", ":")}
 TEMPLATES.filters["shown"] = visible_lines
 TEMPLATES.globals.update(
-    counted=counted, has_memory=has_memory, most_drawn=MOST_DRAWN, pictures=pictures, zip=zip,
-    style=STYLE, script=SCRIPT,
+    counted=counted, has_memory=has_memory, marks=MARKS, most_drawn=MOST_DRAWN,
+    pictures=pictures, pieces=pieces, zip=zip, style=STYLE, script=SCRIPT,
     policy=f"default-src 'none'; script-src {digest(SCRIPT)}; style-src {digest(STYLE)};"
     " base-uri 'none'; form-action 'none'",
 )  # fmt: skip
@@ -179,7 +189,8 @@ def page_of(sides, capture, packets, notes):
             told = notes_of_size(packets, count, shown)
             data = data_of(packets, taken, ways, shown)
             text = TEMPLATES.get_template("page.html").render(
-                sides=sides, capture=capture, count=len(packets), notes=notes + told, data=data
+                sides=sides, capture=capture, count=len(packets), notes=notes + told, data=data,
+                differing=set(taken.differ),
             ).encode()
             if len(text) <= MOST_BYTES or not packets:
                 return text, told
