@@ -398,7 +398,7 @@ def check_times(lesson):
 def check_large(tab, folder):
     """10,000 packets and 1,000 instructions, of an expression and of which each one runs."""
     capture = pathlib.Path(folder, "large.pcap")
-    text, _ = check_captures.many_hosts(1000)
+    text = check_captures.many_hosts(1000)
     every = listing.program_of(pathlib.Path(folder, "long").read_text()).filter
     packets = list(library.capkit.packets(capture))
     for name, words, program in (
