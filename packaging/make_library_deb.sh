@@ -74,7 +74,8 @@ Description: $4
  writes pcap and pcapng captures in memory. Its functions are proved.
 END
 }
-described same libs "$needs" 'filter expressions and captures in memory (shared library)' | pack "$shared" "$architecture"
+described same libs "$needs" 'filter expressions and captures in memory (shared library)' |
+    pack "$shared" "$architecture"
 described same libdevel "libcapkit0 (= $version)" 'filter expressions and captures in memory (development files)' |
     pack "$dev" "$architecture"
 described foreign python "python3 (>= 3.9), libcapkit0 (>= $release)" \

@@ -183,8 +183,8 @@ def pages():
     commands = [Help(command.form, helps[command.form]) for command in program.commands]
     values = {"version": version, "system": roff(" ".join(version.split()[:2])), "language": language()}
     values.update(program=program, commands=commands, names=" ".join(command.name for command in commands))
-    templates = jinja2.Environment(loader=jinja2.FileSystemLoader(TEMPLATES), line_statement_prefix="@", trim_blocks=True,
-                                   keep_trailing_newline=True, undefined=jinja2.StrictUndefined)
+    how = {"line_statement_prefix": "@", "trim_blocks": True, "keep_trailing_newline": True}
+    templates = jinja2.Environment(loader=jinja2.FileSystemLoader(TEMPLATES), undefined=jinja2.StrictUndefined, **how)
     templates.filters.update(roff=roff, zsh=zsh, fish=fish)
     own = {f"capkit-{command.name}.1": command for command in commands}
     for name in templates.list_templates(filter_func=lambda name: name != "macros"):

@@ -35,7 +35,7 @@ def end_of_group(code, at):
 
 
 def chunks(text):
-    """Yields the top-level parts of a file of specs/: the line, the lines of the comment in front of it, and the part."""
+    """Yields the top-level parts of a file of specs/: the line, the comment's lines in front of it, and the part."""
     for found in re.finditer(r"((?:^--.*\n)*)(^[^-\s].*\n(?:(?:[ })\]].*)?\n)*)", text, re.MULTILINE):
         lines = [line for line in found[2].split("\n") if line.strip()]
         yield text.count("\n", 0, found.start(2)) + 1, found[1].splitlines(), "\n".join(lines)

@@ -70,7 +70,7 @@ def used_names(code, scope, bound):
 
 
 def named_by(target, fields):
-    """The uses that a name with fields stands for: of an item, or of what a module or a type of src/ has by these names."""
+    """The uses that a name with fields stands for: of an item, or of what a module or a type of src/ has."""
     if isinstance(target, dict):
         target = target.get(fields[0] if fields else "", target.get(""))
     return {target} if target else set()
@@ -335,7 +335,8 @@ class Sources:
         members = set(re.findall(r"(?:ghost|fn) (\w+)", code))
         uses = used_names(code, scope, members | bound_names(code) | set(PARAMETER.findall(code)))
         text = re.sub(r"^ *ghost use [^;]+;\n", "", without_attributes(text), flags=re.MULTILINE)
-        self.items[key] = Item(key, "trait", file.path, file.line(block.head), [Piece(textwrap.dedent(text.strip("\n")), uses - {key})])
+        piece = Piece(textwrap.dedent(text.strip("\n")), uses - {key})
+        self.items[key] = Item(key, "trait", file.path, file.line(block.head), [piece])
 
     def add_ghosts(self, file, block, key, trait, scope):
         """What contracts see of a type: the ghost members of an impl, but invariants and how values are coded."""
