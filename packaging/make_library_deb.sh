@@ -50,7 +50,9 @@ sed 's|](../library/examples/|](examples/|g' "$root/docs/LIBRARY.md" >"$document
 drop_dead_links "$documents/LIBRARY.md"
 
 modules=$python/usr/lib/python3/dist-packages/capkit
-install -D -m 644 -t "$modules" "$root"/library/python/src/capkit/*.py "$root/library/python/src/capkit/py.typed"
+install -D -m 644 -t "$modules" "$root"/library/python/src/capkit/*.py "$root/library/python/src/capkit/py.typed" \
+    "$root/library/out/libcapkit_batch.so"
+strip --strip-unneeded --remove-section=.comment --remove-section=.note "$modules/libcapkit_batch.so"
 install -D -m 644 -t "$python/usr/share/doc/python3-capkit/examples" "$root"/library/python/examples/*
 install -m 644 "$root/library/python/README.md" "$python/usr/share/doc/python3-capkit/"
 drop_dead_links "$python/usr/share/doc/python3-capkit/README.md"
@@ -67,16 +69,14 @@ if command -v py3clean >/dev/null; then py3clean -p python3-capkit; fi
 END
 chmod 755 "$python/DEBIAN/postinst" "$python/DEBIAN/prerm"
 
-pack() { # TREE SECTION DEPENDS TEXT [ARCHITECTURE]
-    multi='Multi-Arch: same'
-    if [ "${5:-}" ]; then architecture=$5 multi='Multi-Arch: foreign'; fi
+pack() { # TREE SECTION DEPENDS TEXT [MULTIARCH]
     package=$root/out/${1##*/}_${version}_$architecture.deb
     write_sums "$1"
     cat >"$1/DEBIAN/control" <<END
 Package: ${1##*/}
 Version: $version
 Architecture: $architecture
-$multi
+Multi-Arch: ${5:-same}
 Section: $2
 Priority: optional
 Maintainer: $name <$email>
@@ -92,4 +92,4 @@ END
 mkdir -p "$root/out"
 pack "$shared" libs "$needs" 'filter expressions and captures in memory (shared library)'
 pack "$dev" libdevel "libcapkit0 (= $version)" 'filter expressions and captures in memory (development files)'
-pack "$python" python "python3 (>= 3.9), libcapkit0 (>= $release)" 'filter expressions and captures (package for Python 3)' all
+pack "$python" python "python3 (>= 3.9), libcapkit0 (>= $release)" 'filter expressions and captures (package for Python 3)' foreign

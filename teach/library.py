@@ -33,7 +33,7 @@ def load():
     except (ImportError, OSError):
         sys.modules.pop("capkit", None)
         library = checkout()
-        os.environ.setdefault("CAPKIT_LIBRARY", str(library / "out" / "libcapkit.so.0"))
+        os.environ.setdefault("CAPKIT_LIBRARY", str(library / "out" / "libcapkit_batch.so"))
         sys.path.insert(0, str(library / "python" / "src"))
         try:
             import capkit

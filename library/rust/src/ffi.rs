@@ -129,9 +129,6 @@ pub fn text_by(call: impl Fn(*mut u8, usize) -> usize) -> String {
 
 /// What a number is called.
 pub fn text(number: u32) -> String {
-    if number == 218 {
-        return "link types differ".into(); // which no call returns
-    }
     // SAFETY: the buffer has as many bytes as the call is told.
     text_by(|buffer, room| unsafe { capkit_text(number, buffer, room) })
 }
