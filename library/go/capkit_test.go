@@ -76,7 +76,8 @@ func TestWhatIsWrittenReadsBack(t *testing.T) {
 	named.InterfaceName = "eth1"
 	capture := append(written(t, capkit.Pcapng, packets...), written(t, capkit.Pcapng, named)...)
 	got, err = read(of(bytes.Repeat(capture, 100)))
-	if want := strings.Repeat(plain(packets)+plain([]capkit.Packet{named}), 100); err != io.EOF || plain(got) != want {
+	want := strings.Repeat(plain(packets)+plain([]capkit.Packet{named}), 100)
+	if err != io.EOF || plain(got) != want {
 		t.Errorf("sections: %v, %v", len(got), err)
 	}
 	got, _ = read(of(written(t, capkit.Pcap, packet(arp()))))
@@ -202,7 +203,8 @@ func TestAFilterThatIsSetBetweenPackets(t *testing.T) {
 	arp, other := packet(arp()), packet(make([]byte, 60))
 	capture := written(t, capkit.Pcapng, arp, other, arp, other, other, arp)
 	// The bytes that come with an error count.
-	reader := capkit.NewReader(iotest.DataErrReader(io.MultiReader(bytes.NewReader(capture), iotest.ErrReader(io.ErrNoProgress))))
+	source := io.MultiReader(bytes.NewReader(capture), iotest.ErrReader(io.ErrNoProgress))
+	reader := capkit.NewReader(iotest.DataErrReader(source))
 	expression, _ := capkit.NewExpression("arp")
 	offset := reader.Offset()
 	for i, want := range []capkit.Packet{arp, other, arp, other, arp} {

@@ -155,8 +155,8 @@ func (r *Reader) more() error {
 	return &CaptureError{Code(result), r.Offset()}
 }
 
-// next reads the next packets by one call, those alone that match. Their filter is for the link type
-// that the packet before them has.
+// next reads the next packets by one call, those alone that match. Their filter is for the link
+// type of the packet before them.
 func (r *Reader) next() (result C.uint32_t, err error) {
 	filter, insns, count := (*Filter)(nil), (*C.struct_capkit_insn)(nil), C.size_t(0)
 	if r.expression != nil {
@@ -169,8 +169,8 @@ func (r *Reader) next() (result C.uint32_t, err error) {
 		insns, count = filter.program()
 	}
 	r.given = 0
-	return C.batch_next(&r.reader, &r.table[0], (*C.uint8_t)(start(r.buffer)), C.size_t(r.size), insns, count,
-		C.uint16_t(r.linkType), &r.batch[0], C.size_t(len(r.batch)), &r.count), nil
+	return C.batch_next(&r.reader, &r.table[0], (*C.uint8_t)(start(r.buffer)), C.size_t(r.size),
+		insns, count, C.uint16_t(r.linkType), &r.batch[0], C.size_t(len(r.batch)), &r.count), nil
 }
 
 // fill moves what is left to the front of the buffer, and reads on behind it.

@@ -16,7 +16,6 @@ except ImportError:
     from wheel.bdist_wheel import bdist_wheel
 
 HERE = pathlib.Path(__file__).resolve().parent
-NAMES = ["libcapkit_batch.so", "libcapkit.so.0"]
 VERSION = re.search('__version__ = "(.*)"', (HERE / "src/capkit/__init__.py").read_text())[1]
 
 
@@ -25,8 +24,9 @@ class BuildWithLibrary(build_py):
 
     def run(self):
         super().run()
-        for name in NAMES:
-            library = next((it / name for it in (HERE, HERE.parent / "out") if (it / name).is_file()), None)
+        for name in ("libcapkit_batch.so", "libcapkit.so.0"):
+            places = HERE / name, HERE.parent / "out" / name
+            library = next(filter(pathlib.Path.is_file, places), None)
             if library is None:
                 sys.exit(f"capkit: there is no {name}: `make` in the folder library/ builds it")
             if not self.editable_mode:

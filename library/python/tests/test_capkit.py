@@ -296,10 +296,10 @@ class PacketsTest(unittest.TestCase):
             self.assertIs(caught.exception.fault, capkit.Check.TRUNCATED)
 
     def test_many_packets_by_one_call(self):
-        """Those of each section have its names, byte order and comments, and its link types' filters."""
-        files = [(SAMPLES / name).read_bytes() for name in ("comments.pcapng", "two-sections.pcapng")]
-        links = [packet(UDP[14:], link_type=capkit.LINK_RAW, interface_name=b"raw"), packet(), packet(UDP)]
-        files.append(written(links * 100))
+        """Packets have the names, byte order and comments of their section, and their link type."""
+        files = [SAMPLES / "comments.pcapng", SAMPLES / "two-sections.pcapng"]
+        raw = packet(UDP[14:], link_type=capkit.LINK_RAW, interface_name=b"raw")
+        files = [file.read_bytes() for file in files] + [written([raw, packet(), packet(UDP)] * 100)]
         want, udp = [p for file in files for p in capkit.packets(file)] * 3, capkit.Expression("udp")
         self.assertEqual(list(capkit.packets(b"".join(files) * 3)), want)
         want = [p for p in want if udp.matches(p)]

@@ -146,9 +146,5 @@ pub fn unit(
         buffer.resize(length, 0);
         written = call(buffer.as_mut_ptr(), buffer.len(), &mut length);
     }
-    if written == OK {
-        Ok(&buffer[..length])
-    } else {
-        Err(written)
-    }
+    (written == OK).then(|| &buffer[..length]).ok_or(written)
 }

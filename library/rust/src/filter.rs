@@ -54,10 +54,10 @@ impl Filter {
     /// ```
     pub fn new(expression: &str, link_type: u16) -> Result<Filter, CompileError> {
         let mut insns = vec![Instruction::default(); bound(expression)?];
-        let (text, length) = (expression.as_ptr(), expression.len());
+        let (text, size) = (expression.as_ptr(), expression.len());
         let (to, room, mut number) = (insns.as_mut_ptr(), insns.len(), 0);
         // SAFETY: the pointers and lengths are those of the text and of the instructions.
-        let status = unsafe { ffi::capkit_compile(text, length, link_type, to, room, &mut number) };
+        let status = unsafe { ffi::capkit_compile(text, size, link_type, to, room, &mut number) };
         insns.truncate(CompileError::number_of(status, number)?);
         Ok(Filter(insns))
     }
@@ -102,10 +102,10 @@ impl Filter {
     pub fn trace(&self, data: &[u8], original_length: u32) -> Vec<Step> {
         let mut steps = vec![Step::default(); self.0.len()];
         let (insns, most, to) = (self.0.as_ptr(), self.0.len(), steps.as_mut_ptr());
-        let (start, length) = (data.as_ptr(), data.len());
+        let (start, size) = (data.as_ptr(), data.len());
         // SAFETY: the program is valid, and the pointers and lengths are those of the slices.
         let count =
-            unsafe { ffi::capkit_trace(insns, most, start, length, original_length, to, most) };
+            unsafe { ffi::capkit_trace(insns, most, start, size, original_length, to, most) };
         steps.truncate(count);
         steps
     }
@@ -135,10 +135,8 @@ impl Filter {
         let (insns, count) = (self.0.as_ptr(), self.0.len());
         let (to, room, mut length) = (buffer.as_mut_ptr(), buffer.len(), 0);
         // SAFETY: the pointers and lengths are those of the program and of the buffer.
-        match unsafe { ffi::capkit_write_listing(insns, count, to, room, &mut length) } {
-            ffi::OK => Ok(length),
-            _ => Err(fmt::Error),
-        }
+        let status = unsafe { ffi::capkit_write_listing(insns, count, to, room, &mut length) };
+        (status == ffi::OK).then_some(length).ok_or(fmt::Error)
     }
 
     /// Where else the program gives the same answers, as far as `capkit_portability` can say: on

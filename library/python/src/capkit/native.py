@@ -1,6 +1,6 @@
-"""The calls of libcapkit, as capkit.h declares them, and one of go/batch.h, which reads many packets.
+"""The calls of libcapkit, as capkit.h declares them, and that of go/batch.h for many packets.
 
-ctypes and not cffi: any Python has it, and where calls are many, one is made for many packets.
+ctypes and not cffi: any Python has it, and one call reads many packets.
 """
 import ctypes as c
 import os
