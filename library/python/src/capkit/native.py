@@ -37,9 +37,8 @@ PacketInfo = _struct("PacketInfo", [
 BatchPacket = _struct("BatchPacket", [("packet", PacketInfo), ("end", _size)])
 
 # It has the calls of libcapkit.so.0 too, which it is linked to.
-_library = c.CDLL(
-    os.environ.get("CAPKIT_LIBRARY") or str(pathlib.Path(__file__).with_name("libcapkit_batch.so"))
-)
+_inside = pathlib.Path(__file__).with_name("libcapkit_batch.so")
+_library = c.CDLL(os.environ.get("CAPKIT_LIBRARY") or str(_inside))
 
 
 def declare(name: str, result: Any, *arguments: Any) -> Any:
