@@ -47,7 +47,9 @@ sed 's|](../library/examples/|](examples/|g' "$root/docs/LIBRARY.md" >"$document
 drop_dead_links "$documents/LIBRARY.md"
 
 modules=$python/usr/lib/python3/dist-packages/capkit
-install -D -m 644 -t "$modules" "$root"/library/python/src/capkit/*.py "$root/library/python/src/capkit/py.typed"
+install -D -m 644 -t "$modules" "$root"/library/python/src/capkit/*.py "$root/library/python/src/capkit/py.typed" \
+    "$root/library/out/libcapkit_batch.so"
+strip --strip-unneeded --remove-section=.comment --remove-section=.note "$modules/libcapkit_batch.so"
 install -D -m 644 -t "$python/usr/share/doc/python3-capkit/examples" "$root"/library/python/examples/*
 install -m 644 "$root/library/python/README.md" "$python/usr/share/doc/python3-capkit/"
 drop_dead_links "$python/usr/share/doc/python3-capkit/README.md"
@@ -78,5 +80,5 @@ described same libs "$needs" 'filter expressions and captures in memory (shared 
     pack "$shared" "$architecture"
 described same libdevel "libcapkit0 (= $version)" 'filter expressions and captures in memory (development files)' |
     pack "$dev" "$architecture"
-described foreign python "python3 (>= 3.9), libcapkit0 (>= $release)" \
-    'filter expressions and captures (package for Python 3)' | pack "$python" all
+described no python "python3 (>= 3.9), libcapkit0 (>= $release)" \
+    'filter expressions and captures (package for Python 3)' | pack "$python" "$architecture"

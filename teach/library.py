@@ -23,7 +23,7 @@ def use_checkout():
     for folder in pathlib.Path(__file__).resolve().parents:
         sources = folder / "library" / "python" / "src"
         if sources.exists():
-            shared = folder / "library" / "out" / "libcapkit.so.0"
+            shared = folder / "library" / "out" / "libcapkit_batch.so"
             os.environ.setdefault("CAPKIT_LIBRARY", str(shared))
             sys.path.insert(0, str(sources))
             return

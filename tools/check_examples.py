@@ -29,7 +29,7 @@ EXAMPLE = re.compile(r"^(\$ .*\n(?:> .*\n)*)((?:(?!\$ |```).*\n)*)", re.MULTILIN
 # The folders that the set-up copies, and where a package has them.
 FOLDERS = ["samples", "bench", "examples", "teach"]
 INSTALLED = "/usr/share/doc/capkit"
-LIBRARY = ROOT / "library" / "out" / "libcapkit.so.0"
+LIBRARY = ROOT / "library" / "out" / "libcapkit_batch.so"
 # What is called by examples that need the library.
 NEEDS_LIBRARY = re.compile(r"\.\./teach/|import capkit")
 
@@ -89,7 +89,7 @@ def same_set_up(capkit):
 
 def missing_program(commands, library):
     if NEEDS_LIBRARY.search("\n".join(commands)) and not library.exists():
-        return "libcapkit.so.0"
+        return library.name
     for program in OTHER_PROGRAMS:
         if re.search(rf"(^|[|;(]|\s){program}\s", "\n".join(commands)) and shutil.which(program) is None:
             return program

@@ -69,12 +69,9 @@ static inline const uint8_t *capture_of(const char *program, const char *name, s
     struct stat status;
     int file = open(name, O_RDONLY);
     if (file >= 0 && fstat(file, &status) == 0) {
-        if (S_ISREG(status.st_mode) && status.st_size > 0) {
-            bytes = mmap(NULL, *size = status.st_size, PROT_READ, MAP_PRIVATE, file, 0);
-            bytes = bytes == MAP_FAILED ? NULL : bytes;
-        } else {
+        bytes = mmap(NULL, *size = status.st_size, PROT_READ, MAP_PRIVATE, file, 0);
+        if (bytes == MAP_FAILED)
             bytes = read_whole(file, size);
-        }
     }
     if (!bytes)
         fprintf(stderr, "%s: %s: %s\n", program, name, strerror(errno));

@@ -13,37 +13,25 @@ static const char *expression, *in_name, *out_name;
 static FILE *out;
 static struct capkit_reader reader;
 static struct capkit_interface interfaces[CAPKIT_MOST_INTERFACES];
+static struct capkit_insn *program; /* for packets of this link type, once there was one */
+static size_t room, count;
+static int link_type = -1;
 static struct capkit_interface written[MOST_OUTPUT_INTERFACES];
 static uint32_t written_count;
 static uint8_t unit[CAPKIT_MOST_UNIT];
 static char comment[65536]; /* and a NUL */
 
-/* The programs for the link types that were met; no expression is compiled for a fourth one. */
-static struct program {
-    struct capkit_insn *insns;
-    size_t count;
-    uint16_t link_type;
-} programs[3];
-
-static const struct program *program_for(uint16_t link_type)
+/* Compiles the expression for packets of a link type, unless the last packet had it too. */
+static void compile_for(uint16_t type)
 {
-    struct program *program = programs;
-    size_t room;
-    uint32_t status;
-    while (program < programs + 3 && program->insns && program->link_type != link_type)
-        program++;
-    if (program < programs + 3 && program->insns)
-        return program;
-    if (program == programs + 3 || !(program->insns = room_of("keep", expression, &room)))
-        exit(1);
-    status = capkit_compile(expression, strlen(expression), link_type, program->insns, room,
-                            &program->count);
+    uint32_t status = CAPKIT_OK;
+    if (type != link_type)
+        status = capkit_compile(expression, strlen(expression), type, program, room, &count);
     if (status) {
-        report_status("keep", status, program->count);
+        report_status("keep", status, count);
         exit(1);
     }
-    program->link_type = link_type;
-    return program;
+    link_type = type;
 }
 
 /* Writes the unit that a call made, or ends where it made none. */
@@ -87,11 +75,10 @@ static uint32_t interface_for(const struct capkit_packet *p)
 
 static void keep(const uint8_t *capture, size_t size, const struct capkit_packet *p)
 {
-    const struct program *program = program_for(p->link_type);
     const uint8_t *bytes = capture + p->at;
     uint32_t number, result;
     size_t length;
-    if (!capkit_matches(program->insns, program->count, bytes, p->captured, p->original))
+    if (!capkit_matches(program, count, bytes, p->captured, p->original))
         return;
     number = interface_for(p);
     length = capkit_comment(&reader, capture, size, p, comment, sizeof comment);
@@ -122,29 +109,27 @@ static void begin(void)
 int main(int argc, char **argv)
 {
     struct capkit_packet p;
-    struct capkit_insn *checked;
     const uint8_t *capture;
-    size_t room, size;
+    size_t size;
     uint32_t found;
     if (argc != 4)
         return fprintf(stderr, "usage: keep EXPRESSION IN OUT\n"), 2;
     expression = argv[1], in_name = argv[2], out_name = argv[3];
-    if (!(checked = room_of("keep", expression, &room)))
+    if (!(program = room_of("keep", expression, &room)))
         return 2;
-    free(checked);
     if (is_same_file(in_name, out_name))
         return fprintf(stderr, "keep: %s: is the input too\n", out_name), 2;
     if (!(capture = capture_of("keep", in_name, &size)))
         return 1;
-    do {
-        found = capkit_next(&reader, interfaces, CAPKIT_MOST_INTERFACES, capture, size, &p);
-        if (found == CAPKIT_PACKET)
-            program_for(p.link_type);
-        if (!out && (found == CAPKIT_PACKET || found == CAPKIT_END))
+    while ((found = capkit_next(&reader, interfaces, CAPKIT_MOST_INTERFACES, capture, size, &p)) ==
+           CAPKIT_PACKET) {
+        compile_for(p.link_type);
+        if (!out)
             begin();
-        if (found == CAPKIT_PACKET)
-            keep(capture, size, &p);
-    } while (found == CAPKIT_PACKET || found == CAPKIT_NO_PACKET);
+        keep(capture, size, &p);
+    }
+    if (!out && found == CAPKIT_END)
+        begin();
     if (out && fclose(out) != 0)
         return fprintf(stderr, "keep: %s: %s\n", out_name, strerror(errno)), 1;
     if (found == CAPKIT_END)

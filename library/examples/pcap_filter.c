@@ -1,6 +1,6 @@
 /* Counts the packets of a capture that match, by libpcap: capkit's program in a struct bpf_program,
  * which pcap_setfilter takes. It is the same for a live capture, opened by pcap_open_live; there
- * Linux runs the program, of at most 4096 instructions, where capkit_is_portable is 1.
+ * Linux runs the program, if capkit_portability has CAPKIT_ON_LINUX.
  *
  * The statuses are those of capkit: 1 after a fault, and 2 where the command line or the expression
  * is refused. */
@@ -25,7 +25,7 @@ static int compile(const char *expression, struct capkit_insn *insns, size_t roo
         capkit_compile(expression, strlen(expression), link_type_of(capture), insns, room, &number);
     if (status)
         return report_status("pcap_filter", status, number), 0;
-    if (!capkit_is_portable(insns, number))
+    if (!(capkit_portability(insns, number) & CAPKIT_ON_LIBPCAP))
         fprintf(stderr, "pcap_filter: libpcap may judge some packets otherwise\n");
     program->bf_len = number;
     program->bf_insns = (struct bpf_insn *)insns;

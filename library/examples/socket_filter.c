@@ -13,7 +13,7 @@
 #include <net/if.h>
 #include <sys/socket.h>
 
-/* The program of an expression, which Linux runs as capkit_run does: it is portable. */
+/* The program of an expression, which Linux runs as capkit_run does. */
 static struct sock_fprog program_of(const char *expression)
 {
     struct sock_fprog program;
@@ -28,7 +28,7 @@ static struct sock_fprog program_of(const char *expression)
         report_status("socket_filter", status, number);
         exit(2);
     }
-    if (!capkit_is_portable(insns, number)) {
+    if (!(capkit_portability(insns, number) & CAPKIT_ON_LINUX)) {
         fprintf(stderr, "socket_filter: %s: Linux may judge some packets otherwise\n", expression);
         exit(2);
     }

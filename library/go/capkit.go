@@ -29,9 +29,6 @@ func start(bytes []byte) unsafe.Pointer {
 
 // text is what a number is called.
 func text(number uint32) string {
-	if number == uint32(ErrLinkTypesDiffer) {
-		return "link types differ" // which no call returns
-	}
 	var buffer [64]C.char
 	C.capkit_text(C.uint32_t(number), &buffer[0], C.size_t(len(buffer)))
 	return C.GoString(&buffer[0])

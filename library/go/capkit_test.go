@@ -72,6 +72,14 @@ func TestWhatIsWrittenReadsBack(t *testing.T) {
 	if err != io.EOF || plain(got) != plain([]capkit.Packet{packet(arp()), empty}) {
 		t.Errorf("pcap with nanoseconds: %v, %v", got, err)
 	}
+	// Many packets are read by one call, those of one section with its names and comments.
+	named.InterfaceName = "eth1"
+	capture := append(written(t, capkit.Pcapng, packets...), written(t, capkit.Pcapng, named)...)
+	got, err = read(of(bytes.Repeat(capture, 100)))
+	want := strings.Repeat(plain(packets)+plain([]capkit.Packet{named}), 100)
+	if err != io.EOF || plain(got) != want {
+		t.Errorf("sections: %v, %v", len(got), err)
+	}
 	got, _ = read(of(written(t, capkit.Pcap, packet(arp()))))
 	if got[0].Time != time.Unix(1700000000, 123456000).UTC() {
 		t.Errorf("pcap: %v", got[0].Time)
@@ -191,6 +199,26 @@ func TestFilteredAsMatchesSays(t *testing.T) {
 	}
 }
 
+func TestAFilterThatIsSetBetweenPackets(t *testing.T) {
+	arp, other := packet(arp()), packet(make([]byte, 60))
+	capture := written(t, capkit.Pcapng, arp, other, arp, other, other, arp)
+	// The bytes that come with an error count.
+	source := io.MultiReader(bytes.NewReader(capture), iotest.ErrReader(io.ErrNoProgress))
+	reader := capkit.NewReader(iotest.DataErrReader(source))
+	expression, _ := capkit.NewExpression("arp")
+	offset := reader.Offset()
+	for i, want := range []capkit.Packet{arp, other, arp, other, arp} {
+		reader.SetFilter([]*capkit.Expression{nil, nil, expression, nil, expression}[i])
+		if got, err := reader.Next(); err != nil || !bytes.Equal(got.Data, want.Data) || reader.Offset() <= offset {
+			t.Error(i, got, err, offset, reader.Offset())
+		}
+		offset = reader.Offset()
+	}
+	if _, err := reader.Next(); err != io.ErrNoProgress || offset != int64(len(capture)) {
+		t.Error(err, offset)
+	}
+}
+
 func TestALivePipeGivesEachPacketAsItComes(t *testing.T) {
 	source, end, err := os.Pipe()
 	if err != nil {
@@ -215,7 +243,7 @@ func TestZeroValues(t *testing.T) {
 	var expression capkit.Expression
 	var writer capkit.Writer
 	var reader capkit.Reader
-	if filter.Matches(arp(), 42) || filter.String() != "0\n" || len(filter.Trace(arp(), 42)) != 1 {
+	if filter.Matches(arp(), 42) || filter.String() != "1\n6 0 0 0\n" || len(filter.Instructions()) != 1 || len(filter.Trace(arp(), 42)) != 1 {
 		t.Error("a filter without a program")
 	}
 	if matches, err := expression.Matches(packet(arp())); !matches || err != nil {

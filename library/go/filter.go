@@ -25,15 +25,15 @@ type Filter struct{ insns []C.struct_capkit_insn }
 func bound(source []byte) (C.size_t, error) {
 	var number C.size_t
 	status := C.capkit_bound((*C.char)(start(source)), C.size_t(len(source)), &number)
-	if status != C.CAPKIT_OK {
-		return 0, compileError(status, number)
-	}
-	return number, nil
+	return number, compileError(status, number)
 }
 
+// compileError is why an expression isn't compiled; nil if it is.
 func compileError(status C.enum_capkit_status, number C.size_t) error {
 	place := 0
 	switch status {
+	case C.CAPKIT_OK:
+		return nil
 	case C.CAPKIT_UNKNOWN_CHARACTER, C.CAPKIT_UNKNOWN_WORD, C.CAPKIT_NUMBER_TOO_LARGE, C.CAPKIT_NOT_UTF8:
 		place = int(number)
 	}
@@ -51,8 +51,8 @@ func Compile(expression string, linkType uint16) (*Filter, error) {
 	insns := make([]C.struct_capkit_insn, room)
 	status := C.capkit_compile((*C.char)(start(source)), C.size_t(len(source)),
 		C.uint16_t(linkType), &insns[0], room, &number)
-	if status != C.CAPKIT_OK {
-		return nil, compileError(status, number)
+	if err := compileError(status, number); err != nil {
+		return nil, err
 	}
 	return &Filter{insns[:number]}, nil
 }
@@ -78,10 +78,7 @@ func explainInto(source, buffer []byte) (int, error) {
 	var number C.size_t
 	status := C.capkit_explain((*C.char)(start(source)), C.size_t(len(source)), (*C.char)(start(buffer)),
 		C.size_t(len(buffer)), &number)
-	if status != C.CAPKIT_OK {
-		return 0, compileError(status, number)
-	}
-	return int(number), nil
+	return int(number), compileError(status, number)
 }
 
 // FromInstructions is a program from elsewhere, as tcpdump -ddd prints it. Its error is a
@@ -99,13 +96,18 @@ func FromInstructions(instructions []Instruction) (*Filter, error) {
 	return &Filter{insns[:len(instructions)]}, nil
 }
 
-// program is where the instructions begin, and how many there are. A Filter that was neither compiled
-// nor checked has none, and rejects every packet.
-func (f *Filter) program() (*C.struct_capkit_insn, C.size_t) {
+// all is the program. A Filter that was neither compiled nor checked rejects every packet.
+func (f *Filter) all() []C.struct_capkit_insn {
 	if len(f.insns) == 0 {
-		return &C.struct_capkit_insn{code: 6}, 1
+		return []C.struct_capkit_insn{{code: 6}}
 	}
-	return &f.insns[0], C.size_t(len(f.insns))
+	return f.insns
+}
+
+// program is where the instructions begin, and how many there are.
+func (f *Filter) program() (*C.struct_capkit_insn, C.size_t) {
+	insns := f.all()
+	return &insns[0], C.size_t(len(insns))
 }
 
 // Run is what the program returns on a packet, given the bytes that were captured of it and how many
@@ -134,7 +136,7 @@ func (f *Filter) Trace(data []byte, originalLength uint32) []Step {
 // Text is an instruction of the program as tcpdump -d prints it, by its index.
 func (f *Filter) Text(index int) string {
 	var buffer [96]C.char
-	C.capkit_insn_text(&f.insns[index], C.uint32_t(index), &buffer[0], C.size_t(len(buffer)))
+	C.capkit_insn_text(&f.all()[index], C.uint32_t(index), &buffer[0], C.size_t(len(buffer)))
 	return C.GoString(&buffer[0])
 }
 
@@ -145,9 +147,9 @@ func (f *Filter) Matches(data []byte, originalLength uint32) bool {
 
 // Instructions is the program.
 func (f *Filter) Instructions() []Instruction {
-	instructions := make([]Instruction, len(f.insns))
-	for i, it := range f.insns {
-		instructions[i] = Instruction{uint16(it.code), uint8(it.jt), uint8(it.jf), uint32(it.k)}
+	var instructions []Instruction
+	for _, it := range f.all() {
+		instructions = append(instructions, Instruction{uint16(it.code), uint8(it.jt), uint8(it.jf), uint32(it.k)})
 	}
 	return instructions
 }

@@ -1,6 +1,6 @@
 package capkit
 
-// #include <capkit.h>
+// #include "batch.h"
 import "C"
 
 import (
@@ -54,16 +54,18 @@ type Reader struct {
 	source     io.Reader
 	file       *os.File // that Open opened
 	err        error
-	isWhole    bool // whether the source has ended
+	ended      error // what the source ended by
 	expression *Expression
-	filter     *Filter
-	linkType   uint16 // for which the filter is
-	base       int64  // where the buffer begins in the capture
-	size       int    // how many bytes of the buffer were read
+	base       int64 // where the buffer begins in the capture
+	size       int   // how many bytes of the buffer were read
 	buffer     []byte
 	reader     C.struct_capkit_reader
-	found      C.struct_capkit_packet
 	table      [C.CAPKIT_MOST_INTERFACES]C.struct_capkit_interface
+	batch      [128]C.struct_batch_packet // packets that were read, many by one call,
+	count      C.size_t                   // how many there are,
+	given      C.size_t                   // and how many of them Next gave,
+	end        C.size_t                   // up to this place in the buffer
+	linkType   uint16                     // that their filter is for
 }
 
 // NewReader reads a capture from its first packet on.
@@ -100,7 +102,9 @@ func (r *Reader) Close() error {
 
 // SetFilter has Next give the packets alone that match, from the next one on; nil is all.
 func (r *Reader) SetFilter(expression *Expression) {
-	r.expression, r.filter = expression, nil
+	r.expression, r.linkType = expression, LinkEthernet
+	// What was read ahead is read again.
+	r.reader.offset, r.count, r.given = r.end, 0, 0
 }
 
 // Next is the next packet, or io.EOF at the clean end, or a *CaptureError, which ends the capture, or
@@ -108,75 +112,82 @@ func (r *Reader) SetFilter(expression *Expression) {
 // expression is compiled for the packet's link type.
 func (r *Reader) Next() (Packet, error) {
 	for r.err == nil {
-		if r.source == nil {
-			r.err = os.ErrInvalid
-			break
+		if r.given == r.count {
+			r.err = r.more()
+			continue
 		}
-		switch result := r.next(); result {
-		case C.CAPKIT_PACKET:
-			return r.packet(), nil
-		case C.CAPKIT_ANOTHER_LINK_TYPE:
-			packet := r.packet()
-			if r.filter, r.err = r.expression.Filter(packet.LinkType); r.err != nil {
-				break
-			}
-			if r.linkType = packet.LinkType; r.filter.Matches(packet.Data, packet.OriginalLength) {
-				return packet, nil
-			}
-		default:
-			rest := r.size - int(r.reader.offset)
-			isShort := result == C.CAPKIT_END || result == C.CAPKIT_TRUNCATED ||
-				result == C.CAPKIT_NOT_A_CAPTURE_FILE && rest < 4
-			if isShort && !r.isWhole {
-				r.err = r.fill(rest)
-			} else if result == C.CAPKIT_END {
-				r.err = io.EOF
-			} else {
-				r.err = &CaptureError{Code(result), r.Offset()}
-			}
+		found := &r.batch[r.given]
+		r.given, r.end = r.given+1, found.end
+		packet := r.packet(&found.packet)
+		if r.expression == nil || packet.LinkType == r.linkType {
+			return packet, nil
+		}
+		matches, err := r.expression.Matches(packet)
+		if r.err = err; matches {
+			return packet, nil
 		}
 	}
 	return Packet{}, r.err
 }
 
-// next is the result of the library's call.
-func (r *Reader) next() uint32 {
-	bytes, size := (*C.uint8_t)(start(r.buffer)), C.size_t(r.size)
-	if r.expression == nil {
-		return uint32(C.capkit_next(&r.reader, &r.table[0], C.CAPKIT_MOST_INTERFACES, bytes, size, &r.found))
+// more reads the next packets, or reads on from the source.
+func (r *Reader) more() error {
+	if r.source == nil {
+		return os.ErrInvalid
 	}
-	if r.filter == nil {
-		if r.filter, r.err = r.expression.Filter(LinkEthernet); r.err != nil {
-			return C.CAPKIT_END
+	result, err := r.next()
+	if r.count > 0 || err != nil {
+		return err
+	}
+	r.end = r.reader.offset
+	rest := r.size - int(r.end)
+	isShort := result == C.CAPKIT_END || result == C.CAPKIT_TRUNCATED ||
+		result == C.CAPKIT_NOT_A_CAPTURE_FILE && rest < 4
+	switch {
+	case isShort && r.ended == nil:
+		r.fill(rest)
+		return nil
+	case isShort && r.ended != io.EOF:
+		return r.ended
+	case result == C.CAPKIT_END:
+		return io.EOF
+	}
+	return &CaptureError{Code(result), r.Offset()}
+}
+
+// next reads the next packets by one call, those alone that match. Their filter is for the link
+// type of the packet before them.
+func (r *Reader) next() (result C.uint32_t, err error) {
+	filter, insns, count := (*Filter)(nil), (*C.struct_capkit_insn)(nil), C.size_t(0)
+	if r.expression != nil {
+		if r.count > 0 {
+			r.linkType = uint16(r.batch[r.count-1].packet.link_type)
 		}
-		r.linkType = LinkEthernet
+		if filter, err = r.expression.Filter(r.linkType); err != nil {
+			return 0, err
+		}
+		insns, count = filter.program()
 	}
-	insns, count := r.filter.program()
-	return uint32(C.capkit_next_match(&r.reader, &r.table[0], C.CAPKIT_MOST_INTERFACES, bytes, size,
-		insns, count, C.uint16_t(r.linkType), &r.found))
+	r.given = 0
+	return C.batch_next(&r.reader, &r.table[0], (*C.uint8_t)(start(r.buffer)), C.size_t(r.size),
+		insns, count, C.uint16_t(r.linkType), &r.batch[0], C.size_t(len(r.batch)), &r.count), nil
 }
 
 // fill moves what is left to the front of the buffer, and reads on behind it.
-func (r *Reader) fill(rest int) error {
+func (r *Reader) fill(rest int) {
 	copy(r.buffer, r.buffer[r.reader.offset:r.size])
 	r.base += int64(r.reader.offset)
-	r.reader.offset, r.size = 0, rest
+	r.reader.offset, r.end = 0, 0
 	count, err := r.source.Read(r.buffer[rest : rest+piece])
-	r.size += count
-	if err == io.EOF {
-		r.isWhole = true
-		return nil
-	}
-	return err
+	r.size, r.ended = rest+count, err
 }
 
 // Offset is how far the capture was read, in bytes.
 func (r *Reader) Offset() int64 {
-	return r.base + int64(r.reader.offset)
+	return r.base + int64(r.end)
 }
 
-func (r *Reader) packet() Packet {
-	found := &r.found
+func (r *Reader) packet(found *C.struct_capkit_packet) Packet {
 	data := make([]byte, found.captured)
 	copy(data, r.buffer[found.at:])
 	return Packet{
@@ -184,27 +195,27 @@ func (r *Reader) packet() Packet {
 		LinkType:       uint16(found.link_type),
 		Data:           data,
 		OriginalLength: uint32(found.original),
-		Comment:        r.comment(),
-		InterfaceName:  r.name(),
+		Comment:        r.comment(found),
+		InterfaceName:  r.name(found._interface),
 		SnapLength:     uint32(found.snap),
 		isRead:         true,
 	}
 }
 
-func (r *Reader) name() string {
-	if r.found._interface >= r.reader.interfaces {
+func (r *Reader) name(number C.uint32_t) string {
+	if number >= r.reader.interfaces {
 		return ""
 	}
-	it := &r.table[r.found._interface]
+	it := &r.table[number]
 	return C.GoStringN(&it.name[0], C.int(it.name_length))
 }
 
-func (r *Reader) comment() string {
-	if r.found.options_length == 0 {
+func (r *Reader) comment(found *C.struct_capkit_packet) string {
+	if found.options_length == 0 {
 		return ""
 	}
-	buffer := make([]byte, r.found.options_length)
+	buffer := make([]byte, found.options_length)
 	length := C.capkit_comment(&r.reader, (*C.uint8_t)(start(r.buffer)), C.size_t(r.size),
-		&r.found, (*C.char)(unsafe.Pointer(&buffer[0])), C.size_t(len(buffer)))
+		found, (*C.char)(unsafe.Pointer(&buffer[0])), C.size_t(len(buffer)))
 	return string(buffer[:length])
 }

@@ -1,9 +1,7 @@
 """Puts libcapkit into the wheel. What else is known of the package is in pyproject.toml.
 
-The library is the one that CAPKIT_LIBRARY names, else that beside this file, as in a source package, or that
-which `make` in library/ builds.
+The libraries are those beside this file, as in a source package, or those that `make` in library/ builds.
 """
-import os
 import pathlib
 import re
 import shutil
@@ -18,21 +16,21 @@ except ImportError:
     from wheel.bdist_wheel import bdist_wheel
 
 HERE = pathlib.Path(__file__).resolve().parent
-NAME = "libcapkit.so.0"
-PLACES = [os.environ.get("CAPKIT_LIBRARY", ""), HERE / NAME, HERE.parent / "out" / NAME]
 VERSION = re.search('__version__ = "(.*)"', (HERE / "src/capkit/__init__.py").read_text())[1]
 
 
 class BuildWithLibrary(build_py):
-    """Copies the library next to the modules."""
+    """Copies the libraries next to the modules."""
 
     def run(self):
         super().run()
-        library = next((place for place in PLACES if os.path.isfile(place)), None)
-        if library is None:
-            sys.exit(f"capkit: there is no {NAME}: `make` in the folder library/ builds it")
-        if not self.editable_mode:
-            shutil.copy(library, pathlib.Path(self.build_lib, "capkit", NAME))
+        for name in ("libcapkit_batch.so", "libcapkit.so.0"):
+            places = HERE / name, HERE.parent / "out" / name
+            library = next(filter(pathlib.Path.is_file, places), None)
+            if library is None:
+                sys.exit(f"capkit: there is no {name}: `make` in the folder library/ builds it")
+            if not self.editable_mode:
+                shutil.copy(library, pathlib.Path(self.build_lib, "capkit", name))
 
 
 class PlatformDistribution(Distribution):

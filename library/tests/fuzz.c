@@ -1,9 +1,9 @@
 /* Random instructions, texts, and captures that are damaged or cut, right after a page that can't
  * be touched or right before one. usage: fuzz SEED ROUNDS FILE.. */
-#include <capkit.h>
 #include <pcap/pcap.h>
 #include <stdio.h>
 #include <stdlib.h>
+#include "../go/batch.h"
 #include "guard.h"
 #include "machine.h"
 
@@ -162,6 +162,36 @@ static uint8_t *memory_of(const uint8_t *file, size_t size)
     return capture;
 }
 
+/* The packets of batches are those of capkit_next that a program accepts, with their names. */
+static void batches(const uint8_t *capture, size_t size)
+{
+    static const struct capkit_insn odd[] = {{128, 0, 0, 0}, {84, 0, 0, 1}, {22, 0, 0, 0}};
+    static struct capkit_interface table[256], again[256];
+    struct capkit_reader one = {0}, many = {0};
+    size_t most = 1 + rnd() % 4, count = rnd() % 2 ? 3 : 0, n, i;
+    struct batch_packet *batch = place(third, most * sizeof *batch);
+    uint16_t link = rnd() % 4 ? CAPKIT_LINK_ETHERNET : CAPKIT_LINK_RAW;
+    struct capkit_packet p;
+    uint32_t found, next = CAPKIT_PACKET;
+    do {
+        found = batch_next(&many, table, capture, size, odd, count, link, batch, most, &n);
+        wrong += n > most || (n > 0) != (found == CAPKIT_PACKET);
+        for (i = 0; i < n; i++) {
+            do
+                next = capkit_next(&one, again, 256, capture, size, &p);
+            while (next == CAPKIT_PACKET && count && p.link_type == link && p.original % 2 == 0);
+            const struct capkit_packet *b = &batch[i].packet;
+            wrong += next || p.at != b->at || p.time != b->time || one.offset != batch[i].end ||
+                     one.interfaces != many.interfaces || one.big_endian != many.big_endian ||
+                     (one.interfaces && strncmp(again[p.interface].name, table[p.interface].name,
+                                                table[p.interface].name_length));
+        }
+    } while (found == CAPKIT_PACKET);
+    while ((next = capkit_next(&one, again, 256, capture, size, &p)) == CAPKIT_PACKET)
+        wrong += count == 0 || p.link_type != link || p.original % 2;
+    wrong += next != found || one.offset != many.offset;
+}
+
 /* A capture as it stands, and damaged. */
 static void captures(const char *name, size_t rounds)
 {
@@ -213,15 +243,12 @@ static void captures(const char *name, size_t rounds)
                 }
                 if (!r && (h->len != p.original || h->caplen > p.captured ||
                            memcmp(bytes, capture + p.at, h->caplen) ||
-                           (uint64_t)h->ts.tv_sec * 1000000000 + h->ts.tv_usec != p.time)) {
+                           (uint64_t)h->ts.tv_sec * 1000000000 + h->ts.tv_usec != p.time))
                     other++;
-                    printf("%s: len %u %u cap %u %u time %lld.%lld %llu\n", name, h->len,
-                           p.original, h->caplen, p.captured, (long long)h->ts.tv_sec,
-                           (long long)h->ts.tv_usec, (unsigned long long)p.time);
-                }
             }
         }
         wrong += found < 201 || found > 224 || capkit_text(found, comment, 0) == 0;
+        batches(capture, size);
         if (theirs)
             pcap_close(theirs);
     }
@@ -249,6 +276,7 @@ static void cuts(const char *name)
         wrong += found > CAPKIT_END || seen < most;
         most = seen;
         cut_captures++;
+        batches(capture, cut);
     }
 }
 

@@ -7,7 +7,6 @@ import multiprocessing
 import os
 import pathlib
 import pickle
-import struct
 import subprocess
 import sys
 import tempfile
@@ -296,21 +295,15 @@ class PacketsTest(unittest.TestCase):
                 list(packets)
             self.assertIs(caught.exception.fault, capkit.Check.TRUNCATED)
 
-    def test_a_file_of_3_gib(self):
-        """A sparse one: a section, 3,072 blocks without packets, and another section."""
-        head = written([packet()])
-        with tempfile.TemporaryFile() as file:
-            file.write(head)
-            block = struct.pack("<II", 0x0BAD, 1 << 20)
-            for start in range(0, 3 << 30, 1 << 20):
-                file.seek(len(head) + start)
-                file.write(block)
-                file.seek(len(head) + start + (1 << 20) - 4)
-                file.write(struct.pack("<I", 1 << 20))
-            file.seek(len(head) + (3 << 30))
-            file.write(head)
-            file.flush()
-            self.assertEqual(sum(1 for _ in capkit.packets(f"/dev/fd/{file.fileno()}")), 2)
+    def test_many_packets_by_one_call(self):
+        """Packets have the names, byte order and comments of their section, and their link type."""
+        files = [SAMPLES / "comments.pcapng", SAMPLES / "two-sections.pcapng"]
+        raw = packet(UDP[14:], link_type=capkit.LINK_RAW, interface_name=b"raw")
+        files = [file.read_bytes() for file in files] + [written([raw, packet(), packet(UDP)] * 100)]
+        want, udp = [p for file in files for p in capkit.packets(file)] * 3, capkit.Expression("udp")
+        self.assertEqual(list(capkit.packets(b"".join(files) * 3)), want)
+        want = [p for p in want if udp.matches(p)]
+        self.assertEqual(list(capkit.packets(b"".join(files) * 3, udp)), want)
 
 
 class WriterTest(unittest.TestCase):

@@ -71,9 +71,11 @@ pub struct CompileError {
 }
 
 impl CompileError {
-    pub(crate) fn new(status: u32, number: usize) -> CompileError {
+    /// The number that a call gives for an expression.
+    pub(crate) fn number_of(status: u32, number: usize) -> Result<usize, CompileError> {
         let place = matches!(status, 2..=4 | 14).then_some(number);
-        CompileError { status: Status::of(status), place }
+        let error = CompileError { status: Status::of(status), place };
+        (status == ffi::OK).then_some(number).ok_or(error)
     }
 }
 

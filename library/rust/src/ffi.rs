@@ -129,9 +129,6 @@ pub fn text_by(call: impl Fn(*mut u8, usize) -> usize) -> String {
 
 /// What a number is called.
 pub fn text(number: u32) -> String {
-    if number == 218 {
-        return "link types differ".into(); // which no call returns
-    }
     // SAFETY: the buffer has as many bytes as the call is told.
     text_by(|buffer, room| unsafe { capkit_text(number, buffer, room) })
 }
@@ -149,9 +146,5 @@ pub fn unit(
         buffer.resize(length, 0);
         written = call(buffer.as_mut_ptr(), buffer.len(), &mut length);
     }
-    if written == OK {
-        Ok(&buffer[..length])
-    } else {
-        Err(written)
-    }
+    (written == OK).then(|| &buffer[..length]).ok_or(written)
 }

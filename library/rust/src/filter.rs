@@ -54,22 +54,11 @@ impl Filter {
     /// ```
     pub fn new(expression: &str, link_type: u16) -> Result<Filter, CompileError> {
         let mut insns = vec![Instruction::default(); bound(expression)?];
-        let mut number = 0;
+        let (text, size) = (expression.as_ptr(), expression.len());
+        let (to, room, mut number) = (insns.as_mut_ptr(), insns.len(), 0);
         // SAFETY: the pointers and lengths are those of the text and of the instructions.
-        let status = unsafe {
-            ffi::capkit_compile(
-                expression.as_ptr(),
-                expression.len(),
-                link_type,
-                insns.as_mut_ptr(),
-                insns.len(),
-                &mut number,
-            )
-        };
-        if status != ffi::OK {
-            return Err(CompileError::new(status, number));
-        }
-        insns.truncate(number);
+        let status = unsafe { ffi::capkit_compile(text, size, link_type, to, room, &mut number) };
+        insns.truncate(CompileError::number_of(status, number)?);
         Ok(Filter(insns))
     }
 
@@ -96,16 +85,9 @@ impl Filter {
     /// What the program returns on a packet, given the bytes that were captured of it and how many
     /// it had on the wire; 0 rejects it.
     pub fn run(&self, data: &[u8], original_length: u32) -> u32 {
+        let (insns, count) = (self.0.as_ptr(), self.0.len());
         // SAFETY: the program is valid, and the pointers and lengths are those of the slices.
-        unsafe {
-            ffi::capkit_matches(
-                self.0.as_ptr(),
-                self.0.len(),
-                data.as_ptr(),
-                data.len(),
-                original_length,
-            )
-        }
+        unsafe { ffi::capkit_matches(insns, count, data.as_ptr(), data.len(), original_length) }
     }
 
     /// What a run on a packet is before each instruction that it meets; see [`run`](Filter::run).
@@ -119,18 +101,11 @@ impl Filter {
     /// ```
     pub fn trace(&self, data: &[u8], original_length: u32) -> Vec<Step> {
         let mut steps = vec![Step::default(); self.0.len()];
+        let (insns, most, to) = (self.0.as_ptr(), self.0.len(), steps.as_mut_ptr());
+        let (start, size) = (data.as_ptr(), data.len());
         // SAFETY: the program is valid, and the pointers and lengths are those of the slices.
-        let count = unsafe {
-            ffi::capkit_trace(
-                self.0.as_ptr(),
-                self.0.len(),
-                data.as_ptr(),
-                data.len(),
-                original_length,
-                steps.as_mut_ptr(),
-                steps.len(),
-            )
-        };
+        let count =
+            unsafe { ffi::capkit_trace(insns, most, start, size, original_length, to, most) };
         steps.truncate(count);
         steps
     }
@@ -157,22 +132,11 @@ impl Filter {
     /// Puts the listing into a buffer, as far as there is room, and a NUL; the length of the whole.
     /// It is an error if memory runs out.
     fn listing_into(&self, buffer: &mut [u8]) -> Result<usize, fmt::Error> {
-        let mut length = 0;
+        let (insns, count) = (self.0.as_ptr(), self.0.len());
+        let (to, room, mut length) = (buffer.as_mut_ptr(), buffer.len(), 0);
         // SAFETY: the pointers and lengths are those of the program and of the buffer.
-        let status = unsafe {
-            ffi::capkit_write_listing(
-                self.0.as_ptr(),
-                self.0.len(),
-                buffer.as_mut_ptr(),
-                buffer.len(),
-                &mut length,
-            )
-        };
-        if status == ffi::OK {
-            Ok(length)
-        } else {
-            Err(fmt::Error)
-        }
+        let status = unsafe { ffi::capkit_write_listing(insns, count, to, room, &mut length) };
+        (status == ffi::OK).then_some(length).ok_or(fmt::Error)
     }
 
     /// Where else the program gives the same answers, as far as `capkit_portability` can say: on
@@ -203,11 +167,7 @@ fn bound(expression: &str) -> Result<usize, CompileError> {
     let mut number = 0;
     // SAFETY: the pointer and the length are those of the text.
     let status = unsafe { ffi::capkit_bound(expression.as_ptr(), expression.len(), &mut number) };
-    if status == ffi::OK {
-        Ok(number)
-    } else {
-        Err(CompileError::new(status, number))
-    }
+    CompileError::number_of(status, number)
 }
 
 /// What an expression means, as an expression: in parentheses by its tree, with every qualifier
@@ -232,22 +192,11 @@ pub fn explain(expression: &str) -> Result<String, CompileError> {
 /// Puts what an expression means into a buffer, as far as there is room, and a NUL; the length of
 /// the whole.
 fn explain_into(expression: &str, buffer: &mut [u8]) -> Result<usize, CompileError> {
-    let mut number = 0;
+    let (text, length) = (expression.as_ptr(), expression.len());
+    let (to, room, mut number) = (buffer.as_mut_ptr(), buffer.len(), 0);
     // SAFETY: the pointers and lengths are those of the text and of the buffer.
-    let status = unsafe {
-        ffi::capkit_explain(
-            expression.as_ptr(),
-            expression.len(),
-            buffer.as_mut_ptr(),
-            buffer.len(),
-            &mut number,
-        )
-    };
-    if status == ffi::OK {
-        Ok(number)
-    } else {
-        Err(CompileError::new(status, number))
-    }
+    let status = unsafe { ffi::capkit_explain(text, length, to, room, &mut number) };
+    CompileError::number_of(status, number)
 }
 
 /// An expression, compiled for each link type when a packet has it first. Its clones share the programs.

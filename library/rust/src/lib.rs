@@ -16,14 +16,6 @@
 //! # Ok(())
 //! # }
 //! ```
-//!
-//! [`explain`] says what an expression means:
-//!
-//! ```
-//! let meaning = capkit::explain("tcp port 80 or 443")?;
-//! assert_eq!(meaning, "(tcp src or dst port 80) or (tcp src or dst port 443)");
-//! # Ok::<(), capkit::CompileError>(())
-//! ```
 #![deny(unsafe_op_in_unsafe_fn)]
 
 mod errors;

@@ -105,19 +105,12 @@ impl<W: Write> Writer<W> {
             }
             _ => {}
         }
-        let nanoseconds = self.nanoseconds();
+        let (nanoseconds, time, original) =
+            (self.nanoseconds(), packet.time, packet.original_length);
+        let (data, size) = (packet.data.as_ptr(), packet.data.len());
         // SAFETY: the buffer has the room that `unit` tells, the packet its length.
-        unit(&mut self.buffer, |buffer, room, length| unsafe {
-            ffi::capkit_write_record(
-                nanoseconds,
-                packet.time,
-                packet.original_length,
-                packet.data.as_ptr(),
-                packet.data.len(),
-                buffer,
-                room,
-                length,
-            )
+        unit(&mut self.buffer, |to, room, length| unsafe {
+            ffi::capkit_write_record(nanoseconds, time, original, data, size, to, room, length)
         })
     }
 
@@ -139,20 +132,12 @@ impl<W: Write> Writer<W> {
 }
 
 fn packet_block(buffer: &mut Vec<u8>, number: u32, packet: &Packet) -> Result<Vec<u8>, WriteError> {
+    let (time, original, data) = (packet.time, packet.original_length, &packet.data);
+    let (bytes, size, comment) = (data.as_ptr(), data.len(), &packet.comment);
+    let (text, count) = (comment.as_ptr(), comment.len());
     // SAFETY: the buffer has the room that `unit` tells, packet and comment their lengths.
-    unit(buffer, |buffer, room, length| unsafe {
-        ffi::capkit_write_packet(
-            number,
-            packet.time,
-            packet.original_length,
-            packet.data.as_ptr(),
-            packet.data.len(),
-            packet.comment.as_ptr(),
-            packet.comment.len(),
-            buffer,
-            room,
-            length,
-        )
+    unit(buffer, |to, room, length| unsafe {
+        ffi::capkit_write_packet(number, time, original, bytes, size, text, count, to, room, length)
     })
 }
 

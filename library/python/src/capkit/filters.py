@@ -56,11 +56,6 @@ def _number_of(call: Any, text: bytes, *arguments: Any) -> int:
     return number.value
 
 
-def _bound(text: bytes) -> int:
-    """How many instructions the program of an expression has at most."""
-    return _number_of(native.bound, text)
-
-
 def _encoded(text: str) -> bytes:
     if not isinstance(text, str):
         raise TypeError(f"an expression is a str, not {type(text).__name__}")
@@ -97,7 +92,7 @@ class Filter:
         """Compiles the expression; raises CompileError."""
         native.fits(link_type, 16, "link type")
         text = _encoded(expression)
-        room = _bound(text)
+        room = _number_of(native.bound, text)
         self._insns: Any = (native.Insn * room)()
         self._count = _number_of(native.compile_, text, link_type, self._insns, room)
 
@@ -196,7 +191,7 @@ class Expression:
 
     def __init__(self, text: str) -> None:
         """Checks the expression, which needs no link type; raises CompileError."""
-        _bound(_encoded(text))
+        _number_of(native.bound, _encoded(text))
         self.text = text
         self._filters: Dict[int, Filter] = {}
 

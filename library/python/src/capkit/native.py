@@ -1,6 +1,6 @@
-"""The calls of libcapkit, as capkit.h declares them.
+"""The calls of libcapkit, as capkit.h declares them, and that of go/batch.h for many packets.
 
-ctypes and not cffi: given objects of C that are made once, a call takes as long, and any Python has it.
+ctypes and not cffi: any Python has it, and one call reads many packets.
 """
 import ctypes as c
 import os
@@ -34,24 +34,17 @@ PacketInfo = _struct("PacketInfo", [
     ("time", _64), *_of(_size, "at options_at"),
     *_of(_32, "captured original options_length interface snap"), ("link_type", _16),
 ])  # fmt: skip
+BatchPacket = _struct("BatchPacket", [("packet", PacketInfo), ("end", _size)])
 
-
-def load() -> c.CDLL:
-    """The library that CAPKIT_LIBRARY names, that of the package, or that of the system."""
-    inside = pathlib.Path(__file__).with_name("libcapkit.so.0")
-    name = os.environ.get("CAPKIT_LIBRARY") or (inside if inside.exists() else "libcapkit.so.0")
-    return c.CDLL(str(name))
-
-
-_library = load()
+# It has the calls of libcapkit.so.0 too, which it is linked to.
+_inside = pathlib.Path(__file__).with_name("libcapkit_batch.so")
+_library = c.CDLL(os.environ.get("CAPKIT_LIBRARY") or str(_inside))
 
 
 def declare(name: str, result: Any, *arguments: Any) -> Any:
-    """A call. One without the kinds of its arguments takes objects of C alone, and is quicker."""
+    """A call."""
     call = _library[name]
-    call.restype = result
-    if arguments:
-        call.argtypes = arguments
+    call.restype, call.argtypes = result, arguments
     return call
 
 
@@ -69,8 +62,7 @@ write_listing = declare("capkit_write_listing", _32, _at, _size, *_buffer)
 insn_text = declare("capkit_insn_text", _size, _at, _32, _at, _size)
 line = declare("capkit_line", _size, _16, _64, _32, _at, _size, _32, _at, _size)
 portability = declare("capkit_portability", _32, _at, _size)
-next_ = declare("capkit_next", _32)
-next_match = declare("capkit_next_match", _32)
+batch_next = declare("batch_next", _32, _at, _at, _at, _size, _at, _size, _16, _at, _size, _number)
 comment = declare("capkit_comment", _size, _at, _at, _size, _at, _at, _size)
 write_file_header = declare("capkit_write_file_header", _32, _32, _16, *_buffer)
 write_record = declare("capkit_write_record", _32, _32, _64, _32, _text, _size, *_buffer)

@@ -2,7 +2,7 @@
 from __future__ import annotations
 
 import ctypes as c
-import io
+import itertools
 import os
 import stat
 import struct
@@ -11,17 +11,16 @@ from typing import IO, Any, Iterator, NamedTuple, Optional, Tuple, Union
 
 from . import native
 from .errors import CaptureError, Check
-from .filters import Bytes, Expression, Filter
+from .filters import Bytes, Expression
 
 Path = Union[str, "os.PathLike[str]"]
 Source = Union[Path, Bytes, IO[bytes]]
 
-END, NO_PACKET, ANOTHER_LINK_TYPE = 222, 223, 226
+_END = 222
 # What is read at once: what fits into a processor's cache is filtered twice as fast.
 _PIECE = 1 << 18
-# The fields of native.PacketInfo, which one call takes faster than one for each does.
-_INFO = struct.Struct("@QNNIIIIIH")
-_NAME_LENGTH, _NAME = native.Interface.name_length.offset, native.Interface.name.offset
+# How many packets a call reads at most, and the fields of native.BatchPacket, but for its end.
+_BATCH, _FIELDS = 128, struct.Struct("@QNNIIIIIH2x8x")
 
 
 class _Fields(NamedTuple):
@@ -130,7 +129,7 @@ class Capture:
         """The packets that match; CompileError if one has a link type that isn't filtered."""
         if isinstance(expression, str):
             expression = Expression(expression)
-        return self._loop(expression)
+        return itertools.chain.from_iterable(self._batches(expression))
 
     def _fill(self, view: memoryview, position: int) -> int:
         """Reads on from a position, which a stream is at."""
@@ -153,52 +152,83 @@ class Capture:
         is_stream = self._bytes is None and not self._identity
         return CaptureError(fault, offset, None if is_stream else _again(self._source, True))
 
-    def _loop(self, expression: Optional[Expression]) -> Iterator[Packet]:
+    def _batches(self, expression: Optional[Expression]) -> Iterator[Iterator[Packet]]:
         memory = self._bytes
         is_whole = memory is not None
-        buffer: Any = c.c_char_p(memory) if is_whole else c.create_string_buffer(native.MOST_UNIT + _PIECE)
-        size, base = c.c_size_t(len(memory) if memory is not None else 0), 0
-        reader, info = native.Reader(), native.PacketInfo()
-        table = (native.Interface * native.MOST_INTERFACES)()
-        given = c.byref(reader), table, c.c_size_t(len(table)), buffer, size
-        program = None if expression is None else expression.filter(1)
-        call, arguments = _call(given, info, program, 1)
-        bytes_of: Any = memory if is_whole else buffer
-        unpack, make = _INFO.unpack_from, tuple.__new__
-        names, fields = memoryview(table).cast("B"), memoryview(info).cast("B")
+        buffer = c.create_string_buffer(0 if is_whole else native.MOST_UNIT + _PIECE)
+        loop = _Loop(expression, buffer if memory is None else memory)
+        size, base = len(memory or b""), 0
         while True:
-            found = call(*arguments)
-            if not found or found == ANOTHER_LINK_TYPE:
-                time, at, _, length, original, options, number, snap, link = unpack(fields)
-                data = bytes_of[at : at + length]
-                if found and expression is not None:
-                    program = expression.filter(link)
-                    call, arguments = _call(given, info, program, link)
-                    if not program.matches(data, original):
-                        continue
-                comment = name = b""
-                if options:
-                    comment = _comment(reader, buffer, size.value, info)
-                if number < reader.interfaces:
-                    start = number * len(names) // native.MOST_INTERFACES + _NAME
-                    end = start + names[start - _NAME + _NAME_LENGTH]
-                    name = names[start:end].tobytes()
-                yield make(Packet, (time, link, data, original, comment, name, snap))
-            elif found == NO_PACKET:
-                pass
-            elif not is_whole and _asks_for_more(found, size.value - reader.offset):
-                rest, base = size.value - reader.offset, base + reader.offset
-                c.memmove(buffer, c.byref(buffer, reader.offset), rest)
-                reader.offset = 0
-                view = memoryview(buffer).cast("B")[rest : rest + _PIECE]
-                count = self._fill(view, base + rest)
-                size.value, is_whole = rest + count, not count
+            found = loop.read(size)
+            rest = size - loop.reader.offset
+            if not found:
+                yield loop.packets()
+            elif not is_whole and _asks_for_more(found, rest):
+                base += loop.reader.offset
+                c.memmove(buffer, c.byref(buffer, loop.reader.offset), rest)
+                loop.reader.offset = 0
+                count = self._fill(memoryview(buffer).cast("B")[rest : rest + _PIECE], base + rest)
+                size, is_whole = rest + count, not count
                 if is_whole and self._is_shorter(base + rest) and not self._ends_at_fault:
                     raise self._fault(Check.TRUNCATED, base)
-            elif found == END or self._ends_at_fault:
+            elif found == _END or self._ends_at_fault:
                 return
             else:
-                raise self._fault(found, base + reader.offset)
+                raise self._fault(found, base + loop.reader.offset)
+
+
+class _Loop:
+    """The packets that are read from a buffer, many by one call."""
+
+    def __init__(self, expression: Optional[Expression], buffer: Any) -> None:
+        self._expression, self._buffer, self._size = expression, buffer, 0
+        # The link type that the last packet had: that of the program.
+        self._link_type = 1
+        self.reader, self._table = native.Reader(), (native.Interface * native.MOST_INTERFACES)()
+        self._batch, self._count = (native.BatchPacket * _BATCH)(), c.c_size_t()
+
+    def read(self, size: int) -> int:
+        """What the call for the next packets returns, given how many bytes the buffer has."""
+        insns, count = None, 0
+        if self._expression is not None:
+            if self._count:
+                self._link_type = self._batch[self._count.value - 1].packet.link_type
+            program = self._expression.filter(self._link_type)
+            insns, count = program._insns, program._count
+        self._size = size
+        found: int = native.batch_next(
+            c.byref(self.reader), self._table, self._buffer, size, insns, count, self._link_type,
+            self._batch, _BATCH, c.byref(self._count),
+        )  # fmt: skip
+        return found
+
+    def packets(self) -> Iterator[Packet]:
+        """The packets of the last call."""
+        expression, judged, buffer = self._expression, self._link_type, self._buffer
+        names, make = {0: self._name(0)}, tuple.__new__
+        batch = memoryview(self._batch).cast("B")[: self._count.value * _FIELDS.size]
+        fields = _FIELDS.iter_unpack(batch)
+        for time, at, start, length, original, options, number, snap, link in fields:
+            data = buffer[at : at + length]
+            if expression is not None and link != judged:
+                if not expression.filter(link).matches(data, original):
+                    continue
+            if number not in names:
+                names[number] = self._name(number)
+            comment = self._comment(start, options) if options else b""
+            yield make(Packet, (time, link, data, original, comment, names[number], snap))
+
+    def _name(self, number: int) -> bytes:
+        if number >= self.reader.interfaces:
+            return b""
+        interface = self._table[number]
+        return bytes(interface.name[: interface.name_length])
+
+    def _comment(self, start: int, length: int) -> bytes:
+        info = c.byref(native.PacketInfo(options_at=start, options_length=length))
+        text, reader = c.create_string_buffer(length), c.byref(self.reader)
+        count = native.comment(reader, self._buffer, self._size, info, text, length)
+        return text.raw[:count]
 
 
 def _again(source: Source, ends_at_fault: bool) -> Capture:
@@ -210,25 +240,9 @@ def _again(source: Source, ends_at_fault: bool) -> Capture:
 
 def _asks_for_more(found: int, rest: int) -> bool:
     """Whether a result may be another one if more bytes come."""
-    return found in (END, Check.TRUNCATED) or (found == Check.NOT_A_CAPTURE_FILE and rest < 4)
+    return found in (_END, Check.TRUNCATED) or (found == Check.NOT_A_CAPTURE_FILE and rest < 4)
 
 
-def _call(given: Any, info: Any, program: Optional[Filter], link: int) -> Tuple[Any, Any]:
-    """What reads the next packet, and all that it is given, as objects of C."""
-    if program is None:
-        return native.next_, (*given, c.byref(info))
-    insns = c.byref(program._insns), c.c_size_t(program._count), c.c_uint16(link)
-    return native.next_match, (*given, *insns, c.byref(info))
-
-
-def _comment(reader: Any, buffer: Any, size: int, info: Any) -> bytes:
-    text = c.create_string_buffer(info.options_length)
-    length = native.comment(c.byref(reader), buffer, size, c.byref(info), text, len(text))
-    return text.raw[:length]
-
-
-def packets(
-    source: Source, expression: Union[str, Expression, None] = None
-) -> Iterator[Packet]:
+def packets(source: Source, expression: Union[str, Expression, None] = None) -> Iterator[Packet]:
     """The packets of a capture, one after another, or those that match an expression; see Capture."""
     return Capture(source).matching(expression)

@@ -114,7 +114,7 @@ class Writer:
     def _record(self, packet: Packet) -> bytes:
         """A packet's record."""
         if self._link_type not in (None, packet.link_type):
-            raise WriteError(native.text_of(Check.LINK_TYPES_DIFFER) or "link types differ")
+            raise WriteError(native.text_of(Check.LINK_TYPES_DIFFER))
         time, data, original = packet.time, packet.data, packet.original_length
         call = native.write_record
         return self._made(call, self._nanoseconds, time, original, data, len(data))
