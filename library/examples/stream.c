@@ -1,7 +1,8 @@
 /* Prints the time and the length of each packet of a capture on its standard input, as it comes.
  *
  * The input is read through a buffer that has room for two units: what is left of it goes to the
- * front, and more is read behind it. The statuses are those of capkit: 1 after a fault. */
+ * front, and more is read behind it. The statuses are those of capkit: 1 after a fault or a failed
+ * read. */
 #define _POSIX_C_SOURCE 200809L
 #include "example.h"
 
@@ -25,6 +26,8 @@ int main(void)
         memmove(buffer, buffer + reader.offset, size);
         reader.offset = 0;
     } while (got > 0);
+    if (got < 0 && (found == CAPKIT_END || found == CAPKIT_TRUNCATED || size < 4))
+        return fprintf(stderr, "stream: -: offset %zu: read failed\n", before), 1;
     if (found == CAPKIT_END)
         return 0;
     report_found("stream", "-", found, before);
