@@ -39,9 +39,9 @@ pub fn copies_of_texts(alloc: Global, names: &[&str]) -> Result<Vec<String>, All
     Ok(owned)
 }
 
-/// The names of the inputs, copied, of a command that writes `output`, if it has one. An error is
-/// that memory ran out, or else the first of these: there are more than `MOST_INPUTS`
-/// (`TooManyValues`), or a name is used twice (`NameUsedTwice`).
+/// Copies of the names of a command's inputs; `output` is the name of its output, if it has one. An
+/// error is that memory ran out, or else the first of these: there are more than `MOST_INPUTS`
+/// inputs (`TooManyValues`), or a name is used twice (`NameUsedTwice`).
 pub fn input_names(
     alloc: Global,
     matches: &ArgMatches<'_>,

@@ -27,7 +27,7 @@ static FORMATS: [&str; 3] = ["pcap", "nsecpcap", "pcapng"];
 /// The names of the links that an expression can be compiled for, as `Link::name` has them.
 static LINKS: [&str; 3] = ["ether", "raw", "cooked"];
 
-/// Which of the program's commands a line asks for.
+/// One of the program's commands.
 #[derive(Clone, Copy)]
 pub enum Subcommand {
     Edit,
@@ -37,7 +37,7 @@ pub enum Subcommand {
     Compile,
 }
 
-/// The subcommand of this name. clap takes no other names than the five, so what isn't one of the
+/// The subcommand of this name. clap refuses all names except the five, so any name other than the
 /// first four is `compile`.
 pub fn subcommand_of_name(name: &str) -> Subcommand
     ensures { result ≡ subcommand_of_name name.now }
@@ -59,7 +59,7 @@ pub struct Choices<'a> {
     links: &'a [&'a str],
 }
 
-/// An argument of clap's with the id, the name and the help of a row, and nothing of its value yet.
+/// A clap argument with the id, the name and the help of a row, but without its value.
 /// Like all arguments here it isn't global: it belongs to its own subcommand.
 fn arg_with_name<'a>(alloc: Global, argument: Argument) -> Arg<'a>
     ensures rule { rule_of result ≡ with_name argument.name (new_rule argument.id.now) }
@@ -73,7 +73,7 @@ fn arg_with_name<'a>(alloc: Global, argument: Argument) -> Arg<'a>
     }
 }
 
-/// The argument of clap's that a row of a table describes, with its name and what it takes.
+/// The clap argument that a row of a table describes, with its name and value.
 fn arg_of_row<'a>(alloc: Global, argument: Argument, choices: Choices<'a>) -> Arg<'a>
     ensures rule { rule_of result ≡ rule_by choices.entry argument }
     ensures local { result.global ≡ false }
@@ -96,7 +96,7 @@ fn arg_of_row<'a>(alloc: Global, argument: Argument, choices: Choices<'a>) -> Ar
     }
 }
 
-/// The command of clap's with the arguments of these rows added after those that it has. An error
+/// The clap command with the arguments of these rows added after those that it has. An error
 /// means that memory ran out.
 fn with_arguments<'a>(
     alloc: Global,
@@ -115,7 +115,7 @@ fn with_arguments<'a>(
     Ok(command)
 }
 
-/// The subcommand of clap's that a row of the table describes, with its arguments. An error means
+/// The clap subcommand that a row of the table describes, with its arguments. An error means
 /// that memory ran out.
 fn command_of_row<'a>(
     alloc: Global,

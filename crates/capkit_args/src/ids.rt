@@ -1,5 +1,5 @@
-//! The ids of arguments, by which their values are read back from clap's matches. An id in capitals
-//! is also what help calls the argument's value.
+//! The keys of arguments in clap's matches. A key in capitals is also the name of the argument's
+//! value in help.
 
 /// Whether a merge joins its inputs, one after another.
 pub const APPEND: &str = "append";
@@ -7,16 +7,16 @@ pub const APPEND: &str = "append";
 /// Whether lines have the bytes after the link header.
 pub const BYTES: &str = "bytes";
 
-/// How many bytes are removed at the end of a packet.
+/// The number of bytes to remove from the end of a packet.
 pub const CHOP_END: &str = "chop_end";
 
-/// How many bytes are removed at the start of a packet.
+/// The number of bytes to remove from the start of a packet.
 pub const CHOP_START: &str = "chop_start";
 
-/// After how many packets that match a print ends.
+/// The number of matching packets after which a print ends.
 pub const COUNT: &str = "count";
 
-/// How many seconds times are moved earlier.
+/// The number of seconds by which times are moved earlier.
 pub const EARLIER: &str = "earlier";
 
 /// The input, or the first of several.
@@ -31,7 +31,7 @@ pub const IN: &str = "IN";
 /// Whether only the packets of the ranges are kept.
 pub const KEEP: &str = "keep";
 
-/// How many seconds times are moved later.
+/// The number of seconds by which times are moved later.
 pub const LATER: &str = "later";
 
 /// The link that an expression is compiled for.
@@ -40,7 +40,7 @@ pub const LINK: &str = "LINK";
 /// Whether lines have the link header.
 pub const LINK_HEADER: &str = "link";
 
-/// The file with a listing to match by.
+/// The file with the listing that selects packets.
 pub const LISTING: &str = "LISTING";
 
 /// The inputs after the first one.
@@ -52,7 +52,7 @@ pub const OUT: &str = "OUT";
 /// Ranges of packets, by their numbers.
 pub const RANGE: &str = "RANGE";
 
-/// How many bytes a packet keeps at most.
+/// The most captured bytes that a packet keeps.
 pub const SNAP: &str = "snap";
 
 /// The first time that is kept.
@@ -61,7 +61,7 @@ pub const START: &str = "start";
 /// The first time that is no longer kept.
 pub const STOP: &str = "stop";
 
-/// Within how many packets duplicates are searched for.
+/// The number of packets among which duplicates are found.
 pub const WINDOW: &str = "window";
 
 /// The words of an expression.

@@ -15,7 +15,7 @@ pub enum Name {
     Long(&'static str),
 }
 
-/// What an argument takes. A text with it is what help calls the value.
+/// The kind of value that an argument takes. A text in it is the value's name in help.
 #[derive(Clone, Copy)]
 pub enum Value {
     /// Nothing: it is a flag.
@@ -34,7 +34,7 @@ pub enum Value {
     File,
     /// The name of a file, which the command needs.
     NeededFile,
-    /// As many words as there are. It is the last argument of its command.
+    /// Any number of words. It is the last argument of its command.
     Words,
 }
 
@@ -45,9 +45,9 @@ pub struct Argument {
     pub id: &'static str,
     /// How it is named on the command line.
     pub name: Name,
-    /// What it takes.
+    /// The value that it takes.
     pub value: Value,
-    /// What help says of it. `{n}` ends a line of help, which has 80 columns at most.
+    /// Its text in help. `{n}` ends a line of help, which has at most 80 columns.
     pub help: &'static str,
 }
 
@@ -56,7 +56,7 @@ pub struct Argument {
 pub struct CommandRow {
     /// The word that calls it.
     pub name: &'static str,
-    /// What help says of it.
+    /// Its text in help.
     pub about: &'static str,
     /// The text below the options in help.
     pub examples: &'static str,

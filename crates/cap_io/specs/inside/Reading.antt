@@ -1,4 +1,5 @@
--- One read of a unit: which bytes came or are missing, and the result for a record or block.
+-- The reading of one unit (a file header, a record or a block): which bytes were read or are
+-- missing, and the result.
 use Rattle.std.specs.Prelude.{◌≡◌, ℕ, ◌+◌, ◌^◌, ◌<◌, ◌≤◌, ◌⊎◌, Bool, true, false, List, [], ◌∷◌, ◌++◌, length, take, drop, Option, None, Some, Result, Ok, Err, IfOk, IfErr, is_some, IsTrue, OnOk, OnErr}
 use Rattle.std.specs.List.{slice_get}
 use Rattle.cap_octet.specs.Packet.{Captured}
@@ -24,9 +25,9 @@ use Rattle.cap_io.specs.declared.file_state.FileState.TheVariants as state
 use Rattle.cap_io.specs.Capture.{Declared, Nothing, PcapFile, PcapngFile, IsUnit, NoUnit, first_link_after, front_of}
 use Rattle.cap_io.specs.Reading.{most_in_unit, read_failures, IsTaken, TakesMemory, held_length, IsReason, declared_by, packet_in_unit}
 
--- The counts of a device after a read of a unit whose first `front` bytes had come before. With
--- these, the unit has `count` bytes; on an error at most `most` bytes came. A failed read is
--- reported exactly if the device failed in this call.
+-- How a call that reads a unit changes the counts of its device. Before the call, the first `front`
+-- bytes of the unit had been read. If the call succeeds, `count` bytes have been read in all; if it
+-- fails, at most `most`. The result is a failed read exactly if the device failed in this call.
 pub record Moves {I X : Type 0} (device : Ghosts I) (old new : I) (front : ℕ) (count : X → ℕ)
     (most : ℕ) (r : Result X Fault) : Type 0 where
   pub counted : IfOk r (λ x. device.given new + front ≡ device.given old + count x)
@@ -42,13 +43,13 @@ pub record Moves {I X : Type 0} (device : Ghosts I) (old new : I) (front : ℕ) 
       → device.given new + length (device.unread new)
       ≡ device.given old + length (device.unread old)
 
--- no unit came: the fault is a reason for that, and these bytes were taken
+-- no unit was read: the fault says why, and some bytes were taken before it
 pub record NoUnitCame (declared : Declared) (unread unread' : List ℕ) (fault : Fault) : Type 0 where
   pub why : IsReason declared unread fault
   pub taken : IsTaken declared unread unread' fault
 
--- A buffer of `size` bytes had its first `from` ones, and the others didn't all come: too few are
--- left, or the device failed.
+-- The first `from` bytes of a buffer of `size` bytes had been read, and the others couldn't all be
+-- read: the input has too few, or the device failed.
 pub record RestMissing (from size : ℕ) (unread unread' : List ℕ) (fault : Fault) : Type 0 where
   pub why : ((fault ≡ Truncated) × (from + length unread < size)) ⊎ (fault ≡ ReadFailed)
   pub count : ℕ
@@ -56,18 +57,18 @@ pub record RestMissing (from size : ℕ) (unread unread' : List ℕ) (fault : Fa
   pub there : count ≤ length unread
   pub rest : unread' ≡ drop count unread
 
--- the first bytes of a unit came (true), or nothing was left (false)
+-- the first bytes of a unit were read (true), or the input had ended (false)
 abbrev pub FrontCame : List ℕ → List ℕ → Bool → List ℕ → Type 0
 FrontCame unread front true unread' = unread ≡ front ++ unread'
 FrontCame unread front false unread' = (unread ≡ []) × (unread' ≡ [])
 
--- The first `size` bytes of a unit didn't all come: at least one byte is left, but fewer than
--- `size`; or the device failed.
+-- The first `size` bytes of a unit couldn't all be read: the input has one byte or more, but fewer
+-- than `size`; or the device failed.
 pub record FrontMissing (size : ℕ) (unread unread' : List ℕ) (fault : Fault) : Type 0 where
   pub some : 0 < length unread ⊎ (fault ≡ ReadFailed)
   pub missing : RestMissing 0 size unread unread' fault
 
--- the file header of pcap came
+-- the file header of pcap was read
 pub record HeaderCame (unread : List ℕ) (head : Head) (unread' : List ℕ) : Type 0 where
   pub bytes : List ℕ
   pub header : IsHeader bytes head
@@ -144,14 +145,14 @@ pub record RecordTaken {I : Type 0} (device : Ghosts I) (head : Head) (old : I) 
   pub splits : IsTrue device.tells
       → device.unread old ≡ take (16 + found.captured) buffer ++ device.unread new
 
--- the device gave nothing
+-- the device gave no bytes
 pub record NothingTaken {I : Type 0} (device : Ghosts I) (old new : I) : Type 0 where
   pub counted : device.given new ≡ device.given old
   pub failed : device.failures new ≡ device.failures old
   pub sure : device.sure new ≡ device.sure old
   pub rest : IsTrue device.tells → device.unread new ≡ device.unread old
 
--- a unit without a packet came
+-- a unit without a packet was read
 pub record UnitPassed (declared : Declared) (unread : List ℕ) (size : ℕ) (declared' : Declared)
     (unread' : List ℕ) : Type 0 where
   pub bytes : List ℕ
@@ -159,7 +160,7 @@ pub record UnitPassed (declared : Declared) (unread : List ℕ) (size : ℕ) (de
   pub sized : length bytes ≡ size
   pub splits : unread ≡ bytes ++ unread'
 
--- a unit with a packet came, and is at the start of the buffer
+-- a unit with a packet was read, and is at the start of the buffer
 pub record PacketCame (declared : Declared) (unread buffer : List ℕ) (spans : PacketSpans)
     (declared' : Declared) (unread' : List ℕ) : Type 0 where
   pub packet : Captured
@@ -213,7 +214,7 @@ BeginsBlock state.Unknown front = is_section front ≡ true
 BeginsBlock (state.Pcap head) front = ⊥
 BeginsBlock (state.Pcapng order first) front = Unit {0}
 
--- The result of reading a unit whose first bytes had come: the new device, the new buffer, the
+-- The result of reading a unit whose first bytes had been read: the new device, the new buffer, the
 -- place of a packet in it, and the new state of the file, which a fault doesn't change.
 pub record ReadsUnit {I A : Type 0} (device : Ghosts I) (old : UnitReader I A) (front : List ℕ)
     (r : Result NextUnit Fault) (new : UnitReader I A) : Type 0 where

@@ -1,5 +1,7 @@
--- How the index of the window finds an equal mark: each hash has a tree of marks, with the newest
--- one on top.
+-- The index of the window, by which an equal mark is found: a binary tree of marks for each hash.
+-- The newest mark is on top, and each bit of a mark chooses one of two trees below. The
+-- *class* of a tree has all marks whose hash and bits lead to it. The *wanted* ones are equal to no
+-- mark above the tree, so only these have to be in it.
 use Rattle.std.specs.Prelude.{◌≡◌, ℕ, ◌+◌, ◌-◌, ◌/◌, ◌%◌, ◌^◌, ◌<◌, ◌≤◌, ◌==◌, ◌&&◌, Bool, true, false, not, nat_lt, if◌then◌else◌, List, [], length, slice_index, take, bit_and, IsTrue}
 use Rattle.std.specs.Int.{w32, from_le_bytes}
 use Rattle.std.specs.List.{slice_index_or}
@@ -28,7 +30,7 @@ marks_with_bit class depth false m = class m && not (mark_bit m depth)
 abbrev pub but : (Mark → Bool) → Mark → Mark → Bool
 but wanted top m = wanted m && not (is_same_mark m top)
 
--- all marks are wanted
+-- all marks are wanted, as at the top of a tree
 abbrev pub every : Mark → Bool
 every m = true
 
@@ -46,10 +48,10 @@ HasNoMark marks class wanted low limit =
     (j : ℕ) → low ≤ j → j < limit → IsTrue (class (mark_at marks j))
     → IsTrue (wanted (mark_at marks j)) → ⊥
 
--- A tree of the wanted marks of a class at places below `limit`. Its top is the mark of the class
--- at place `limit - d`; no wanted one is newer, but the top itself needn't be wanted. The others
--- are in two trees below it, one for each value of their bit at `depth`; those equal to the top are
--- omitted. If d is above `limit`, the tree is empty.
+-- A tree of the marks of a class at places below `limit`. The mark at place `limit - d` is on top;
+-- it may be one that isn't wanted, but each wanted mark is older. Below it there are two trees, of
+-- the older wanted marks whose bit at `depth` is 0 and 1, without those equal to the top. If d is
+-- above `limit`, the tree is empty.
 pub data IsMarkTree (marks : List Mark) (links : List Links) : (class wanted : Mark → Bool)
     → (depth limit d : ℕ) → Type 0 where
   Empty : (class wanted : Mark → Bool) (depth limit d : ℕ) → limit < d
@@ -63,7 +65,8 @@ pub data IsMarkTree (marks : List Mark) (links : List Links) : (class wanted : M
       (depth + 1) top (link_by_bit (links_at links top) bit))
       → IsMarkTree marks links class wanted depth limit d
 
--- the two trees below a mark have the earlier wanted marks of the class, except those equal to it
+-- the two trees below the mark at a place have the older wanted marks of the class, without those
+-- equal to it
 abbrev pub IsOnTop : List Mark → List Links → (class wanted : Mark → Bool) → (depth place : ℕ)
     → Type 0
 IsOnTop marks links class wanted depth place =
