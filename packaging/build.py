@@ -113,8 +113,8 @@ def prove(crates, lock):
             for crate in [it for it in running if it.has_ended()]:
                 running.remove(crate)
                 proved.append(crate)
-                took = f"{time.monotonic() - crate.begun:.0f} s"
-                say(f"proved {crate.name} in {took}, {len(proved)} of {len(crates)} crates")
+                took = f"in {time.monotonic() - crate.begun:.0f} s" if crate.process else "earlier"
+                say(f"proved {crate.name} {took}, {len(proved)} of {len(crates)} crates")
     finally:
         for crate in running:
             if crate.process and crate.process.poll() is None:
