@@ -41,7 +41,8 @@ fn cut(fuzzer: &mut Fuzzer<'_>, bytes: &[u8], whole: &Outcome, format: &str) -> 
 fn merged(fuzzer: &mut Fuzzer<'_>, bytes: &[u8], whole: &Outcome, format: &str) -> Compared {
     fuzzer.property = "a merge of one file is its edit";
     let mode = if fuzzer.random.one_in(2) { "-a" } else { "--" };
-    let merged = fuzzer.run(&["merge", "-F", format, mode, "in"], bytes, &[])?;
+    let words = ["merge", "-F", format, "-w", "out", mode, "in"];
+    let merged = fuzzer.run(&words, bytes, &[])?;
     fuzzer.same_outcome(whole, &merged)
 }
 
