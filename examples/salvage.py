@@ -24,14 +24,17 @@ record without bytes needs an original length. Reading stops if it has slid four
 Packets may still be made up: if damage stands right before a packet that carries a capture of the
 last second, if a section header is lost with its interfaces, and in a file that only looks like a
 capture. Interfaces after damage are left out with their packets: their numbers aren't known. How
-much is tried is bounded: if most places look like records, only each 4,096th byte is looked at.
+much is tried is bounded: after that, a chain is only looked for in 256 of each 4,096 bytes, only
+of the same kind as before, and not further than 1 MiB.
 
 IN isn't changed; it is copied only if it is a pipe or in text mode. OUT gets its name at the end.
-Standard error has a line for each of the first 20 places, and one with sums. The status is 0 if IN
+Standard error has a line for each of the first 20 places, and one with sums. A place is what was
+put right at once, or all that is left out in a row, with the first reason. The status is 0 if IN
 was in order, 1 if not or nothing was written, 2 if the command line is wrong. Needs Python 3.10.
 """
 import argparse
 import collections
+import functools
 import itertools
 import os
 import re
@@ -52,7 +55,8 @@ HEADER = re.compile(b"|".join(map(re.escape, [*FORMS, SECTION_TYPE])))
 LONGEST, LONGEST_BLOCK, MOST_INTERFACES, ETHERNET = 262_144, 1_048_576, 256, 1
 HELD, AHEAD, ZONE = 8 << 20, 3 << 20, 1 << 20  # of the file, held and looked through at once
 INSIDE, UNITS = 65_552, 32  # what no packet's inside exceeds, and the units of a chain that does
-PATIENCE, BYTES_A_STEP = 300_000, 64  # steps that may be tried at first, and one for so many bytes
+SHORT, NO_OFFSET = {"<": b"\x14\0\0\0", ">": b"\0\0\0\x14"}, bytes(8)  # of an interface
+PATIENCE, BYTES_A_STEP = 600_000, 64  # steps that may be tried at first, and one for so many bytes
 DOUBTED, NOTES, NEAR, EARLIER, NO_TIME = 8, 20, 86_400, 1, float("nan")
 
 
@@ -70,6 +74,8 @@ class Source:
         if not self.base <= at or at + ahead > end < self.size:
             self.data = b""
             self.data, self.base = self.get(at, HELD), at
+            self.data += bytes(8) if at + HELD >= self.size else b""
+            self.tried += 2000
         return self.data, self.base
 
     def get(self, at, size):
@@ -78,6 +84,20 @@ class Source:
     def may_try(self, at):
         """Whether more may be tried at a place: this bounds the time that a file takes."""
         return self.tried < PATIENCE + at // BYTES_A_STEP
+
+    def places(self, pattern, back, slow, begin, end):
+        """Places between two, so many bytes before a pattern; some of them if too much was tried.
+        Bytes at which the search is slow count as tried."""
+        data, base = self.load(begin, ZONE + AHEAD)
+        at, stop, base = begin - base + back, end - base + back, base - back
+        while at < stop:
+            is_free = self.may_try(at + base)
+            found = pattern.search(data, at, (stop if is_free else min(at + 256, stop)) + 5)
+            after = found.start() if found else stop
+            self.tried += 2 + data.count(slow, at, after if is_free else at + 256) // 16
+            if after < stop:
+                yield after + base
+            at = after + 1 if is_free else at + 4096
 
 
 class Output:
@@ -88,6 +108,7 @@ class Output:
         self.most = 2**63 if form == "pcapng" else 2**32 * 10**9
         self.final = self.piece = self.header = None
         self.kept, self.packets, self.places, self.left_out = (0, 0), 0, 0, 0
+        self.place = 0, 0, None  # the last one, which isn't noted yet
 
     def begin(self, header):
         """Another capture begins, of pcap if it has a header, but for one with the same header."""
@@ -129,15 +150,18 @@ class Output:
         if process and process.communicate() and process.returncode:
             raise ChildProcessError("capkit doesn't write its packets")
 
-    def note(self, at, text):
-        self.places += 1
-        if self.places <= NOTES:
-            print(f"{self.source.name}: offset {at}: {text}", file=sys.stderr)
-
-    def leave_out(self, begin, end, why=""):
-        if begin < end:
-            self.left_out += end - begin
-            self.note(begin, f"{end - begin} bytes left out{why}")
+    def note(self, at, text, size=0):
+        """Notes a place, when the next one begins; bytes that are left out in a row are one."""
+        begin, end, last = self.place
+        self.left_out += size
+        if size and begin < end == at:
+            self.place = begin, at + size, last
+            return
+        self.place = at, at + size, text
+        self.places += last is not None
+        if last is not None and self.places <= NOTES:
+            last = f"{end - begin} bytes left out{last}" if begin < end else last
+            print(f"{self.source.name}: offset {begin}: {last}", file=sys.stderr)
 
 
 class Reader:
@@ -145,12 +169,12 @@ class Reader:
 
     def __init__(self, source, out, order):
         self.source, self.out, self.order = source, out, order
-        self.last, (self.likely, self.back) = collections.deque(maxlen=DOUBTED), self.LIKELY[order]
-        self.sizes, self.unpack = (struct.Struct(order + it).unpack_from for it in ("II", "IIII"))
+        self.last, self.likely = collections.deque(maxlen=DOUBTED), self.LIKELY[order]
+        shapes = (struct.Struct(order + it).unpack_from for it in ("HH", "II", "III", "IIII"))
+        self.option, self.sizes, self.ends, self.unpack = shapes
 
-    def head(self, at, form="IIII"):
-        data, base = self.source.load(at, 32)
-        return struct.unpack_from(self.order + form, data, at - base)
+    def head(self, at):
+        return self.unpack(self.source.get(at, 16).ljust(16, b"\0"))
 
     def read(self, at):
         """Reads units as capkit does, up to a fault, and returns its place."""
@@ -165,40 +189,34 @@ class Reader:
 
     def chain(self, start, is_headed=False):
         """Where the units in a row from a place on begin, and the last one ends, if believed."""
-        source, bounds, end = self.source, [start], start
+        source, bounds, end, step = self.source, [start], start, self.step
+        held = source.load(start)
         while end and end <= source.size and (end - start <= INSIDE or len(bounds) <= UNITS):
-            end = self.step(end)
+            if end - start > ZONE:
+                held = source.load(end) if source.may_try(start) else (b"", 0)
+            end = step(end, *held)
             bounds += [end] if end and end <= source.size else []
         source.tried += len(bounds)
         if end and end <= source.size:
             return bounds
         is_next = len(bounds) > 1 and capture_at(source, self.out, bounds[-1])
         is_end = bounds[-1] == source.size or is_headed and end
-        if len(bounds) > self.source.row and not (is_next or is_end):
+        if len(bounds) > source.row and not (is_next or is_end):
             is_end = self.is_near(start) or self.is_sure and source.time is NO_TIME
         return bounds if is_next or is_end and len(bounds) > source.row else None
 
-    def places(self, begin, end):
-        """Where units could begin between two places; not all of them if they are too many."""
-        data, base = self.source.load(begin, ZONE + AHEAD)
-        at, stop = begin - base + self.back, end - base + self.back + 5
-        while found := self.likely.search(data, at, stop):
-            place = found.start() - self.back + base
-            yield place
-            self.source.tried += 2
-            at = found.start() + (1 if self.source.may_try(place) else 4096)
-
     def first(self, begin, end, passes):
         """The first chain between two places, or the one that it meets with most units before."""
-        for place in self.places(begin, end):
+        for place in self.source.places(*self.likely, begin, end):
             best = self.chain(place)
             if not best or place < passes and (place in self.last or best[-1] <= passes):
                 continue
-            for other in self.places(place + 1, min(place + 4096, best[-1])):
+            known = set(best)
+            for other in self.source.places(*self.likely, place + 1, min(place + 4096, best[-1])):
                 bounds = self.chain(other) or []
-                meets = min(set(bounds).intersection(best), default=None)
+                meets = min(known.intersection(bounds), default=None)
                 if meets and bounds.index(meets) > best.index(meets):
-                    best = bounds
+                    best, known = bounds, set(bounds)
             return self.without_carried(best)
         return None
 
@@ -211,7 +229,7 @@ class Reader:
 
     def doubted(self, at):
         """Where a chain may begin, and what it goes over: a fault or a damaged record before it."""
-        last = list(itertools.takewhile(self.step, self.last))
+        last = list(itertools.takewhile(lambda it: self.step(it, *self.source.load(it)), self.last))
         begin = self.last[0] + 1 if self.last else at
         if last:
             self.source.time, at = self.when(last[-1]), [*self.last, at][len(last)]
@@ -222,8 +240,8 @@ class Records(Reader):
     """The records of pcap."""
     is_sure, units, link, is_odd = False, None, ETHERNET, False
     # The lengths' high bytes, the captured one not being 0; and how far in a record they are.
-    LIKELY = {"<": (re.compile(rb"(?s)\0(?<!\0{4})(?<=[\0-\4].)..[\0-\4]\0"), 11),
-              ">": (re.compile(rb"(?s)\0[\0-\4](?!\0\0)..\0[\0-\4]"), 8)}
+    LIKELY = {"<": (re.compile(rb"(?s)\0(?<!\0{4})(?<=[\0-\4].)..[\0-\4]\0"), 11, b"\0"),
+              ">": (re.compile(rb"(?s)\0[\0-\4](?!\0\0)..\0[\0-\4]"), 8, b"\0")}
 
     def begin(self, at):
         """The file header of what is written."""
@@ -237,11 +255,11 @@ class Records(Reader):
     def when(self, at):
         return self.head(at)[0]
 
-    def step(self, at):
+    def step(self, at, data, base):
         """Where a record ends; past the end of the file if it is cut; None if it is none."""
         if at + 16 > self.source.size:
             return self.source.size + 1
-        captured, original = self.head(at + 8, "II")
+        _, _, captured, original = self.unpack(data, at - base) if data else (0, 0, 0, 0)
         return at + 16 + captured if 0 < captured <= original <= LONGEST else None
 
     def chain(self, start, is_headed=False):
@@ -253,51 +271,64 @@ class Records(Reader):
 
     def read_held(self, at, data, base):
         """Reads records in the bytes held, up to a fault; those at their end may be left."""
-        out, last, units, unpack = self.out, self.last, self.units, self.unpack
+        out, units, unpack, append = self.out, self.units, self.unpack, self.last.append
         place = begin = done = at - base
-        size, changed = self.source.size - base, None
-        stop = len(data) - (16 if len(data) == size else 2 * LONGEST)
+        size, changed, packets = self.source.size - base, None, 0
+        stop = size - 16 if len(data) > size else len(data) - 2 * LONGEST
         while place <= stop:
-            _, part, captured, original = unpack(data, place)
-            end, is_odd = place + 16 + captured, part >= units
-            if is_odd or part == captured or end > size or not 0 < captured <= LONGEST:
-                is_pair = is_odd and end <= stop and 0 < captured <= original <= LONGEST
-                if is_pair:
-                    _, _, captured, original = unpack(data, end)
-                    is_pair = 0 < captured <= original <= LONGEST
-                if not is_pair and self.is_fault(base + place):
+            seconds, part, captured, original = head = unpack(data, place)
+            end = place + 16 + captured
+            if part >= units or part == captured or not 0 < captured <= LONGEST or end > size:
+                if self.is_fault(data, head, end, size):
                     break
-            last.append(base + place)
-            if is_odd:
-                last.clear()
-                if out.places < NOTES:
-                    out.note(base + place, f"a fraction of {part}, written as 0")
-                else:
-                    out.places += 1
-                changed = changed or bytearray(data)
-                changed[place + 4 : place + 8] = b"\0\0\0\0"
-                self.is_odd, done = True, end
-            out.packets += 1
+                if part >= units:
+                    changed = changed or bytearray(data)
+                    place = done = self.mend(changed, base, place, end, stop)
+                    continue
+            append(base + place)
+            packets += 1
             place = end
         if changed:
             out.put(memoryview(changed)[begin:done])
         out.keep(base + done, base + place)
+        out.packets += packets
         return base + place
 
-    def is_fault(self, at):
-        """Whether no record (of any fraction) begins at a place, or reading is off by 4 bytes."""
-        seconds, part, captured, original = self.head(at)
-        if captured > LONGEST or at + 16 + captured > self.source.size or not captured | original:
+    def mend(self, data, base, place, end, stop):
+        """Puts fractions right, of a record and of those right after it; returns their end."""
+        unpack, units, odds, stop = self.unpack, self.units, [place], min(stop, place + INSIDE)
+        place = end
+        while place <= stop:
+            _, part, captured, original = unpack(data, place)
+            if part < units or not 0 < captured <= original <= LONGEST:
+                break
+            odds.append(place)
+            place += 16 + captured
+        if len(odds) > 1 and not (place <= stop and 0 < captured <= original <= LONGEST):
+            place = odds.pop()
+        for odd in odds:
+            data[odd + 4 : odd + 8] = b"\0\0\0\0"
+        self.out.note(base + odds[0], f"{len(odds)} fractions of a second or more, written as 0")
+        self.out.packets += len(odds)
+        self.last.clear()
+        self.is_odd = True
+        return place
+
+    def is_fault(self, data, head, end, size):
+        """Whether this is no record (of any fraction), or reading is off by 4 bytes."""
+        seconds, part, captured, original = head
+        is_odd, is_pair = part >= self.units, 0 < captured <= original <= LONGEST
+        if captured > LONGEST or end > size or not captured | original or is_odd and not is_pair:
             return True
-        is_odd = part >= self.units
-        is_off = part == captured and seconds < self.units and at >= 4
-        end = self.step(at - 4 * is_off) if is_odd or is_off else None
-        is_pair = end and (end == self.source.size or self.step(end))
-        return not is_pair if is_odd else is_pair
+        if not is_odd and (seconds >= self.units or part != captured or not captured):
+            return False
+        end -= 0 if is_odd else 4
+        is_pair = end + 16 > size or 0 < (head := self.unpack(data, end))[2] <= head[3] <= LONGEST
+        return is_odd != is_pair
 
     def settle(self, at, place):
         """Drops records in the way of a chain, or puts one right; returns the end of those kept."""
-        last, odd = self.last, [it for it in self.last if not self.step(it)]
+        last, odd = self.last, [it for it in self.last if not self.step(it, *self.source.load(it))]
         odd = odd if 2 * len(odd) <= len(last) else []
         while last and (last[-1] in odd or last[-1] + 16 + self.head(last[-1])[2] > place):
             at = last.pop()
@@ -320,51 +351,55 @@ class Records(Reader):
 class Blocks(Reader):
     """The blocks of pcapng."""
     is_sure = True
-    LIKELY = {"<": (re.compile(rb"[\1-\3\6]\0\0\0"), 0), ">": (re.compile(rb"\0\0\0[\1-\3\6]"), 0)}
-    # Of each interface of the section the least and greatest ticks, and the ticks of a second;
-    # their blocks; whether one may be missing before the next.
-    faces, described, is_torn = (), b"", False
+    LIKELY = {"<": (re.compile(rb"\0\0\0(?<=[\1-\3\6]\0\0\0)"), 1, b"\0"),
+              ">": (re.compile(rb"\0\0\0[\1-\3\6]"), 0, b"\0")}
+    # Of the interfaces of the section what limits their times, and their blocks; the snap length of
+    # the first one; whether one may be missing before the next; what is written so far.
+    faces, described, snap, is_torn = [], b"", 0, False
 
     def begin(self, at):
         """A section header, if there is none."""
         self.out.begin(b"")
         if self.source.get(at, 4) != SECTION_TYPE:
             self.out.note(at, "no section header")
+            if len(self.described) > ZONE:
+                self.faces, self.described, self.is_torn = [], b"", True
             header = (SECTION, 28, ORDER_MAGIC, 1, 0, -1, 28)
             self.out.put(struct.pack(self.order + "IIIHHqI", *header) + self.described)
 
     def when(self, at):
         """The time of a packet; no number if it isn't known."""
-        header = self.source.get(at, 24).ljust(24, b"\0")
-        (kind, _), (face, high, low, _) = self.sizes(header), self.unpack(header, 8)
-        is_known = kind == ENHANCED and face < len(self.faces)
-        return (high << 32 | low) / self.faces[face][2] if is_known else NO_TIME
+        kind, _, face, high = self.head(at)
+        if kind != ENHANCED or face >= len(self.faces):
+            return NO_TIME
+        return (high << 32 | self.head(at + 16)[0]) / limits(*self.faces[face])[2]
 
-    def step(self, at):
+    def step(self, at, data, base):
         """Where a block ends; past the end of the file if it is cut; None if it is none."""
-        if at + 12 > self.source.size:
-            return self.source.size + 1
-        kind, length = self.head(at, "II")
-        if not LEAST.get(kind, 12) <= length <= LONGEST_BLOCK or length % 4:
+        size, place = self.source.size, at - base
+        if at + 12 > size:
+            return size + 1
+        kind, length = self.sizes(data, place) if data else (0, 0)
+        end = place + length
+        if not LEAST.get(kind, 12) <= length <= LONGEST_BLOCK or length & 3:
             return None
-        if at + length > self.source.size:
+        if at + length > size:
             return at + length if kind <= 10 else None
-        is_right = self.head(at + length - 4, "I")[0] == length
+        is_right = data[place + 4 : place + 8] == data[end - 4 : end]
         if kind == ENHANCED:
-            is_right &= 32 + self.head(at + 20, "I")[0] <= length
+            is_right &= 32 + self.sizes(data, place + 16)[1] <= length
         elif kind == SECTION:
-            is_right &= self.source.get(at + 8, 8) in SECTIONS
+            is_right &= SECTIONS.get(data[place + 8 : place + 16]) == self.order
         return at + length if is_right else None
 
     def read_held(self, at, data, base):
         """Reads blocks in the bytes held, up to one that is none or isn't held as a whole."""
-        out, sizes, stop = self.out, self.sizes, len(data)
-        place = begin = at - base
-        while place + 12 <= stop:
-            kind, length = sizes(data, place)
-            end = place + length
-            is_block = LEAST.get(kind, 12) <= length <= LONGEST_BLOCK and end <= stop
-            if not is_block or length & 3 or data[place + 4 : place + 8] != data[end - 4 : end]:
+        out, ends, made = self.out, self.ends, bytearray()
+        place = done = at - base
+        kind, length = self.sizes(data, place)
+        while length and (end := place + length) + 8 <= len(data):
+            again, after, more = ends(data, end - 4)
+            if again != length or length & 3 or not LEAST.get(kind, 12) <= length <= LONGEST_BLOCK:
                 break
             if kind in LEAST:
                 block = data[place:end]
@@ -372,70 +407,71 @@ class Blocks(Reader):
                 if right is None:
                     break
                 if right is not block:
-                    out.keep(base + begin, base + place)
-                    self.put(base + place, base + end, right, why)
-                    begin = end
-            place = end
-        out.keep(base + begin, base + place)
+                    made += right if done == place else data[done:place] + right
+                    done = end
+                    out.note(base + place, why, 0 if right else length)
+            place, kind, length = end, after, more
+        if made:
+            out.put(made)
+        out.keep(base + done, base + place)
         return base + place
-
-    def put(self, at, end, right, why):
-        """Writes a block that was put right, or leaves it out if capkit refuses it."""
-        if not right:
-            return self.out.leave_out(at, end, f" ({why})")
-        self.out.note(at, why)
-        self.out.put(right)
 
     def right(self, kind, block):
         """A block as it is or put right, empty if capkit refuses it, None if it is none; and why"""
-        if kind == ENHANCED:
-            return self.enhanced(block)
-        if kind == INTERFACE:
-            return self.interface(block)
-        if kind == SECTION and block[8:16] not in SECTIONS:
-            return None, ""
+        if kind == ENHANCED or kind == INTERFACE:
+            return self.enhanced(block) if kind == ENHANCED else self.interface(block)
+        size = len(block) - 16
         if kind == SECTION:
-            self.faces, self.described, self.is_torn = (), b"", False
-        elif kind == OBSOLETE or kind == SIMPLE and not self.faces:
-            return b"", "an obsolete packet block, or a simple one of no interface"
+            if SECTIONS.get(block[8:16]) != self.order:
+                return None, ""
+            self.faces, self.described, self.is_torn = [], b"", False
+        elif not self.faces or kind == OBSOLETE or self.snap > size < self.sizes(block, 8)[0]:
+            return b"", " (an obsolete packet block, or a simple one, cut or of no interface)"
         self.out.packets += kind == SIMPLE
         return block, ""
 
     def interface(self, block):
         """An interface, without its options if capkit doesn't read them; none after damage."""
         if self.is_torn or len(self.faces) == MOST_INTERFACES:
-            self.faces, self.described, self.is_torn = (), b"", True
-            return b"", "an interface whose number isn't known"
-        found, code, place, end, why = {}, 1, 16, len(block) - 4, ""
-        while code and place + 4 <= end:
-            code, length = struct.unpack_from(self.order + "HH", block, place)
-            found.setdefault(code, block[place + 4 : place + 4 + length])
-            place += 4 + length + -length % 4
-        unit, offset = found.get(9, b"\6"), found.get(14, bytes(8))
-        is_time = len(unit) == 1 and (unit[0] <= 12 or 128 <= unit[0] <= 160) and len(offset) == 8
-        if not is_time or place > end or len(found.get(2, b"")) > 255:
-            size, unit, offset = struct.pack(self.order + "I", 20), b"\6", bytes(8)
-            block, why = block[:4] + size + block[8:16] + size, "an interface, without its options"
-        second = 10 ** unit[0] if unit[0] < 128 else 2 ** (unit[0] - 128)
-        offset = struct.unpack(self.order + "q", offset)[0]
-        greatest = -(-(self.out.most - offset * 10**9) * second // 10**9) - 1
-        self.faces += ((max(0, -offset * second), greatest, second),)
-        self.described += block
+            self.faces, self.described, self.is_torn = [], b"", True
+            return b"", " (an interface whose number isn't known)"
+        if not self.faces:
+            self.described, self.snap = bytearray(), self.sizes(block, 8)[1] or 2**32
+        unit, offset = self.times(block) if len(block) > 20 else (b"\6", NO_OFFSET)
+        why = "" if unit else "an interface, without its options"
+        if not unit:
+            size, unit = SHORT[self.order], b"\6"
+            block = block[:4] + size + block[8:16] + size
+        self.faces.append((self.order, self.out.most, unit, offset))
+        self.described += block if len(self.described) <= ZONE else b""
         return block, why
+
+    def times(self, block):
+        """The unit and offset of an interface's times; no unit if capkit refuses its options."""
+        option, found, code, place, end = self.option, {}, 1, 16, len(block) - 4
+        while place < end and code:
+            code, length = option(block, place)
+            if code in (2, 9, 14) and code not in found:
+                found[code] = block[place + 4 : place + 4 + length]
+            place += 4 + (length + 3 & -4)
+        unit, offset = found.get(9, b"\6"), found.get(14, NO_OFFSET)
+        is_unit = len(unit) == 1 and (unit[0] <= 12 or 128 <= unit[0] <= 160)
+        is_right = is_unit and len(offset) == 8 and place <= end and len(found.get(2, b"")) <= 255
+        return (unit, offset) if is_right else (b"", NO_OFFSET)
 
     def enhanced(self, block):
         """A packet, with the least time if its own is out of range."""
         face, high, low, captured = self.unpack(block, 8)
         if 32 + captured > len(block):
-            return None, "a captured length that doesn't fit"
+            return None, ""
         if face >= len(self.faces):
-            return b"", "a packet whose interface isn't known"
-        (least, greatest, second), ticks = self.faces[face], high << 32 | low
+            return b"", " (a packet whose interface isn't known)"
+        least, greatest, second, time = limits(*self.faces[face])
+        ticks = high << 32 | low
         self.source.time = ticks / second
         self.out.packets += 1
         if least <= ticks <= greatest:
             return block, ""
-        time = struct.pack(self.order + "II", least >> 32, least % 2**32)
         return block[:12] + time + block[20:], "a time out of range, written as 0"
 
     def settle(self, at, place):
@@ -446,11 +482,23 @@ class Blocks(Reader):
             kind = self.sizes(block)[0]
             is_known = kind <= 10 and LEAST.get(kind, 12) <= size or block[8:16] in SECTIONS
             if is_known and length in (block[4:8], block[-4:]):
-                right, why = self.right(kind, block[:4] + length + block[8:-4] + length)
-                self.put(at, place, right, why or "a block with a damaged length, put right")
+                block = block[:4] + length + block[8:-4] + length
+                right, why = self.right(kind, block) if kind in LEAST else (block, "")
+                why = why or "a block with a damaged length, put right" if right else why
+                self.out.note(at, why, 0 if right else size)
+                self.out.put(right or b"")
                 return place
         self.is_torn = True
         return at
+
+
+@functools.lru_cache(MOST_INTERFACES)
+def limits(order, most, unit, offset):
+    """Of an interface the least and greatest ticks, those of a second, and the least as written."""
+    (unit,), (offset,) = unit, struct.unpack(order + "q", offset)
+    second = 10**unit if unit < 128 else 2 ** (unit - 128)
+    least, greatest = max(0, -offset * second), -(-(most - offset * 10**9) * second // 10**9) - 1
+    return least, greatest, second, struct.pack(order + "II", least >> 32, least % 2**32)
 
 
 def capture_at(source, out, at):
@@ -474,17 +522,16 @@ def capture_at(source, out, at):
 def find(source, out, readers, begin, passes):
     """The next chain, or the header before one: its place, its reader, and where that reads."""
     while begin < source.size:
-        if not source.get(begin, INSIDE).strip(b"\0"):
-            begin += INSIDE - 16
+        if source.get(begin, 64) == bytes(64):
+            zeros = source.get(begin, INSIDE)
+            begin += len(zeros) - len(zeros.lstrip(b"\0")) - 16
             continue
-        end = begin + ZONE
+        end = begin + (ZONE if source.may_try(begin) else 4096)
         chains = [(bounds[0], it) for it in readers if (bounds := it.first(begin, end, passes))]
         place, reader = min(chains, key=lambda it: it[0], default=(end, None))
-        data, base = source.load(begin, ZONE + AHEAD)
-        for found in HEADER.finditer(data, begin - base, place - base + 3):
-            at = found.start() + base
-            if at and source.may_try(at) and (capture := capture_at(source, out, at)):
-                source.tried += 10
+        for at in source.places(HEADER, 0, b"\xa1", begin, place):
+            source.tried += 8
+            if at and (capture := capture_at(source, out, at)):
                 bounds = capture[0].chain(capture[1], True)
                 if bounds and bounds[-1] > passes:
                     return at, *capture
@@ -499,7 +546,8 @@ def salvage(source, out):
     guessed = [kind(source, out, order) for kind in (Records, Blocks) for order in "<>"]
     capture = capture_at(source, out, 0)
     place, other, at = (0, *capture) if capture else find(source, out, guessed, 0, 0)
-    out.leave_out(0, place)
+    if place:
+        out.note(0, "", place)
     seen, reader = {}, None
     while other:
         if other is not reader:
@@ -511,19 +559,24 @@ def salvage(source, out):
         if fault == source.size:
             break
         begin, passes = reader.doubted(fault)
-        source.tried += 40
-        begin = max(begin, place + 1) if source.may_try(fault) else fault + 4096
-        place, other, at = find(source, out, list(seen.values()), begin, passes)
-        out.leave_out(reader.settle(fault, place), place)
+        readers, begin, source.tried = list(seen.values()), max(begin, place + 1), source.tried + 40
+        if not source.may_try(fault):
+            readers, begin = [reader], fault + 4096
+        place, other, at = find(source, out, readers, begin, passes)
+        if (end := reader.settle(fault, place)) < place:
+            out.note(end, "", place - end)
+    out.note(0, None)
 
 
 def copied(held, is_text=False):
     """A copy of a file, which has no name; of one in text mode without what that has added."""
-    copy = tempfile.TemporaryFile(buffering=0)
+    copy, rest = tempfile.TemporaryFile(buffering=0), b""
     while part := held.read(ZONE):
-        while is_text and part.endswith(b"\r") and (more := held.read(1)):
-            part += more
+        part = rest + part
+        rest = part[-1:] if is_text and part.endswith(b"\r") else b""
+        part = part[: len(part) - len(rest)]
         copy.write(part.replace(b"\r\n", b"\n") if is_text else part)
+    copy.write(rest)
     return copy
 
 
