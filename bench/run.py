@@ -91,8 +91,8 @@ def parts_of(capture, count, folder):
     return names
 
 
-def jobs(capkit, capture, folder):
-    """The jobs: their name, the peer's program, and the words of both, with OUT for the output."""
+def jobs(capkit, floor, capture, folder):
+    """The jobs: their name, the peer's program, and the words of each program by its name, with OUT for the output."""
     edits = {
         "copy-pcap": ["-F", "pcap", capture, "OUT"],
         "to-pcapng": ["-F", "pcapng", capture, "OUT"],
@@ -101,16 +101,21 @@ def jobs(capkit, capture, folder):
         "window-5": ["-F", "pcap", "-D", "5", capture, "OUT"],
         "window-1000": ["-F", "pcap", "-D", "1000", capture, "OUT"],
     }
-    for name, words in edits.items():
-        yield name, "editcap", [capkit, "edit", *words], ["editcap", *words]
+    made = [(name, ["edit", *words], ["editcap", *words]) for name, words in edits.items()]
     for count in (2, 16):
         words = ["-F", "pcap", "-w", "OUT", *parts_of(capture, count, folder)]
-        yield f"merge-{count}", "mergecap", [capkit, "merge", *words], ["mergecap", *words]
-    yield "infos", "capinfos", [capkit, "infos", capture], ["capinfos", "-cudsaeM", capture]
+        made.append((f"merge-{count}", ["merge", *words], ["mergecap", *words]))
+    made.append(("infos", ["infos", capture], ["capinfos", "-cudsaeM", capture]))
     for name, expression in EXPRESSIONS.items():
-        own = [capkit, "print", "-w", "OUT", "--format", "pcap", capture, expression]
-        yield name, "tcpdump", own, ["tcpdump", "-Z", "root", "-r", capture, "-w", "OUT", expression]
-    yield "lines", "tcpdump", [capkit, "print", capture], ["tcpdump", "-nn", "-q", "-tttt", "-r", capture]
+        own = ["print", "-w", "OUT", "--format", "pcap", capture, expression]
+        made.append((name, own, ["tcpdump", "-Z", "root", "-r", capture, "-w", "OUT", expression]))
+    made.append(("lines", ["print", capture], ["tcpdump", "-nn", "-q", "-tttt", "-r", capture]))
+    for name, own, peer in made:
+        words = {"own": [capkit, *own], "peer": peer}
+        if floor and name in FLOOR:
+            captures = [word for word in own if word.endswith(".pcap")]
+            words["floor"] = [floor, *(it for word in FLOOR[name] for it in (captures if word == "IN" else [word]))]
+        yield name, words
 
 
 def compiled_floor(folder):
@@ -121,14 +126,6 @@ def compiled_floor(folder):
     program = str(folder / "floor")
     subprocess.run([compiler, "-O2", "-o", program, ROOT / "bench" / "floor.c"], check=True)
     return program
-
-
-def floor_words(floor, name, own):
-    """The words by which floor.c does the job that capkit does by `own`, or None."""
-    if floor is None or name not in FLOOR:
-        return None
-    captures = [word for word in own if word.endswith(".pcap")]
-    return [floor, *(it for word in FLOOR[name] for it in (captures if word == "IN" else [word]))]
 
 
 def instructions_of(words):
@@ -176,51 +173,44 @@ def counted(words):
     return counts[0] if counts else None
 
 
-def compare(name, own, peer, folder):
+def compare(name, programs, folder):
     """Whether both write the same packets; only pcap files can be compared byte by byte."""
     if name in ("to-pcapng", "lines"):
         return ""
     if name == "infos":
-        count = counted(own)
-        return "same" if count is not None and count == counted(peer) else "DIFFERENT"
-    for words, out in ((own, "own"), (peer, "peer")):
-        run(words, str(folder / out))
+        own, peer = (counted(programs[which]) for which in ("own", "peer"))
+        return "same" if own is not None and own == peer else "DIFFERENT"
+    for which in ("own", "peer"):
+        run(programs[which], str(folder / which))
     same = packets_of(folder / "own") == packets_of(folder / "peer")
     return "same" if same else "DIFFERENT"
 
 
-def measure(name, programs, rounds, folder):
+def measure(programs, rounds, folder):
     """Measures a job in turn by each of the programs: the best times, and the greatest memory of two."""
-    best = {which: math.inf for which in programs}
+    times = {which: [] for which in programs}
     for _ in range(rounds):
         for which, words in programs.items():
-            best[which] = min(best[which], run(words, "/dev/null"))
+            times[which].append(run(words, "/dev/null"))
+    best = [min(times.get(which, [math.nan])) for which in ("own", "peer", "floor")]
     return best, [memory_of(programs[which], folder) for which in ("own", "peer")]
 
 
-def small_jobs(capkit, folder):
+def small_jobs(capkit, floor, folder):
     """For both small captures, the words of each job by its name."""
     for count in (FEW, MANY):
         place = folder / str(count)
         place.mkdir()
         make_capture.write_capture(str(place / "capture.pcap"), count)
-        yield {name: own for name, _, own, _ in jobs(capkit, str(place / "capture.pcap"), place)}
+        yield dict(jobs(capkit, floor, str(place / "capture.pcap"), place))
 
 
-def instructions_a_packet(few, many):
-    """How many instructions a packet the job executes, by its words for either small capture."""
-    return round((instructions_of(many) - instructions_of(few)) / (MANY - FEW))
-
-
-def counts_of(name, floor, small):
-    """Instructions a packet of capkit and of floor.c, as texts."""
-    if small is None:
-        return "", ""
-    few, many = (words[name] for words in small)
-    own = str(instructions_a_packet(few, many))
-    if floor is None or name not in FLOOR:
-        return own, ""
-    return own, str(instructions_a_packet(*(floor_words(floor, name, words) for words in (few, many))))
+def counts_of(few, many):
+    """Instructions a packet of capkit and of floor.c, as texts, by the words of a job for either small capture."""
+    counts = {}
+    for which in {"own", "floor"} & few.keys():
+        counts[which] = str(round((instructions_of(many[which]) - instructions_of(few[which])) / (MANY - FEW)))
+    return counts.get("own", ""), counts.get("floor", "")
 
 
 def print_line(name, peer, cells):
@@ -229,41 +219,31 @@ def print_line(name, peer, cells):
     print(f"{name:14} {peer:8} " + " ".join(f"{'' if it == 'nan' else it:>8}" for it in shown), flush=True)
 
 
-def chosen_jobs(arguments, folder):
-    """The jobs of the full capture that were asked for and whose peer is installed."""
+def measure_jobs(arguments, folder):
+    """Prints a line for each job that was asked for, and returns the ratios to the other tools."""
+    capkit, floor = arguments.capkit or str(built_program()), compiled_floor(folder)
+    small = list(small_jobs(capkit, floor, folder)) if shutil.which("valgrind") else [{}, {}]
     capture = str(folder / "capture.pcap")
     make_capture.write_capture(capture, 1000 if arguments.instructions else arguments.packets)
     if not arguments.instructions:
         print(f"{arguments.packets} packets, {os.path.getsize(capture)} bytes; seconds of a processor, MiB")
-    for name, peer, own, other in jobs(arguments.capkit or str(built_program()), capture, folder):
+    print_line("job", "peer", ("capkit", "peer", "ratio", "C", "capkit/C", "MiB", "peer's", "insns", "C's"))
+    ratios = []
+    for name, programs in jobs(capkit, floor, capture, folder):
+        peer = programs["peer"][0]
         if arguments.names and name not in arguments.names:
             continue
-        if shutil.which(peer) is None and not arguments.instructions:
-            print(f"{name:14} {peer} is not installed")
-            continue
-        yield name, peer, own, other
-
-
-def measure_jobs(arguments, folder):
-    """Prints a line for each job, and returns the ratios to the other tools."""
-    floor = compiled_floor(folder)
-    small = list(small_jobs(arguments.capkit or str(built_program()), folder)) if shutil.which("valgrind") else None
-    ratios = []
-    heads = ("capkit", "peer", "ratio", "C", "capkit/C", "MiB", "peer's", "insns", "C's")
-    for name, peer, own, other in chosen_jobs(arguments, folder):
-        if not ratios:
-            print_line("job", "peer", heads)
-        programs = {"own": own, "peer": other, "floor": floor_words(floor, name, own)}
-        programs = {which: words for which, words in programs.items() if words}
-        note, best, memory = "", {}, [math.nan, math.nan]
+        note, best, memory = "", [math.nan] * 3, [math.nan] * 2
         if not arguments.instructions:
-            note = compare(name, own, other, folder)
-            best, memory = measure(name, programs, arguments.rounds, folder)
-        times = [best.get(which, math.nan) for which in ("own", "peer", "floor")]
-        ratios.append(times[0] / times[1])
-        cells = [(times[0], 3), (times[1], 3), (ratios[-1], 2), (times[2], 3), (times[0] / times[2], 2)]
-        cells += [(size, 1) for size in memory]
-        print_line(name, peer, [*cells, *counts_of(name, floor, small), note])
+            if shutil.which(peer) is None:
+                print(f"{name:14} {peer} is not installed")
+                continue
+            note = compare(name, programs, folder)
+            best, memory = measure(programs, arguments.rounds, folder)
+        own, other, least = best
+        ratios.append(own / other)
+        cells = [(own, 3), (other, 3), (own / other, 2), (least, 3), (own / least, 2), *((size, 1) for size in memory)]
+        print_line(name, peer, [*cells, *counts_of(*(words.get(name, {}) for words in small)), note])
     return ratios
 
 

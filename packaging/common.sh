@@ -40,28 +40,43 @@ END
 
 # A link of a page to a file that isn't there becomes its text.
 drop_dead_links() { # PAGE
-    awk -v folder="${1%/*}/" '
-        {
-            shown = ""
-            while (match($0, /\]\([^)]*\)/)) {
-                target = substr($0, RSTART + 2, RLENGTH - 3)
-                text = substr($0, 1, RSTART - 1)
-                path = target
-                sub(/#.*/, "", path)
-                is_dead = path != "" && path !~ /^[a-z]+:/ && (getline line < (folder path)) < 0
-                close(folder path)
-                if (is_dead && match(text, /.*\[/))
-                    shown = shown substr(text, 1, RLENGTH - 1) substr(text, RLENGTH + 1)
-                else
-                    shown = shown text "](" target ")"
-                $0 = substr($0, length(text) + length(target) + 4)
-            }
-            print shown $0
-        }' "$1" >"$work/page"
-    install -m 644 "$work/page" "$1"
+    python3 - "$1" <<'END'
+import pathlib, re, sys
+page = pathlib.Path(sys.argv[1])
+
+def kept(link):
+    path = link[2].partition("#")[0]
+    is_there = not path or re.match("[a-z]+:", path) or (page.parent / path).is_file()
+    return link[0] if is_there else link[1]
+
+page.write_text(re.sub(r"\[([^][]*)\]\(([^)]*)\)", kept, page.read_text()))
+END
 }
 
-# Writes the sums of what a package installs.
-write_sums() { # TREE
+# Strips a program or a shared library, and prints what its package depends on.
+strip_for() { # FILE
+    strip --strip-unneeded --remove-section=.comment --remove-section=.note "$1"
+    mkdir -p "$work/debian"
+    : >"$work/debian/control"
+    (cd "$work" && dpkg-shlibdeps -O "$1" | sed -n 's/^shlibs:Depends=//p')
+}
+
+# Makes a package of a tree with its name. Standard input has the fields of its control file that these are not.
+pack() { # TREE ARCHITECTURE
     (cd "$1" && find usr -type f -exec md5sum {} +) | LC_ALL=C sort -k 2 >"$1/DEBIAN/md5sums"
+    {
+        cat <<END
+Package: ${1##*/}
+Version: $version
+Architecture: $2
+Maintainer: $name <$email>
+Installed-Size: $(du -sk --apparent-size "$1/usr" | cut -f 1)
+Priority: optional
+END
+        cat
+    } >"$1/DEBIAN/control"
+    package=$root/out/${1##*/}_${version}_$2.deb
+    mkdir -p "$root/out"
+    dpkg-deb --root-owner-group --build "$1" "$package" >/dev/null
+    printf '%s\n' "$package"
 }

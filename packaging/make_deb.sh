@@ -5,7 +5,7 @@
 #
 # The package goes to out/. PROGRAM is the built program; where none is given, ./capkit builds it first. The maintainer is
 # DEBFULLNAME and DEBEMAIL, else git's user. Its time is SOURCE_DATE_EPOCH, else that of the commit, or of CHANGELOG.md
-# where there is no commit, as in a tarball. It needs Python 3, dpkg-dev and binutils, and no rights of root.
+# where there is no commit, as in a tarball. It needs Python 3 with jinja2, dpkg-dev and binutils, and no rights of root.
 
 set -eu
 umask 022
@@ -30,16 +30,13 @@ case $("$program" --version) in
     ;;
 esac
 
-tree=$work/tree
+tree=$work/capkit
 documents=$tree/usr/share/doc/capkit
 mkdir -p "$tree/DEBIAN" "$documents/bench" "$documents/samples"
 
 # The program, and what it needs of the C library.
 install -D "$program" "$tree/usr/bin/capkit"
-strip --strip-unneeded --remove-section=.comment --remove-section=.note "$tree/usr/bin/capkit"
-mkdir "$work/debian"
-: >"$work/debian/control"
-needs=$(cd "$work" && dpkg-shlibdeps -O "$tree/usr/bin/capkit" | sed -n 's/^shlibs:Depends=//p')
+needs=$(strip_for "$tree/usr/bin/capkit")
 
 # What a user copies to read a damaged capture, to list what is lost of one, or to work on many machines.
 install -D -m 644 -t "$documents/examples" "$root/examples/salvage.py" "$root/examples/any.sh" "$root/examples/lost.py"
@@ -64,10 +61,10 @@ gzip -9n "$tree"/usr/share/man/man?/*
 # The documents that a user reads, the samples, and what the recipes and lessons call beside them.
 install -m 644 "$root"/samples/* "$documents/samples/"
 install -m 644 "$root/bench/make_capture.py" "$documents/bench/"
-for file in lesson show draw fields library listing markup page pictures runs sides tree words; do
+for file in lesson show draw fields library listing page pictures runs sides tree words; do
     install -D -m 644 -t "$documents/teach" "$root/teach/$file.py"
 done
-install -m 644 "$root/teach/page.css" "$root/teach/page.js" "$documents/teach/"
+install -m 644 "$root"/teach/page.[chj]* "$documents/teach/"
 install -D -m 644 -t "$documents/docs" "$root/docs/lesson.png" "$root/docs/lesson.html"
 # shellcheck disable=SC2046  # the pages have names without spaces
 for page in README.md $(cd "$root" && echo docs/*.md) docs/inside/FORMATS.md docs/inside/MACHINE.md; do
@@ -83,26 +80,13 @@ install -m 644 "$root/packaging/copyright" "$documents/"
 write_changelog "$documents/changelog.Debian.gz"
 gzip -9nc "$root/CHANGELOG.md" >"$documents/changelog.gz"
 
-# What dpkg reads.
-write_sums "$tree"
-cat >"$tree/DEBIAN/control" <<END
-Package: capkit
-Version: $version
-Architecture: $architecture
-Maintainer: $name <$email>
-Installed-Size: $(du -sk --apparent-size "$tree/usr" | cut -f 1)
+pack "$tree" "$architecture" <<END
 Depends: $needs
-Suggests: python3-capkit
+Suggests: python3-capkit, python3-jinja2
 Section: net
-Priority: optional
 Description: workbench for saved packet captures
  Edits, merges, reports on and filters saved packet captures (pcap and
  pcapng), and compiles expressions as those of tcpdump to listings of a
  packet-filter machine. It is meant to be trusted with damaged and hostile
  files: its functions are proved to meet their contracts.
 END
-
-package=$root/out/capkit_${version}_$architecture.deb
-mkdir -p "$root/out"
-dpkg-deb --root-owner-group --build "$tree" "$package" >/dev/null
-printf '%s\n' "$package"

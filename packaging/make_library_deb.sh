@@ -30,13 +30,10 @@ done
 
 mkdir -p "$shared/$libraries"
 mv "$work/all/$libraries/libcapkit.so.$release" "$work/all/$libraries/libcapkit.so.0" "$shared/$libraries/"
-strip --strip-unneeded --remove-section=.comment --remove-section=.note "$shared/$libraries/libcapkit.so.$release"
+needs=$(strip_for "$shared/$libraries/libcapkit.so.$release")
 printf 'libcapkit 0 libcapkit0 (>= %s)\n' "$release" >"$shared/DEBIAN/shlibs"
 install -m 644 "$root/packaging/libcapkit0.symbols" "$shared/DEBIAN/symbols"
 printf 'activate-noawait ldconfig\n' >"$shared/DEBIAN/triggers"
-mkdir "$work/debian"
-: >"$work/debian/control"
-needs=$(cd "$work" && dpkg-shlibdeps -O "$shared/$libraries/libcapkit.so.$release" | sed -n 's/^shlibs:Depends=//p')
 
 cp -a "$work/all/usr" "$dev/"
 gzip -9n "$dev/usr/share/man/man3/capkit.3"
@@ -67,29 +64,19 @@ if command -v py3clean >/dev/null; then py3clean -p python3-capkit; fi
 END
 chmod 755 "$python/DEBIAN/postinst" "$python/DEBIAN/prerm"
 
-pack() { # TREE SECTION DEPENDS TEXT [ARCHITECTURE]
-    multi='Multi-Arch: same'
-    if [ "${5:-}" ]; then architecture=$5 multi='Multi-Arch: foreign'; fi
-    package=$root/out/${1##*/}_${version}_$architecture.deb
-    write_sums "$1"
-    cat >"$1/DEBIAN/control" <<END
-Package: ${1##*/}
-Version: $version
-Architecture: $architecture
-$multi
+described() { # MULTI-ARCH SECTION DEPENDS TEXT
+    cat <<END
+Multi-Arch: $1
 Section: $2
-Priority: optional
-Maintainer: $name <$email>
-Installed-Size: $(du -sk --apparent-size "$1/usr" | cut -f 1)
 Depends: $3
 Description: $4
  Compiles filter expressions to BPF programs, runs them, and reads and
  writes pcap and pcapng captures in memory. Its functions are proved.
 END
-    dpkg-deb --root-owner-group --build "$1" "$package" >/dev/null
-    printf '%s\n' "$package"
 }
-mkdir -p "$root/out"
-pack "$shared" libs "$needs" 'filter expressions and captures in memory (shared library)'
-pack "$dev" libdevel "libcapkit0 (= $version)" 'filter expressions and captures in memory (development files)'
-pack "$python" python "python3 (>= 3.9), libcapkit0 (>= $release)" 'filter expressions and captures (package for Python 3)' all
+described same libs "$needs" 'filter expressions and captures in memory (shared library)' |
+    pack "$shared" "$architecture"
+described same libdevel "libcapkit0 (= $version)" 'filter expressions and captures in memory (development files)' |
+    pack "$dev" "$architecture"
+described foreign python "python3 (>= 3.9), libcapkit0 (>= $release)" \
+    'filter expressions and captures (package for Python 3)' | pack "$python" all

@@ -1,7 +1,7 @@
 """Chromium without a window, driven over its DevTools protocol by Python's library alone.
 
-    with Browser(folder) as browser:
-        tab = browser.tab(url)
+    with Tab() as tab:
+        tab.open(path)
         tab.value("document.title")
 """
 import json
@@ -32,26 +32,29 @@ def program():
     return next((found for found in map(shutil.which, PROGRAMS) if found), None)
 
 
-class Browser:
-    """A running browser with a profile of its own, which ends with the block."""
+class Tab:
+    """The page of a running browser with a profile of its own, which ends with the block."""
 
     def __init__(self):
-        name = program()
-        if name is None:
-            raise BrowserError("there is no Chromium: apt-get install chromium")
         self.folder = tempfile.TemporaryDirectory(ignore_cleanup_errors=True)
         # The browser reads commands from its descriptor 3 and writes what happens to its 4.
-        read_commands, self.commands = os.pipe()
+        read_commands, commands = os.pipe()
         self.events, write_events = os.pipe()
+        self.commands = open(commands, "wb")
         self.process = subprocess.Popen(
-            ["sh", "-c", f'exec "$@" 3<&{read_commands} 4>&{write_events}', "sh", name, *OPTIONS,
-             f"--user-data-dir={self.folder.name}", "about:blank"],
+            ["sh", "-c", f'exec "$@" 3<&{read_commands} 4>&{write_events}', "sh", program(),
+             *OPTIONS, f"--user-data-dir={self.folder.name}", "about:blank"],
             pass_fds=(read_commands, write_events), stdin=subprocess.DEVNULL,
             stdout=subprocess.DEVNULL, stderr=subprocess.DEVNULL,
         )  # fmt: skip
         os.close(read_commands)
         os.close(write_events)
-        self.buffer, self.number, self.happened = b"", 0, []
+        self.buffer, self.number, self.happened, self.session = b"", 0, [], {}
+        target = self.call("Target.createTarget", url="about:blank")
+        self.session = self.call("Target.attachToTarget", flatten=True, **target)
+        for domain in ("Page", "Runtime", "Log", "Network", "Accessibility"):
+            self.call(f"{domain}.enable")
+        self.size(1400, 1000)
 
     def __enter__(self):
         return self
@@ -63,81 +66,47 @@ class Browser:
         except subprocess.TimeoutExpired:
             self.process.kill()
             self.process.wait()
-        os.close(self.commands)
+        self.commands.close()
         os.close(self.events)
         self.folder.cleanup()
 
-    def message(self, seconds):
-        """The next message of the browser; None where none comes in time."""
-        end = time.monotonic() + seconds
+    def message(self):
+        """The next message of the browser."""
         while b"\0" not in self.buffer:
-            left = end - time.monotonic()
-            if left <= 0 or not select.select([self.events], [], [], left)[0]:
-                return None
+            if not select.select([self.events], [], [], SECONDS)[0]:
+                raise BrowserError(f"no message in {SECONDS} seconds")
             part = os.read(self.events, 1 << 20)
             if not part:
                 raise BrowserError("the browser ended")
             self.buffer += part
-        text, self.buffer = self.buffer.split(b"\0", 1)
+        text, _, self.buffer = self.buffer.partition(b"\0")
         return json.loads(text)
 
-    def call(self, method, session=None, **parameters):
+    def call(self, method, **parameters):
         """Calls a method of the protocol; what happens meanwhile is kept in `happened`."""
         self.number += 1
-        call = {"id": self.number, "method": method, "params": parameters}
-        if session:
-            call["sessionId"] = session
-        data = json.dumps(call).encode() + b"\0"
-        while data:
-            data = data[os.write(self.commands, data) :]
-        while (message := self.message(SECONDS)) is not None:
-            if message.get("id") == self.number:
-                if "error" in message:
-                    raise BrowserError(f"{method}: {message['error'].get('message')}")
-                return message["result"]
+        call = {"id": self.number, "method": method, "params": parameters, **self.session}
+        self.commands.write(json.dumps(call).encode() + b"\0")
+        self.commands.flush()
+        while (message := self.message()).get("id") != self.number:
             self.happened.append(message)
-        raise BrowserError(f"{method}: no answer in {SECONDS} seconds")
-
-    def tab(self, width=1400, height=1000):
-        """A new tab, of this many pixels."""
-        target = self.call("Target.createTarget", url="about:blank")["targetId"]
-        session = self.call("Target.attachToTarget", targetId=target, flatten=True)["sessionId"]
-        return Tab(self, session, width, height)
-
-
-class Tab:
-    """A page of the browser."""
-
-    def __init__(self, browser, session, width, height):
-        self.browser, self.session = browser, session
-        for domain in ("Page", "Runtime", "Log", "Network", "Accessibility"):
-            self.call(f"{domain}.enable")
-        self.size(width, height)
-
-    def call(self, method, **parameters):
-        return self.browser.call(method, self.session, **parameters)
+        if "error" in message:
+            raise BrowserError(f"{method}: {message['error'].get('message')}")
+        return message["result"]
 
     def size(self, width, height):
         """Sets how large the page's window is."""
-        self.call(
-            "Emulation.setDeviceMetricsOverride", width=width, height=height, deviceScaleFactor=1,
-            mobile=False,
-        )  # fmt: skip
+        more = {"deviceScaleFactor": 1, "mobile": False}
+        self.call("Emulation.setDeviceMetricsOverride", width=width, height=height, **more)
 
-    def scheme(self, name):
-        """What the reader prefers: "dark" or "light"."""
-        self.call(
-            "Emulation.setEmulatedMedia", media="",
-            features=[{"name": "prefers-color-scheme", "value": name}],
-        )  # fmt: skip
-
-    def media(self, name):
-        """For what the page is laid out: "print" or "screen"."""
-        self.call("Emulation.setEmulatedMedia", media=name, features=[])
+    def media(self, name="", scheme=""):
+        """For what the page is laid out, as "print"; and what its reader prefers, as "dark"."""
+        features = [{"name": "prefers-color-scheme", "value": scheme}] if scheme else []
+        self.call("Emulation.setEmulatedMedia", media=name, features=features)
 
     def open(self, path):
         """Opens a file, and returns how many seconds that took, with the first picture of it."""
-        self.browser.happened.clear()
+        self.happened.clear()
         start = time.monotonic()
         self.call("Page.navigate", url=pathlib.Path(path).resolve().as_uri())
         self.wait("document.readyState === 'complete'")
@@ -153,9 +122,8 @@ class Tab:
 
     def value(self, expression):
         """What an expression of JavaScript is in the page; a promise is waited for."""
-        result = self.call(
-            "Runtime.evaluate", expression=expression, returnByValue=True, awaitPromise=True
-        )
+        how = {"returnByValue": True, "awaitPromise": True}
+        result = self.call("Runtime.evaluate", expression=expression, **how)
         if "exceptionDetails" in result:
             details = result["exceptionDetails"]
             raise BrowserError(details.get("exception", {}).get("description", details["text"]))
@@ -163,38 +131,33 @@ class Tab:
 
     def click(self, selector):
         """Scrolls to an element and clicks into its middle, as a mouse does."""
-        where = self.value(
+        x, y = self.value(
             f"(() => {{ const e = document.querySelector({json.dumps(selector)});"
             " e.scrollIntoView({block: 'center', inline: 'nearest'});"
             " const r = e.getBoundingClientRect();"
             " return [r.x + Math.min(r.width, 200) / 2, r.y + r.height / 2]; })()"
         )
+        how = {"x": x, "y": y, "button": "left", "clickCount": 1}
         for kind in ("mousePressed", "mouseReleased"):
-            self.call(
-                "Input.dispatchMouseEvent", type=kind, x=where[0], y=where[1], button="left",
-                clickCount=1,
-            )  # fmt: skip
+            self.call("Input.dispatchMouseEvent", type=kind, **how)
 
-    def key(self, name, code=0, text=None):
+    def key(self, name, code=0):
         """Presses a key and lets it go."""
-        press = {"key": name, "windowsVirtualKeyCode": code}
-        self.call("Input.dispatchKeyEvent", type="keyDown" if text else "rawKeyDown", **press)
-        self.call("Input.dispatchKeyEvent", type="keyUp", **press)
+        for kind in ("rawKeyDown", "keyUp"):
+            self.call("Input.dispatchKeyEvent", type=kind, key=name, windowsVirtualKeyCode=code)
+
+    def events_of(self, method):
+        """What the events of a method tell that happened since the page was opened."""
+        return [it["params"] for it in self.happened if it.get("method") == method]
 
     def faults(self):
         """Errors and warnings that the page caused so far."""
-        found = []
-        for message in self.browser.happened:
-            method, parameters = message.get("method"), message.get("params", {})
-            if method == "Runtime.exceptionThrown":
-                found.append(parameters["exceptionDetails"]["text"])
-            elif method == "Log.entryAdded":
-                entry = parameters["entry"]
-                found += [entry["text"]] if entry["level"] in ("error", "warning") else []
-        return found
+        thrown = self.events_of("Runtime.exceptionThrown")
+        entries = [it["entry"] for it in self.events_of("Log.entryAdded")]
+        found = [it["exceptionDetails"]["text"] for it in thrown]
+        return found + [it["text"] for it in entries if it["level"] in ("error", "warning")]
 
     def fetched(self):
         """The addresses that the page asked for, but its own."""
-        sent = [m["params"]["request"]["url"] for m in self.browser.happened
-                if m.get("method") == "Network.requestWillBeSent"]  # fmt: skip
-        return sent[1:]
+        sent = self.events_of("Network.requestWillBeSent")
+        return [it["request"]["url"] for it in sent][1:]

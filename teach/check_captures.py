@@ -77,15 +77,14 @@ def empty(path):
 
 def many_hosts(instructions):
     """An expression whose program has this many instructions, or a few less."""
-    text, shortest = "host 10.0.0.0", 0
+    text = "host 10.0.0.0"
     for hosts in range(1, 600):
         # Addresses apart, which no range of an optimizer gathers.
         candidate = " or ".join(f"host 10.0.{i % 4}.{i * 7 % 256}" for i in range(hosts))
-        size = len(library.compiled(candidate, 1).instructions)
-        if size > instructions:
-            return text, shortest
-        text, shortest = candidate, size
-    return text, shortest
+        if len(library.compiled(candidate, 1).instructions) > instructions:
+            break
+        text = candidate
+    return text
 
 
 def long_listing(instructions):

@@ -15,7 +15,6 @@ import sys
 
 import library
 import listing
-import markup
 import page
 import sides
 
@@ -26,13 +25,16 @@ EXAMPLE = """example:
 The name - is standard input."""
 
 
-class Refused(Exception):
-    """What ends the script with status 2."""
-
-
 def report(text):
     """Writes a message, in which what isn't a character of a line is shown by its number."""
-    print(f"lesson.py: {markup.visible(text)}", file=sys.stderr)
+    print(f"lesson.py: {page.visible(text)}" if text else "", file=sys.stderr)
+
+
+def refuse(*lines):
+    """Ends the script with a message and status 2."""
+    for line in lines:
+        report(line)
+    sys.exit(2)
 
 
 def arguments_of(words):
@@ -53,21 +55,20 @@ def arguments_of(words):
     return parser.parse_args(words)
 
 
-def refusal_of(text, error):
-    """Why an expression is refused, with a mark where the fault is."""
+def refuse_expression(text, error):
+    """Says why an expression is refused, with a mark where the fault is."""
     lines = [f"expression: {error}"]
     if error.place is not None and text.isprintable():
         before = text.encode(errors="surrogateescape")[: error.place - 1]
         lines += ["", f"  {text}", "  " + " " * len(before.decode(errors="replace")) + "^"]
-    lines.append('docs/FILTER.md, "When an expression is refused", says what to write instead.')
-    return "\n".join(lines)
+    refuse(*lines, 'docs/FILTER.md, "When an expression is refused", says what to write instead.')
 
 
 def expression_side(text):
     try:
         return sides.of_expression(text)
     except library.capkit.CompileError as error:
-        raise Refused(refusal_of(text, error)) from error
+        refuse_expression(text, error)
 
 
 def listing_side(name):
@@ -75,9 +76,9 @@ def listing_side(name):
         with open(name, "rb") as file:
             return sides.of_listing(name, listing.read(file))
     except OSError as error:
-        raise Refused(f"{name}: {error.strerror}") from error
+        refuse(f"{name}: {error.strerror}")
     except listing.Bad as error:
-        raise Refused(f"{name}: {error}") from error
+        refuse(f"{name}: {error}")
 
 
 def sides_of(arguments):
@@ -103,7 +104,7 @@ def packets_of(name, most):
     try:
         for packet in library.capkit.packets(source):
             if len(packets) == most:
-                notes.append(f"The page has the first {markup.counted(most)}; the capture has more.")
+                notes.append(f"The page has the first {page.counted(most)}; the capture has more.")
                 break
             packets.append(packet)
     except library.capkit.CaptureError as error:
@@ -132,14 +133,9 @@ def make(arguments):
 def main(words):
     arguments = arguments_of(words)
     if arguments.packets < 0:
-        report("--packets takes a count")
-        return 2
+        refuse("--packets takes a count")
     try:
         return make(arguments)
-    except Refused as error:
-        for line in str(error).split("\n"):
-            print(f"lesson.py: {markup.visible(line)}" if line else "", file=sys.stderr)
-        return 2
     except BrokenPipeError:
         return 1
 

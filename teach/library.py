@@ -14,38 +14,29 @@ NO_LIBRARY = """the library of capkit isn't there. In a checkout `make -C librar
 install the package python3-capkit, or the wheel of `make -C library python` (docs/INSTALL.md)"""
 
 
-class Missing(Exception):
-    """The library isn't there."""
+NAME = pathlib.Path(sys.argv[0]).name
 
 
-def checkout():
-    """The folder library/ of the checkout that these tools are in, or that a copy of them is in."""
+def use_checkout():
+    """Takes the package of the checkout that these tools are in, or that a copy of them is in."""
+    sys.modules.pop("capkit", None)
     for folder in pathlib.Path(__file__).resolve().parents:
-        if (folder / "library" / "python" / "src" / "capkit").exists():
-            return folder / "library"
-    raise Missing(NO_LIBRARY)
-
-
-def load():
-    """The package `capkit`, and the declarations of its calls."""
-    try:
-        import capkit
-    except (ImportError, OSError):
-        sys.modules.pop("capkit", None)
-        library = checkout()
-        os.environ.setdefault("CAPKIT_LIBRARY", str(library / "out" / "libcapkit.so.0"))
-        sys.path.insert(0, str(library / "python" / "src"))
-        try:
-            import capkit
-        except (ImportError, OSError) as error:
-            raise Missing(NO_LIBRARY) from error
-    from capkit import native
-
-    return capkit, native
+        sources = folder / "library" / "python" / "src"
+        if sources.exists():
+            shared = folder / "library" / "out" / "libcapkit.so.0"
+            os.environ.setdefault("CAPKIT_LIBRARY", str(shared))
+            sys.path.insert(0, str(sources))
+            return
 
 
 try:
-    capkit, native = load()
+    try:
+        import capkit
+    except (ImportError, OSError):
+        use_checkout()
+        import capkit
+    from capkit import native
+
     explained = capkit.explain  # what an expression means, as an expression
     _run = native.declare(
         "capkit_run", ctypes.c_uint32, ctypes.c_void_p, ctypes.c_size_t, ctypes.c_char_p,
@@ -55,10 +46,10 @@ try:
         "capkit_read_listing", ctypes.c_uint32, ctypes.c_char_p, ctypes.c_size_t, ctypes.c_void_p,
         ctypes.c_size_t, ctypes.POINTER(ctypes.c_size_t),
     )  # fmt: skip
-except Missing as error:
-    sys.exit(f"{pathlib.Path(sys.argv[0]).name}: {error}")
+except (ImportError, OSError):
+    sys.exit(f"{NAME}: {NO_LIBRARY}")
 except AttributeError as error:
-    sys.exit(f"{pathlib.Path(sys.argv[0]).name}: the library is older than these tools: {error}")
+    sys.exit(f"{NAME}: the library is older than these tools: {error}")
 
 WORDS_OF_A_STEP = ctypes.sizeof(native.Step) // 4
 MOST_INSNS = 32768  # of a listing

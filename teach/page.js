@@ -6,16 +6,12 @@ const lesson = JSON.parse(document.getElementById("lesson").textContent);
 const count = lesson.lines.length;
 const list = document.getElementById("list");
 const differing = new Set(lesson.differ);
-const MARKS = {
-  "+": ["✓", "matches", "keeps"], "-": ["✗", "doesn't match", "drops"],
-  "!": ["!", "is rejected", "odd"], " ": ["–", "isn't filtered", "odd"],
-};
+const KINDS = { "+": "keeps", "-": "drops" };
 const PARTS = {
   "+": ["matches", "matches"], "-": ["doesn't match", "matches-not"], "!": ["is rejected", "rejected"],
   ".": ["isn't asked", "not-asked"], "?": ["is too deep to ask alone", "not-asked"],
 };
 const DIGITS = "ABCDEFGHIJKLMNOPQRSTUVWXYZabcdefghijklmnopqrstuvwxyz0123456789+/";
-const GROUP = 200;
 let chosen = -1;
 
 function made(name, text, kind) {
@@ -27,56 +23,13 @@ function made(name, text, kind) {
 
 // ---- the list of packets
 
-// An option whose marks are those of its verdicts; there are few different ones, which are copied.
-function marked(verdicts) {
-  const item = made("div");
-  item.setAttribute("role", "option");
-  item.setAttribute("aria-selected", "false");
-  for (const verdict of verdicts) {
-    const [sign, said, kind] = MARKS[verdict];
-    const mark = made("span", sign, "mark mark-" + kind);
-    mark.setAttribute("aria-hidden", "true");
-    item.append(mark, made("span", said + ", ", "spoken"));
-  }
-  return item;
-}
-
-const models = new Map();
-
 // The option of a packet; packets are counted from 1 in their names, as in what is shown.
 function optionOf(place) {
   return document.getElementById("packet-" + (place + 1));
 }
 
-function packetsText(number) {
-  return number === 1 ? "1 packet" : number + " packets";
-}
-
-function option(place) {
-  const verdicts = lesson.sides.map((side) => side.verdicts[place]).join("");
-  if (!models.has(verdicts)) models.set(verdicts, marked(verdicts));
-  const item = models.get(verdicts).cloneNode(true);
-  item.id = "packet-" + (place + 1);
-  // The date and the parts of a second, which a narrow page leaves out.
-  const [, date, time, parts, rest] = /^(\S+ )?([0-9:]+)?(\.[0-9]+)?([^]*)$/.exec(lesson.lines[place]);
-  item.append(String(place + 1).padStart(String(count).length) + "  ", made("span", date, "date"), time || "",
-    made("span", parts, "date"), rest);
-  if (differing.has(place)) item.classList.add("differs");
-  return item;
-}
-
-function fillList() {
-  for (let start = 0; start < count; start += GROUP) {
-    const group = made("div", undefined, "group");
-    group.setAttribute("role", "presentation");
-    for (let place = start; place < Math.min(start + GROUP, count); place++) group.append(option(place));
-    list.append(group);
-  }
-  tellShown(count);
-}
-
 function tellShown(shown) {
-  document.getElementById("shown").textContent = shown + " of " + packetsText(count);
+  document.getElementById("shown").textContent = shown + " of " + count + (count === 1 ? " packet" : " packets");
 }
 
 function isShown(place) {
@@ -338,7 +291,7 @@ function showWay(section, number, run) {
 
 function showReason(reason, side, run) {
   reason.textContent = side.reasons[side.reason[chosen]] + (run ? " " + stepsText(run.steps.length) : "");
-  reason.className = "reason mark-" + MARKS[side.verdicts[chosen]][2];
+  reason.className = "reason mark-" + (KINDS[side.verdicts[chosen]] || "odd");
 }
 
 function stepsText(steps) {
@@ -425,7 +378,7 @@ function named() {
 lesson.sides.forEach((side) => {
   side.rows = rowsOf(side);
 });
-fillList();
+tellShown(count);
 document.querySelectorAll(".one-program").forEach(partsOf);
 // Shown at once when all is in its place, so that nothing moves.
 document.querySelector("main").hidden = false;

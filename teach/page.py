@@ -1,19 +1,24 @@
 """The page of a lesson: one file, with its style, its script and its data inside.
 
 The browser takes no script and no style but these two, by their digests in the page's policy, and
-fetches nothing. What comes from a capture is data (JSON in which `<` is written as a number), and
-is put on the page as text alone.
+fetches nothing. What comes from a capture is text, which the template escapes, or data (JSON in
+which `<` is written as a number), which the script puts on the page as text alone.
 """
 import base64
 import hashlib
-import json
 import pathlib
+import re
+import sys
+import unicodedata
 
+import pictures
 import runs
 from fields import ETHERNET_LINK
-from markup import (
-    counted, element, escaped, filter_markup, packets_markup, programs_markup, visible_lines,
-)  # fmt: skip
+
+try:
+    import jinja2
+except ImportError:
+    sys.exit(f"{pathlib.Path(sys.argv[0]).name}: install the package python3-jinja2")
 
 HERE = pathlib.Path(__file__).resolve().parent
 MOST_BYTES = 20 << 20
@@ -22,8 +27,26 @@ SHOWN_BYTES = (1 << 32, 1024, 256, 64)
 MOST_ASKED = 1_000_000
 STYLE = (HERE / "page.css").read_text()
 SCRIPT = (HERE / "page.js").read_text()
-ABOUT = """Each answer, step, register and text of an instruction is what the proved library
-libcapkit says. The words beside the instructions are a reading aid."""
+# Above this number of instructions the ways through a program aren't drawn.
+MOST_DRAWN = 4096
+HIDDEN_KINDS = {"Cc", "Cf", "Cs", "Co", "Cn", "Zl", "Zp"}
+
+
+def visible(text):
+    """A text whose control characters, and what else has no shape, are shown by their numbers."""
+    return "".join(
+        f"\\u{{{ord(c):x}}}" if unicodedata.category(c) in HIDDEN_KINDS else c for c in text
+    )
+
+
+def visible_lines(text):
+    """The same, but line feeds and tabs stay."""
+    return "".join(c if c in "\n\t" else visible(c) for c in text)
+
+
+def counted(count):
+    """A number of packets, in words."""
+    return f"{count} packet" if count == 1 else f"{count} packets"
 
 
 def text_of_bytes(data):
@@ -58,14 +81,6 @@ def data_of(packets, taken, ways, shown):
         "sides": ways,
         "differ": taken.differ,
     }
-
-
-def embedded(data):
-    """Data as JSON that can stand in a page: it holds no sign that begins or ends markup."""
-    text = json.dumps(data, separators=(",", ":"))
-    for sign in "<>&":
-        text = text.replace(sign, f"\\u{ord(sign):04x}")
-    return text
 
 
 class Taken:
@@ -121,47 +136,31 @@ def digest(text):
     return "'sha256-" + base64.b64encode(hashlib.sha256(text.encode()).digest()).decode() + "'"
 
 
-POLICY = (
-    f"default-src 'none'; script-src {digest(SCRIPT)}; style-src {digest(STYLE)};"
-    " base-uri 'none'; form-action 'none'"
-)
+def has_memory(program):
+    """Whether an instruction writes to a word of memory."""
+    return any(isinstance(runs.written_by(insn), int) for insn in program.instructions)
 
 
-def document(sides, capture, packets, taken, notes, data):
-    """The whole page."""
-    letters = ["A", "B"] if len(sides) > 1 else [""]
-    title = " | ".join(escaped(side.title) or "(empty)" for side in sides)
-    told = "".join(element("li", escaped(note)) for note in notes)
-    filters = "".join(filter_markup(s, a, i) for i, (s, a) in enumerate(zip(sides, letters)))
-    programs = "".join(programs_markup(s, a, i) for i, (s, a) in enumerate(zip(sides, letters)))
-    return f"""<!DOCTYPE html>
-<html lang="en">
-<head>
-<meta charset="utf-8">
-<meta http-equiv="Content-Security-Policy" content="{POLICY}">
-<meta name="viewport" content="width=device-width, initial-scale=1">
-<meta name="color-scheme" content="light dark">
-<meta name="referrer" content="no-referrer">
-<title>Lesson: {title}</title>
-<style>{STYLE}</style>
-</head>
-<body>
-<a class="skip" href="#packets">To the packets</a>
-<header><h1>A lesson on {escaped(capture)}</h1>
-<p>{counted(len(packets))}. {ABOUT}</p>
-{f'<ul class="notes">{told}</ul>' if told else ""}
-<noscript><p>The script in this page shows the packets; this browser doesn't run it.</p></noscript>
-</header>
-<main hidden>
-<div class="filters">{filters}</div>
-{packets_markup(sides, len(packets), len(taken.differ), not notes)}
-<div class="runs">{programs}</div>
-</main>
-<script type="application/json" id="lesson">{data}</script>
-<script>{SCRIPT}</script>
-</body>
-</html>
-"""
+def pieces(line):
+    """The line of a packet in parts: its date, its time, the parts of a second, and the rest."""
+    return re.match(r"(\S+ )?([0-9:]+)?(\.[0-9]+)?(.*)", line, re.DOTALL).groups("")
+
+
+MARKS = {
+    runs.KEPT: ("✓", "matches", "keeps"), runs.NOT_KEPT: ("✗", "doesn't match", "drops"),
+    runs.REJECTED: ("!", "is rejected", "odd"), " ": ("–", "isn't filtered", "odd"),
+}  # fmt: skip
+TEMPLATES = jinja2.Environment(
+    loader=jinja2.FileSystemLoader(HERE), autoescape=True, trim_blocks=True, lstrip_blocks=True,
+)  # fmt: skip
+TEMPLATES.policies["json.dumps_kwargs"] = {"separators": (",", ":")}
+TEMPLATES.filters["shown"] = visible_lines
+TEMPLATES.globals.update(
+    counted=counted, has_memory=has_memory, marks=MARKS, most_drawn=MOST_DRAWN,
+    pictures=pictures, pieces=pieces, zip=zip, style=STYLE, script=SCRIPT,
+    policy=f"default-src 'none'; script-src {digest(SCRIPT)}; style-src {digest(STYLE)};"
+    " base-uri 'none'; form-action 'none'",
+)  # fmt: skip
 
 
 def notes_of_size(packets, count, shown):
@@ -188,8 +187,11 @@ def page_of(sides, capture, packets, notes):
         ways, packets = taken.ways(), taken.packets
         for shown in SHOWN_BYTES:
             told = notes_of_size(packets, count, shown)
-            data = embedded(data_of(packets, taken, ways, shown))
-            text = document(sides, capture, packets, taken, notes + told, data).encode()
+            data = data_of(packets, taken, ways, shown)
+            text = TEMPLATES.get_template("page.html").render(
+                sides=sides, capture=capture, count=len(packets), notes=notes + told, data=data,
+                differing=set(taken.differ),
+            ).encode()
             if len(text) <= MOST_BYTES or not packets:
                 return text, told
         fitting = int(0.95 * len(packets) * MOST_BYTES / len(text))

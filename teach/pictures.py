@@ -48,41 +48,20 @@ class TreePicture:
         self.parts = []
         self.rows = self.count = self.width = 0
 
-    def draw(self, root):
-        """Draws a tree. A node is as high as the middle of its operands."""
-        heights = {}
-        # A node stands twice on the stack: before its operands, and after them.
-        waiting = [(root, MARGIN, False)]
-        while waiting:
-            node, x, is_after = waiting.pop()
-            if is_after:
-                self.join(node, x, heights)
-                continue
-            number, self.count = self.count, self.count + 1
-            heights[id(node)] = number, None
-            label = node.text if node.kind == "test" else node.kind
-            waiting.append((node, x, True))
-            inner = x + width_of(label) + GAP
-            waiting += [(operand, inner, False) for operand in reversed(node.operands)]
-        return heights
-
-    def join(self, node, x, heights):
-        """Draws a node whose operands are drawn, and the lines to these."""
-        number = heights[id(node)][0]
+    def draw(self, node, x=MARGIN):
+        """Draws a node and its operands, and returns its height: the middle of its operands'."""
+        number, self.count = self.count, self.count + 1
         label = node.text if node.kind == "test" else node.kind
         end = x + width_of(label)
-        if node.operands:
-            ys = [heights[id(operand)][1] for operand in node.operands]
-            y = (ys[0] + ys[-1]) / 2
-            middle = end + GAP / 2
-            for other in ys:
-                self.parts.append(f'<path d="M{end} {y:g}H{middle:g}V{other:g}H{end + GAP}"/>')
-        else:
-            y = MARGIN + BOX / 2 + ROW * self.rows
-            self.rows += 1
-        heights[id(node)] = number, y
+        ys = [self.draw(operand, end + GAP) for operand in node.operands]
+        y = (ys[0] + ys[-1]) / 2 if ys else MARGIN + BOX / 2 + ROW * self.rows
+        for other in ys:
+            way = f"M{end} {y:g}H{end + GAP / 2:g}V{other:g}H{end + GAP}"
+            self.parts.append(f'<path d="{way}"/>')
+        self.rows += not ys
         self.width = max(self.width, end)
         self.parts.append(box(x, y, end - x, label, f'class="node" data-node="{number}"'))
+        return y
 
 
 def tree_picture(root, name):
@@ -96,20 +75,6 @@ def tree_picture(root, name):
 # ---- the ways through a program: instructions below each other, jumps on both sides
 
 
-def ways_of(insn, place):
-    """Where an instruction leads: (the index there, "yes", "no" or "next")."""
-    code, jt, jf, k = insn
-    if code & words.CLASS == words.RETURN:
-        return []
-    if code == 5:
-        return [(place + 1 + k, "next")]
-    if code & words.CLASS != words.JUMP:
-        return [(place + 1, "next")]
-    if jt == jf:
-        return [(place + 1 + jt, "next")]
-    return [(place + 1 + jt, "yes"), (place + 1 + jf, "no")]
-
-
 def lanes_of(instructions):
     """The jumps past the next instruction, gathered by their kind and their target, each in a lane.
 
@@ -117,7 +82,7 @@ def lanes_of(instructions):
     """
     sources = {}
     for place, insn in enumerate(instructions):
-        for target, kind in ways_of(insn, place):
+        for target, kind in words.ways_of(insn, place):
             if target != place + 1:
                 sources.setdefault((kind, target), []).append(place)
     lanes, ends = {}, {"left": [], "right": []}
@@ -188,7 +153,7 @@ class Flow:
         x, y = self.x + self.box_width / 2, y_of(place) + BOX / 2
         return "".join(
             f'<path class="{kind}" data-way="{place}-{target}" d="M{x:g} {y:g}v{ROW - BOX}"/>'
-            for target, kind in ways_of(self.instructions[place], place)
+            for target, kind in words.ways_of(self.instructions[place], place)
             if target == place + 1
         )
 

@@ -11,6 +11,7 @@ import words
 from fields import value_text
 
 KEPT, NOT_KEPT, REJECTED, NOT_ASKED, UNKNOWN = "+", "-", "!", ".", "?"
+SIGNS = {"yes": "y", "no": "n", "next": "-"}
 # Most values are bytes, which have two digits on the page.
 DIGITS_OF_A_VALUE = 2
 BYTES_OF_A_COLUMN = 12
@@ -57,8 +58,9 @@ class Path:
 
     def __init__(self, program, places):
         self.places = places
-        self.goes = "".join(map(sign_of, map(program.instructions.__getitem__, places), places,
-                                [*places[1:], -1]))  # fmt: skip
+        insns = map(program.instructions.__getitem__, places)
+        ways = map(words.way_to, insns, places, [*places[1:], -1])
+        self.goes = "".join(map(SIGNS.get, ways))
         """Of each step whether a test held: y, n, or - where it is no test."""
         self.columns = []
         """What changes: (the step, what, its values)."""
@@ -212,8 +214,9 @@ def reason_of(program, glosses, trace, answer, packet):
         return f"{start}: {end}."
     place = trace.places[step]
     insn, target = program.instructions[place], trace.places[step + 1]
-    answer_to = f"{glosses[place].text} {went_of(insn, place, target)}"
-    if insn.jt != insn.jf:
+    way = words.way_to(insn, place, target)
+    answer_to = f"{glosses[place].text} {'Either way' if way == 'next' else way.capitalize()}"
+    if way != "next":
         answer_to += f", {value_told(program, glosses[place], trace, step)}"
     return f"{start}. The last test is ({place:03}): {answer_to}. {end}."
 
@@ -229,20 +232,6 @@ def value_told(program, gloss, trace, step):
     return f"{'the number' if is_of_bits else 'it'} is {value_text(gloss.field, a)}"
 
 
-def sign_of(insn, place, target):
-    """Whether a test held, by where it led: y or n; - of all else."""
-    if insn.code & words.CLASS != words.JUMP or insn.jt == insn.jf:
-        return "-"
-    return "y" if target == place + 1 + insn.jt else "n"
-
-
-def went_of(insn, place, target):
-    """What a test came to, by where it led."""
-    if insn.jt == insn.jf:
-        return "Either way"
-    return "Yes" if target == place + 1 + insn.jt else "No"
-
-
 def fault_of(program, trace, packet):
     """Why a run ends before a return."""
     insn = program.instructions[trace.places[-1]]
@@ -250,7 +239,7 @@ def fault_of(program, trace, packet):
     if not size:
         return "it divides by X, which is 0"
     at = read_at(insn, trace.indexes[-1])
-    which = f"byte {at}" if size == 1 else f"bytes {at} to {at + size - 1}"
+    which = words.bytes_text(size, at)
     return f"it loads {which}, counted from 0, and {len(packet.data)} were captured"
 
 

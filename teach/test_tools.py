@@ -179,7 +179,7 @@ class Captures(Tools):
     def test_other_link_type(self):
         page = self.page("tcp", str(SAMPLES / "any.pcap"))
         self.assertIn("No packet here has a link type for which filters are compiled", page)
-        self.assertIn("It isn't filtered: its link type is 276.", page)
+        self.assertIn(r"It isn\u0027t filtered: its link type is 276.", page)
 
     def test_name(self):
         """A name with markup and a line feed is text, in the page and in a message."""

@@ -7,7 +7,7 @@ chain of one operator is one node here, as (a or b) or c is a or b or c.
 import dataclasses
 import re
 
-TOKEN = re.compile(r"[^()\s]+")
+TOKEN = re.compile(r"[()]|[^()\s]+")
 JOINS = ("and", "or")
 
 
@@ -20,70 +20,33 @@ class Node:
     operands: list
 
 
-class Reader:
-    """Reads the tree of a text, in time that grows as its length."""
-
-    def __init__(self, text):
-        self.text = text
-        self.ends = {}
-        """Where the parenthesis is closed that opens at a place."""
-        opened = []
-        for place, sign in enumerate(text):
-            if sign == "(":
-                opened.append(place)
-            elif sign == ")":
-                self.ends[opened.pop()] = place
-
-    def pieces(self, start, end):
-        """The words of a part outside of parentheses, and the parentheses: (word, start, end)."""
-        while start < end:
-            if self.text[start] == "(":
-                close = self.ends[start]
-                yield "(", start + 1, close
-                start = close + 1
-            elif self.text[start] == " ":
-                start += 1
-            else:
-                word = TOKEN.match(self.text, start, end)
-                yield word[0], start, word.end()
-                start = word.end()
-
-    def shape(self, start, end):
-        """The topmost operator of a part, and the parts that are its operands."""
-        pieces = list(self.pieces(start, end))
-        words = [word for word, _, _ in pieces]
-        if len(pieces) == 3 and words[1] in JOINS:
-            return words[1], [pieces[0][1:], pieces[2][1:]]
-        if len(pieces) == 2 and words[0] == "not":
-            return "not", [pieces[1][1:]]
-        return "test", []
-
-    def chain(self, part):
-        """The same, where the left sides of a chain of one operator are operands too."""
-        kind, operands = self.shape(*part)
-        after = []
-        while kind in JOINS:
-            after.append(operands[1])
-            inner, parts = self.shape(*operands[0])
-            if inner != kind:
-                return kind, [operands[0], *reversed(after)]
-            operands = parts
-        return kind, operands
+def node_of(text, parts):
+    """The node of a text, by its words and the nodes of what it has in parentheses."""
+    operands = [part if isinstance(part, Node) else Node("test", part, []) for part in parts]
+    if len(parts) == 3 and parts[1] in JOINS:
+        left, _, right = operands
+        # The left side of a chain of one operator gives its operands.
+        chain = left.operands if left.kind == parts[1] else [left]
+        return Node(parts[1], text, [*chain, right])
+    if len(parts) == 2 and parts[0] == "not":
+        return Node("not", text, operands[1:])
+    return Node("test", text, [])
 
 
 def tree_of(text):
     """The tree of an explained expression; None of the empty one."""
-    if not text:
-        return None
-    reader, root = Reader(text), Node("", "", [])
-    waiting = [(root, (0, len(text)))]
-    while waiting:
-        node, part = waiting.pop()
-        node.kind, parts = reader.chain(part)
-        node.text = text[slice(*part)]
-        node.operands = [Node("", "", []) for _ in parts]
-        waiting += zip(node.operands, parts)
-    return root
+    # Where each open parenthesis is, and the parts after it.
+    opened = [(0, [])]
+    for token in TOKEN.finditer(text):
+        if token[0] == "(":
+            opened.append((token.end(), []))
+            continue
+        part = token[0]
+        if part == ")":
+            start, parts = opened.pop()
+            part = node_of(text[start : token.start()], parts)
+        opened[-1][1].append(part)
+    return node_of(text, opened[0][1]) if text else None
 
 
 def count_of(text):

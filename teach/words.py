@@ -8,7 +8,8 @@ answer on a page rests on them.
 from typing import NamedTuple, Optional
 
 from fields import (
-    HEADER_FIELDS, LINKS, PART, PORT_FIELDS, TRANSPORT_FIELDS, network_text, value_text,
+    ETHERTYPE_NAMES, HEADER_FIELDS, LINKS, PART, PORT_FIELDS, PROTOCOL_NAMES, TRANSPORT_FIELDS,
+    network_text, value_text,
 )  # fmt: skip
 
 CLASS, LOAD, LOAD_X, STORE, STORE_X, COMPUTE, JUMP, RETURN = 7, 0, 1, 2, 3, 4, 5, 6
@@ -51,10 +52,10 @@ def joined(one, other):
 
 
 def bytes_text(size, place, base=""):
-    """The bytes of a packet that a load reads, counted from 0."""
+    """Which bytes of a packet a load reads, counted from 0."""
     if size == 1:
         return f"byte {base}{place}"
-    return f"{size} bytes from byte {base}{place}"
+    return f"bytes {base}{place} to {base}{place + size - 1}"
 
 
 def fields_at(known, link, place, size):
@@ -104,7 +105,9 @@ def load_text(known, link, code, k):
     if mode == 0x80:
         return "the length of the packet on the wire"
     size = SIZES.get(code & 0x18, 4)
-    where = bytes_text(size, k, "X + " if mode == 0x40 else "")
+    where = f"byte {'X + ' if mode == 0x40 else ''}{k}"
+    if size > 1:
+        where = f"{size} bytes from {where}"
     field = load_field(known, link, code, k)
     return f"the {field} ({where})" if field else where
 
@@ -119,10 +122,7 @@ def subject_of(known, link, code, k):
     field = load_field(known, link, code, k)
     if field:
         return f"the {field}"
-    base = "X + " if mode == 0x40 else ""
-    if size == 1:
-        return f"the number in byte {base}{k}"
-    return f"the number in bytes {base}{k} to {base}{k + size - 1}"
+    return f"the number in {bytes_text(size, k, 'X + ' if mode == 0x40 else '')}"
 
 
 def field_of(known):
@@ -133,28 +133,30 @@ def field_of(known):
 def test_text(known, code, k):
     """The question that a test asks."""
     operator, subject = code & 0xF0, known.subject or "A"
-    if code & 8:
-        return {
-            0x10: f"is {subject} X?", 0x20: f"is {subject} above X?",
-            0x30: f"is {subject} at least X?", 0x40: f"has {subject} a bit of X?",
-        }[operator]  # fmt: skip
     if operator == 0x40:
-        if known.field == "flags and fragment offset" and k == 0x1FFF:
-            return "is it a later fragment?"
-        bits = "the bit" if k & (k - 1) == 0 else "one of the bits"
-        return f"is {bits} {k:#x} set in {subject}?"
-    value = value_text(field_of(known), k)
+        return bits_text(known, subject, code, k)
+    how = {0x10: "", 0x20: "above ", 0x30: "at least "}[operator]
+    if code & 8:
+        return f"is {subject} {how}X?"
     if known.mask is not None and known.field is None:
         is_address = subject.endswith("address") and not PART.search(subject)
         network = network_text(k, known.mask) if is_address and operator == 0x10 else None
         if network:
             return f"is {subject.replace('address', 'network')} {network}?"
-        how = {0x10: "", 0x20: "above ", 0x30: "at least "}[operator]
         return f"are the bits {known.mask:#x} of {subject} {how}{k:#x}?"
     if known.field == "version":
         subject = "the version"
-    return {0x10: f"is {subject} {value}?", 0x20: f"is {subject} above {value}?",
-            0x30: f"is {subject} at least {value}?"}[operator]  # fmt: skip
+    return f"is {subject} {how}{value_text(field_of(known), k)}?"
+
+
+def bits_text(known, subject, code, k):
+    """The question of a test for one of several bits."""
+    if code & 8:
+        return f"has {subject} a bit of X?"
+    if known.field == "flags and fragment offset" and k == 0x1FFF:
+        return "is it a later fragment?"
+    bits = "the bit" if k & (k - 1) == 0 else "one of the bits"
+    return f"is {bits} {k:#x} set in {subject}?"
 
 
 def text_of(known, link, insn):
@@ -182,29 +184,19 @@ def text_of(known, link, insn):
     return "X is A" if code == 7 else "A is X"
 
 
-def narrowed(known, code, k):
-    """What is known where a test for equality holds, and where it doesn't."""
-    names = {"EtherType": ETHERTYPES, "version": VERSIONS}
-    if code != 0x15:
-        return known, known
-    if known.field in names and k in names[known.field]:
-        name = names[known.field][k]
-        return (
-            known._replace(networks=known.networks & {name} or frozenset({name})),
-            known._replace(networks=known.networks - {name}),
-        )
-    if known.field and set(known.field.split(" or ")) <= {"protocol", "next header"}:
-        name = PROTOCOLS.get(k, "other")
-        return (
-            known._replace(transports=frozenset({name})),
-            known._replace(transports=known.transports - {name}),
-        )
-    return known, known
+NETWORKS = {"EtherType": ETHERTYPE_NAMES, "version": {0x40: "IPv4", 0x60: "IPv6"}}
 
 
-ETHERTYPES = {0x800: "IPv4", 0x86DD: "IPv6", 0x806: "ARP", 0x8035: "RARP"}
-VERSIONS = {0x40: "IPv4", 0x60: "IPv6"}
-PROTOCOLS = {1: "ICMP", 6: "TCP", 17: "UDP", 58: "ICMPv6"}
+def narrowed(known, code, k, holds):
+    """What is known where a test holds, or where it doesn't: more of a test for equality."""
+    name = NETWORKS.get(known.field, {}).get(k)
+    if code == 0x15 and name in HEADER_FIELDS:
+        here = known.networks & {name} or frozenset({name})
+        return known._replace(networks=here if holds else known.networks - {name})
+    if code == 0x15 and known.field in ("protocol", "next header", "next header or protocol"):
+        name = PROTOCOL_NAMES[k] if PROTOCOL_NAMES.get(k) in TRANSPORT_FIELDS else "other"
+        return known._replace(transports=frozenset({name}) if holds else known.transports - {name})
+    return known
 
 
 def after(known, link, insn):
@@ -238,27 +230,34 @@ def glosses_of(instructions, link_type):
     """Each instruction in words."""
     link = LINKS[link_type]
     states = [None] * (len(instructions) + 1)
-    states[0] = Known(link.networks, frozenset([*PROTOCOLS.values(), "other"]), None, False)
+    states[0] = Known(link.networks, frozenset([*TRANSPORT_FIELDS, "other"]), None, False)
     glosses = []
     for place, insn in enumerate(instructions):
         # What no way leads to is read as if anything could be there.
         known = states[place] or states[0]
         is_masked = known.mask is not None and known.field is None
         glosses.append(Gloss(text_of(known, link, insn), field_of(known), is_masked))
-        for target, then in ways_of(known, link, insn, place):
+        for target, kind in ways_of(insn, place):
+            then = after(known, link, insn)
+            if kind != "next":
+                then = narrowed(known, insn.code, insn.k, kind == "yes")
             if target < len(states):
                 states[target] = joined(states[target], then)
     return glosses
 
 
-def ways_of(known, link, insn, place):
-    """Where an instruction leads, and what is known there."""
+def ways_of(insn, place):
+    """Where an instruction leads: (the index there, "yes", "no" or "next")."""
     code, jt, jf, k = insn
     if code & CLASS == RETURN:
         return []
     if code == 5:
-        return [(place + 1 + k, known)]
-    if code & CLASS == JUMP:
-        yes, no = narrowed(known, code, k)
-        return [(place + 1 + jt, yes), (place + 1 + jf, no)]
-    return [(place + 1, after(known, link, insn))]
+        return [(place + 1 + k, "next")]
+    if code & CLASS != JUMP or jt == jf:
+        return [(place + 1 + (jt if code & CLASS == JUMP else 0), "next")]
+    return [(place + 1 + jt, "yes"), (place + 1 + jf, "no")]
+
+
+def way_to(insn, place, target):
+    """Which way of an instruction leads to another one."""
+    return dict(ways_of(insn, place)).get(target, "next")

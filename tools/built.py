@@ -5,6 +5,7 @@ usage: built.py
 """
 import os
 import pathlib
+import shutil
 import sys
 
 ROOT = pathlib.Path(__file__).resolve().parent.parent
@@ -16,6 +17,15 @@ def built_program():
     if not programs:
         sys.exit("capkit is not built yet: run ./capkit --help first, or name a program by --capkit")
     return programs[-1]
+
+
+def folder_with(folder, program):
+    """Copies samples/ into a folder, and returns the variables of a shell there that calls the program capkit."""
+    shutil.copytree(ROOT / "samples", folder, dirs_exist_ok=True)
+    (folder / ".bin").mkdir()
+    (folder / ".bin" / "capkit").symlink_to(pathlib.Path(program).resolve())
+    path = f"{folder / '.bin'}:{os.environ['PATH']}"
+    return {"PATH": path, "TZ": "UTC", "LC_ALL": "C.UTF-8", "HOME": str(folder)}
 
 
 if __name__ == "__main__":

@@ -9,7 +9,6 @@ standard output. Times and lengths of packets are compared by editcap. Both line
 doesn't name it: "status 1 here and 2 there", "both end with status 1".
 """
 import argparse
-import os
 import pathlib
 import re
 import shutil
@@ -17,7 +16,7 @@ import subprocess
 import sys
 import tempfile
 
-from built import ROOT, built_program
+from built import ROOT, built_program, folder_with
 
 TOOLS = ["tcpdump", "editcap", "mergecap", "capinfos"]
 # Rows of these are left out where they aren't installed.
@@ -42,15 +41,12 @@ class Outcome:
     """What a line wrote, printed and ended with."""
 
     def __init__(self, line, capkit, parent):
-        folder = pathlib.Path(tempfile.mkdtemp(dir=parent))
-        self.folder = folder / "samples"
-        shutil.copytree(ROOT / "samples", self.folder)
+        self.folder = pathlib.Path(tempfile.mkdtemp(dir=parent))
+        variables = folder_with(self.folder, capkit)
         for made in MADE:
             subprocess.run(["sh", "-c", made], cwd=self.folder, check=True)
-        (folder / "bin").mkdir()
-        (folder / "bin" / "capkit").symlink_to(pathlib.Path(capkit).resolve())
-        kept = {"PATH": f"{folder / 'bin'}:{os.environ['PATH']}", "TZ": "UTC", "LC_ALL": "C", "HOME": str(folder)}
-        done = subprocess.run(["bash", "-o", "pipefail", "-c", line], cwd=self.folder, env=kept, capture_output=True)
+        command = ["bash", "-o", "pipefail", "-c", line]
+        done = subprocess.run(command, cwd=self.folder, env=variables, capture_output=True)
         self.printed, self.status = done.stdout, done.returncode
         out = self.folder / "OUT"
         self.written = out.read_bytes() if out.exists() else None

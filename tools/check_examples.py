@@ -23,6 +23,9 @@ from built import ROOT, built_program
 PAGES = ["README.md", "docs/RECIPES.md", "docs/SCALE.md", "docs/TEACHING.md", "docs/TESTERS.md"]
 OTHER_PROGRAMS = ["git", "tcpdump", "editcap", "mergecap", "capinfos", "parallel", "dot", "python3", "xxd"]
 MARK = "==== next example ===="
+# A heading, or a block of examples; an example: the lines that are typed, and those that are printed.
+PART = re.compile(r"^#+ .*|^```.*\n\$ (?:.*\n)*?```$", re.MULTILINE)
+EXAMPLE = re.compile(r"^(\$ .*\n(?:> .*\n)*)((?:(?!\$ |```).*\n)*)", re.MULTILINE)
 # The folders that the set-up copies, and where a package has them.
 FOLDERS = ["samples", "bench", "examples", "teach"]
 INSTALLED = "/usr/share/doc/capkit"
@@ -31,53 +34,15 @@ LIBRARY = ROOT / "library" / "out" / "libcapkit.so.0"
 NEEDS_LIBRARY = re.compile(r"\.\./teach/|import capkit")
 
 
-def parts_of(page):
-    """The lines of the page in turn: ("text", lines) or ("example", command lines, lines that it prints)."""
-    parts, text, lines = [], [], page.split("\n")
-    place, is_fenced, is_example = 0, False, False
-    while place < len(lines):
-        line = lines[place]
-        if line.startswith("```"):
-            is_fenced = not is_fenced
-            following = lines[place + 1] if place + 1 < len(lines) else ""
-            is_example = is_fenced and following.startswith("$ ")
-            text.append(line)
-            place += 1
-            continue
-        if not is_example:
-            text.append(line)
-            place += 1
-            continue
-        parts.append(("text", text))
-        text, command = [], [line]
-        place += 1
-        while lines[place].startswith("> "):
-            command.append(lines[place])
-            place += 1
-        shown = []
-        while not lines[place].startswith(("$ ", "```")):
-            shown.append(lines[place])
-            place += 1
-        parts.append(("example", command, shown))
-    parts.append(("text", text))
-    return parts
-
-
-def sections_of(parts):
-    """The places of the examples under each heading."""
+def sections_of(page):
+    """The examples under each heading."""
     sections, heading = {}, ""
-    for place, part in enumerate(parts):
-        if part[0] == "example":
-            sections.setdefault(heading, []).append(place)
-            continue
-        for line in part[1]:
-            if re.match("#+ ", line):
-                heading = line
+    for part in PART.finditer(page):
+        if part[0].startswith("#"):
+            heading = part[0]
+        else:
+            sections.setdefault(heading, []).extend(EXAMPLE.finditer(page, *part.span()))
     return sections
-
-
-def command_of(lines):
-    return "\n".join(line[2:] for line in lines)
 
 
 def set_up(where):
@@ -106,7 +71,7 @@ def run(commands, capkit, library):
     with tempfile.TemporaryDirectory() as temporary:
         done = subprocess.run(["bash", "-c", script], **checkout(pathlib.Path(temporary), capkit, library))
     printed = done.stdout.decode(errors="replace").split(MARK + "\n")[1:]
-    return [text.rstrip("\n").split("\n") if text.rstrip("\n") else [] for text in printed]
+    return [text.rstrip("\n") for text in printed]
 
 
 def same_set_up(capkit):
@@ -131,38 +96,32 @@ def missing_program(commands, library):
     return None
 
 
-def check_section(name, heading, parts, places, capkit, library):
-    """Runs the examples under a heading, and returns how many of them print something else; puts in what they print."""
-    commands = [command_of(parts[place][1]) for place in places]
-    missing = missing_program(commands, library)
-    if missing:
+def check_section(name, heading, examples, capkit, library):
+    """Runs the examples under a heading, and yields those that print something else with what that is."""
+    commands = [re.sub("^[$>] ", "", example[1].rstrip("\n"), flags=re.MULTILINE) for example in examples]
+    if missing := missing_program(commands, library):
         print(f"{name}: {heading}: left out, {missing} is not installed")
-        return 0
-    wrong = 0
-    for place, printed in zip(places, run(commands, capkit, library), strict=True):
-        shown = list(parts[place][2])
-        while shown and not shown[-1]:
-            shown.pop()
+        return
+    for example, command, printed in zip(examples, commands, run(commands, capkit, library), strict=True):
+        shown = example[2].rstrip("\n")
         if printed != shown:
-            wrong += 1
-            print(f"{name}: {heading}: $ {command_of(parts[place][1])}\nshown:   {shown}\nprinted: {printed}")
-        blank = parts[place][2][len(shown) :]
-        parts[place] = ("example", parts[place][1], printed + blank)
-    return wrong
+            print(f"{name}: {heading}: $ {command}\nshown:   {shown!r}\nprinted: {printed!r}")
+            yield example, printed
 
 
 def check_page(name, capkit, library, is_update):
-    path = ROOT / name
-    parts = parts_of(path.read_text())
-    count = wrong = 0
-    for heading, places in sections_of(parts).items():
-        count += len(places)
-        wrong += check_section(name, heading, parts, places, capkit, library)
-    print(f"{name}: {count} examples, {wrong} print something else", flush=True)
-    if is_update and wrong:
-        lines = [line for part in parts for shown in part[1:] for line in shown]
-        path.write_text("\n".join(lines))
-    return wrong
+    """Runs the examples of a page, and returns how many print something else; puts in what they print."""
+    page = (ROOT / name).read_text()
+    sections = sections_of(page)
+    changes = [change for it in sections.items() for change in check_section(name, *it, capkit, library)]
+    print(f"{name}: {sum(map(len, sections.values()))} examples, {len(changes)} print something else", flush=True)
+    if is_update and changes:
+        for example, printed in sorted(changes, key=lambda change: -change[0].start()):
+            shown = example[2].rstrip("\n")
+            blank = example[2][len(shown) + bool(shown) :]
+            page = page[: example.start(2)] + printed + "\n" * bool(printed) + blank + page[example.end(2) :]
+        (ROOT / name).write_text(page)
+    return len(changes)
 
 
 def main():

@@ -13,13 +13,12 @@ import fcntl
 import os
 import pathlib
 import pty
-import shutil
 import subprocess
 import sys
 import tempfile
 import termios
 
-from built import ROOT, built_program
+from built import ROOT, built_program, folder_with
 
 SAMPLES = ROOT / "samples"
 
@@ -114,19 +113,11 @@ TERMINAL_CASES = [
 ]
 
 
-def folder_of(here, program):
-    """Fills the folder, and returns the variables of a shell in it."""
-    shutil.copytree(SAMPLES, here, dirs_exist_ok=True)
-    (here / ".bin").mkdir()
-    (here / ".bin" / "capkit").symlink_to(program)
-    return {**os.environ, "PATH": f"{here / '.bin'}:{os.environ['PATH']}"}
-
-
 def differences_on_terminal(program, line, name, is_shown):
     """What differs on a terminal of that name, which is the line's standard error and its controlling terminal."""
     with tempfile.TemporaryDirectory() as folder:
         here = pathlib.Path(folder)
-        variables = folder_of(here, program)
+        variables = folder_with(here, program)
         ours, theirs = pty.openpty()
         run = subprocess.run(["bash", "-c", line], cwd=here, env={**variables, "TERM": name}, stderr=theirs,
                              stdout=subprocess.DEVNULL, stdin=subprocess.DEVNULL, timeout=60, start_new_session=True,
@@ -148,7 +139,7 @@ def differences(program, line, status, message, files):
     """What differs after the line was run."""
     with tempfile.TemporaryDirectory() as folder:
         here = pathlib.Path(folder)
-        variables = folder_of(here, program)
+        variables = folder_with(here, program)
         run = subprocess.run(["bash", "-c", line], cwd=here, env=variables, capture_output=True, stdin=subprocess.DEVNULL,
                              timeout=60)
         if run.returncode != status:

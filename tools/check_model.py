@@ -53,7 +53,7 @@ def misplaced_definitions(sources):
         yield f"{spec.path.relative_to(ROOT)}: {name} {what}"
     model = (INSIDE / "CONTRACTS.md").read_text()
     for name, *shown in re.findall(r"^\| `?([\w: ]+)`? \| ([\d,]+) \| ([\d,]+) \|$", model, re.MULTILINE):
-        count, lines, *_ = figures(sources, meaning.closure_of(TOGETHER.get(name, [name])))
+        count, lines = figures(sources, meaning.closure_of(TOGETHER.get(name, [name])))
         if shown != [f"{count:,}", f"{lines:,}"]:
             yield f"docs/inside/CONTRACTS.md: {name} rests on {count:,} definitions of {lines:,} lines"
 

@@ -9,6 +9,7 @@ variants, or a method of a trait. Names of arguments, bounds, contracts and priv
 import re
 import sys
 
+from source_files import end_of_group
 from sources import ROOT, Sources
 
 LIST = ROOT / "tools" / "surface.txt"
@@ -37,14 +38,9 @@ def function(text):
     """A function's types: those of its arguments in order, and of its result."""
     head = re.split(r" (?:requires|ensures|where|ghost)\b| \{", plain(text))[0]
     rest = head[re.search(r"fn \w+(<(?:[^<>]|<[^<>]*>)*>)?", head).end():]
-    depth = end = 0
-    for at, sign in enumerate(rest):
-        depth += (sign == "(") - (sign == ")")
-        if depth == 0:
-            end = at
-            break
-    types = [re.sub(r"^(?:mut )?\w+: ", "", part) for part in parts(rest[1:end])]
-    return f"({', '.join(types)}){rest[end + 1:].rstrip()}"
+    end = end_of_group(rest, 0)
+    types = [re.sub(r"^(?:mut )?\w+: ", "", part) for part in parts(rest[1 : end - 1])]
+    return f"({', '.join(types)}){rest[end:].rstrip()}"
 
 
 def shown(kind, text):

@@ -1,13 +1,9 @@
 #!/usr/bin/env python3
 """Prints what a promise means: its contracts, and all definitions that they rest on, as one text.
 
-usage: meaning.py NAME              the text of a function or type by its path, as cap_tools::run, or of a promise:
-                                    edit, print, merge, infos, compile, library
-       meaning.py --closure         how many definitions of how many lines each promise rests on
-       meaning.py --folders [--strict] [--names]
-                                    how many definitions of each file of specs/ a promise rests on, only a contract
-                                    between crates, and no public contract
-       meaning.py --why NAME        how a public contract leads to a definition or type
+usage: meaning.py NAME
+
+NAME is the path of a function or type, as cap_tools::run, or a promise: edit, print, merge, infos, compile, library.
 
 A contract rests on the definitions, types and constants that its clauses and its signature name, on what these name,
 and so on: its closure. A type brings along how contracts see it (its `view`), a bound its trait, with the contracts
@@ -16,14 +12,12 @@ there. What invariants of types and proofs/ cite is left out. Names are followed
 A command is the contract of `cap_tools::run` without the cases that the command never reaches: an edit compiles
 nothing. Which these are follows from `assignment`; each text names what it leaves out.
 
-A text goes from the contract down: what a definition names comes further down, or before it in its own file. The tables
-count lines without comments and blank lines.
+A text goes from the contract down: what a definition names comes further down, or before it in its own file.
 
 Definitions that no promise rests on, which help proofs, private functions and other crates here, belong into
-specs/inside/, all others not; by --strict the status is 1 where some lie elsewhere. --names lists those.
-Promises are the public contracts of the crates that are for users (all but those in BETWEEN), the laws, and those in
-PROMISED. The status is also 1 where a name wasn't found, or an import seems to have no use: then this script overlooked
-a form of the language.
+specs/inside/, all others not: check_model.py lists those that lie elsewhere. Promises are the public contracts of the
+crates that are for users (all but those in BETWEEN), the laws, and those in PROMISED. The status is 1 where a name
+wasn't found, or an import seems to have no use: then this script overlooked a form of the language.
 """
 import argparse
 import collections
@@ -145,37 +139,19 @@ class Meaning:
         roots = self.roots({"library": "capkit_c"}.get(name, "cap_tools::run" if name in COMMANDS else name))
         return roots, closure(self.sources, roots, Cases(name, COMMANDS[name]) if name in COMMANDS else None)
 
-    def public_roots(self, is_promised=False):
-        """All public contracts; or those for users, and the laws."""
-        return [key for key, paths in self.paths.items() if is_contract(self.sources.items[key])
-                and (not is_promised or any(is_promise(path) for path in paths))]
-
     def closure_of(self, names):
         """What several paths and promises rest on."""
         return {key: pieces for name in names for key, pieces in self.of(name)[1].items()}
 
     def misplaced(self):
         """Yields the definitions in the wrong folder, each with its file, and whether a promise rests on it."""
-        believed = closure(self.sources, self.public_roots(is_promised=True))
+        believed = closure(self.sources, [key for key, paths in self.paths.items()
+                                          if is_contract(self.sources.items[key]) and any(map(is_promise, paths))])
         for spec in self.sources.specs.values():
             for name in spec.parts:
                 is_believed = spec.key(name) in believed
                 if is_believed == ("inside" in spec.module.split(".")):
                     yield spec, name, is_believed
-
-    def chain(self, name):
-        """The shortest way from a public contract to an item of this name, or None."""
-        way = {key: [key] for key in self.public_roots()}
-        open_keys = collections.deque(way)
-        while open_keys:
-            key = open_keys.popleft()
-            if key[2] == name:
-                return way[key]
-            for use in sorted(use[:3] for use in self.sources.items[key].uses()):
-                if use in self.sources.items and use not in way:
-                    way[use] = [*way[key], use]
-                    open_keys.append(use)
-        return None
 
 
 def is_contract(item):
@@ -188,14 +164,11 @@ def is_promise(path):
     return not is_between or "::law" in path or path in PROMISED
 
 
-def code_lines(item, pieces):
-    """How many lines a part of an item has, without comments and blank lines."""
-    comment = "--" if item.path.suffix == ".antt" else "//"
-    return sum(bool(line.strip()) for piece in pieces for line in blanked(piece.text, comment).split("\n"))
-
-
-def is_definition(item):
-    return item.path.suffix == ".antt"
+def figures(sources, found):
+    """How many definitions of a closure specs/ has, and their lines, without comments and blank lines."""
+    texts = [[blanked(piece.text, "--") for piece in pieces] for key, pieces in found.items()
+             if sources.items[key].path.suffix == ".antt"]
+    return len(texts), sum(bool(line.strip()) for text in texts for piece in text for line in piece.split("\n"))
 
 
 # ---- the text
@@ -276,85 +249,17 @@ def library_lines(sources, found):
     return [f"{module}: {', '.join(sorted(names[module]))}" for module in sorted(names)]
 
 
-# ---- the tables
-
-def figures(sources, found):
-    """Definitions, their lines, types, their lines, and files of specs/."""
-    items = [(sources.items[key], pieces) for key, pieces in found.items()]
-    specs = [pair for pair in items if is_definition(pair[0])]
-    types = [pair for pair in items if not is_definition(pair[0]) and pair[0].kind != "fn"]
-    return [len(specs), sum(code_lines(*it) for it in specs), len(types), sum(code_lines(*it) for it in types),
-            len({item.path for item, _ in specs})]
-
-
-def print_closures(meaning):
-    """The table of the public paths' closures, and of the commands'."""
-    print(f"{'':24}{'definitions':>12}{'lines':>8}{'types':>8}{'lines':>8}{'files':>8}")
-    for name in [*COMMANDS, "library", *PUBLIC]:
-        print_row(name, figures(meaning.sources, meaning.of(name)[1]))
-    for name, paths in TOGETHER.items():
-        print_row(name, figures(meaning.sources, meaning.closure_of(paths)))
-
-
-def print_row(name, numbers):
-    print(f"{name:24}{numbers[0]:>12}" + "".join(f"{number:>8}" for number in numbers[1:]))
-
-
-def print_folders(meaning, is_strict, has_names):
-    """The files of specs/, with how many definitions lie in the wrong folder."""
-    sources = meaning.sources
-    found = [closure(sources, meaning.public_roots(is_promised)) for is_promised in (True, False)]
-    wrong, totals = len(list(meaning.misplaced())), [0, 0, 0]
-    print(f"{'':46}{'promised':>9}{'between':>9}{'inside':>9}")
-    for spec in sources.specs.values():
-        sides = [[], [], []]
-        for name in spec.parts:
-            sides[0 if spec.key(name) in found[0] else 1 if spec.key(name) in found[1] else 2].append(name)
-        totals = [total + len(side) for total, side in zip(totals, sides)]
-        print_folder(spec.path.relative_to(ROOT / "crates"), map(len, sides))
-        for label, side in zip(("between", "inside"), sides[1:] if has_names else []):
-            print(f"    {label}: {' '.join(side)}" if side else "", end="\n" if side else "")
-    print_folder("all", totals)
-    print(f"{wrong} definitions are in the wrong folder")
-    return 1 if is_strict and wrong else 0
-
-
-def print_folder(name, numbers):
-    print(f"{str(name):46}" + "".join(f"{number:>9}" for number in numbers))
-
-
-def print_chain(meaning, name):
-    """How a public contract leads to an item; each line is used by the one above."""
-    chain = meaning.chain(name)
-    for crate, module, item in chain or []:
-        print(f"{crate} {module} {item}")
-    if not chain:
-        print(f"no public contract rests on {name}")
-    return 0 if chain else 1
-
-
 def main():
-    parser = argparse.ArgumentParser(usage=__doc__.partition("usage: ")[2].partition("\n\n")[0])
-    parser.add_argument("name", nargs="?")
-    parser.add_argument("--why", metavar="NAME")
-    for option in ("--closure", "--folders", "--strict", "--names"):
-        parser.add_argument(option, action="store_true")
-    given = parser.parse_args()
+    parser = argparse.ArgumentParser(usage=__doc__.partition("usage: ")[2].partition("\n\nA contract")[0])
+    parser.add_argument("name")
+    name = parser.parse_args().name
     meaning = Meaning(Sources())
-    print(*meaning.sources.unknown, sep="\n", end="\n" if meaning.sources.unknown else "", file=sys.stderr)
-    if given.closure:
-        print_closures(meaning)
-    elif given.folders:
-        return print_folders(meaning, given.strict, given.names)
-    elif given.why:
-        return print_chain(meaning, given.why)
-    elif given.name:
-        roots, found = meaning.of(given.name)
-        if not roots:
-            parser.error(f"no public function, type or promise {given.name}")
-        print(text_of(meaning, given.name, roots, found))
-    else:
-        parser.error("a name, --closure, --folders or --why")
+    for line in meaning.sources.unknown:
+        print(line, file=sys.stderr)
+    roots, found = meaning.of(name)
+    if not roots:
+        parser.error(f"no public function, type or promise {name}")
+    print(text_of(meaning, name, roots, found))
     return 1 if meaning.sources.unknown else 0
 
 

@@ -3,6 +3,7 @@ import collections
 import dataclasses
 import pathlib
 import re
+import textwrap
 
 ROOT = pathlib.Path(__file__).resolve().parent.parent
 
@@ -34,19 +35,10 @@ def end_of_group(code, at):
 
 
 def chunks(text):
-    """The top-level parts of a file of specs/: the line, the comment in front of it, and its lines."""
-    comment, current = [], None
-    for number, line in enumerate(text.splitlines(), 1):
-        if not line.strip():
-            comment = []
-        elif line.startswith("--"):
-            comment.append(line)
-        elif line[0] in " })]":
-            current[2].append(line)
-        else:
-            current = (number, comment, [line])
-            comment = []
-            yield current
+    """Yields the top-level parts of a file of specs/: the line, the comment's lines in front of it, and the part."""
+    for found in re.finditer(r"((?:^--.*\n)*)(^[^-\s].*\n(?:(?:[ })\]].*)?\n)*)", text, re.MULTILINE):
+        lines = [line for line in found[2].split("\n") if line.strip()]
+        yield text.count("\n", 0, found.start(2)) + 1, found[1].splitlines(), "\n".join(lines)
 
 
 class Spec:
@@ -58,11 +50,10 @@ class Spec:
         self.imports, self.parts, self.constructors = [], collections.OrderedDict(), {}
         text = path.read_text()
         self.head = re.match(r"(?:--[^\n]*\n)*", text)[0].strip()
-        for number, comment, lines in list(chunks(text)):
-            self.add(number, comment, lines)
+        for number, comment, part in chunks(text):
+            self.add(number, comment, part)
 
-    def add(self, number, comment, lines):
-        joined = "\n".join(lines)
+    def add(self, number, comment, joined):
         if joined.startswith("use "):
             self.imports.append(joined)
             return
@@ -78,7 +69,7 @@ class Spec:
                     self.constructors[ctor] = name
         elif not joined.startswith("infix"):
             if not self.parts:
-                raise LookupError(f"{self.path.relative_to(ROOT)}:{number}: no definition is before {lines[0]}")
+                raise LookupError(f"{self.path.relative_to(ROOT)}:{number}: no definition is before {joined}")
             # an `unfolding` line, or the equation of an operator
             next(reversed(self.parts.values()))[2].append((comment, joined))
 
@@ -116,21 +107,15 @@ def without_attributes(text):
 
 def use_tree(text):
     """Yields the paths of a Rust `use`, each with the name that it brings in."""
-    text = re.sub(r"\s+", " ", text).strip()
-    found = re.match(r"(.*?)\{(.*)\}$", text)
-    if not found:
-        path, _, alias = text.partition(" as ")
+    while (flat := re.sub(r"([\w:]+)\{([^{}]*)\}", each_of, text)) != text:
+        text = flat
+    for path, _, alias in (part.strip().partition(" as ") for part in text.split(",")):
         yield path.split("::"), alias or path.split("::")[-1]
-        return
-    depth, part = 0, ""
-    for sign in found[2] + ",":
-        depth += (sign == "{") - (sign == "}")
-        if sign == "," and depth == 0:
-            if part.strip():
-                yield from use_tree(found[1] + part.strip())
-            part = ""
-        else:
-            part += sign
+
+
+def each_of(found):
+    """What `path::{one, other}` names: the path before each."""
+    return ", ".join(found[1] + part.strip() for part in found[2].split(",") if part.strip())
 
 
 def header_end(code, at):
@@ -155,12 +140,6 @@ def doc_start(text, at):
             break
         at = before
     return at
-
-
-def dedent(text):
-    lines = text.strip("\n").split("\n")
-    width = min((len(line) - len(line.lstrip()) for line in lines if line.strip()), default=0)
-    return "\n".join(line[width:] for line in lines)
 
 
 @dataclasses.dataclass
@@ -211,7 +190,7 @@ class Source:
         return self.text.count("\n", 0, place) + 1
 
     def cut(self, start, end):
-        return dedent(without_attributes(self.text[start:end]))
+        return textwrap.dedent(without_attributes(self.text[start:end]).strip("\n"))
 
     def variants(self, block):
         """The variants of an enum, each with its place, to the next one."""

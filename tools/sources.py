@@ -9,9 +9,10 @@ import collections
 import dataclasses
 import pathlib
 import re
+import textwrap
 
 from source_files import (
-    ROOT, WORD, Source, Spec, blanked, dedent, doc_start, end_of_group, imports_of, without_attributes)
+    ROOT, WORD, Source, Spec, blanked, doc_start, end_of_group, imports_of, without_attributes)
 
 TEST_CRATES = {"cap_cases", "cap_tests", "cap_trial", "capkit_damaged"}
 
@@ -69,25 +70,10 @@ def used_names(code, scope, bound):
 
 
 def named_by(target, fields):
-    """The uses that a name with fields stands for: of an item, or of a module's item."""
-    if target is None:
-        return set()
+    """The uses that a name with fields stands for: of an item, or of what a module or a type of src/ has."""
     if isinstance(target, dict):
-        use = target.get(fields[0], target.get("")) if fields else None
-        return {use} if use else set()
-    if isinstance(target, Variants):
-        return {target.use(fields[0])} if fields and target.use(fields[0]) else {target.key}
-    return {target}
-
-
-class Variants:
-    """A type of src/ whose variants are named after it."""
-
-    def __init__(self, key, names):
-        self.key, self.names = key, names
-
-    def use(self, name):
-        return (*self.key, name) if name in self.names else None
+        target = target.get(fields[0] if fields else "", target.get(""))
+    return {target} if target else set()
 
 
 class Sources:
@@ -170,23 +156,23 @@ class Sources:
         return None
 
     def rust_scope(self, file):
-        """The types and constants that code of a file can name."""
+        """The types and constants that code of a file can name, each with its variants."""
         found = {name: file.key(name) for name in file.types}
         for name, (path, _) in file.uses.items():
             if path[0] in ("crate", "super") or path[0] in self.crates:
                 key = self.resolved(file, path)
                 if key and self.block_of(key)[1].kind != "fn":
                     found[name] = key
-        return {name: Variants(key, self.variant_names(key)) for name, key in found.items()}
+        return {name: {"": key, **self.variants_of(key)} for name, key in found.items()}
 
     def block_of(self, key):
         """The file and the block of a type or function that a path found."""
         file = self.files[key[0], key[1].removeprefix("src").removeprefix(".")]
         return file, next(it for it in file.blocks if it.name == key[2] and it.kind not in ("impl", "mod"))
 
-    def variant_names(self, key):
+    def variants_of(self, key):
         file, block = self.block_of(key)
-        return {name for name, _ in file.variants(block)} if block.kind == "enum" else set()
+        return {name: (*key, name) for name, _ in file.variants(block)} if block.kind == "enum" else {}
 
     # ---- what other crates can name
 
@@ -316,8 +302,8 @@ class Sources:
         scope = {**scope, **self.imported(lines, file.path)}
         owner, trait = owner_and_trait(block, file.code[block.head : block.end_of_head])
         own = scope.get(owner)
-        key = own.key if isinstance(own, Variants) else file.key(owner)
-        own_uses = {key} if block.kind == "impl" and isinstance(own, Variants) else set()
+        key = own[""] if isinstance(own, dict) else file.key(owner)
+        own_uses = {key} if block.kind == "impl" and isinstance(own, dict) else set()
         for member in file.blocks_in(block.end_of_head + 1, block.end, "    "):
             if member.kind == "fn" and block.kind == "impl":
                 member.is_public |= bool(trait)
@@ -349,7 +335,8 @@ class Sources:
         members = set(re.findall(r"(?:ghost|fn) (\w+)", code))
         uses = used_names(code, scope, members | bound_names(code) | set(PARAMETER.findall(code)))
         text = re.sub(r"^ *ghost use [^;]+;\n", "", without_attributes(text), flags=re.MULTILINE)
-        self.items[key] = Item(key, "trait", file.path, file.line(block.head), [Piece(dedent(text), uses - {key})])
+        piece = Piece(textwrap.dedent(text.strip("\n")), uses - {key})
+        self.items[key] = Item(key, "trait", file.path, file.line(block.head), [piece])
 
     def add_ghosts(self, file, block, key, trait, scope):
         """What contracts see of a type: the ghost members of an impl, but invariants and how values are coded."""

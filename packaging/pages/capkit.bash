@@ -13,12 +13,30 @@ _capkit() {
     *=) before=${COMP_WORDS[COMP_CWORD-2]} ;;
     esac
     if [ "$COMP_CWORD" = 1 ]; then
-@first
+        _capkit_offer '{{ names }} {{ program.flags }} ' "$word"
         return
     fi
     case ${COMP_WORDS[1]} in
-@help
-@commands
+    help) [ "$COMP_CWORD" != 2 ] || _capkit_offer '{{ names }} ' "$word" ;;
+@for command in commands
+    {{ command.name }})
+        case $before in
+@for option in command.options if option.value
+@for name in option.names
+@if option.is_file
+        {{ name }}) _capkit_files "$word"; return ;;
+@else
+        {{ name }}) _capkit_offer '{{ option.choices | join(" ") }}' "$word"; return ;;
+@endif
+@endfor
+@endfor
+        esac
+        options='{{ command.flags }} '
+@if command.has_files
+        has_files=yes
+@endif
+        ;;
+@endfor
     esac
     case $word in
     -*) _capkit_offer "$options" "$word" ;;

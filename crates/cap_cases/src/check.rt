@@ -49,7 +49,7 @@ fn words_of(alloc: Global, first: &[&str], more: &[String]) -> Result<Vec<String
 }
 
 /// The line of these words, which must be accepted.
-fn accepted(alloc: Global, first: &[&str], more: &[String]) -> Result<Line, Difference> {
+pub fn accepted(alloc: Global, first: &[&str], more: &[String]) -> Result<Line, Difference> {
     let words = words_of(alloc, first, more)?;
     match command_of(alloc, words) {
         Ok(line) => Ok(line),

@@ -6,10 +6,12 @@ mod expressions;
 mod frames;
 mod packets;
 mod properties;
+mod rules;
 mod run;
 
 use crate::random::properties::compare_round;
-use crate::random::run::{Fuzzer, NAMES};
+use crate::random::run::Fuzzer;
+use crate::shown::difference_text;
 use std::test::Fail;
 
 /// Runs the rounds, and shows how often each property was looked at. Whether nothing differed.
@@ -18,14 +20,13 @@ use std::test::Fail;
 /// its own seed.
 pub fn run_rounds(rt: &HostRuntime, seed: u64, rounds: u64) -> Result<bool, Fail> {
     rt.println(format_args!("seed {seed}, {rounds} rounds"))?;
-    let mut fuzzer = Fuzzer::new(rt)?;
+    let mut fuzzer = Fuzzer::new(rt);
     for round in 0..rounds {
-        compare_round(&mut fuzzer, seed.wrapping_add(round))?;
-        if let Some(failure) = fuzzer.failure {
-            return Err(Fail::from(failure));
+        if let Err(difference) = compare_round(&mut fuzzer, seed.wrapping_add(round)) {
+            return Err(Fail::new(difference_text(rt.alloc(), difference)?));
         }
     }
-    for (name, count) in NAMES.iter().zip(fuzzer.counts.iter()) {
+    for (name, count) in fuzzer.counts.iter() {
         rt.println(format_args!("{name}: {count}"))?;
     }
     let differing = fuzzer.differing;

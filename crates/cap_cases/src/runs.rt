@@ -219,22 +219,13 @@ fn listing_over<'m>(
     }
 }
 
-/// Adds a name.
-fn add_name<'m>(memory: &'m Memory, names: &mut Names<'m>, name: &str) -> Result<(), AllocError> {
-    let name = String::from_str(memory, name)?;
-    match names.push(name) {
-        Ok(()) => Ok(()),
-        Err(_) => Err(AllocError),
-    }
-}
-
 /// The names of the line's inputs and then of its output.
 fn names_over<'m>(memory: &'m Memory, line: &Line) -> Result<Names<'m>, AllocError> {
     let mut names = Vec::new(memory);
     for name in line.inputs.iter() {
-        add_name(memory, &mut names, name)?;
+        names.push(String::from_str(memory, name)?)?;
     }
-    add_name(memory, &mut names, output_name(line))?;
+    names.push(String::from_str(memory, output_name(line))?)?;
     Ok(names)
 }
 

@@ -39,6 +39,11 @@ pub fn difference_text(alloc: Global, found: Difference) -> Result<String, Alloc
     }
 }
 
+/// The first bytes in hexadecimal digits.
+pub fn digits_of(alloc: Global, bytes: &[u8]) -> Result<String, AllocError> {
+    hex::encode(alloc, bytes.get(..SHOWN).unwrap_or(bytes))
+}
+
 /// How a run ended.
 fn end_of(outcome: &Outcome) -> &'static str {
     match outcome.status {
@@ -55,6 +60,6 @@ fn outcome_text(alloc: Global, outcome: &Outcome) -> Result<String, AllocError> 
     let written = outcome.written.as_slice();
     let (end, size, count) = (end_of(outcome), written.len(), outcome.allocations);
     let messages = str::from_utf8(&outcome.messages).unwrap_or("not UTF-8\n");
-    let digits = hex::encode(alloc, written.get(..SHOWN).unwrap_or(written))?;
+    let digits = digits_of(alloc, written)?;
     format!(in alloc; "  {end}, {size} bytes written, {count} allocations\n{messages}{digits}\n")
 }

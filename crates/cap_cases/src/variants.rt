@@ -9,7 +9,7 @@ use std::alloc::Global;
 pub const BITS: usize = 8;
 
 /// The bits of a byte.
-const MASKS: [u8; BITS] = [1, 2, 4, 8, 16, 32, 64, 128];
+pub const MASKS: [u8; BITS] = [1, 2, 4, 8, 16, 32, 64, 128];
 
 /// How many numbers are tried: each power of two up to 2^32, one less and one more.
 pub const NUMBERS: usize = 99;

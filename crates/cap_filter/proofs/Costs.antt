@@ -1,15 +1,6 @@
 -- What a run of one of some programs costs at most.
-use Rattle.std.proofs.Common.{◌≡◌, ℕ, zero, suc, ◌+◌, ◌≤◌, List, [], ◌∷◌, ap, arith}
-use Rattle.cap_octet.specs.Packet.{Captured}
-use Rattle.flt_bpf.specs.Content.{Content}
-use Rattle.flt_ast.specs.Tree.{Expression, empty, truth}
+use Rattle.cap_filter.proofs.Common.{◌≡◌, ℕ, zero, suc, ◌+◌, ◌≤◌, List, [], ◌∷◌, ap, arith, Captured, Content, Expression, empty, truth, Link, AreMade, IsMade, steps_of_run, met_on, ran_at, spent_in, HasPrograms, all_links, by_reading, most_cost}
 use Rattle.flt_ast.specs.Counts.{bound_of}
-use Rattle.cap_octet.specs.declared.link.Link.{Link}
-use Rattle.cap_filter.specs.Programs.{AreMade, IsMade, steps_of_run, met_on, ran_at, spent_in}
-use Rattle.cap_filter.specs.inside.Programs.{HasPrograms}
-use Rattle.cap_octet.specs.Link.{all_links}
-use Rattle.cap_filter.specs.FilterRules.{by_reading}
-use Rattle.cap_filter.specs.Filters.{most_cost}
 
 made-cost : (program : Content) (e : Expression) (link : Link) (p : Captured) → IsMade program e link → steps_of_run (met_on p program.insns) ≤ bound_of e
 made-cost program e link p made =

@@ -1,11 +1,8 @@
 -- Which texts are expressions, by what the parts of the compiler say of them.
-use Rattle.std.proofs.Common.{◌≡◌, ◌≢◌, ◌↔◌, ◌⊎◌, inl, inr, List, ℕ, None, Some, Result, Ok, Err, ◌∙◌, sym, ap}
+use Rattle.cap_filter.proofs.Common.{◌≡◌, ◌≢◌, ◌↔◌, ◌⊎◌, inl, inr, List, ℕ, None, Some, Result, Ok, Err, ◌∙◌, sym, ap, Token, Tokens, Expression}
 use Rattle.std.specs.Result.{IfOk, IfErr}
 use Rattle.flt_words.specs.declared.fault.ExprFault.{ExprFault}
 use Rattle.flt_words.specs.declared.fault.ExprFault.TheVariants as fault
-use Rattle.flt_words.specs.declared.token.Token.{Token}
-use Rattle.flt_words.specs.Tokens.{Tokens}
-use Rattle.flt_ast.specs.Tree.{Expression}
 use Rattle.flt_lang.specs.Grammar.{IsReadAs, kinds_of}
 use Rattle.flt_lang.specs.Nesting.{IsTooDeep}
 use Rattle.flt_ast.specs.Filled.{fill_expression}

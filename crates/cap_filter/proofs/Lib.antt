@@ -1,3 +1,4 @@
+pub mod Common
 pub mod Costs
 pub mod Expressions
 pub mod Filters

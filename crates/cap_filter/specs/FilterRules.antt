@@ -11,8 +11,8 @@ use Rattle.flt_ast.specs.Tree.{Expression, empty, truth}
 use Rattle.cap_octet.specs.declared.link.Link.{Link}
 use Rattle.flt_emit.specs.Elementary.{MatchResult, Yes, No, Rejected}
 use Rattle.flt_gen.specs.Reading.{holds}
-use Rattle.cap_filter.specs.declared.refusal.Refusal.{Refusal}
-use Rattle.cap_filter.specs.declared.refusal.Refusal.TheVariants as refusal
+use Rattle.cap_filter.specs.declared.filter.Refusal.{Refusal}
+use Rattle.cap_filter.specs.declared.filter.Refusal.TheVariants as refusal
 use Rattle.cap_filter.specs.Decisions.{Decision, Keep, Skip, Refuse, keep_if}
 use Rattle.cap_filter.specs.Expressions.{IsExpression, IsTextFault}
 use Rattle.cap_octet.specs.Link.{link_of}

@@ -42,8 +42,8 @@ fn place_of_link_type(links: &[Link], number: u16) -> Option<usize>
     links.iter().position(|link| link.link_type() == number)
 }
 
-/// The index in `Compiled::programs` of the program for a link type; `None` where expressions
-/// aren't read on it.
+/// The index in `Compiled::programs` of the program for a link type; `None` if it has none, because
+/// expressions don't work on it.
 #[tactic(auto, unfolding(cap_octet::specs::Link::all_links))]
 fn program_place(number: u16) -> Option<usize>
     ensures { result ≡ program_place number }
@@ -70,9 +70,9 @@ fn make_programs<A: Allocator + Copy + Drop>(
     Ok(programs)
 }
 
-/// Runs the program at this index on a packet, and returns its answer, 0 if it doesn't accept
-/// the packet, and how many instructions the run met. The caller drops that count: the program has
-/// added it to its own.
+/// Runs the program at this index on a packet. Returns its answer, 0 if it doesn't accept the
+/// packet, and the number of executed instructions. The caller drops that number, since the program
+/// has added it to its own.
 fn run_at<A: Allocator>(
     programs: &mut [Program<A>],
     place: usize,
@@ -96,8 +96,8 @@ impl<A: Allocator> Compiled<A> {
     ghost use Rattle.cap_filter.specs.FilterRules.{by_reading, expression_decides};
     ghost use Rattle.cap_filter.specs.Filters.{most_cost, spent_on};
 
-    /// A checked tree, of an expression that isn't empty, with its programs, which are made here;
-    /// none has run yet. An error means that memory ran out.
+    /// Makes the programs of a checked tree, whose expression isn't empty; none has run yet. An
+    /// error means that memory ran out.
     #[tactic(auto, unfolding(cap_octet::specs::Link::all_links))]
     pub fn new(alloc: A, tree: Checked<A>) -> Result<Self, AllocError>
     where
@@ -113,7 +113,7 @@ impl<A: Allocator> Compiled<A> {
     }
 
     /// Whether a packet matches, by one run of the program for its link type. It takes no memory.
-    /// The one error is `LinkTypeNotFiltered`: expressions aren't read on this link type.
+    /// The only error is `LinkTypeNotFiltered`: expressions don't work on this link type.
     pub fn passes(&mut self, packet: &Packet<'_>) -> Result<bool, Fault>
         ensures answers { ReturnsDecision (expression_decides self.old.tree (captured packet.now))
             result }

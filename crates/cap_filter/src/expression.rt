@@ -1,8 +1,12 @@
-//! Expressions, from their text to a checked tree.
+//! Expressions, from their text to a checked tree, or to a program.
 ghost use Rattle.std.specs.Prelude.{IfOk, IfErr};
+ghost use Rattle.cap_filter.specs.Compilation.{IsCompiled};
 ghost use Rattle.cap_filter.specs.Expressions.{HasFault, IsExpression, HasTree, IsTextFault};
 ghost use Rattle.cap_filter.specs.Expressions.{IsSettled};
 
+use cap_octet::Link;
+use flt_bpf::Program;
+use flt_gen::generate;
 use flt_lang::{Checked, Expr, check, parse, resolve};
 use flt_words::{ExprFault, lex};
 use std::alloc::Allocator;
@@ -44,5 +48,22 @@ pub fn read_expression<A: Allocator + Copy + Drop>(
     match read_tree(alloc, text) {
         Ok(tree) => resolve_and_check(tree),
         Err(fault) => Err(fault),
+    }
+}
+
+/// Compiles the text of an expression to a program for packets of this link. An error is the first
+/// of the text's faults, or out of memory (`ExprFault::Memory`).
+pub fn compile_text<A: Allocator + Copy + Drop>(
+    alloc: A,
+    text: &str,
+    link: Link,
+) -> Result<Program<A>, ExprFault>
+    ensures compiled { IfOk result (λ program. IsCompiled text.now link program.insns) }
+    ensures refused { IfErr result (IsTextFault text.now) }
+{
+    let checked = read_expression(alloc, text)?;
+    match generate(alloc, &checked, link) {
+        Ok(program) => Ok(program),
+        Err(_) => Err(ExprFault::Memory),
     }
 }

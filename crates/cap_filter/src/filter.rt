@@ -1,13 +1,14 @@
-//! Filters: what decides which packets pass, made of an expression's words or of a listing.
+//! Filters: what decides which packets pass, made of an expression's words or of a listing, or why
+//! these are refused.
 ghost use Rattle.std.specs.Prelude.{◌≡◌, IfErr, IfOk, None, Some};
 ghost use Rattle.cap_filter.specs.FilterRules.{IsRule, IsWhy, by_reading};
 ghost use Rattle.cap_filter.specs.Filters.{AreNew, programs_of, rule_of};
+ghost use Rattle.cap_filter.specs.Refusals.{refusal_status};
 
 use crate::compiled::Compiled;
 use crate::expression::read_expression;
-use crate::refusal::Refusal;
 use cap_octet::{Fault, Packet};
-use flt_bpf::{Program, check, read_listing, run};
+use flt_bpf::{CheckFault, ListingFault, Program, check, read_listing, run};
 use flt_lang::Checked;
 use flt_words::ExprFault;
 use std::alloc::{AllocError, Allocator};
@@ -51,6 +52,30 @@ impl<A: Allocator> Filter<A> {
                 let (answer, _) = run(program, packet.bytes, packet.orig);
                 Ok(answer != 0)
             }
+        }
+    }
+}
+
+/// Why an expression or a listing is refused, before any input is read.
+#[derive(Clone, Copy, Debug, PartialEq, Eq)]
+pub enum Refusal {
+    /// The words aren't an expression, or there was no memory for it.
+    Expression(ExprFault),
+    /// The text isn't a listing, or there was no memory for it.
+    Listing(ListingFault),
+    /// The listing's instructions aren't a valid program: the first rule that they break, and the
+    /// index of the instruction that breaks it, from 0, or 0 if the rule is on the whole.
+    Program(CheckFault, usize),
+}
+
+impl Refusal {
+    /// The status that a command ends with: 1 if memory ran out, else 2.
+    pub fn status(self) -> u8
+        ensures { result ≡ refusal_status self }
+    {
+        match self {
+            Refusal::Expression(ExprFault::Memory) | Refusal::Listing(ListingFault::Memory) => 1,
+            _ => 2,
         }
     }
 }

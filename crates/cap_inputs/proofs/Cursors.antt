@@ -1,19 +1,8 @@
 -- One input among others.
-use Rattle.std.proofs.Common.{◌≡◌, ℕ, zero, suc, ◌+◌, ◌<◌, List, [], ◌∷◌, ◌++◌, length, max, Option, Some, refl, sym, ◌∙◌, ap, ap₂, arith, get_or, Bool, true, false, Result, Ok, Err}
+use Rattle.cap_inputs.proofs.Common.{◌≡◌, ℕ, zero, suc, ◌+◌, ◌<◌, List, [], ◌∷◌, ◌++◌, length, max, Option, Some, refl, sym, ◌∙◌, ap, ap₂, arith, get_or, Bool, true, false, Result, Ok, Err, append-nil, length-append, Placed, slice_set, Fault, Advances, SectionFits, SkipsUnits, Phase, Reading, Ended, Failed, SourceView, Steps, end_offset, phase_after, Schedule, Turn, Merge, ordering_of, schedule_after, schedule_after_decided, DeviceLimits, device_limits, limits_of, InputView, InputsView, InputPast, AreInputsAfter, KnowGreatest, IsInput, ReadsInput, ReadSteps, greatest_of, input_after, input_after_decided, packet_time, with_cursor}
 use Rattle.std.proofs.Math.Nat.{max_comm}
-use Rattle.std.proofs.lemmas.List.{append-nil, length-append}
 use Rattle.cap_octet.specs.Packet.{Captured}
-use Rattle.cap_io.specs.Capture.{Placed}
-use Rattle.std.specs.List.{slice_set}
-use Rattle.cap_octet.specs.declared.fault.Fault.{Fault}
-use Rattle.cap_io.specs.Source.{Advances, SectionFits, SkipsUnits, Phase, Reading, Ended, Failed, SourceView, Steps, end_offset, phase_after}
-use Rattle.cap_inputs.specs.declared.inputs.Schedule.{Schedule}
-use Rattle.cap_inputs.specs.declared.inputs.Schedule.TheVariants.{Turn, Merge}
-use Rattle.cap_inputs.specs.Cursor.{ordering_of}
-use Rattle.cap_inputs.specs.inside.Cursor.{schedule_after, schedule_after_decided}
-use Rattle.cap_inputs.specs.Inputs.{DeviceLimits, device_limits, limits_of}
 use Rattle.cap_io.specs.Position.{given_in_all}
-use Rattle.cap_inputs.specs.Inputs.{InputView, InputsView, InputPast, AreInputsAfter, KnowGreatest, IsInput, ReadsInput, ReadSteps, greatest_of, input_after, input_after_decided, packet_time, with_cursor}
 
 pub get-among : (cursors : List InputView) (i : ℕ) (h d : InputView) → i < length cursors → h ≡ get_or cursors i d → IsInput cursors i h
 get-among [] i h d within is = absurd (omega (arith, within))

@@ -1,12 +1,5 @@
 -- Inputs as they are handed over.
-use Rattle.std.proofs.Common.{◌≡◌, ℕ, List, [], ◌∷◌, map, length, Bool, refl, ◌∙◌, ap}
-use Rattle.cap_inputs.specs.declared.inputs.Schedule.{Schedule}
-use Rattle.cap_inputs.specs.Cursor.{ordering_of}
-use Rattle.cap_inputs.specs.inside.Cursor.{first_schedule}
-use Rattle.cap_io.specs.Sequence.{PacketOrder, InTurn, ByTime, order_of}
-use Rattle.cap_inputs.specs.Inputs.{InputView}
-use Rattle.cap_octet.specs.Views.{FreshInput}
-use Rattle.cap_inputs.specs.Fresh.{fresh_view, fresh_inputs}
+use Rattle.cap_inputs.proofs.Common.{◌≡◌, ℕ, List, [], ◌∷◌, map, length, Bool, refl, ◌∙◌, ap, Schedule, ordering_of, first_schedule, PacketOrder, InTurn, ByTime, order_of, InputView, FreshInput, fresh_view, fresh_inputs}
 
 map-map : {X : Type 0} (f : X → FreshInput) (xs : List X) → map (λ x. fresh_view (f x)) xs ≡ map fresh_view (map f xs)
 map-map f [] = refl

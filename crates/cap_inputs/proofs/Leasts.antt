@@ -1,22 +1,8 @@
 -- The queue of a merge gives the packet with the least key.
-use Rattle.std.proofs.Common.{◌≡◌, ◌≢◌, ℕ, zero, suc, ◌+◌, ◌<◌, ◌≤◌, ◌⊎◌, inl, inr, ◌&&◌, ◌||◌, Bool, true, false, IsTrue, List, [], ◌∷◌, ◌++◌, length, Option, None, Some, Result, Ok, Err, refl, sym, ◌∙◌, ap, map, arith, subst, length-append}
-use Rattle.std.specs.Prelude.{◌==◌}
-use Rattle.std.specs.List.{All, slice_set}
-use Rattle.std.specs.List.Sorted.{IsPermutation}
-use Rattle.std.proofs.lemmas.List.Sorted.{list_any-IsPermutation, length_permutation}
-use Rattle.std.proofs.lemmas.Bool.{cases_order}
-use Rattle.std.proofs.lemmas.Bool.Decides.{nat_tests}
-use Rattle.cap_inputs.specs.declared.queue.Waiting.{Waiting}
-use Rattle.cap_inputs.specs.declared.inputs.Schedule.{Schedule}
-use Rattle.cap_inputs.specs.declared.inputs.Schedule.TheVariants.{Turn, Merge}
+use Rattle.cap_inputs.proofs.Common.{◌≡◌, ◌≢◌, ℕ, zero, suc, ◌+◌, ◌<◌, ◌≤◌, ◌⊎◌, inl, inr, ◌&&◌, ◌||◌, Bool, true, false, IsTrue, List, [], ◌∷◌, ◌++◌, length, Option, None, Some, Result, Ok, Err, refl, sym, ◌∙◌, ap, map, arith, subst, ◌==◌, All, slice_set, IsPermutation, list_any-IsPermutation, length_permutation, cases_order, nat_tests, Waiting, Schedule, Turn, Merge, NotAfter, Precedes, IsFirstWaiting, is_entered, Fault, EntersQueue, HasPlaceFor, HoldsQueue, IsNextAt, IsQueued, Leaves, TakesFirst, first_schedule, is_merge, schedule_after, schedule_after_decided, waiting_total, waits_with, InputView, IsInput, is_packet_found, key_of, NoneWaits, IsLeast, KeysOver, KeysFrom, waiting_count, order_of}
+use Rattle.std.proofs.Common.{length-append}
 use Rattle.cap_inputs.specs.declared.inputs.Next.TheVariants as next
 use Rattle.cap_inputs.specs.Queue.{Queue}
-use Rattle.cap_inputs.specs.inside.Queue.{NotAfter, Precedes, IsFirstWaiting, is_entered}
-use Rattle.cap_octet.specs.declared.fault.Fault.{Fault}
-use Rattle.cap_inputs.specs.inside.Cursor.{EntersQueue, HasPlaceFor, HoldsQueue, IsNextAt, IsQueued, Leaves, TakesFirst, first_schedule, is_merge, schedule_after, schedule_after_decided, waiting_total, waits_with}
-use Rattle.cap_inputs.specs.Inputs.{InputView, IsInput, is_packet_found, key_of}
-use Rattle.cap_inputs.specs.inside.Inputs.{NoneWaits, IsLeast, KeysOver, KeysFrom, waiting_count}
-use Rattle.cap_io.specs.Sequence.{order_of}
 use Rattle.cap_inputs.proofs.Cursors.{set-here}
 
 -- ---- tests

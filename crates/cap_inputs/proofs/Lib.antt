@@ -1,3 +1,4 @@
+pub mod Common
 pub mod Cursors
 pub mod Fresh
 pub mod Leasts

@@ -1,17 +1,6 @@
 -- What the cursor says of the inputs, and how it goes on.
-use Rattle.std.proofs.Common.{◌≡◌, ◌⊎◌, inl, inr, ℕ, zero, suc, ◌+◌, ◌<◌, ◌≤◌, Bool, true, false, List, [], ◌∷◌, ◌++◌, length, map, Result, Ok, Err, refl, sym, ◌∙◌, ap, arith, subst}
-use Rattle.std.specs.List.{slice_set}
-use Rattle.cap_octet.specs.declared.fault.Fault.{Fault}
-use Rattle.cap_io.specs.Source.{Phase, Reading, Ended, Failed, phase_after}
-use Rattle.cap_inputs.specs.declared.inputs.Schedule.{Schedule}
-use Rattle.cap_inputs.specs.declared.inputs.Schedule.TheVariants.{Turn, Merge}
-use Rattle.cap_inputs.specs.declared.inputs.Next.{Next}
+use Rattle.cap_inputs.proofs.Common.{◌≡◌, ◌⊎◌, inl, inr, ℕ, zero, suc, ◌+◌, ◌<◌, ◌≤◌, Bool, true, false, List, [], ◌∷◌, ◌++◌, length, map, Result, Ok, Err, refl, sym, ◌∙◌, ap, arith, subst, slice_set, Fault, Phase, Reading, Ended, Failed, phase_after, Schedule, Turn, Merge, Next, ordering_of, AreToRead, IsNextAt, IsScheduled, IsTurnOf, first_schedule, schedule_after, schedule_after_decided, PacketOrder, InTurn, ByTime, InputView, IsInput, input_after_decided, is_packet_found, AllEnded, AllReady, IsNextIn, IsOpen, IsReady, NoneEnded, NoneWaits}
 use Rattle.cap_inputs.specs.declared.inputs.Next.TheVariants as next
-use Rattle.cap_inputs.specs.Cursor.{ordering_of}
-use Rattle.cap_inputs.specs.inside.Cursor.{AreToRead, IsNextAt, IsScheduled, IsTurnOf, first_schedule, schedule_after, schedule_after_decided}
-use Rattle.cap_io.specs.Sequence.{PacketOrder, InTurn, ByTime}
-use Rattle.cap_inputs.specs.Inputs.{InputView, IsInput, input_after_decided, is_packet_found}
-use Rattle.cap_inputs.specs.inside.Inputs.{AllEnded, AllReady, IsNextIn, IsOpen, IsReady, NoneEnded, NoneWaits}
 use Rattle.cap_inputs.proofs.Cursors.{set-here}
 
 -- ---- in turn

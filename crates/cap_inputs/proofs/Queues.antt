@@ -1,17 +1,9 @@
 -- What comes out of the heap comes before what stays.
-use Rattle.std.proofs.Common.{◌≡◌, ◌≢◌, ℕ, zero, suc, ◌<◌, inl, inr, false, IsTrue, length, get_or, nat_eq, List, [], ◌∷◌, map, sym, ap, ◌∙◌, arith}
-use Rattle.std.specs.List.{All, AllByRecursion, IsDistinct}
-use Rattle.std.specs.List.Sorted.{IsPermutation}
-use Rattle.std.specs.BinaryHeap.{IsUpperBound, lt_by_cmp}
+use Rattle.cap_inputs.proofs.Common.{◌≡◌, ◌≢◌, ℕ, zero, suc, ◌<◌, inl, inr, false, IsTrue, length, get_or, nat_eq, List, [], ◌∷◌, map, sym, ap, ◌∙◌, arith, All, AllByRecursion, IsPermutation, IsUpperBound, lt_by_cmp, Reverse, IsPermutation-map, nat_tests, cases_order, Waiting, Precedes, NotAfter, inputs_of, IsOnceEach, IsFirstWaiting, is_entered}
+use Rattle.std.specs.List.{IsDistinct}
 use Rattle.std.specs.declared.cmp.Ordering.{Ordering}
-use Rattle.std.specs.declared.cmp.Reverse.{Reverse}
-use Rattle.std.proofs.lemmas.List.Sorted.{IsPermutation-map}
 use Rattle.std.proofs.lemmas.Map.Keys.{IsDistinct-IsPermutation, IsDistinct-cons}
-use Rattle.std.proofs.lemmas.Bool.Decides.{nat_tests}
-use Rattle.std.proofs.lemmas.Bool.{cases_order}
 use Rattle.std.specs.Ordering.{is_lt, nat_cmp, ordering_then}
-use Rattle.cap_inputs.specs.declared.queue.Waiting.{Waiting}
-use Rattle.cap_inputs.specs.inside.Queue.{Precedes, NotAfter, inputs_of, IsOnceEach, IsFirstWaiting, is_entered}
 
 -- the order of time, then number
 abbrev pub time_then_input : Waiting → Waiting → Ordering

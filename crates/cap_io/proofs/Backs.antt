@@ -1,10 +1,5 @@
 -- Units that hold packets and end cleanly read back as them.
-use Rattle.std.proofs.Common.{◌≡◌, ℕ, ◌+◌, List, [], ◌∷◌, ◌++◌, length, map, None, refl, sym, ap, ap₂, ◌∙◌}
-use Rattle.std.proofs.lemmas.List.{append_assoc, append-nil, map-append}
-use Rattle.std.specs.List.{AllByRecursion}
-use Rattle.cap_octet.specs.Packet.{Captured}
-use Rattle.cap_io.specs.Capture.{Declared, Nothing, IsUnit, Placed, placed_at, AreUnits, no_unit, unit_then, NoUnit, front_of, Items, End, items, after_packets}
-use Rattle.cap_io.specs.RoundTrip.{ReadsBack}
+use Rattle.cap_io.proofs.Common.{◌≡◌, ℕ, ◌+◌, List, [], ◌∷◌, ◌++◌, length, map, None, refl, sym, ap, ap₂, ◌∙◌, append_assoc, append-nil, map-append, AllByRecursion, Captured, Declared, Nothing, IsUnit, Placed, placed_at, AreUnits, no_unit, unit_then, NoUnit, front_of, Items, End, items, after_packets, ReadsBack}
 use Rattle.cap_io.proofs.Items.{items_from-units, items_from-stops}
 
 -- what is declared, from a place on

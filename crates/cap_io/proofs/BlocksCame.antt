@@ -1,25 +1,5 @@
 -- What came of a block, from read to read.
-use Rattle.std.proofs.Common.{◌≡◌, ℕ, true, ◌+◌, ◌<◌, ◌≤◌, ◌⊎◌, inl, inr, List, [], ◌∷◌, ◌++◌, length, take, drop, Option, Some, None, Result, Ok, Err, refl, sym, ap, ap₂, ◌∙◌, subst, arith, unwrap_or}
-use Rattle.std.specs.Option.{option_to_list}
-use Rattle.std.proofs.lemmas.List.{append_assoc, length-append, length-take-le, drop_at, drop-drop, take-append-drop}
-use Rattle.cap_octet.specs.Checks.{checked, first_failing}
-use Rattle.cap_octet.specs.Packet.{Captured}
-use Rattle.cap_octet.specs.declared.fault.Fault.{Fault}
-use Rattle.cap_octet.specs.declared.fault.Fault.TheVariants.{NoMemory, ReadFailed}
-use Rattle.cap_octet.specs.declared.number.Order.{Order}
-use Rattle.cap_octet.proofs.Checks.{checked_ok, checked_err}
-use Rattle.cap_pcapng.specs.Block.{Parts, SectionParts, InterfaceParts, EnhancedParts, SimpleParts, SkippedParts, block_checks, parts_in}
-use Rattle.cap_pcapng.specs.Frame.{frame_checks, frame_fault, frame_in, most_block}
-use Rattle.cap_pcapng.specs.Interface.{Described}
-use Rattle.cap_pcapng.specs.Unit.{IsBlock, Section, block_size, checks_among, frame_after, interfaces_before, order_before, packet_by, packets_in, parts_after, section_after, section_by, unit_fault}
-use Rattle.cap_pcapng.proofs.Units.{passes, frame_checks-append, frame_in-append, unit_fault-frame, unit_fault-short, unit_fault-block, unit_fault-among, parts_in-append, block_checks-append}
-use Rattle.cap_pcapng.specs.declared.frames.Frame.{Frame}
-use Rattle.cap_pcapng.specs.Effect.{Enters, PacketIfAny, held_packet, section_of}
-use Rattle.cap_pcapng.specs.inside.Effect.{AddsInterface, IsEntryFault}
-use Rattle.cap_io.specs.Reading.{most_in_unit, block_length}
-use Rattle.cap_io.specs.inside.Reading.{RestMissing}
-use Rattle.cap_pcapng.specs.Effect.{span_bytes, is_interface}
-use Rattle.cap_pcapng.specs.declared.effect.PacketSpans.{PacketSpans}
+use Rattle.cap_io.proofs.Common.{◌≡◌, ℕ, true, ◌+◌, ◌<◌, ◌≤◌, ◌⊎◌, inl, inr, List, [], ◌∷◌, ◌++◌, length, take, drop, Option, Some, None, Result, Ok, Err, refl, sym, ap, ap₂, ◌∙◌, subst, arith, unwrap_or, option_to_list, append_assoc, length-append, length-take-le, drop_at, drop-drop, take-append-drop, checked, first_failing, Captured, Fault, NoMemory, ReadFailed, Order, checked_ok, checked_err, Parts, SectionParts, InterfaceParts, EnhancedParts, SimpleParts, SkippedParts, block_checks, parts_in, frame_checks, frame_fault, frame_in, most_block, Described, IsBlock, Section, block_size, checks_among, frame_after, interfaces_before, order_before, packet_by, packets_in, parts_after, section_after, section_by, unit_fault, passes, frame_checks-append, frame_in-append, unit_fault-frame, unit_fault-short, unit_fault-block, unit_fault-among, parts_in-append, block_checks-append, Frame, Enters, PacketIfAny, held_packet, section_of, AddsInterface, IsEntryFault, most_in_unit, block_length, RestMissing, span_bytes, is_interface, PacketSpans}
 use Rattle.cap_io.proofs.Fronts.{decisive_block_length, length_by_header-whole}
 use Rattle.cap_io.proofs.OwnFaults.{entry-not_failed, frame-not_failed, frame-not_memory}
 

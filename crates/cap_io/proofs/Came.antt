@@ -1,23 +1,8 @@
 -- What came of a unit, from read to read.
-use Rattle.std.proofs.Common.{◌≡◌, ℕ, Bool, IsTrue, IfOk, IfErr, ◌+◌, ◌<◌, ◌≤◌, inl, inr, List, [], ◌++◌, length, take, drop, Option, Some, None, is_some, unwrap_or, true, false, Result, Ok, Err, refl, sym, subst, ap, ap₂, ◌∙◌, arith, length-drop}
-use Rattle.std.proofs.lemmas.List.{take_all, length-append, take-append-drop, drop_at, drop-drop, append_assoc, append-nil}
+use Rattle.cap_io.proofs.Common.{◌≡◌, ℕ, Bool, IsTrue, IfOk, IfErr, ◌+◌, ◌<◌, ◌≤◌, inl, inr, List, [], ◌++◌, length, take, drop, Option, Some, None, is_some, unwrap_or, true, false, Result, Ok, Err, refl, sym, subst, ap, ap₂, ◌∙◌, arith, take_all, length-append, take-append-drop, drop_at, drop-drop, append_assoc, append-nil, TakesFull, checked, first_failing, Fault, NotACaptureFile, Truncated, ReadFailed, NoMemory, checked_ok, checked_err, Head, RecordHead, form_in, header_fault, header_in, captured_len, field_checks, record_header_in, record_size, record_packet, form_in-append, header_fault-append, header_fault-no_magic, header_fault-short, field_checks-append, record_header_in-append, captured_len-append, record_fault-fields, record_fault-short, IsRecord-came, is_section, Declared, Nothing, PcapFile, Front, a_pcap_record, front_of, is_pcapng, most_in_unit, most_taken, stated_length, decisive_length, IsTaken, TakesMemory, NoUnitCame, RestMissing, HeaderCame, PacketCame}
+use Rattle.std.proofs.Common.{length-drop}
 use Rattle.std.proofs.Math.ListN.{drop_of_length-le}
-use Rattle.cap_octet.specs.Device.{TakesFull}
-use Rattle.cap_octet.specs.Checks.{checked, first_failing}
-use Rattle.cap_octet.specs.declared.fault.Fault.{Fault}
-use Rattle.cap_octet.specs.declared.fault.Fault.TheVariants.{NotACaptureFile, Truncated, ReadFailed, NoMemory}
-use Rattle.cap_octet.proofs.Checks.{checked_ok, checked_err}
-use Rattle.cap_pcap.specs.declared.header.Head.{Head}
-use Rattle.cap_pcap.specs.declared.header.RecordHead.{RecordHead}
-use Rattle.cap_pcap.specs.Header.{form_in, header_fault, header_in}
-use Rattle.cap_pcap.specs.Record.{captured_len, field_checks, record_header_in, record_size, record_packet}
-use Rattle.cap_pcap.proofs.Headers.{form_in-append, header_fault-append, header_fault-no_magic, header_fault-short}
-use Rattle.cap_pcap.proofs.Records.{field_checks-append, record_header_in-append, captured_len-append, record_fault-fields, record_fault-short, IsRecord-came}
-use Rattle.cap_pcapng.specs.Frame.{is_section}
 use Rattle.cap_pcapng.proofs.Units as block
-use Rattle.cap_io.specs.Capture.{Declared, Nothing, PcapFile, Front, a_pcap_record, front_of, is_pcapng}
-use Rattle.cap_io.specs.Reading.{most_in_unit, most_taken, stated_length, decisive_length, IsTaken, TakesMemory}
-use Rattle.cap_io.specs.inside.Reading.{NoUnitCame, RestMissing, HeaderCame, PacketCame}
 use Rattle.cap_io.proofs.Fronts.{front_of-no_header, front_of-no_record, front_of-pcapng, is_section-append, is_pcapng-append, most_taken-block, most_taken-header, most_taken-record, most_taken-front, length_by_header-whole, decisive_length-header}
 use Rattle.cap_io.proofs.OwnFaults.{fields-not_failed, fields-not_memory, header-not_failed, header-not_memory}
 

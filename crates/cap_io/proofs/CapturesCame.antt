@@ -1,37 +1,11 @@
 -- Units of a capture of any kind, as they came.
-use Rattle.std.proofs.Common.{◌≡◌, ℕ, ◌+◌, ◌<◌, ◌≤◌, ◌^◌, IsTrue, Result, Ok, Err, inl, inr, Bool, true, false, List, [], ◌∷◌, ◌++◌, length, take, Option, Some, None, is_some, refl, sym, ap, ◌∙◌, subst, arith, unwrap_or}
-use Rattle.std.specs.Prelude.{if◌then◌else◌, nat_le, nat_lt}
-use Rattle.std.proofs.lemmas.Bool.{ltb-false, ltb-true}
-use Rattle.std.specs.List.{slice_get}
-use Rattle.std.specs.Option.{option_map, option_or, option_to_list}
-use Rattle.std.proofs.lemmas.List.{length-append, length-take-le}
-use Rattle.std.proofs.lemmas.List.Elements.{All-nil}
-use Rattle.cap_octet.specs.Packet.{Captured}
-use Rattle.cap_octet.specs.declared.fault.Fault.{Fault}
-use Rattle.cap_octet.specs.declared.fault.Fault.TheVariants.{Truncated}
-use Rattle.cap_octet.specs.declared.number.Order.{Order}
-use Rattle.cap_octet.specs.declared.number.Order.TheVariants.{Little}
-use Rattle.cap_octet.specs.Number.{u32_in}
-use Rattle.cap_pcap.specs.declared.header.Head.{Head}
-use Rattle.cap_pcapng.specs.Block.{Parts, SectionParts, InterfaceParts, EnhancedParts, SimpleParts, SkippedParts, body_in, parts_in, parts_in_body}
-use Rattle.cap_pcapng.specs.Frame.{frame_in, is_section, magic_order, order_in, type_in, type_of_block}
-use Rattle.cap_pcapng.specs.Interface.{Described, FitSection}
-use Rattle.cap_pcapng.specs.Unit.{IsBlock, Section, frame_after, interfaces_before, order_before, packet_by, packets_in, parts_after, section_after, section_by, unit_fault}
+use Rattle.cap_io.proofs.Common.{◌≡◌, ℕ, ◌+◌, ◌<◌, ◌≤◌, ◌^◌, IsTrue, Result, Ok, Err, inl, inr, Bool, true, false, List, [], ◌∷◌, ◌++◌, length, take, Option, Some, None, is_some, refl, sym, ap, ◌∙◌, subst, arith, unwrap_or, if◌then◌else◌, nat_le, nat_lt, ltb-false, ltb-true, slice_get, option_map, option_or, option_to_list, length-append, length-take-le, All-nil, Captured, Fault, Truncated, Order, Little, u32_in, Head, Parts, SectionParts, InterfaceParts, EnhancedParts, SimpleParts, SkippedParts, body_in, parts_in, parts_in_body, frame_in, is_section, magic_order, order_in, type_in, type_of_block, Described, FitSection, IsBlock, Section, frame_after, interfaces_before, order_before, packet_by, packets_in, parts_after, section_after, section_by, unit_fault, passes, unit_fault-few, Frame, PacketSpans, FileState, Enters, KnowsIfAny, held_packet, section_of, Declared, Nothing, PcapFile, PcapngFile, Front, IsUnit, a_pcap_header, a_first_block, a_block, file_after, first_link_after, front_of, is_pcapng, TakesMemory, declared_by, read_failures, most_taken, packet_in_unit, decisive_length, block_length, BeginsBlock, FrontMissing, HasInterface, HeaderCame, IsSized, IsConsistent, PacketCame, ReadsUnit, NoUnitCame, RestMissing, UnitCame, UnitPassed, known_first_link, known_order, section_before, unit_size, span_bytes, is_interface}
 use Rattle.cap_pcapng.specs.declared.frames.BlockType.TheVariants as type
-use Rattle.cap_pcapng.proofs.Units.{passes, unit_fault-few}
 use Rattle.cap_octet.specs.declared.device.Input.{Ghosts}
-use Rattle.cap_pcapng.specs.declared.frames.Frame.{Frame}
 use Rattle.cap_io.specs.declared.file_state.NextUnit.{NextUnit}
 use Rattle.cap_io.specs.declared.file_state.NextUnit.TheVariants as next_unit
-use Rattle.cap_pcapng.specs.declared.effect.PacketSpans.{PacketSpans}
 use Rattle.cap_io.specs.declared.next_unit.UnitReader.{UnitReader}
-use Rattle.cap_io.specs.declared.file_state.FileState.{FileState}
 use Rattle.cap_io.specs.declared.file_state.FileState.TheVariants as state
-use Rattle.cap_pcapng.specs.Effect.{Enters, KnowsIfAny, held_packet, section_of}
-use Rattle.cap_io.specs.Capture.{Declared, Nothing, PcapFile, PcapngFile, Front, IsUnit, a_pcap_header, a_first_block, a_block, file_after, first_link_after, front_of, is_pcapng}
-use Rattle.cap_io.specs.Reading.{TakesMemory, declared_by, read_failures, most_taken, packet_in_unit, decisive_length, block_length}
-use Rattle.cap_io.specs.inside.Reading.{BeginsBlock, FrontMissing, HasInterface, HeaderCame, IsSized, IsConsistent, PacketCame, ReadsUnit, NoUnitCame, RestMissing, UnitCame, UnitPassed, known_first_link, known_order, section_before, unit_size}
-use Rattle.cap_pcapng.specs.Effect.{span_bytes, is_interface}
 use Rattle.cap_io.proofs.BlocksCame.{BlockCame, BlockMissing, Describes}
 use Rattle.cap_io.proofs.Came.{Taken-following, most_taken-file}
 use Rattle.cap_io.proofs.Fronts.{block_unless, front_of-following, front_of-pcapng, front_of_block-none, is_pcapng-append, most_taken-block, decisive_length-pcapng, decisive_block_length, decisive_block_length-few, is_section-append}

@@ -1,10 +1,5 @@
 -- Each text has one cut into units.
-use Rattle.std.proofs.Common.{◌≡◌, ℕ, zero, suc, ◌+◌, ◌<◌, ◌≤◌, List, [], ◌++◌, length, take, drop, Option, refl, sym, ◌∙◌, ap, ap₂, arith, zero-add}
-use Rattle.std.proofs.lemmas.List.{append_assoc, append-nil, length-drop, take_at, drop_at, take-append-drop}
-use Rattle.cap_octet.specs.Packet.{Captured}
-use Rattle.cap_octet.specs.declared.fault.Fault.{Fault}
-use Rattle.cap_io.specs.Capture.{Declared, Nothing, IsUnit, Placed, placed_at, AreUnits, no_unit, unit_then, Front, Whole, NoUnit, front_of, items, after_packets, ending_by}
-use Rattle.cap_io.specs.Laws.{EachHasCut, EachHasOneCut, CutTellsItems}
+use Rattle.cap_io.proofs.Common.{◌≡◌, ℕ, zero, suc, ◌+◌, ◌<◌, ◌≤◌, List, [], ◌++◌, length, take, drop, Option, refl, sym, ◌∙◌, ap, ap₂, arith, zero-add, append_assoc, append-nil, length-drop, take_at, drop_at, take-append-drop, Captured, Fault, Declared, Nothing, IsUnit, Placed, placed_at, AreUnits, no_unit, unit_then, Front, Whole, NoUnit, front_of, items, after_packets, ending_by, EachHasCut, EachHasOneCut, CutTellsItems}
 use Rattle.cap_io.proofs.Items.{items_from-units, items_from-stops}
 use Rattle.cap_io.proofs.Units.{front_of-unit, front_of-is}
 

@@ -1,9 +1,5 @@
 -- Units for which a block has room.
-use Rattle.std.proofs.Common.{◌≡◌, ℕ, ◌≤◌, List, ◌++◌, length, arith, sym, subst}
-use Rattle.std.proofs.lemmas.List.{append_assoc, append-nil}
-use Rattle.cap_octet.specs.Packet.{Captured}
-use Rattle.cap_io.specs.Capture.{Declared, Nothing, PcapFile, PcapngFile, IsUnit}
-use Rattle.cap_io.specs.Reading.{FitUnits, no_unit_fits, unit_fits, held_length}
+use Rattle.cap_io.proofs.Common.{◌≡◌, ℕ, ◌≤◌, List, ◌++◌, length, arith, sym, subst, append_assoc, append-nil, Captured, Declared, Nothing, PcapFile, PcapngFile, IsUnit, FitUnits, no_unit_fits, unit_fits, held_length}
 
 -- a longer block has room for them too
 pub FitUnits-wider : {room more : ℕ} {b d : Declared} {u : List ℕ} → room ≤ more → FitUnits room b u d → FitUnits more b u d

@@ -1,21 +1,7 @@
 -- What a text begins with, told by its first bytes.
-use Rattle.std.proofs.Common.{◌≡◌, ℕ, ◌<◌, ◌≤◌, Bool, List, [], ◌∷◌, ◌++◌, length, take, Option, Some, None, true, false, refl, sym, ap, ◌∙◌, subst, arith, ◌&&◌}
-use Rattle.std.proofs.lemmas.Bool.{and_from, le-leb}
-use Rattle.std.proofs.lemmas.List.{length-append}
-use Rattle.cap_octet.specs.declared.fault.Fault.{Fault}
-use Rattle.cap_octet.specs.declared.number.Order.TheVariants.{Little}
+use Rattle.cap_io.proofs.Common.{◌≡◌, ℕ, ◌<◌, ◌≤◌, Bool, List, [], ◌∷◌, ◌++◌, length, take, Option, Some, None, true, false, refl, sym, ap, ◌∙◌, subst, arith, ◌&&◌, and_from, le-leb, length-append, Fault, Little, Head, first_failing, form_in, header_fault, header_in, record_size, record_fault, record_packet, frame_checks, is_section, Section, block_size, order_before, packets_in, unit_fault, least_length, is_some, is_none, nat_le, unwrap_or, if◌then◌else◌, Nothing, PcapFile, PcapngFile, Front, Whole, NoUnit, file_after, front_of, front_of_block, is_pcapng, unit_unless, most_in_unit, most_taken, length_by_header, block_length, decisive_length}
 use Rattle.cap_octet.proofs.Numbers.{number_in-append}
-use Rattle.cap_pcap.specs.declared.header.Head.{Head}
-use Rattle.cap_octet.specs.Checks.{first_failing}
-use Rattle.cap_pcap.specs.Header.{form_in, header_fault, header_in}
-use Rattle.cap_pcap.specs.Record.{record_size, record_fault, record_packet}
 use Rattle.cap_pcap.proofs.Records.{passes}
-use Rattle.cap_pcapng.specs.Frame.{frame_checks, is_section}
-use Rattle.cap_pcapng.specs.Unit.{Section, block_size, order_before, packets_in, unit_fault}
-use Rattle.cap_pcapng.proofs.Units.{least_length}
-use Rattle.std.specs.Prelude.{is_some, is_none, nat_le, unwrap_or, if◌then◌else◌}
-use Rattle.cap_io.specs.Capture.{Nothing, PcapFile, PcapngFile, Front, Whole, NoUnit, file_after, front_of, front_of_block, is_pcapng, unit_unless}
-use Rattle.cap_io.specs.Reading.{most_in_unit, most_taken, length_by_header, block_length, decisive_length}
 
 -- ---- by the fault in a unit's place
 

@@ -1,17 +1,5 @@
 -- A record that a device had at hand.
-use Rattle.std.proofs.Common.{◌≡◌, ℕ, Bool, true, IsTrue, is_some, ◌+◌, ◌^◌, ◌<◌, ◌≤◌, List, ◌++◌, length, take, drop, Ok, refl, sym, ap, ap₂, ◌∙◌, arith, add-zero}
-use Rattle.std.proofs.lemmas.List.{length-take-le, take-take, take-append-le, take-append-drop, append_assoc}
-use Rattle.cap_octet.specs.Device.{HasGiven, Passes}
-use Rattle.cap_octet.specs.Checks.{checked, first_failing}
-use Rattle.cap_pcap.specs.declared.header.Head.{Head}
-use Rattle.cap_pcap.specs.declared.header.RecordHead.{RecordHead}
-use Rattle.cap_pcap.specs.Record.{field_checks, most_captured, record_header_in}
-use Rattle.cap_pcapng.specs.declared.effect.PacketSpans.{PacketSpans}
-use Rattle.cap_io.specs.Reading.{most_in_unit, packet_in_unit}
-use Rattle.cap_io.specs.inside.Reading.{PacketCame, record_spans}
-use Rattle.cap_io.specs.Capture.{Declared, PcapFile}
-use Rattle.cap_io.specs.Source.{SourceView, Reading}
-use Rattle.cap_io.specs.inside.Source.{IsBetween, TakesNext}
+use Rattle.cap_io.proofs.Common.{◌≡◌, ℕ, Bool, true, IsTrue, is_some, ◌+◌, ◌^◌, ◌<◌, ◌≤◌, List, ◌++◌, length, take, drop, Ok, refl, sym, ap, ap₂, ◌∙◌, arith, add-zero, length-take-le, take-take, take-append-le, take-append-drop, append_assoc, HasGiven, Passes, checked, first_failing, Head, RecordHead, field_checks, most_captured, record_header_in, PacketSpans, most_in_unit, packet_in_unit, PacketCame, record_spans, Declared, PcapFile, SourceView, Reading, IsBetween, TakesNext}
 use Rattle.cap_io.proofs.Passing.{FindsPacket-next}
 use Rattle.cap_io.proofs.Came.{fields_came, record_came}
 

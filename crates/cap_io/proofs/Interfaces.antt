@@ -1,13 +1,7 @@
 -- The different interfaces of packets, in the order of first use.
-use Rattle.std.proofs.Common.{◌≡◌, ◌≤◌, ◌&&◌, true, List, [], ◌∷◌, ◌++◌, length, nat_eq, sym, arith, length-append}
+use Rattle.cap_io.proofs.Common.{◌≡◌, ◌≤◌, ◌&&◌, true, List, [], ◌∷◌, ◌++◌, length, nat_eq, sym, arith, fold, fold-append, and_parts, eqb-true, Captured, Format, Pcapng, Interface, interface_of, is_same, new_among, interfaces_after_packet, kept_interfaces}
+use Rattle.std.proofs.Common.{length-append}
 use Rattle.std.specs.Cmp.Lexicographic.{pointwise, same_text}
-use Rattle.std.specs.List.{fold}
-use Rattle.std.proofs.lemmas.List.Sums.{fold-append}
-use Rattle.std.proofs.lemmas.Bool.{and_parts, eqb-true}
-use Rattle.cap_octet.specs.Packet.{Captured}
-use Rattle.cap_octet.specs.declared.format.Format.{Format}
-use Rattle.cap_octet.specs.declared.format.Format.TheVariants.{Pcapng}
-use Rattle.cap_io.specs.Text.{Interface, interface_of, is_same, new_among, interfaces_after_packet, kept_interfaces}
 
 -- ---- the same
 

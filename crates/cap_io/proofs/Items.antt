@@ -1,9 +1,6 @@
 -- Whole units in front of a text give their packets first.
-use Rattle.std.proofs.Common.{◌≡◌, ℕ, zero, suc, ◌+◌, ◌<◌, List, ◌++◌, length, drop, Option, refl, sym, ◌∙◌, ap, arith, add-zero}
-use Rattle.std.proofs.lemmas.List.{append_assoc, length-append, length-drop, drop_at}
-use Rattle.cap_octet.specs.Packet.{Captured}
-use Rattle.cap_octet.specs.declared.fault.Fault.{Fault}
-use Rattle.cap_io.specs.Capture.{Declared, IsUnit, Placed, placed_at, AreUnits, no_unit, unit_then, Front, Whole, NoUnit, front_of, Items, no_items, after_packets, items_with, items_within, items_from}
+use Rattle.cap_io.proofs.Common.{◌≡◌, ℕ, zero, suc, ◌+◌, ◌<◌, List, ◌++◌, length, drop, Option, refl, sym, ◌∙◌, ap, arith, add-zero, append_assoc, length-append, length-drop, drop_at, Captured, Fault, Declared, IsUnit, Placed, placed_at, AreUnits, no_unit, unit_then, Front, Whole, NoUnit, front_of, Items, no_items, after_packets, items_with}
+use Rattle.cap_io.specs.Capture.{items_within, items_from}
 use Rattle.cap_io.proofs.Units.{front_of-unit, front_of-is}
 
 -- ---- a unit has a byte at least

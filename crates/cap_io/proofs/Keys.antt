@@ -1,11 +1,6 @@
 -- Interfaces as they are numbered: keys and what they stand for.
-use Rattle.std.proofs.Common.{◌≡◌, ℕ, ◌+◌, ◌||◌, Bool, true, false, not, cond, if◌then◌else◌, List, [], ◌∷◌, ◌++◌, length, map, nat_le, refl, sym, ◌∙◌, ap, ◌<◌, ◌≤◌, arith}
-use Rattle.std.specs.List.{list_any, position_or_len}
-use Rattle.std.proofs.lemmas.List.{append-nil, map-append, length-append}
-use Rattle.std.proofs.lemmas.Bool.{le-leb, lt-leb}
+use Rattle.cap_io.proofs.Common.{◌≡◌, ℕ, ◌+◌, ◌||◌, Bool, true, false, not, cond, if◌then◌else◌, List, [], ◌∷◌, ◌++◌, length, map, nat_le, refl, sym, ◌∙◌, ap, ◌<◌, ◌≤◌, arith, list_any, position_or_len, append-nil, map-append, length-append, le-leb, lt-leb, Interface, is_same, is_among, new_among, number_among, most_output_interfaces, interface_in}
 use Rattle.cap_io.specs.declared.numbering.InterfaceKey.{InterfaceKey}
-use Rattle.cap_io.specs.Text.{Interface, is_same, is_among, new_among, number_among, most_output_interfaces}
-use Rattle.cap_io.specs.Numbering.{interface_in}
 
 -- when two keys are equal
 abbrev pub same_key : InterfaceKey → InterfaceKey → Bool

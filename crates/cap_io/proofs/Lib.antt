@@ -1,3 +1,4 @@
+pub mod Common
 pub mod Fitting
 pub mod Fronts
 pub mod Came

@@ -1,23 +1,8 @@
 -- Which faults checks tell: none of them that the device failed, or that memory ran out.
-use Rattle.std.proofs.Common.{◌≡◌, ℕ, inl, inr, Bool, true, false, List, Option, Some, Err, refl, arith}
-use Rattle.cap_octet.specs.Checks.{first_failing}
-use Rattle.cap_octet.specs.declared.fault.Fault.{Fault}
-use Rattle.cap_octet.specs.declared.fault.Fault.TheVariants.{NoMemory, ReadFailed}
-use Rattle.cap_octet.specs.declared.number.Order.{Order}
-use Rattle.cap_pcapng.specs.Block.{Parts, SectionParts, InterfaceParts, EnhancedParts, SimpleParts, SkippedParts, block_checks, body_checks, body_in, parts_in}
-use Rattle.cap_pcap.specs.declared.header.Head.{Head}
-use Rattle.cap_pcap.specs.Header.{header_checks, header_fault}
-use Rattle.cap_pcap.specs.Record.{field_checks}
-use Rattle.cap_pcapng.specs.Frame.{frame_checks}
-use Rattle.cap_pcapng.specs.Interface.{Described}
-use Rattle.cap_pcapng.specs.Unit.{checks_among}
+use Rattle.cap_io.proofs.Common.{◌≡◌, ℕ, inl, inr, Bool, true, false, List, Option, Some, Err, refl, arith, first_failing, Fault, NoMemory, ReadFailed, Order, Parts, SectionParts, InterfaceParts, EnhancedParts, SimpleParts, SkippedParts, block_checks, body_checks, body_in, parts_in, Head, header_checks, header_fault, field_checks, frame_checks, Described, checks_among, Frame, IsBlockFault, AddsInterface, IsEntryFault, read_failures}
 use Rattle.cap_pcapng.specs.declared.frames.BlockType.{BlockType}
 use Rattle.cap_pcapng.specs.declared.frames.BlockType.TheVariants as type
-use Rattle.cap_pcapng.specs.declared.frames.Frame.{Frame}
-use Rattle.cap_pcapng.specs.Effect.{IsBlockFault}
-use Rattle.cap_pcapng.specs.inside.Effect.{AddsInterface, IsEntryFault}
 use Rattle.cap_pcapng.proofs.Faults.{AreAll, all_failing, all_of_options}
-use Rattle.cap_io.specs.Reading.{read_failures}
 
 -- ---- no check tells that the device failed, or that memory ran out
 

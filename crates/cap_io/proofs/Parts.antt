@@ -1,27 +1,13 @@
 -- Parts that are written one after another, and what a sink adds by them.
-use Rattle.std.proofs.Common.{◌≡◌, ◌⊎◌, inl, inr, ℕ, ◌+◌, ◌<◌, Bool, true, false, not, if◌then◌else◌, List, [], ◌∷◌, ◌++◌, length, take, Option, Some, None, Result, is_ok, Ok, Err, refl, sym, ap, ap₂, subst, ◌∙◌, arith, length-append}
-use Rattle.std.specs.List.{flat_map}
+use Rattle.cap_io.proofs.Common.{◌≡◌, ◌⊎◌, inl, inr, ℕ, ◌+◌, ◌<◌, Bool, true, false, not, if◌then◌else◌, List, [], ◌∷◌, ◌++◌, length, take, Option, Some, None, Result, is_ok, Ok, Err, refl, sym, ap, ap₂, subst, ◌∙◌, arith, flat_map, append_assoc, append-nil, take-append-le, checked, AppendsOrStops, Stops, Captured, Fault, WriteFailed, Format, Pcap, NsecPcap, Pcapng, InterfaceNumber, SinkState, HasNumber, WritesPacket, file_start_in, appended_packet, Interface, interface_of, is_among, number_among, file_start, record_text, Appends, packet_block_text, description_text}
+use Rattle.std.proofs.Common.{length-append}
 use Rattle.std.proofs.Math.Seq.{take-append-add}
-use Rattle.std.proofs.lemmas.List.{append_assoc, append-nil, take-append-le}
-use Rattle.cap_octet.specs.Checks.{checked}
-use Rattle.cap_octet.specs.Device.{AppendsOrStops, Stops}
 use Rattle.cap_octet.specs.Writer.{WritesExactly}
-use Rattle.cap_octet.specs.Packet.{Captured}
 use Rattle.cap_octet.specs.declared.device.DeviceFault.{DeviceFault}
 use Rattle.cap_octet.specs.declared.device.Output.{Ghosts}
 use Rattle.cap_octet.specs.declared.device.Stopped.{Stopped}
-use Rattle.cap_octet.specs.declared.fault.Fault.{Fault}
-use Rattle.cap_octet.specs.declared.fault.Fault.TheVariants.{WriteFailed}
-use Rattle.cap_octet.specs.declared.format.Format.{Format}
-use Rattle.cap_octet.specs.declared.format.Format.TheVariants.{Pcap, NsecPcap, Pcapng}
 use Rattle.cap_pcap.specs.Encoding.{IsPcap, file_header as pcap_header, resolution_of}
 use Rattle.cap_pcapng.specs.Encoding.{interface_text, packet_block as pcapng_packet}
-use Rattle.cap_io.specs.declared.numbering.InterfaceNumber.{InterfaceNumber}
-use Rattle.cap_io.specs.declared.sink.SinkState.{SinkState}
-use Rattle.cap_io.specs.inside.Numbering.{HasNumber}
-use Rattle.cap_io.specs.Sink.{WritesPacket}
-use Rattle.cap_io.specs.Text.{file_start_in, appended_packet, Interface, interface_of, is_among, number_among, file_start, record_text}
-use Rattle.cap_io.specs.inside.Sink.{Appends, packet_block_text, description_text}
 
 pub appends-as : {E : Type 0} (r : Result (Unit {0}) E) (written bytes bytes' written' : List ℕ) → bytes ≡ bytes' → AppendsOrStops r written bytes written' → AppendsOrStops r written bytes' written'
 appends-as r written bytes bytes' written' same appends = let P : List ℕ → Type 0 = λ b. AppendsOrStops r written b written' in subst P same appends

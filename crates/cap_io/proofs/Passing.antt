@@ -1,28 +1,12 @@
 -- From one place in a file to a later one.
-use Rattle.std.proofs.Common.{◌≡◌, ℕ, ◌+◌, ◌-◌, ◌≤◌, List, [], ◌++◌, length, take, drop, Option, Some, None, is_some, true, refl, sym, ap, ap₂, ◌∙◌, subst, arith}
-use Rattle.std.specs.List.{slice_get}
-use Rattle.std.specs.Option.{option_map}
-use Rattle.std.proofs.lemmas.List.{append_assoc, drop-take, take-take, length-append, length-take, length-take-le}
-use Rattle.cap_octet.specs.declared.number.Order.{Order}
-use Rattle.cap_pcap.specs.declared.header.Head.{Head}
-use Rattle.cap_pcapng.specs.Interface.{Described}
+use Rattle.cap_io.proofs.Common.{◌≡◌, ℕ, ◌+◌, ◌-◌, ◌≤◌, List, [], ◌++◌, length, take, drop, Option, Some, None, is_some, true, refl, sym, ap, ap₂, ◌∙◌, subst, arith, slice_get, option_map, append_assoc, drop-take, take-take, length-append, length-take, length-take-le, Order, Head, Described, packet_of, Fault, NoMemory, PacketSpans, Declared, Nothing, PcapFile, PcapngFile, AreUnits, no_unit, TakesMemory, held_length, no_unit_fits, packet_in_unit, EndCame, HasInterface, PacketCame, NoUnitCame, UnitPassed, span_bytes, SourceView, Reading, Ended, Failed, SkipsUnits, IsBroken, FindsPacket, FindsEnd, FindsFault, block_at, end_offset, phase_at, IsBetween, HoldsIfAny}
 use Rattle.cap_pcapng.specs.Comment.{comment_in}
-use Rattle.cap_pcapng.specs.Unit.{packet_of}
 use Rattle.cap_io.specs.declared.source.Stage.{Stage}
 use Rattle.cap_io.specs.declared.source.Stage.TheVariants as stage
-use Rattle.cap_octet.specs.declared.fault.Fault.{Fault}
-use Rattle.cap_octet.specs.declared.fault.Fault.TheVariants.{NoMemory}
-use Rattle.cap_pcapng.specs.declared.effect.PacketSpans.{PacketSpans}
 use Rattle.cap_pcapng.specs.declared.effect.Span.{Span}
-use Rattle.cap_io.specs.Capture.{Declared, Nothing, PcapFile, PcapngFile, AreUnits, no_unit}
 use Rattle.cap_io.proofs.Items.{AreUnits-append}
 use Rattle.cap_io.proofs.Fitting.{FitUnits-append, FitUnits-wider, one_unit_fits}
 use Rattle.cap_io.proofs.Units.{one_unit}
-use Rattle.cap_io.specs.Reading.{TakesMemory, held_length, no_unit_fits, packet_in_unit}
-use Rattle.cap_io.specs.inside.Reading.{EndCame, HasInterface, PacketCame, NoUnitCame, UnitPassed}
-use Rattle.cap_pcapng.specs.Effect.{span_bytes}
-use Rattle.cap_io.specs.Source.{SourceView, Reading, Ended, Failed, SkipsUnits, IsBroken, FindsPacket, FindsEnd, FindsFault, block_at, end_offset, phase_at}
-use Rattle.cap_io.specs.inside.Source.{IsBetween, HoldsIfAny}
 
 -- ---- no unit is gone over
 

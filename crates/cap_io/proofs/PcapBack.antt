@@ -1,26 +1,9 @@
 -- What is written in a pcap form reads back.
-use Rattle.std.proofs.Common.{◌≡◌, ℕ, ◌+◌, ◌*◌, ◌/◌, ◌%◌, ◌^◌, ◌<◌, ◌≤◌, Bool, List, [], ◌∷◌, ◌++◌, length, drop, nat_lt, None, refl, sym, ap, subst, ◌∙◌, arith, le-leb, leb-true, lt-ltb}
-use Rattle.std.specs.List.{AllByRecursion, flat_map}
-use Rattle.std.proofs.lemmas.Bool.{eqb-true, ltb-true}
-use Rattle.cap_octet.specs.Checks.{first_failing}
-use Rattle.cap_octet.specs.Number.{number_in, u32_in}
-use Rattle.cap_octet.specs.Packet.{Captured}
-use Rattle.cap_octet.specs.declared.fault.Fault.{Fault}
-use Rattle.cap_octet.specs.declared.fault.Fault.TheVariants.{LinkTypesDiffer}
-use Rattle.cap_octet.specs.declared.format.Format.TheVariants.{Pcap, NsecPcap}
-use Rattle.cap_octet.specs.declared.number.Order.TheVariants.{Little}
-use Rattle.cap_octet.proofs.Checks.{all_met, none_failing}
-use Rattle.cap_pcap.specs.Header.{IsHeader, header_checks}
-use Rattle.cap_pcap.specs.Record.{IsRecord, field_checks, most_captured, nanoseconds_of_part, record_packet, parts_of_second}
+use Rattle.cap_io.proofs.Common.{◌≡◌, ℕ, ◌+◌, ◌*◌, ◌/◌, ◌%◌, ◌^◌, ◌<◌, ◌≤◌, Bool, List, [], ◌∷◌, ◌++◌, length, drop, nat_lt, None, refl, sym, ap, subst, ◌∙◌, arith, leb-true, lt-ltb, AllByRecursion, flat_map, eqb-true, ltb-true, first_failing, u32_in, Captured, Fault, LinkTypesDiffer, Pcap, NsecPcap, Little, all_met, none_failing, IsHeader, header_checks, IsRecord, field_checks, most_captured, nanoseconds_of_part, record_packet, parts_of_second, Head, Resolution, Microseconds, Nanoseconds, record_fault-whole, PcapFile, a_pcap_header, a_pcap_record, Back, InRange, IsPlain, ReadsBack, has_link, record_text, state_after}
+use Rattle.std.proofs.Common.{le-leb}
+use Rattle.cap_octet.specs.Number.{number_in}
 use Rattle.cap_pcap.specs.Encoding as pcap
-use Rattle.cap_pcap.specs.declared.header.Head.{Head}
-use Rattle.cap_pcap.specs.declared.header.Resolution.{Resolution}
-use Rattle.cap_pcap.specs.declared.header.Resolution.TheVariants.{Microseconds, Nanoseconds}
-use Rattle.cap_pcap.proofs.Records.{record_fault-whole}
 use Rattle.cap_pcapng.proofs.Numerals.{number_at}
-use Rattle.cap_io.specs.Capture.{PcapFile, a_pcap_header, a_pcap_record}
-use Rattle.cap_io.specs.RoundTrip.{Back, InRange, IsPlain, ReadsBack}
-use Rattle.cap_io.specs.Text.{has_link, record_text, state_after}
 use Rattle.cap_io.proofs.Texts.{bare_text, text-start}
 use Rattle.cap_io.proofs.Backs.{Holds, each-following, holds-none, holds-unit, reads-back}
 

@@ -1,22 +1,9 @@
 -- What is written in pcapng reads back.
-use Rattle.std.proofs.Common.{◌≡◌, ℕ, ◌+◌, suc, ◌||◌, ◌<◌, ◌≤◌, Bool, true, false, List, [], ◌∷◌, ◌++◌, length, map, not, cond, if◌then◌else◌, Option, None, Some, refl, sym, ap, subst, ◌∙◌, arith, length-append}
-use Rattle.std.specs.List.{AllByRecursion, flat_map, fold, slice_get}
-use Rattle.std.specs.Option.{option_map}
-use Rattle.std.proofs.lemmas.List.Sums.{fold-append}
-use Rattle.std.proofs.lemmas.List.{append_assoc, append-nil, length-map, map-append}
-use Rattle.std.proofs.lemmas.Option.{slice_get-map, slice_get_within}
-use Rattle.cap_octet.specs.Checks.{first_failing}
-use Rattle.cap_octet.specs.Packet.{Captured}
-use Rattle.cap_octet.specs.declared.format.Format.TheVariants.{Pcapng}
-use Rattle.cap_octet.proofs.Checks.{all_met, none_failing}
-use Rattle.cap_pcapng.specs.Interface.{Described, most_interfaces}
+use Rattle.cap_io.proofs.Common.{◌≡◌, ℕ, ◌+◌, suc, ◌||◌, ◌<◌, ◌≤◌, Bool, true, false, List, [], ◌∷◌, ◌++◌, length, map, not, cond, if◌then◌else◌, Option, None, Some, refl, sym, ap, subst, ◌∙◌, arith, AllByRecursion, flat_map, fold, slice_get, option_map, fold-append, append_assoc, append-nil, length-map, map-append, slice_get-map, slice_get_within, first_failing, Captured, Pcapng, all_met, none_failing, Described, most_interfaces, Section, packets_in, Nothing, PcapngFile, IsUnit, a_first_block, a_block, first_link_after, Back, InRange, IsCarried, ReadsBack, Interface, checks_in, interface_of, interfaces_after_packet, is_among, is_same, kept_interfaces, new_among, number_among, state_after}
+use Rattle.std.proofs.Common.{length-append}
 use Rattle.cap_pcapng.specs.Laws.{ReadsAs, written_interface, written_section}
-use Rattle.cap_pcapng.specs.Unit.{Section, packets_in}
 use Rattle.cap_pcapng.specs.Encoding as pcapng
 use Rattle.cap_pcapng.proofs.WrittenBack.{section_back, interface_back, packet_back}
-use Rattle.cap_io.specs.Capture.{Nothing, PcapngFile, IsUnit, a_first_block, a_block, first_link_after}
-use Rattle.cap_io.specs.RoundTrip.{Back, InRange, IsCarried, ReadsBack}
-use Rattle.cap_io.specs.Text.{Interface, checks_in, interface_of, interfaces_after_packet, is_among, is_same, kept_interfaces, new_among, number_among, state_after}
 use Rattle.cap_io.proofs.Backs.{Holds, each-following, holds-none, holds-unit, reads-back}
 use Rattle.cap_io.proofs.Interfaces.{kept-grows, kept-push, same_interface}
 use Rattle.cap_io.proofs.Texts.{bare_text, text-start}

@@ -1,13 +1,8 @@
 -- The number of the last packet's interface, by which that of the next one is found.
-use Rattle.std.proofs.Common.{◌≡◌, ℕ, zero, suc, ◌+◌, ◌||◌, Bool, true, false, not, cond, if◌then◌else◌, List, [], ◌∷◌, ◌++◌, Some, ◌≤◌, length, slice_get, refl, sym, ◌∙◌, ap, arith}
+use Rattle.cap_io.proofs.Common.{◌≡◌, ℕ, zero, suc, ◌+◌, ◌||◌, Bool, true, false, not, cond, if◌then◌else◌, List, [], ◌∷◌, ◌++◌, Some, ◌≤◌, length, refl, sym, ◌∙◌, ap, arith, append-nil, All-append, All-nil, All-push, All, HasNumber, IsFirst, Interface, is_same, is_among, new_among, number_among, most_output_interfaces, FitFile, InterfaceNumber}
+use Rattle.std.proofs.Common.{slice_get}
 use Rattle.std.proofs.Math.Bool.{or-true}
 use Rattle.std.proofs.lemmas.Cmp.{nat_eq_equiv, nat_list_eq_equiv}
-use Rattle.std.proofs.lemmas.List.{append-nil}
-use Rattle.std.proofs.lemmas.List.Elements.{All-append, All-nil, All-push}
-use Rattle.std.specs.List.{All}
-use Rattle.cap_io.specs.inside.Numbering.{HasNumber, IsFirst}
-use Rattle.cap_io.specs.Text.{Interface, is_same, is_among, new_among, number_among, most_output_interfaces, FitFile}
-use Rattle.cap_io.specs.declared.numbering.InterfaceNumber.{InterfaceNumber}
 use Rattle.cap_io.proofs.Interfaces.{same_interface}
 
 some_is : (i j : Interface) → Some i ≡ Some j → i ≡ j

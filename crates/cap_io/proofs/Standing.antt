@@ -1,12 +1,7 @@
 -- Where a source stands in its text, from one call to the next.
-use Rattle.std.proofs.Common.{◌≡◌, ℕ, ◌+◌, ◌-◌, ◌<◌, ◌⊎◌, inl, inr, Bool, true, false, List, [], ◌∷◌, ◌++◌, length, Option, Some, refl, sym, ◌∙◌, ap, arith, add-zero, zero-add, Result, Ok}
-use Rattle.std.proofs.lemmas.List.{append_assoc, append-nil, length-append, length-drop}
-use Rattle.cap_octet.specs.declared.fault.Fault.{Fault}
-use Rattle.cap_octet.specs.declared.fault.Fault.TheVariants.{ReadFailed, NoMemory}
-use Rattle.cap_io.specs.Capture.{Declared, Nothing, Placed, placed_at, AreUnits, no_unit, items, items_from, after_packets, ending_by, FaultAt, front_of, NoUnit}
-use Rattle.cap_io.specs.Source.{SourceView, Phase, Reading, Ended, Failed, source_at, SkipsUnits, FindsPacket, FindsEnd, FindsFault, Advances, Finds}
+use Rattle.cap_io.proofs.Common.{◌≡◌, ℕ, ◌+◌, ◌-◌, ◌<◌, ◌⊎◌, inl, inr, Bool, true, false, List, [], ◌∷◌, ◌++◌, length, Option, Some, refl, sym, ◌∙◌, ap, arith, add-zero, zero-add, Result, Ok, append_assoc, append-nil, length-append, length-drop, Fault, ReadFailed, NoMemory, Declared, Nothing, Placed, placed_at, AreUnits, no_unit, items, after_packets, ending_by, FaultAt, front_of, NoUnit, SourceView, Phase, Reading, Ended, Failed, source_at, SkipsUnits, FindsPacket, FindsEnd, FindsFault, Advances, Finds, FitUnits, no_unit_fits, decisive_length}
+use Rattle.cap_io.specs.Capture.{items_from}
 use Rattle.cap_io.specs.Position.{IsAt, IsCutShort, MemoryEndsAt, given_in_all}
-use Rattle.cap_io.specs.Reading.{FitUnits, no_unit_fits, decisive_length}
 use Rattle.cap_io.proofs.Fitting.{FitUnits-append, FitUnits-wider, held_length-le, one_unit_fits}
 use Rattle.cap_io.proofs.Items.{AreUnits-append, items_from-units, items_from-stops}
 use Rattle.cap_io.proofs.Units.{one_unit}

@@ -1,24 +1,9 @@
 -- A unit and what a text begins with.
-use Rattle.std.proofs.Common.{◌≡◌, ℕ, Bool, true, false, ◌||◌, ◌&&◌, cond, is_some, eqb-true, ◌⊎◌, inl, inr, ◌<◌, ◌≤◌, List, [], ◌∷◌, ◌++◌, length, take, drop, Option, None, Some, refl, sym, ◌∙◌, ap, arith}
-use Rattle.std.proofs.lemmas.List.{append-nil, length-append, length-take-le, take-append-drop, take_at}
-use Rattle.cap_octet.specs.Packet.{Captured}
-use Rattle.cap_octet.specs.declared.fault.Fault.{Fault}
-use Rattle.cap_pcap.specs.declared.header.Head.{Head}
-use Rattle.cap_pcap.specs.declared.header.Resolution.{Resolution}
-use Rattle.cap_pcap.specs.declared.header.Resolution.TheVariants.{Microseconds, Nanoseconds}
-use Rattle.cap_pcap.specs.Header.{form_in, header_checks, header_fault, header_in, magic, IsHeader}
-use Rattle.cap_pcap.specs.Record.{record_fault, record_size, record_packet, IsRecord}
-use Rattle.cap_pcap.proofs.Headers.{header_fault-append, header_fault-none, header_in-append}
-use Rattle.cap_pcap.proofs.Records.{passes, IsRecord-front, IsRecord-take}
-use Rattle.std.specs.Prelude.{◌==◌, nat_le}
-use Rattle.std.proofs.lemmas.Bool.{le-leb}
-use Rattle.cap_octet.specs.Number.{number_in, u32_in}
-use Rattle.cap_octet.specs.declared.number.Order.TheVariants.{Little, Big}
-use Rattle.cap_octet.proofs.Checks.{all_met}
-use Rattle.cap_pcapng.specs.Frame.{frame_checks, is_section, section_type}
-use Rattle.cap_pcapng.specs.Unit.{IsBlock, Section, block_size, packets_in, unit_fault}
+use Rattle.cap_io.proofs.Common.{◌≡◌, ℕ, Bool, true, false, ◌||◌, ◌&&◌, cond, is_some, ◌⊎◌, inl, inr, ◌<◌, ◌≤◌, List, [], ◌∷◌, ◌++◌, length, take, drop, Option, None, Some, refl, sym, ◌∙◌, ap, arith, append-nil, length-append, length-take-le, take-append-drop, take_at, Captured, Fault, Head, Resolution, Microseconds, Nanoseconds, form_in, header_checks, header_fault, header_in, magic, IsHeader, record_fault, record_size, record_packet, IsRecord, header_fault-append, header_fault-none, header_in-append, IsRecord-front, IsRecord-take, ◌==◌, nat_le, le-leb, u32_in, Little, Big, all_met, frame_checks, is_section, section_type, IsBlock, Section, block_size, packets_in, unit_fault, Declared, Nothing, PcapFile, PcapngFile, IsUnit, a_pcap_header, a_pcap_record, a_first_block, a_block, file_after, is_pcapng, placed_at, AreUnits, no_unit, unit_then, Whole, front_of}
+use Rattle.std.proofs.Common.{eqb-true}
+use Rattle.cap_pcap.proofs.Records.{passes}
+use Rattle.cap_octet.specs.Number.{number_in}
 use Rattle.cap_pcapng.proofs.Units as block
-use Rattle.cap_io.specs.Capture.{Declared, Nothing, PcapFile, PcapngFile, IsUnit, a_pcap_header, a_pcap_record, a_first_block, a_block, file_after, is_pcapng, placed_at, AreUnits, no_unit, unit_then, Whole, front_of}
 use Rattle.cap_io.proofs.Fronts.{block_unless, front_of_file, header_unless, record_unless, front_of-header, front_of-record, front_of-pcapng, front_of-following, front_of_block-whole}
 
 -- ---- which kind of file

@@ -1,3 +1,4 @@
+pub mod Common
 pub mod Checks
 pub mod Dates
 pub mod Days

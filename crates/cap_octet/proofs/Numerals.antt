@@ -1,13 +1,8 @@
 -- What digits write: more digits make it no less, and few digits less than 2^64.
-use Rattle.std.proofs.Common.{◌≡◌, ℕ, ◌+◌, ◌*◌, ◌^◌, ◌<◌, ◌≤◌, Bool, true, false, nat_lt, ◌&&◌, ◌==◌, not, List, [], ◌∷◌, length, drop, get_or, Some, None, refl, arith, if◌then◌else◌}
-use Rattle.std.proofs.Math.Nat.{mul-le-mul_left, pow-le-pow_right}
-use Rattle.std.proofs.lemmas.Bool.{lt-ltb}
+use Rattle.cap_octet.proofs.Common.{◌≡◌, ℕ, ◌+◌, ◌*◌, ◌^◌, ◌<◌, ◌≤◌, Bool, true, false, nat_lt, ◌&&◌, ◌==◌, not, List, [], ◌∷◌, length, drop, get_or, Some, None, refl, arith, if◌then◌else◌, mul-le-mul_left, pow-le-pow_right, lt-ltb, at_drop_more, AllDigits, digits_value_after, digits_value, are_digits, decimal_value, in_u64}
 use Rattle.std.proofs.lemmas.Bool.Decides.{nat_tests}
 use Rattle.std.proofs.lemmas.Int.Digits.{digits_value-lt}
-use Rattle.std.proofs.lemmas.List.{at_drop_more}
 use Rattle.std.specs.Char.{digit_value}
-use Rattle.std.specs.Str.Parse.{AllDigits, digits_value_after, digits_value}
-use Rattle.cap_octet.specs.Digits.{are_digits, decimal_value, in_u64}
 
 pub grows : (radix n : ℕ) (cs : List ℕ) → 1 ≤ radix → n ≤ digits_value_after radix n cs
 grows radix n [] h = omega arith

@@ -1,12 +1,10 @@
 -- One read after another, and one write after another.
-use Rattle.std.proofs.Common.{◌≡◌, ℕ, ◌+◌, ◌-◌, ◌<◌, ◌≤◌, min, Bool, true, false, if◌then◌else◌, List, [], ◌++◌, length, take, drop, sym, ◌∙◌, ap, arith, subst, Option, None, Some}
+use Rattle.cap_octet.proofs.Common.{◌≡◌, ℕ, ◌+◌, ◌-◌, ◌<◌, ◌≤◌, min, Bool, true, false, if◌then◌else◌, List, [], ◌++◌, length, take, drop, sym, ◌∙◌, ap, arith, subst, Option, None, Some, length-take, drop-drop, drop_at, take_at, append-nil, append_assoc, take-take, take_all, drop-append-le, take-append-drop, take-add, Takes, TakesSome, TakesFull, TakesFront}
 use Rattle.std.specs.Io.KnownBytes.{Consumes, prepend_known}
 use Rattle.std.specs.Io.BufRead.{DropsConsumable}
-use Rattle.std.proofs.lemmas.List.{length-take, length-drop, drop-drop, drop_at, take_at, append-nil, append_assoc, take-take, take_all, drop-append-le, take-append-drop}
-use Rattle.std.proofs.Math.Seq.{take-add}
+use Rattle.std.proofs.lemmas.List.{length-drop}
 use Rattle.std.proofs.Math.ListN.{drop_of_length-le}
 use borrow.Rule.Slice.PartMut.{put_mid, mid_of}
-use Rattle.cap_octet.specs.Device.{Takes, TakesSome, TakesFull, TakesFront}
 
 -- what is after the first c bytes of the buffer after the first c came
 following : (u b : List ℕ) (c : ℕ) → c ≤ length u → drop c (take c u ++ drop c b) ≡ drop c b

@@ -1,15 +1,9 @@
 -- A number of seconds is read in a word of 64 bits, and nothing is lost by that.
-use Rattle.std.proofs.Common.{◌≡◌, ℕ, ◌+◌, ◌-◌, ◌*◌, ◌^◌, ◌<◌, ◌≤◌, inl, inr, Bool, true, false, nat_le, ◌&&◌, ◌==◌, not, List, length, Option, Some, None, refl, sym, ap, ◌∙◌, arith, if◌then◌else◌, take, drop, length-take}
-use Rattle.std.proofs.Math.Nat.{one-le-pow, mul-le-mul_right}
+use Rattle.cap_octet.proofs.Common.{◌≡◌, ℕ, ◌+◌, ◌-◌, ◌*◌, ◌^◌, ◌<◌, ◌≤◌, inl, inr, Bool, true, false, nat_le, ◌&&◌, ◌==◌, not, List, length, Option, Some, None, refl, sym, ap, ◌∙◌, arith, if◌then◌else◌, take, drop, one-le-pow, mul-le-mul_right, cases_order, lt-ltb, le-ltb, digits_value, NANOS_PER_SECOND, are_digits, decimal_value, in_u64, duration_of_parts, fraction_nanoseconds, number_at}
+use Rattle.std.proofs.Common.{length-take}
 use Rattle.std.proofs.lemmas.Nat.{pow-add}
-use Rattle.std.proofs.lemmas.Bool.{cases_order, lt-ltb, le-ltb}
-use Rattle.std.specs.Str.Parse.{digits_value}
-use Rattle.cap_octet.specs.Date.{NANOS_PER_SECOND}
 use Rattle.std.specs.Option.{option_and_then}
 use Rattle.cap_octet.proofs.Numerals.{below_ten_to, both, few_in_u64}
-use Rattle.cap_octet.specs.Digits.{are_digits, decimal_value, in_u64}
-use Rattle.cap_octet.specs.Seconds.{duration_of_parts, fraction_nanoseconds}
-use Rattle.cap_octet.specs.Timestamp.{number_at}
 
 -- a number of a digits, moved to nine
 nine : (a v : ℕ) → a ≤ 9 → v < 10 ^ a → v * 10 ^ (9 - a) < 1000000000

@@ -1,11 +1,7 @@
 -- Bytes that are written part by part, and where that stops.
-use Rattle.std.proofs.Common.{◌≡◌, ℕ, ◌+◌, ◌<◌, List, ◌++◌, length, take, drop, get_or, Err, ap, sym, ◌∙◌, arith, length-append}
-use Rattle.std.proofs.Math.Seq.{take-append-add}
-use Rattle.std.specs.List.{flat_map}
+use Rattle.cap_octet.proofs.Common.{◌≡◌, ℕ, ◌+◌, ◌<◌, List, ◌++◌, length, take, drop, get_or, Err, ap, sym, ◌∙◌, arith, length-append, take-append-add, flat_map, append_assoc, take-append-le, take-append-drop, drop_more, Stops, WritesAll}
 use Rattle.std.proofs.lemmas.Grind.{flat_map-append}
-use Rattle.std.proofs.lemmas.List.{append_assoc, take-append-le, take-append-drop, drop_more}
 use Rattle.cap_octet.specs.declared.device.Stopped.{Stopped}
-use Rattle.cap_octet.specs.Device.{Stops, WritesAll}
 
 -- a part that stopped after others, and that more would have followed
 pub stops-part : (old mid new done part more : List ℕ) (stopped : Stopped) → mid ≡ old ++ done

@@ -13,7 +13,7 @@ pub enum Order {
     Big,
 }
 
-/// The number in the two bytes from place `at`, which the caller knows to be there.
+/// The number in the two bytes from place `at`, which have to exist.
 #[tactic(auto, unfolding(crate::specs::Number::number_in))]
 pub fn u16_at(order: Order, bytes: &[u8], at: usize) -> u16
     requires { at + 2 ≤ length bytes.now }
@@ -25,7 +25,7 @@ pub fn u16_at(order: Order, bytes: &[u8], at: usize) -> u16
     }
 }
 
-/// The number in the four bytes from place `at`, which the caller knows to be there.
+/// The number in the four bytes from place `at`, which have to exist.
 #[tactic(auto, unfolding(crate::specs::Number::number_in))]
 pub fn u32_at(order: Order, bytes: &[u8], at: usize) -> u32
     requires { at + 4 ≤ length bytes.now }

@@ -1,21 +1,5 @@
 -- A block finds its place in the table of interfaces, and its packet its data.
-use Rattle.std.proofs.Common.{◌≡◌, ℕ, ◌+◌, ◌-◌, ◌/◌, ◌*◌, ◌^◌, ◌<◌, ◌≤◌, Bool, true, false, List, [], ◌∷◌, length, take, drop, Option, Some, None, Ok, refl, sym, ap, ap₂, subst, ◌∙◌, arith, lit≤, leb-true, length-drop, inl, inr, if◌then◌else◌, nat_lt}
-use Rattle.std.specs.Prelude.{is_some, unwrap_or}
-use Rattle.std.specs.List.{AllByRecursion, slice_get}
-use Rattle.std.specs.Option.{option_map, ok_or}
-use Rattle.std.proofs.lemmas.List.{drop-drop, drop-take, take-take, length-take-le, length-take, take_all}
-use Rattle.cap_octet.specs.Checks.{first_failing}
-use Rattle.cap_octet.specs.declared.fault.Fault.{Fault}
-use Rattle.cap_octet.specs.declared.fault.Fault.TheVariants.{TimeOutOfRange, TooManyInterfaces}
-use Rattle.cap_octet.specs.declared.number.Order.{Order}
-use Rattle.cap_octet.proofs.Checks.{all_met, met_front}
-use Rattle.cap_pcapng.specs.Block.{Parts, SectionParts, InterfaceParts, EnhancedParts, SimpleParts, SkippedParts, block_checks, block_fault, option_checks, body_checks, body_in, data_checks, parts_in, parts_in_body, parts_of, simple_captured}
-use Rattle.cap_pcapng.specs.Comment.{comment_code, comment_in}
-use Rattle.cap_pcapng.specs.Interface.{Described, most_interfaces}
-use Rattle.cap_pcapng.specs.InterfaceOptions.{first_value, fitting_options}
-use Rattle.cap_pcapng.specs.Padding.{padded_length}
-use Rattle.cap_pcapng.specs.Time.{representable_time}
-use Rattle.cap_pcapng.specs.Unit.{checks_among, packet_by, packet_of, section_by}
+use Rattle.cap_pcapng.proofs.Common.{◌≡◌, ℕ, ◌+◌, ◌-◌, ◌/◌, ◌*◌, ◌^◌, ◌<◌, ◌≤◌, Bool, true, false, List, [], ◌∷◌, length, take, drop, Option, Some, None, Ok, refl, sym, ap, ap₂, subst, ◌∙◌, arith, lit≤, leb-true, length-drop, inl, inr, if◌then◌else◌, nat_lt, is_some, unwrap_or, AllByRecursion, slice_get, option_map, ok_or, drop-drop, drop-take, take-take, length-take-le, length-take, take_all, first_failing, Fault, TimeOutOfRange, TooManyInterfaces, Order, all_met, met_front, Parts, SectionParts, InterfaceParts, EnhancedParts, SimpleParts, SkippedParts, block_checks, block_fault, option_checks, body_checks, body_in, data_checks, parts_in, parts_in_body, parts_of, simple_captured, comment_code, comment_in, Described, most_interfaces, first_value, fitting_options, padded_length, representable_time, checks_among, packet_by, packet_of, section_by, Frame, Enters, IsBlockFault, held_packet, section_of, span_bytes}
 use Rattle.cap_pcapng.proofs.OptionLists.{options_in-none}
 use Rattle.cap_pcapng.proofs.WholeBlocks.{block_fails, block_passes}
 use Rattle.cap_pcapng.specs.declared.blocks.Block.TheVariants as read
@@ -23,8 +7,6 @@ use Rattle.cap_pcapng.specs.declared.blocks.EnhancedBlock.{EnhancedBlock}
 use Rattle.cap_pcapng.specs.declared.blocks.SimpleBlock.{SimpleBlock}
 use Rattle.cap_pcapng.specs.declared.frames.BlockType.{BlockType}
 use Rattle.cap_pcapng.specs.declared.frames.BlockType.TheVariants as type
-use Rattle.cap_pcapng.specs.declared.frames.Frame.{Frame}
-use Rattle.cap_pcapng.specs.Effect.{Enters, IsBlockFault, held_packet, section_of, span_bytes}
 use Rattle.cap_pcapng.specs.inside.Effect.{PacketFound, fault_among}
 use Rattle.cap_pcapng.specs.declared.effect.PacketSpans.{PacketSpans}
 use Rattle.cap_pcapng.proofs.Faults.{all_failing, all_of_options}

@@ -1,16 +1,7 @@
 -- What holds of the faults of all checks holds of the first that fails; and which faults options
 -- have.
-use Rattle.std.proofs.Common.{◌≡◌, ℕ, zero, suc, Bool, true, false, List, [], ◌∷◌, ◌++◌, length, drop, Some, Result, Ok, Err, cond, subst}
-use Rattle.std.specs.Prelude.{◌==◌, is_some, if◌then◌else◌}
-use Rattle.std.specs.List.{AllByRecursion}
-use Rattle.cap_octet.specs.Checks.{first_failing}
-use Rattle.cap_octet.specs.declared.fault.Fault.{Fault}
-use Rattle.cap_octet.specs.declared.fault.Fault.TheVariants.{BadOption, BadTimeResolution}
-use Rattle.cap_octet.specs.declared.number.Order.{Order}
-use Rattle.cap_pcapng.specs.Block.{Parts, SectionParts, InterfaceParts, EnhancedParts, SimpleParts, SkippedParts, option_checks}
-use Rattle.cap_pcapng.specs.InterfaceOptions.{checks_after, first_checks, first_value, list_checks, name_checks, name_code, offset_checks, offset_code, resolution_checks, resolution_code}
-use Rattle.cap_pcapng.specs.OptionList.{CodedValue, ends_at, fits_at, option_at, option_size, options_in, options_within}
-use Rattle.cap_pcapng.specs.Padding.{padded_length}
+use Rattle.cap_pcapng.proofs.Common.{◌≡◌, ℕ, zero, suc, Bool, true, false, List, [], ◌∷◌, ◌++◌, length, drop, Some, Result, Ok, Err, cond, subst, ◌==◌, is_some, if◌then◌else◌, AllByRecursion, first_failing, Fault, BadOption, BadTimeResolution, Order, Parts, SectionParts, InterfaceParts, EnhancedParts, SimpleParts, SkippedParts, option_checks, checks_after, first_checks, first_value, list_checks, name_checks, name_code, offset_checks, offset_code, resolution_checks, resolution_code, CodedValue, ends_at, fits_at, option_at, option_size, padded_length}
+use Rattle.cap_pcapng.specs.OptionList.{options_in, options_within}
 
 -- ---- the faults of some rows
 

@@ -1,19 +1,10 @@
 -- Options of an interface, read one after another.
-use Rattle.std.proofs.Common.{◌≡◌, ℕ, Bool, true, false, List, [], ◌∷◌, ◌++◌, cond, refl, sym, ap, ◌∙◌, eqb-true, Option, Some, None, Result, Ok, ◌<◌, ◌≤◌, ◌^◌, ◌-◌, nat_lt, unwrap_or, arith}
-use Rattle.std.specs.Prelude.{is_some, if◌then◌else◌, ◌==◌, slice_index}
-use Rattle.std.specs.Option.{option_copied, option_map, option_or}
+use Rattle.cap_pcapng.proofs.Common.{◌≡◌, ℕ, Bool, true, false, List, [], ◌∷◌, ◌++◌, cond, refl, sym, ap, ◌∙◌, eqb-true, Option, Some, None, Result, Ok, ◌<◌, ◌≤◌, ◌^◌, ◌-◌, nat_lt, unwrap_or, arith, is_some, if◌then◌else◌, ◌==◌, slice_index, option_copied, option_map, option_or, met_front, failing_front, first_failing, Fault, Order, checks_after, first_checks, first_value, fitting_options, list_checks, name_code, offset_code, offset_in_value, resolution_code, units_in_value, CodedValue, microseconds}
 use Rattle.std.proofs.Math.Nat.{one-le-pow}
 use Rattle.std.proofs.lemmas.List.{append_assoc}
 use Rattle.std.specs.Borrow.{Bor}
-use Rattle.cap_octet.proofs.Checks.{met_front, failing_front}
-use Rattle.cap_octet.specs.Checks.{first_failing}
-use Rattle.cap_octet.specs.declared.fault.Fault.{Fault}
-use Rattle.cap_octet.specs.declared.number.Order.{Order}
 use Rattle.cap_pcapng.specs.inside.Interface.{Adds, IsFound, is_found}
-use Rattle.cap_pcapng.specs.InterfaceOptions.{checks_after, first_checks, first_value, fitting_options, list_checks, name_code, offset_code, offset_in_value, resolution_code, units_in_value}
 use Rattle.cap_pcapng.specs.inside.InterfaceOptions.{value_for}
-use Rattle.cap_pcapng.specs.OptionList.{CodedValue}
-use Rattle.cap_pcapng.specs.Time.{microseconds}
 use Rattle.cap_pcapng.specs.declared.interface.FoundOptions.{FoundOptions}
 
 -- what an iterator of options has left, once some were read and passed, and this was found in them

@@ -1,7 +1,5 @@
 -- What the answer of a reader says of its value and of its fault.
-use Rattle.std.proofs.Common.{◌≡◌, Bool, List, None, Some, Result, Ok, Err, IfOk, IfErr}
-use Rattle.cap_octet.specs.Checks.{first_failing}
-use Rattle.cap_octet.specs.declared.fault.Fault.{Fault}
+use Rattle.cap_pcapng.proofs.Common.{◌≡◌, Bool, List, None, Some, Result, Ok, Err, IfOk, IfErr, first_failing, Fault}
 use Rattle.cap_pcapng.specs.Answer.{ChecksGive}
 
 pub judged-passes : {X : Type 0} → (checks : List (Bool × Fault)) (result : Result X Fault) (Holds : X → Type 0) → ChecksGive checks result Holds

@@ -1,15 +1,6 @@
 -- What a list of options begins with.
-use Rattle.std.proofs.Common.{◌≡◌, ℕ, zero, suc, ◌+◌, ◌<◌, ◌≤◌, Bool, true, false, List, [], ◌∷◌, ◌||◌, cond, length, drop, refl, sym, ap, ap₂, ◌∙◌, ◌-◌, take, arith, lit<, ltb-false, lt-ltb, le-ltb, le-leb, eq-eqb, ne_eqb, length-drop, min, ◌≢◌, Result, Ok, Err, IsErr}
-use Rattle.std.proofs.lemmas.Bool.{lt-leb}
-use Rattle.std.proofs.lemmas.List.{drop_min, take_rest}
-use Rattle.std.specs.Prelude.{nat_lt}
-use Rattle.cap_octet.specs.Number.{u16_in}
-use Rattle.cap_octet.specs.declared.fault.Fault.{Fault}
-use Rattle.cap_octet.specs.declared.fault.Fault.TheVariants.{BadOption}
-use Rattle.cap_octet.specs.declared.number.Order.{Order}
-use Rattle.cap_pcapng.specs.InterfaceOptions.{fitting_options}
-use Rattle.cap_pcapng.specs.OptionList.{CodedValue, item_of, option_at, option_size, ends_at, fits_at, options_in, options_within}
-use Rattle.cap_pcapng.specs.Padding.{padded_length}
+use Rattle.cap_pcapng.proofs.Common.{◌≡◌, ℕ, zero, suc, ◌+◌, ◌<◌, ◌≤◌, Bool, true, false, List, [], ◌∷◌, ◌||◌, cond, length, drop, refl, sym, ap, ap₂, ◌∙◌, ◌-◌, take, arith, lit<, ltb-false, lt-ltb, le-ltb, le-leb, eq-eqb, ne_eqb, length-drop, min, ◌≢◌, Result, Ok, Err, IsErr, lt-leb, drop_min, take_rest, nat_lt, u16_in, Fault, BadOption, Order, fitting_options, CodedValue, item_of, option_at, option_size, ends_at, fits_at, padded_length}
+use Rattle.cap_pcapng.specs.OptionList.{options_in, options_within}
 use Rattle.cap_pcapng.specs.declared.options.BlockOption.{BlockOption}
 
 false_first : (a b : Bool) → (a || b) ≡ false → a ≡ false

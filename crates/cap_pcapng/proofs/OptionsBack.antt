@@ -1,19 +1,7 @@
 -- Options that were written read back.
-use Rattle.std.proofs.Common.{◌≡◌, ℕ, ◌+◌, ◌-◌, ◌^◌, ◌<◌, ◌≤◌, List, [], ◌∷◌, ◌++◌, length, take, drop, replicate, refl, sym, ap, ap₂, ◌∙◌, arith, append_assoc, length-append, None, Result, Ok, le-leb}
-use Rattle.std.specs.Prelude.{unwrap_or}
-use Rattle.std.proofs.lemmas.List.{length-replicate, take_at, drop_at}
-use Rattle.byteorder.specs.Endian.{little_bytes}
-use Rattle.cap_octet.specs.Checks.{first_failing}
-use Rattle.cap_octet.specs.Number.{number_in, u16_in}
-use Rattle.cap_octet.specs.declared.fault.Fault.{Fault}
-use Rattle.cap_octet.specs.declared.number.Order.TheVariants.{Little}
-use Rattle.cap_pcapng.specs.Comment.{comment_code, comment_in}
-use Rattle.cap_pcapng.specs.Interface.{described_by, described_in}
-use Rattle.cap_pcapng.specs.InterfaceOptions.{first_value, fitting_options, list_checks}
-use Rattle.cap_pcapng.specs.Laws.{written_interface}
-use Rattle.cap_pcapng.specs.OptionList.{CodedValue, option_at, option_size, options_in, options_within}
-use Rattle.cap_pcapng.specs.Padding.{padded_length}
-use Rattle.cap_pcapng.specs.Encoding.{comment_text, end_text, name_text, option_text, padded_text, resolution_text}
+use Rattle.cap_pcapng.proofs.Common.{◌≡◌, ℕ, ◌+◌, ◌-◌, ◌^◌, ◌<◌, ◌≤◌, List, [], ◌∷◌, ◌++◌, length, take, drop, replicate, refl, sym, ap, ap₂, ◌∙◌, arith, append_assoc, length-append, None, Result, Ok, le-leb, unwrap_or, length-replicate, take_at, drop_at, little_bytes, first_failing, u16_in, Fault, Little, comment_code, comment_in, described_by, described_in, first_value, fitting_options, list_checks, written_interface, CodedValue, option_at, option_size, padded_length, comment_text, end_text, name_text, option_text, padded_text, resolution_text}
+use Rattle.cap_octet.specs.Number.{number_in}
+use Rattle.cap_pcapng.specs.OptionList.{options_in, options_within}
 use Rattle.cap_pcapng.proofs.Numerals.{number_at}
 use Rattle.cap_pcapng.proofs.OptionLists.{goes_on, options_in-more, options_in-none}
 

@@ -1,19 +1,7 @@
 -- What a text begins with is told by its first bytes alone: a block.
-use Rattle.std.proofs.Common.{◌≡◌, ℕ, ◌+◌, ◌-◌, ◌<◌, ◌≤◌, Bool, true, false, ◌&&◌, List, [], ◌∷◌, ◌++◌, length, take, drop, Option, Some, None, refl, sym, ap, ap₂, ◌∙◌, subst, arith, leb-true, le-leb}
-use Rattle.std.specs.Prelude.{nat_le, ◌==◌}
-use Rattle.std.proofs.lemmas.Bool.{lt-leb}
-use Rattle.std.proofs.lemmas.List.{length-append, length-take-le, take-append-drop, take-append-le, drop-append-le, length-drop}
-use Rattle.cap_octet.specs.Checks.{first_failing}
-use Rattle.cap_octet.specs.declared.fault.Fault.{Fault}
-use Rattle.cap_octet.specs.declared.fault.Fault.TheVariants.{BadBlockLength, Truncated}
-use Rattle.cap_octet.specs.declared.number.Order.{Order}
-use Rattle.cap_octet.specs.declared.number.Order.TheVariants.{Little, Big}
-use Rattle.cap_octet.proofs.Checks.{all_met, failing_front, met_front}
+use Rattle.cap_pcapng.proofs.Common.{◌≡◌, ℕ, ◌+◌, ◌-◌, ◌<◌, ◌≤◌, Bool, true, false, ◌&&◌, List, [], ◌∷◌, ◌++◌, length, take, drop, Option, Some, None, refl, sym, ap, ap₂, ◌∙◌, subst, arith, leb-true, le-leb, nat_le, ◌==◌, lt-leb, length-take-le, take-append-drop, take-append-le, drop-append-le, first_failing, Fault, BadBlockLength, Truncated, Order, Little, Big, all_met, failing_front, met_front, block_checks, body_checks, body_in, parts_in, parts_in_body, frame_checks, frame_in, length_in, order_in, IsBlock, Section, block_size, checks_among, frame_after, interfaces_before, order_before, parts_after, unit_fault, Frame}
+use Rattle.std.proofs.lemmas.List.{length-append, length-drop}
 use Rattle.cap_octet.proofs.Numbers.{number_in-append}
-use Rattle.cap_pcapng.specs.Block.{block_checks, body_checks, body_in, parts_in, parts_in_body}
-use Rattle.cap_pcapng.specs.Frame.{frame_checks, frame_in, length_in, order_in}
-use Rattle.cap_pcapng.specs.Unit.{IsBlock, Section, block_size, checks_among, frame_after, interfaces_before, order_before, parts_after, unit_fault}
-use Rattle.cap_pcapng.specs.declared.frames.Frame.{Frame}
 
 -- ---- more bytes after
 

@@ -1,12 +1,5 @@
 -- A block is its pieces, joined.
-use Rattle.std.proofs.Common.{◌≡◌, ℕ, ◌+◌, ◌-◌, ◌<◌, ◌≤◌, List, [], ◌∷◌, ◌++◌, length, take, drop, replicate, refl, sym, ap, ap₂, ◌∙◌, arith, append_assoc, length-append, ne_eqb, ◌/◌, ◌%◌, ◌^◌}
-use Rattle.std.specs.Prelude.{◌==◌, false, true}
-use Rattle.std.proofs.lemmas.Bool.{false≢true}
-use Rattle.std.proofs.lemmas.List.{append-nil, drop_at, length-replicate, replicate-append-replicate, take_all}
-use Rattle.byteorder.specs.Endian.{little_bytes}
-use Rattle.cap_octet.specs.Packet.{Captured}
-use Rattle.cap_pcapng.specs.Padding.{padded_length}
-use Rattle.cap_pcapng.specs.Encoding.{comment_text, end_text, interface_body, interface_header, interface_text, name_text, packet_body, packet_header, packet_block, padded_text, resolution_text}
+use Rattle.cap_pcapng.proofs.Common.{◌≡◌, ℕ, ◌+◌, ◌-◌, ◌<◌, ◌≤◌, List, [], ◌∷◌, ◌++◌, length, take, drop, replicate, refl, sym, ap, ap₂, ◌∙◌, arith, append_assoc, length-append, ne_eqb, ◌/◌, ◌%◌, ◌^◌, ◌==◌, false, true, false≢true, append-nil, drop_at, length-replicate, replicate-append-replicate, take_all, little_bytes, Captured, padded_length, comment_text, end_text, interface_body, interface_header, interface_text, name_text, packet_body, packet_header, packet_block, padded_text, resolution_text}
 
 -- the last of the zeros in front of more bytes, and these
 block_end : (k zeros n : ℕ) (more end : List ℕ) → zeros ≤ k → end ≡ replicate k 0 ++ more → n ≡ k + length more

@@ -1,4 +1,4 @@
-//! Interface description blocks: an interface, and what its options say of it.
+//! Interface description blocks: an interface, and the options that describe it.
 ghost use Rattle.std.specs.Prelude.{◌≡◌, ◌≤◌, ◌++◌, if◌then◌else◌, [], length, IfOk};
 ghost use Rattle.cap_pcapng.specs.InterfaceOptions.{name_checks, offset_checks, offset_in_value};
 ghost use Rattle.cap_pcapng.specs.InterfaceOptions.{resolution_checks, units_in_value};
@@ -23,18 +23,18 @@ const OFFSET_CODE: u16 = 14;
 /// The ticks per second if no resolution is given.
 const MICROSECONDS: u64 = 1_000_000;
 
-/// The most bytes of an interface's name, as a capture that is read may have them.
+/// The most bytes that the name of an interface in an input may have.
 pub const MOST_NAME: usize = 255;
 
 /// An interface's name, held in place.
 pub type Name = ArrayVec<u8, MOST_NAME>;
 
-/// An interface, with its name lent.
+/// An interface; its name is borrowed.
 #[derive(Clone, Copy)]
 pub struct Interface<'a> {
     /// The link type (tcpdump.org's list of LINKTYPE_ values).
     pub link: u16,
-    /// The snap length, in bytes; 0 is none.
+    /// The snap length, in bytes; 0 if there is none.
     pub snap: u32,
     /// Empty if there is none.
     pub name: &'a [u8],
@@ -96,9 +96,8 @@ impl<'a> FoundOptions<'a> {
     ghost use Rattle.cap_pcapng.specs.InterfaceOptions.{first_checks, fitting_options, list_checks};
     ghost use Rattle.cap_pcapng.specs.OptionList.{coded_value, options_left};
 
-    /// Adds what one option more says, or returns the first check that it fails. Only the first
-    /// option of a code is looked at, even if a later one would fail a check; options of other
-    /// codes say nothing.
+    /// Adds the value of one more option, or returns the first check that it fails. If an option is
+    /// repeated, only the first one is checked and counts. Options of other codes are ignored.
     fn add_option(mut self, order: Order, option: BlockOption<'a>) -> Result<Self, Fault>
         ensures { ChecksGive (if is_found self.entry option.entry.code then []
             else first_checks (coded_value option.entry)) result
@@ -117,7 +116,7 @@ impl<'a> FoundOptions<'a> {
         Ok(self)
     }
 
-    /// What all of these options say, or the first check that they fail.
+    /// The values in all of these options, or the first check that one of them fails.
     fn of_options(options: Options<'a>) -> Result<Self, Fault>
         ensures { ChecksGive (list_checks [] (options_left options.entry)) result
             (IsFound options.entry.order (fitting_options (options_left options.entry))) }

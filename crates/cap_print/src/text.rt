@@ -7,12 +7,12 @@ use std::marker::Model;
 /// The bytes of the buffer: a line has at most 250, and a row fewer.
 const ROOM: usize = 256;
 
-/// A buffer of at most 256 bytes, in place. Contracts see it as its bytes; whoever appends knows
-/// that there is room.
+/// A buffer of at most 256 bytes, held in place. Contracts see it as its bytes. A caller that
+/// appends has to make sure that there is room.
 #[derive(Drop)]
 pub struct Text {
     bytes: [u8; ROOM],
-    /// How many of them there are; the others are of no use.
+    /// The number of bytes in use, the first ones; the others have no meaning.
     len: usize,
     /// The second that was printed last, with its date, for `push_date`.
     last: LastSecond,

@@ -1,14 +1,5 @@
 -- What an edit makes of a packet.
-use Rattle.std.proofs.Common.{◌≡◌, ◌↔◌, ℕ, ◌-◌, Bool, true, false, not, IsTrue, if◌then◌else◌, [], ◌∷◌, ◌++◌, Option, None, Some, Ok, ap, refl, ◌∙◌}
-use Rattle.std.specs.List.{Contains}
-use Rattle.cap_octet.specs.Packet.{Captured}
-use Rattle.cap_window.specs.Marks.{has_same, last, mark_of}
-use Rattle.cap_window.specs.View.{WindowView, window}
-use Rattle.cap_window.proofs.Marks.{answers-has_same}
-use Rattle.cap_process.specs.Verdict.{Judgement, unique, skip_judgement, passes}
-use Rattle.cap_process.specs.Selector.{state_of}
-use Rattle.cap_process.specs.inside.Selector.{IsWindowFor, ReturnsVerdict}
-use Rattle.cap_process.specs.Reports.{Tally}
+use Rattle.cap_process.proofs.Common.{◌≡◌, ◌↔◌, ℕ, ◌-◌, Bool, true, false, not, IsTrue, if◌then◌else◌, [], ◌∷◌, ◌++◌, Option, None, Some, Ok, ap, refl, ◌∙◌, Contains, Captured, has_same, last, mark_of, WindowView, window, answers-has_same, Judgement, unique, skip_judgement, passes, state_of, IsWindowFor, ReturnsVerdict, Tally}
 
 pub unique-seen : (n : Option ℕ) (w new : WindowView) (passed : ℕ) (tally : Tally) (p : Captured) (seen : Bool) → IsWindowFor n (Some w) → IsTrue seen ↔ Contains w.marks (mark_of p.bytes)
     → new ≡ window (last w.capacity (w.marks ++ mark_of p.bytes ∷ [])) w.capacity

@@ -1,17 +1,5 @@
 -- What an edit makes of packets that come one after another.
-use Rattle.std.proofs.Common.{◌≡◌, ℕ, zero, suc, drop, ◌+◌, ◌-◌, ◌^◌, ◌<◌, Bool, true, false, if◌then◌else◌, List, [], ◌∷◌, ◌++◌, length, Option, None, Some, refl, sym, ◌∙◌, ap, arith}
-use Rattle.std.proofs.lemmas.List.{append_assoc, append-nil}
-use Rattle.cap_octet.specs.Packet.{Captured}
-use Rattle.cap_octet.specs.declared.fault.Fault.{Fault}
-use Rattle.cap_octet.specs.declared.fault.Fault.TheVariants.{TimeOutOfRange}
-use Rattle.cap_io.specs.Capture.{Placed}
-use Rattle.cap_window.specs.declared.mark.Mark.{Mark}
-use Rattle.cap_window.specs.Marks.{mark_of, has_same, last}
-use Rattle.cap_window.proofs.Marks.{last-last}
-use Rattle.cap_io.specs.Sequence.{Packet, FaultIn}
-use Rattle.cap_process.specs.Verdict.{Judgement, Edit, EditRule, SelectorState, initial_state, edited_packet_with, is_selected, shifted_time, passes, refuses, selects, skip_judgement, unique, with_mark}
-use Rattle.cap_process.specs.Outcome.{Form, AsReports, JobProgress, apply_verdict, next_progress, end_with, apply_events}
-use Rattle.cap_process.specs.Edits.{coming, is_repeated, packets_selected, unique_after}
+use Rattle.cap_process.proofs.Common.{◌≡◌, ℕ, zero, suc, drop, ◌+◌, ◌-◌, ◌^◌, ◌<◌, Bool, true, false, if◌then◌else◌, List, [], ◌∷◌, ◌++◌, length, Option, None, Some, refl, sym, ◌∙◌, ap, arith, append_assoc, append-nil, Captured, Fault, TimeOutOfRange, Placed, Mark, mark_of, has_same, last, last-last, Packet, FaultIn, Judgement, Edit, EditRule, SelectorState, initial_state, edited_packet_with, is_selected, shifted_time, passes, refuses, selects, skip_judgement, unique, with_mark, Form, AsReports, JobProgress, apply_verdict, next_progress, end_with, apply_events, coming, is_repeated, packets_selected, unique_after}
 use Rattle.cap_process.specs.inside.Edits.{PassesUnique}
 use Rattle.cap_process.proofs.Selectors.{upper_bound}
 

@@ -1,14 +1,5 @@
 -- A job's packets and reports are only added to.
-use Rattle.std.proofs.Common.{◌≡◌, ℕ, ◌+◌, List, [], ◌∷◌, ◌++◌, Option, None, Some, refl, sym, ◌∙◌, ap, subst}
-use Rattle.std.proofs.lemmas.List.{append_assoc, append-nil}
-use Rattle.cap_octet.specs.Packet.{Captured}
-use Rattle.cap_octet.specs.declared.fault.Fault.{Fault}
-use Rattle.cap_io.specs.Capture.{Placed}
-use Rattle.cap_io.specs.declared.source.Kind.{Kind}
-use Rattle.cap_process.specs.Reports.{Report}
-use Rattle.cap_io.specs.Sequence.{Event, Packet, InputEnd, SequenceEnd, Complete, Sequence, with_front}
-use Rattle.cap_process.specs.Verdict.{Policy, Edit, Filter, KeepAll, Count, SelectorState, Verdict, Pass, PassLast, Skip, Refuse, judge}
-use Rattle.cap_process.specs.Outcome.{Form, JobProgress, no_progress, decide, unless_refused, apply_verdict, end_input, apply_event, next_progress, apply_events, final_progress, form_refuses, end_with, end_unless_ended, unless_ended}
+use Rattle.cap_process.proofs.Common.{◌≡◌, ℕ, ◌+◌, List, [], ◌∷◌, ◌++◌, Option, None, Some, refl, sym, ◌∙◌, ap, subst, append_assoc, append-nil, Captured, Fault, Placed, Kind, Report, Event, Packet, InputEnd, SequenceEnd, Complete, Sequence, with_front, Policy, Edit, Filter, KeepAll, Count, SelectorState, Verdict, Pass, PassLast, Skip, Refuse, judge, Form, JobProgress, no_progress, decide, unless_refused, apply_verdict, end_input, apply_event, next_progress, apply_events, final_progress, form_refuses, end_with, end_unless_ended, unless_ended}
 use Rattle.cap_process.proofs.Outcomes.{progress-append}
 
 pub record Grows (w w' : JobProgress) : Type 0 where

@@ -1,3 +1,4 @@
+pub mod Common
 pub mod Outcomes
 pub mod Outputs
 pub mod Edits

@@ -1,10 +1,6 @@
 -- Lines that are written in parts.
-use Rattle.std.proofs.Common.{◌≡◌, refl, ℕ, List, [], ◌∷◌, ◌++◌, codes, Option, Err}
-use Rattle.std.proofs.lemmas.List.{append_assoc}
-use Rattle.cap_octet.specs.Device.{Stops}
-use Rattle.cap_io.proofs.Parts.{appends-following}
-use Rattle.cap_io.specs.declared.source.Kind.{Kind}
-use Rattle.cap_process.specs.Reports.{Tally, lines, size_lines, time_lines, file_report}
+use Rattle.cap_process.proofs.Common.{◌≡◌, refl, ℕ, List, [], ◌∷◌, ◌++◌, codes, Option, Err, append_assoc, Stops, appends-following, Kind, Tally, lines, size_lines, time_lines}
+use Rattle.cap_process.specs.Reports.{file_report}
 
 lines-append : (xs ys : List (List ℕ × List ℕ)) (following : List ℕ) → lines xs [] ++ lines ys following ≡ lines (xs ++ ys) following
 lines-append [] ys following = refl

@@ -1,26 +1,6 @@
 -- What is counted, kept and searched of packets that come one after another.
-use Rattle.std.proofs.Common.{◌≡◌, ℕ, zero, suc, drop, ◌+◌, ◌-◌, ◌^◌, ◌<◌, ◌==◌, ◌&&◌, Bool, true, false, if◌then◌else◌, nat_le, min, max, Option, None, Some, List, [], ◌∷◌, ◌++◌, length, refl, sym, ◌∙◌, ap, arith, subst}
-use Rattle.std.proofs.lemmas.Bool.Decides.{nat_tests}
-use Rattle.std.proofs.lemmas.List.{append_assoc, append-nil}
-use Rattle.std.proofs.lemmas.List.Sums.{sum_by-append}
-use Rattle.std.proofs.Math.Seq.{take-nil}
-use Rattle.std.specs.List.{sum_by}
-use Rattle.std.specs.Option.{IfSome}
-use Rattle.cap_octet.specs.Packet.{Captured}
-use Rattle.cap_octet.specs.declared.fault.Fault.TheVariants.{TimeOutOfRange}
-use Rattle.cap_io.specs.Capture.{Placed}
-use Rattle.cap_filter.specs.Decisions.{Decision, Keep}
+use Rattle.cap_process.proofs.Common.{◌≡◌, ℕ, zero, suc, drop, ◌+◌, ◌-◌, ◌^◌, ◌<◌, ◌==◌, ◌&&◌, Bool, true, false, if◌then◌else◌, nat_le, min, max, Option, None, Some, List, [], ◌∷◌, ◌++◌, length, refl, sym, ◌∙◌, ap, arith, subst, nat_tests, append_assoc, append-nil, sum_by-append, take-nil, sum_by, IfSome, Captured, TimeOutOfRange, Placed, Decision, Keep, Rule, rule_decides, Mark, mark_of, has_same, last, last-last, Event, Packet, Complete, FaultIn, Policy, Count, Filter, Edit, EditRule, Judgement, PassLast, Pass, SelectorState, initial_state, edited_packet_with, filters, is_last, is_selected, judge_by, shifted_time, passes, refuses, selects, skip_judgement, unique, with_mark, Tally, tally_with, Form, AsReports, JobProgress, apply_verdict, next_progress, end_with, apply_events, coming, is_repeated, packets_selected, unique_after, is_count}
 use Rattle.cap_filter.specs.Decisions as chosen
-use Rattle.cap_filter.specs.FilterRules.{Rule, rule_decides}
-use Rattle.cap_window.specs.declared.mark.Mark.{Mark}
-use Rattle.cap_window.specs.Marks.{mark_of, has_same, last}
-use Rattle.cap_window.proofs.Marks.{last-last}
-use Rattle.cap_io.specs.Sequence.{Event, Packet, Complete, FaultIn}
-use Rattle.cap_process.specs.Verdict.{Policy, Count, Filter, Edit, EditRule, Judgement, PassLast, Pass, SelectorState, initial_state, edited_packet_with, filters, is_last, is_selected, judge_by, shifted_time, passes, refuses, selects, skip_judgement, unique, with_mark}
-use Rattle.cap_process.specs.Reports.{Tally, tally_with}
-use Rattle.cap_process.specs.Outcome.{Form, AsReports, JobProgress, apply_verdict, next_progress, end_with, apply_events}
-use Rattle.cap_process.specs.Edits.{coming, is_repeated, packets_selected, unique_after}
-use Rattle.cap_process.specs.Selector.{is_count}
 use Rattle.cap_process.specs.Lists.{CountsAll, EndsWithoutTime, HasLastMarks, PassesFiltered, arriving, ascends, at_most, end_at_time, final, first_without_time, greatest, packets_kept as kept, least, marks, packets_of, tally_of, times}
 use Rattle.cap_process.proofs.Outcomes.{progress-ended}
 use Rattle.cap_process.proofs.Selectors.{upper_bound}

@@ -1,18 +1,11 @@
 -- An expression, its negation and rejection part packets.
-use Rattle.std.proofs.Common.{◌≡◌, ℕ, ◌+◌, true, false, if◌then◌else◌, List, [], ◌∷◌, Option, None, Some, refl, sym, ◌∙◌, ap, subst, arith}
-use Rattle.std.specs.List.{sum_by}
-use Rattle.std.proofs.lemmas.List.Sums.{sum_by-append}
-use Rattle.std.specs.Option.{is_some}
-use Rattle.cap_octet.specs.Packet.{Captured}
+use Rattle.cap_process.proofs.Common.{◌≡◌, ℕ, ◌+◌, true, false, if◌then◌else◌, List, [], ◌∷◌, Option, None, Some, refl, sym, ◌∙◌, ap, subst, arith, sum_by, sum_by-append, is_some, Captured, by_reading, decision_of, read_on, kept_by, packets_kept, AreRead, NegationParts, is_rejected_on, is_rejection, packets_rejected}
 use Rattle.cap_octet.specs.declared.link.Link.{Link}
 use Rattle.flt_ast.specs.Tree.{TruthTree, denied, truth}
 use Rattle.flt_emit.specs.Elementary.{MatchResult, Yes, No, Rejected}
 use Rattle.flt_emit.specs.Formula.{negation}
 use Rattle.flt_gen.specs.Reading.{holds}
-use Rattle.cap_filter.specs.FilterRules.{by_reading, decision_of, read_on}
 use Rattle.cap_octet.specs.Link.{link_of}
-use Rattle.cap_process.specs.Lists.{kept_by, packets_kept}
-use Rattle.cap_process.specs.Whole.{AreRead, NegationParts, is_rejected_on, is_rejection, packets_rejected}
 
 false-not-true : false ≡ true → ⊥
 false-not-true e = cc

@@ -1,8 +1,5 @@
 -- How far a job comes over events that came, and over what comes next.
-use Rattle.std.proofs.Common.{◌≡◌, List, [], ◌∷◌, ◌++◌, Option, None, Some, refl, ◌∙◌, ap}
-use Rattle.cap_io.specs.Sequence.{Event, SequenceEnd, Sequence, with_front}
-use Rattle.cap_process.specs.Verdict.{Policy}
-use Rattle.cap_process.specs.Outcome.{Form, JobProgress, no_progress, unless_ended, apply_event, next_progress, apply_events, end_with, end_unless_ended, final_progress}
+use Rattle.cap_process.proofs.Common.{◌≡◌, List, [], ◌∷◌, ◌++◌, Option, None, Some, refl, ◌∙◌, ap, Event, SequenceEnd, Sequence, with_front, Policy, Form, JobProgress, no_progress, unless_ended, apply_event, next_progress, apply_events, end_with, end_unless_ended, final_progress}
 
 pub progress-append : (a : Policy) (f : Form) (w : JobProgress) (xs ys : List Event) → apply_events a f w (xs ++ ys) ≡ apply_events a f (apply_events a f w xs) ys
 progress-append a f w [] ys = refl

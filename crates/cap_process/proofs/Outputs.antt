@@ -1,25 +1,11 @@
 -- Where a job writes, from one call to the next.
-use Rattle.std.proofs.Common.{◌≡◌, inl, inr, ℕ, ◌+◌, Bool, List, [], ◌∷◌, ◌++◌, length, Option, None, Some, Ok, Err, refl, sym, ◌∙◌, ap, add-zero, true}
-use Rattle.std.proofs.lemmas.List.{append_assoc, append-nil}
-use Rattle.cap_octet.specs.Device.{Stops}
-use Rattle.cap_octet.specs.Packet.{Captured}
-use Rattle.cap_octet.specs.declared.fault.Fault.{Fault}
-use Rattle.cap_octet.specs.declared.fault.Fault.TheVariants.{NoMemory, WriteFailed}
-use Rattle.cap_octet.specs.declared.format.Format.{Format}
+use Rattle.cap_process.proofs.Common.{◌≡◌, inl, inr, ℕ, ◌+◌, Bool, List, [], ◌∷◌, ◌++◌, length, Option, None, Some, Ok, Err, refl, sym, ◌∙◌, ap, add-zero, true, append_assoc, append-nil, Stops, Captured, Fault, NoMemory, WriteFailed, Format, Options, takes_memory, added_text, refusal_of, Report, Complete, SelectorState, Form, AsCapture, AsReports, AsLines, closing_text, lines_text, final_text, form_refuses, output_text, Target, Capture, Text, Lines, HasWrittenTo, form_to, written_to, failures_to, report_text, reports_text}
 use Rattle.std.proofs.lemmas.Grind.{flat_map-append}
-use Rattle.cap_print.specs.declared.print.Options.{Options}
 use Rattle.cap_print.specs.Rendering.{printed_text}
 use Rattle.cap_io.specs.Sink as sinks
 use Rattle.cap_io.specs.Sink.{SinkView, HasPackets, IsPutAnswer, PutWrites, WritesPacket}
-use Rattle.cap_io.specs.Text.{takes_memory, added_text, refusal_of}
 use Rattle.cap_io.proofs.Texts.{put-next, put-answer, put-writes, put-taken, HasPackets-put, refused-write_failed, refused-no_memory}
-use Rattle.cap_process.specs.Reports.{Report}
-use Rattle.cap_io.specs.Sequence.{Complete}
-use Rattle.cap_process.specs.Verdict.{SelectorState}
-use Rattle.cap_process.specs.Outcome.{Form, AsCapture, AsReports, AsLines, closing_text, lines_text, final_text, form_refuses, output_text}
-use Rattle.cap_process.specs.Output.{Target, Capture, Text, Lines, HasWrittenTo, form_to, written_to, failures_to}
 use Rattle.cap_process.specs.inside.Output.{PutsIntoOutput, Reports}
-use Rattle.cap_process.specs.Reports.{report_text, reports_text}
 
 -- what is written is the form's
 pub drained-text : (before : List ℕ) (names : List (List ℕ)) (t : Target) (ps : List Captured) (rs : List Report) → HasWrittenTo before names t ps rs

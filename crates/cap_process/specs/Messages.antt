@@ -10,8 +10,8 @@ use Rattle.flt_words.specs.declared.fault.ExprFault.TheVariants as expression
 use Rattle.flt_words.specs.Messages.{message_of}
 use Rattle.flt_bpf.specs.declared.fault.ListingFault.TheVariants as listing
 use Rattle.flt_bpf.specs.Message.{check_message, listing_message}
-use Rattle.cap_filter.specs.declared.refusal.Refusal.{Refusal}
-use Rattle.cap_filter.specs.declared.refusal.Refusal.TheVariants.{Expression, Listing, Program}
+use Rattle.cap_filter.specs.declared.filter.Refusal.{Refusal}
+use Rattle.cap_filter.specs.declared.filter.Refusal.TheVariants.{Expression, Listing, Program}
 
 -- the end of a line
 abbrev pub line_feed : List ℕ

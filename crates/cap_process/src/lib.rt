@@ -1,8 +1,9 @@
 //! Selects and edits the packets of a job, and writes its output.
 //!
-//! Only `cap_tools` calls it. [`Selector`] judges each packet by its policy, and changes it if it
-//! is edited. [`JobOutput`] writes the kept packets as a capture or as lines, or it writes reports
-//! or a listing. [`Report`] has the facts of an input that `infos` prints.
+//! Only `cap_tools` calls it. [`Selector`] decides by its [`Policy`] which packets are kept, and
+//! changes the kept ones if the policy is an edit. [`JobOutput`] writes them, as a capture or as
+//! lines; it also writes reports and listings. [`Report`] has the facts about an input that `infos`
+//! prints, and [`Tally`] counts and sums its packets.
 #![tactic(auto)]
 
 mod edit;

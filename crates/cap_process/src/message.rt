@@ -10,7 +10,7 @@ ghost use Rattle.cap_process.specs.Messages.{fault_message, write_failed_message
 ghost use Rattle.cap_process.specs.Messages.{no_memory_message, refusal_message};
 ghost use Rattle.cap_process.specs.Messages.{expression_message, code_message, line_feed};
 
-use cap_filter::refusal::Refusal;
+use cap_filter::filter::Refusal;
 use cap_octet::{DeviceFault, Fault, Output, write_parts};
 use flt_bpf::{CheckFault, ListingFault};
 use flt_words::ExprFault;

@@ -1,61 +1,28 @@
 -- The steps that decide the current packet.
-use Rattle.std.proofs.Common.{◌≡◌, ◌⊎◌, inl, inr, ℕ, ◌+◌, ◌<◌, ◌≤◌, Bool, true, false, List, [], ◌∷◌, ◌++◌, length, map, Option, None, Some, Result, Ok, Err, refl, sym, ◌∙◌, ap, arith, subst, not, nat_eq, if◌then◌else◌, ◌-◌}
-use Rattle.std.proofs.lemmas.List.{append_assoc, append-nil, map-append}
-use Rattle.std.specs.List.{slice_get, slice_set}
-use Rattle.cap_octet.specs.Device.{Stops}
-use Rattle.cap_octet.specs.Packet.{Captured}
-use Rattle.cap_octet.specs.declared.fault.Fault.{Fault}
-use Rattle.cap_octet.specs.declared.fault.Fault.TheVariants.{NoMemory, TooManyPackets, WriteFailed}
-use Rattle.cap_io.specs.Capture.{Placed}
-use Rattle.cap_io.specs.Position.{IsAt}
-use Rattle.cap_io.specs.Sink.{SinkView}
-use Rattle.cap_io.specs.Text.{text, added_text, packets_text, refusal_of, takes_memory}
-use Rattle.cap_io.proofs.Standing.{IsAt-decided}
-use Rattle.cap_io.proofs.Texts.{text-more}
+use Rattle.cap_tools.proofs.Common.{◌≡◌, ◌⊎◌, inl, inr, ℕ, ◌+◌, ◌<◌, ◌≤◌, Bool, true, false, List, [], ◌∷◌, ◌++◌, length, map, Option, None, Some, Result, Ok, Err, refl, sym, ◌∙◌, ap, arith, subst, not, nat_eq, if◌then◌else◌, ◌-◌, append_assoc, append-nil, map-append, slice_get, slice_set, Stops, Captured, Fault, NoMemory, TooManyPackets, WriteFailed, Placed, IsAt, SinkView, text, added_text, packets_text, refusal_of, takes_memory, IsAt-decided, text-more, link_of, Rule, rule_decides, read_on, decision_of, answering, Expression, empty, truth, Link, Tally, InputItems, Event, Packet, SequenceEnd, Complete, FaultIn, Sequence, sequence_of, with_front, PacketOrder, Policy, Edit, Filter, KeepAll, Count, EditRule, SelectorState, Verdict, Pass, PassLast, PassesAs, Skip, Refuse, judge, IsWithin, PolicyState, GrowsByOne, IsVerdict, Form, AsCapture, AsLines, JobProgress, IsNextEvent, lines_text, no_progress, decide, unless_refused, apply_verdict, apply_event, apply_events, final_progress, packet_bytes, form_refuses, end_with, final_text, first_link, output_text, Target, Capture, Text, Lines, HasWrittenTo, form_to, written_to, failures_to, PutsIntoOutput, InputView, Future, InputPast, AreInputsAfter, AreSettled, IsInput, input_after_decided, items_left, inputs_left, sequence_left, actual_future, most_steps, JobState, Meets, a_packet, PacketsDecided, GoesOn, StopsWriting, EndLeaves, StepLeaves, progress_at, progress_of, progress_over, output_form, wholes_of, work_of, written_by, DecidesPacket, Offers, end_after, end_of_failed_write, sieve, NextPacket, drained-text, PutOk, put-ok, WhyUnput, lines-more, unput, closing-some, Grows, course-grows, progress-next, course-stop, greatest-decided, greatest-here, limits-at, set-here, next-is-of}
 use Rattle.cap_filter.specs.Decisions as chosen
 use Rattle.cap_filter.specs.Decisions.{Decision}
 use Rattle.cap_filter.specs.FilterRules as rule_spec
-use Rattle.cap_octet.specs.Link.{link_of}
-use Rattle.cap_filter.specs.FilterRules.{Rule, rule_decides, read_on, decision_of, answering}
 use Rattle.flt_bpf.specs.Machine as bpf
 use Rattle.flt_bpf.specs.Machine.{machine, Answered}
-use Rattle.flt_ast.specs.Tree.{Expression, empty, truth}
-use Rattle.cap_octet.specs.declared.link.Link.{Link}
 use Rattle.flt_emit.specs.Elementary.{MatchResult, Yes, No, Rejected}
 use Rattle.flt_gen.specs.Reading.{holds}
 use Rattle.cap_process.specs.declared.selector.Verdict as code
 use Rattle.cap_process.specs.declared.selector.Verdict.TheVariants as code_verdict
 use Rattle.cap_tools.specs.declared.step.JobEnd.TheVariants as end
 use Rattle.cap_inputs.specs.declared.inputs.Next.TheVariants as next
-use Rattle.cap_process.specs.Reports.{Tally}
 use Rattle.cap_process.specs.inside.Reports.{FitsTally}
-use Rattle.cap_io.specs.Sequence.{InputItems, Event, Packet, SequenceEnd, Complete, FaultIn, Sequence, sequence_of, with_front, PacketOrder}
-use Rattle.cap_process.specs.Verdict.{Policy, Edit, Filter, KeepAll, Count, EditRule, SelectorState, Verdict, Pass, PassLast, PassesAs, Skip, Refuse, judge}
 use Rattle.cap_window.specs.Marks.{mark_of, has_same}
 use Rattle.cap_process.specs.Verdict as judged_spec
-use Rattle.cap_process.specs.Selector.{IsWithin}
-use Rattle.cap_process.specs.inside.Selector.{PolicyState, GrowsByOne, IsVerdict}
 use Rattle.cap_print.specs.declared.print.Options.{Options}
 use Rattle.cap_print.specs.Rendering.{printed_text}
-use Rattle.cap_process.specs.Outcome.{Form, AsCapture, AsLines, JobProgress, IsNextEvent, lines_text, no_progress, decide, unless_refused, apply_verdict, apply_event, apply_events, final_progress, packet_bytes, form_refuses, end_with, final_text, first_link, output_text}
 use Rattle.cap_process.specs.Outcome as course_spec
-use Rattle.cap_process.specs.Output.{Target, Capture, Text, Lines, HasWrittenTo, form_to, written_to, failures_to}
-use Rattle.cap_process.specs.inside.Output.{PutsIntoOutput}
-use Rattle.cap_inputs.specs.Inputs.{InputView, Future, InputPast, AreInputsAfter, AreSettled, IsInput, input_after_decided, items_left, inputs_left, sequence_left}
-use Rattle.cap_inputs.specs.inside.Inputs.{actual_future, most_steps}
 use Rattle.cap_inputs.specs.inside.Inputs as input_spec
-use Rattle.cap_tools.specs.Packets.{JobState, Meets, a_packet, PacketsDecided, GoesOn, StopsWriting, EndLeaves, StepLeaves, progress_at, progress_of, progress_over, output_form, wholes_of, work_of, written_by}
-use Rattle.cap_tools.specs.inside.Packets.{DecidesPacket, Offers, end_after, end_of_failed_write, sieve, NextPacket}
 use Rattle.cap_tools.proofs.Places.{get-at}
 use Rattle.cap_tools.proofs.Splits.{At, stands-split, stands-join, stands-length, rests-join, finish-here, come-on}
 use Rattle.cap_tools.proofs.Coming.{carries-decided, come-first, true-wholes, true-fit, true-fits}
-use Rattle.cap_process.proofs.Outputs.{drained-text, PutOk, put-ok, WhyUnput, lines-more, unput, closing-some}
-use Rattle.cap_process.proofs.Growing.{Grows, course-grows}
 use Rattle.cap_tools.proofs.Laws.{DecideLaws, DecideAt, decide-at}
 use Rattle.cap_tools.proofs.Once.{once-nothing, once-packet}
-use Rattle.cap_process.proofs.Outcomes.{progress-next, course-stop}
-use Rattle.cap_inputs.proofs.Cursors.{greatest-decided, greatest-here, limits-at, set-here}
-use Rattle.cap_inputs.proofs.Nexts.{next-is-of}
 use Rattle.cap_tools.proofs.Nexts.{told-next}
 use Rattle.cap_tools.proofs.Fetches.{mk, among-same, comes-broken, inputs_at}
 

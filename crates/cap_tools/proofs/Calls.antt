@@ -1,55 +1,15 @@
 -- What the run of a job leaves, in terms of its call.
-use Rattle.std.proofs.Common.{◌≡◌, inl, inr, ℕ, ◌+◌, ◌-◌, ◌<◌, ◌≤◌, arith, Bool, false, List, [], ◌∷◌, ◌++◌, length, map, take, Option, None, Some, Ok, refl, sym, ◌∙◌, ap, subst}
-use Rattle.std.proofs.lemmas.List.{append-nil, length-map, length-set}
-use Rattle.std.proofs.lemmas.Option.{slice_get-map}
-use Rattle.std.specs.List.{slice_get}
-use Rattle.std.specs.Option.{option_map}
-use Rattle.cap_octet.specs.Device.{HasGiven, Stops}
-use Rattle.cap_octet.specs.declared.fault.Fault.{Fault}
-use Rattle.cap_io.specs.Capture.{Declared}
-use Rattle.cap_io.specs.Position.{ReadFailsAt, given_in_all}
-use Rattle.cap_io.specs.Reading.{decisive_length}
-use Rattle.cap_octet.specs.declared.link.Link.{Link}
+use Rattle.cap_tools.proofs.Common.{◌≡◌, inl, inr, ℕ, ◌+◌, ◌-◌, ◌<◌, ◌≤◌, arith, Bool, false, List, [], ◌∷◌, ◌++◌, length, map, take, Option, None, Some, Ok, refl, sym, ◌∙◌, ap, subst, append-nil, length-map, length-set, slice_get-map, slice_get, option_map, HasGiven, Stops, Fault, Declared, ReadFailsAt, given_in_all, decisive_length, Link, listing, Refusal, fault_message, refusal_message, write_failed_message, refusal_status, OutputView, output_view, IsTold, Runs, FreshInput, fresh_view, nothing_done, DeviceLimits, InputView, InputsView, InputPast, input_after, device_limits, limits_of, offset_at, InputItems, Event, SequenceEnd, Complete, FaultIn, whole_input, Writing, Call, RunResult, filtering, output_of, output_name, NoMemory, JobView, end_status, end_message, first_job, JobEnd, SourceView, JobState, PacketsDecided, CompletesOutput, EndLeaves, EndsByCut, Meets, StopsWriting, WantsMemory, a_packet, all_ends, an_end, failures_by, output_form, room_by, wholes_of, work_of, written_by, texts, Outcome, JobProgress, Work, IsNextAnswer, NeedsMemory, cut_at, message, outcome, status, text_after, text_of_progress, failures_to, form_to, room_to, target_at, written_to, name_at, CommandRuns, HasLeft, HasLostOutput, IsPolicy, IsWhyRefused, IsWork, ends, fault_outcome, form_asked, listing_answer, listing_outcome, of_cut_input, of_events, of_listing, of_packets, of_refusal, output_failed, packets_answer, refusal_outcome, whole_inputs, Assignment, Preparing, ReadsFilter, Compiles, Rule, Content, Filter, drained-text}
 use Rattle.flt_words.specs.declared.fault.ExprFault.TheVariants as expression
 use Rattle.flt_bpf.specs.declared.fault.ListingFault.TheVariants as listing_fault
-use Rattle.flt_bpf.specs.Listing.{listing}
 use Rattle.cap_tools.proofs.Compilations.{CompileLeaves}
-use Rattle.cap_filter.specs.declared.refusal.Refusal.{Refusal}
-use Rattle.cap_filter.specs.declared.refusal.Refusal.TheVariants as refusal
-use Rattle.cap_process.specs.Messages.{fault_message, refusal_message, write_failed_message}
-use Rattle.cap_filter.specs.Refusals.{refusal_status}
-use Rattle.cap_octet.specs.Views.{OutputView, output_view}
-use Rattle.cap_process.specs.Messages.{IsTold}
-use Rattle.cap_tools.specs.inside.Listing.{Runs}
-use Rattle.cap_octet.specs.Views.{FreshInput}
-use Rattle.cap_inputs.specs.Fresh.{fresh_view, nothing_done}
+use Rattle.cap_filter.specs.declared.filter.Refusal.TheVariants as refusal
 use Rattle.cap_inputs.specs.inside.Fresh.{fresh_limits}
-use Rattle.cap_inputs.specs.Inputs.{DeviceLimits, InputView, InputsView, InputPast, input_after, device_limits, limits_of, offset_at}
-use Rattle.cap_io.specs.Sequence.{InputItems, Event, SequenceEnd, Complete, FaultIn, whole_input}
-use Rattle.cap_process.specs.declared.output.Writing.{Writing}
 use Rattle.cap_process.specs.declared.output.Writing.TheVariants as writing
-use Rattle.cap_command.specs.Call.{Call, RunResult}
 use Rattle.cap_tools.proofs.CommandRuns.{RunsBy}
 use Rattle.cap_tools.proofs.Runs.{JobRuns}
-use Rattle.cap_tools.specs.FirstStep.{filtering}
-use Rattle.cap_tools.specs.inside.FirstStep.{output_of, output_name}
-use Rattle.cap_octet.specs.declared.fault.Fault.TheVariants.{NoMemory}
-use Rattle.cap_tools.specs.Jobs.{JobView, end_status, end_message, first_job}
-use Rattle.cap_tools.specs.declared.step.JobEnd.{JobEnd}
 use Rattle.cap_tools.specs.declared.step.JobEnd.TheVariants as end
-use Rattle.cap_io.specs.Source.{SourceView}
-use Rattle.cap_tools.specs.Packets.{JobState, PacketsDecided, CompletesOutput, EndLeaves, EndsByCut, Meets, StopsWriting, WantsMemory, a_packet, all_ends, an_end, failures_by, output_form, room_by, wholes_of, work_of, written_by}
-use Rattle.cap_tools.specs.inside.Packets.{texts}
-use Rattle.cap_process.specs.Outcome.{Outcome, JobProgress, Work, IsNextAnswer, NeedsMemory, cut_at, message, outcome, status, text_after, text_of_progress}
-use Rattle.cap_process.specs.Output.{failures_to, form_to, room_to, target_at, written_to}
-use Rattle.cap_process.specs.Reports.{name_at}
-use Rattle.cap_tools.specs.Run.{CommandRuns, HasLeft, HasLostOutput, IsPolicy, IsWhyRefused, IsWork, ends, fault_outcome, form_asked, listing_answer, listing_outcome, of_cut_input, of_events, of_listing, of_packets, of_refusal, output_failed, packets_answer, refusal_outcome, whole_inputs}
-use Rattle.cap_tools.specs.Start.{Assignment, Preparing, ReadsFilter, Compiles}
-use Rattle.cap_filter.specs.FilterRules.{Rule}
-use Rattle.flt_bpf.specs.Content.{Content}
-use Rattle.cap_process.specs.Verdict.{Filter}
 use Rattle.cap_tools.proofs.Ends.{offset-here, same-work}
-use Rattle.cap_process.proofs.Outputs.{drained-text}
 
 -- ---- the first view, by its call
 

@@ -1,19 +1,6 @@
 -- What has come when an input is read on, or its packet is decided.
-use Rattle.std.proofs.Common.{◌≡◌, ℕ, suc, ◌+◌, Bool, true, false, List, [], ◌∷◌, ◌++◌, length, drop, map, None, Some, Result, Ok, refl, sym, ◌∙◌, ap, arith, subst, add-zero}
-use Rattle.std.specs.Prelude.{Option, option_to_list}
-use Rattle.std.proofs.lemmas.List.{append_assoc, append-nil, length-append}
-use Rattle.cap_octet.specs.Packet.{Captured}
-use Rattle.cap_octet.specs.declared.fault.Fault.{Fault}
-use Rattle.cap_io.specs.Capture.{Declared, Placed, placed_at, Items, Ending, End, FaultAt, NoUnit, items, items_from, after_packets, no_items, front_of, kind_of}
-use Rattle.cap_io.specs.Source.{SourceView, Phase, Ended, FindsPacket, FindsEnd, Finds, Advances}
-use Rattle.cap_io.specs.Position.{IsAt, pending}
+use Rattle.cap_tools.proofs.Common.{◌≡◌, ℕ, suc, ◌+◌, Bool, true, false, List, [], ◌∷◌, ◌++◌, length, drop, map, None, Some, Result, Ok, refl, sym, ◌∙◌, ap, arith, subst, add-zero, Option, option_to_list, append_assoc, append-nil, length-append, Captured, Fault, Declared, Placed, placed_at, Items, Ending, End, FaultAt, NoUnit, items, items_from, after_packets, no_items, front_of, kind_of, SourceView, Phase, Ended, FindsPacket, FindsEnd, Finds, Advances, IsAt, pending, IsAt-items, items-begin, Advances-sound, InputItems, Event, Packet, InputEnd, FaultIn, Sequence, sequence_of, sequence_in_turn, input_sequence, with_front, whole_input, PacketOrder, InputView, InputsView, Future, InputPast, AreInputsAfter, AreFutures, AreSettled, waiting_packets, input_items, inputs_with, items_left, inputs_left, sequence_left, no_future, input_after, input_after_decided, actual_future, wholes_of, ComeFirst}
 use Rattle.cap_io.proofs.Items.{items_from-stops}
-use Rattle.cap_io.proofs.Standing.{IsAt-items, items-begin, Advances-sound}
-use Rattle.cap_io.specs.Sequence.{InputItems, Event, Packet, InputEnd, FaultIn, Sequence, sequence_of, sequence_in_turn, input_sequence, with_front, whole_input, PacketOrder}
-use Rattle.cap_inputs.specs.Inputs.{InputView, InputsView, Future, InputPast, AreInputsAfter, AreFutures, AreSettled, waiting_packets, input_items, inputs_with, items_left, inputs_left, sequence_left, no_future, input_after, input_after_decided}
-use Rattle.cap_inputs.specs.inside.Inputs.{actual_future}
-use Rattle.cap_tools.specs.Packets.{wholes_of}
-use Rattle.cap_process.specs.Outcome.{ComeFirst}
 use Rattle.cap_tools.proofs.Splits.{At, Fit, Carries}
 
 drop-front : (rs qs : List InputItems) (r : InputItems) (n : ℕ) → length rs ≡ n → drop n (rs ++ r ∷ qs) ≡ r ∷ qs

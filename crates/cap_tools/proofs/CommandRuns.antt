@@ -1,30 +1,9 @@
 -- All steps of a command's job.
-use Rattle.std.proofs.Common.{◌≡◌, ◌⊎◌, inl, inr, ℕ, List, [], Bool, IsTrue, Option, None, Some, Ok, refl, sym, ◌∙◌, ap, subst, add-zero}
-use Rattle.std.proofs.lemmas.List.{append-nil}
-use Rattle.cap_process.specs.Messages.{refusal_message, write_failed_message}
-use Rattle.flt_bpf.specs.Content.{Content}
-use Rattle.cap_filter.specs.FilterRules.{Rule, IsRule, IsWhy}
-use Rattle.cap_filter.specs.Filters.{AreNew}
-use Rattle.cap_octet.specs.Views.{OutputView, output_view}
-use Rattle.cap_process.specs.Messages.{IsTold}
-use Rattle.cap_tools.specs.inside.Listing.{Runs, ListingLeaves}
+use Rattle.cap_tools.proofs.Common.{◌≡◌, ◌⊎◌, inl, inr, ℕ, List, [], Bool, IsTrue, Option, None, Some, Ok, refl, sym, ◌∙◌, ap, subst, add-zero, append-nil, refusal_message, write_failed_message, Content, Rule, IsRule, IsWhy, AreNew, OutputView, output_view, IsTold, Runs, ListingLeaves, Refusal, refusal_status, ExprFault, Link, Turn, InputPast, written_by, failures_by, RunResult, JobView, Decided, JobGives, EndsJob, end_message, filtering, output_of, output_name, FilterAsked, Preparing, ReadsFilter, Compiles, CompileGives, DecidedBy, FilterGives, ListsSome, PreparesBy, RefusesExpression}
 use Rattle.cap_tools.proofs.Compilations.{CompileLeaves}
-use Rattle.cap_filter.specs.declared.refusal.Refusal.{Refusal}
-use Rattle.cap_filter.specs.declared.refusal.Refusal.TheVariants.{Expression}
-use Rattle.cap_filter.specs.Refusals.{refusal_status}
-use Rattle.flt_words.specs.declared.fault.ExprFault.{ExprFault}
+use Rattle.cap_filter.specs.declared.filter.Refusal.TheVariants.{Expression}
 use Rattle.flt_words.specs.declared.fault.ExprFault.TheVariants.{Memory}
-use Rattle.cap_octet.specs.declared.link.Link.{Link}
-use Rattle.cap_tools.specs.declared.job.Turn.{Turn}
 use Rattle.cap_tools.specs.declared.job.Turn.TheVariants as turn
-use Rattle.cap_inputs.specs.Inputs.{InputPast}
-use Rattle.cap_tools.specs.Packets.{written_by, failures_by}
-use Rattle.cap_command.specs.Call.{RunResult}
-use Rattle.cap_tools.specs.Jobs.{JobView, Decided, JobGives, EndsJob, end_message}
-use Rattle.cap_tools.specs.FirstStep.{filtering}
-use Rattle.cap_tools.specs.inside.FirstStep.{output_of, output_name}
-use Rattle.cap_tools.specs.Start.{FilterAsked, Preparing, ReadsFilter, Compiles}
-use Rattle.cap_tools.specs.Commands.{CompileGives, DecidedBy, FilterGives, ListsSome, PreparesBy, RefusesExpression}
 use Rattle.cap_tools.proofs.Runs.{IsUnderWay, JobRuns, goes-on}
 
 -- the job goes through the filter that it reads

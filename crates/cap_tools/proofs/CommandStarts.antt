@@ -1,42 +1,11 @@
 -- The job of a command of which nothing is done.
-use Rattle.std.proofs.Common.{◌≡◌, inl, inr, ℕ, ◌+◌, ◌≤◌, Bool, true, not, List, [], ◌++◌, map, length, take, None, Option, Ok, Err, refl, sym, ap, arith, subst, ◌∙◌, nat_eq, nat_le, ◌&&◌, add-zero}
-use Rattle.std.proofs.lemmas.List.{append-nil}
-use Rattle.cap_octet.specs.declared.device.DeviceFault.{DeviceFault}
-use Rattle.flt_bpf.specs.Listing.{listing}
-use Rattle.cap_process.specs.Messages.{write_failed_message}
-use Rattle.cap_process.specs.Output.{Target, Capture, Text, Lines, target_at, written_to, failures_to}
-use Rattle.cap_process.specs.inside.Output.{Reports, is_text}
-use Rattle.cap_process.specs.Reports.{name_at, nothing_counted}
-use Rattle.cap_tools.specs.Packets.{JobState, written_by}
-use Rattle.cap_tools.specs.Messages.{MessagesView}
+use Rattle.cap_tools.proofs.Common.{◌≡◌, inl, inr, ℕ, ◌+◌, ◌≤◌, Bool, true, not, List, [], ◌++◌, map, length, take, None, Option, Ok, Err, refl, sym, ap, arith, subst, ◌∙◌, nat_eq, nat_le, ◌&&◌, add-zero, append-nil, DeviceFault, listing, write_failed_message, Target, Capture, Text, Lines, target_at, written_to, failures_to, Reports, is_text, name_at, nothing_counted, JobState, written_by, MessagesView, is_proper, is_proper_edit, is_proper_print, most_inputs, IsCompiled, ListingLeaves, Runs, OutputView, IsTold, Insn, Link, Turn, InTurn, Count, KeepAll, Call, RunResult, JobView, first_job, state_at, end_message, fresh_inputs, nothing_done, order_of, InputsView, output_by, EndsList, ending, Assignment, FilterAsked, Preparing, assignment, SelectorView, state_with, CompileGives, DecidedBy, FilterGives, PreparesOnly, IsReadyIf, with_preparing}
 use Rattle.std.proofs.lemmas.Bool.{and_parts, eqb-true, leb-true}
-use Rattle.cap_command.specs.Command.{is_proper, is_proper_edit, is_proper_print, most_inputs}
 use Rattle.cap_command.specs.declared.command.Command.{Command}
 use Rattle.cap_command.specs.declared.command.Command.TheVariants as command
-use Rattle.cap_filter.specs.Compilation.{IsCompiled}
-use Rattle.cap_tools.specs.inside.Listing.{ListingLeaves, Runs}
-use Rattle.cap_octet.specs.Views.{OutputView}
-use Rattle.cap_process.specs.Messages.{IsTold}
-use Rattle.flt_bpf.specs.declared.insn.Insn.{Insn}
-use Rattle.cap_octet.specs.declared.link.Link.{Link}
-use Rattle.cap_tools.specs.declared.job.Turn.{Turn}
 use Rattle.cap_tools.specs.declared.job.Turn.TheVariants as turn
 use Rattle.cap_process.specs.declared.output.Writing.TheVariants as writing
-use Rattle.cap_io.specs.Sequence.{InTurn}
-use Rattle.cap_process.specs.Verdict.{Count, KeepAll}
-use Rattle.cap_command.specs.Call.{Call, RunResult}
-use Rattle.cap_tools.specs.Jobs.{JobView, first_job, state_at, end_message}
-use Rattle.cap_inputs.specs.Fresh.{fresh_inputs, nothing_done}
-use Rattle.cap_io.specs.Sequence.{order_of}
 use Rattle.cap_tools.specs.declared.step.JobEnd.TheVariants as end
-use Rattle.cap_inputs.specs.Inputs.{InputsView}
-use Rattle.cap_tools.specs.inside.FirstStep.{output_by, EndsList}
-use Rattle.cap_tools.specs.inside.Step.{ending}
-use Rattle.cap_tools.specs.Start.{Assignment, FilterAsked, Preparing, assignment}
-use Rattle.cap_process.specs.Selector.{SelectorView}
-use Rattle.cap_process.specs.inside.Selector.{state_with}
-use Rattle.cap_tools.specs.Commands.{CompileGives, DecidedBy, FilterGives, PreparesOnly}
-use Rattle.cap_tools.specs.inside.Commands.{IsReadyIf, with_preparing}
 use Rattle.cap_tools.proofs.CommandRuns.{RunsBy, RunsCommand}
 use Rattle.cap_tools.proofs.Programs.{new-for}
 use Rattle.cap_tools.proofs.Starts.{nothing-decided, first-few, first-less}

@@ -1,15 +1,7 @@
 -- What a compilation leaves.
-use Rattle.std.proofs.Common.{◌≡◌, ◌⊎◌, ℕ, List}
-use Rattle.flt_bpf.specs.declared.insn.Insn.{Insn}
-use Rattle.flt_words.specs.declared.fault.ExprFault.{ExprFault}
-use Rattle.cap_octet.specs.declared.link.Link.{Link}
-use Rattle.cap_octet.specs.Views.{OutputView}
-use Rattle.cap_filter.specs.declared.refusal.Refusal.TheVariants.{Expression}
-use Rattle.cap_filter.specs.Compilation.{IsCompiled}
+use Rattle.cap_tools.proofs.Common.{◌≡◌, ◌⊎◌, ℕ, List, Insn, ExprFault, Link, OutputView, IsCompiled, refusal_status, refusal_message, ListingLeaves}
+use Rattle.cap_filter.specs.declared.filter.Refusal.TheVariants.{Expression}
 use Rattle.cap_filter.specs.Expressions.{IsTextFault}
-use Rattle.cap_filter.specs.Refusals.{refusal_status}
-use Rattle.cap_process.specs.Messages.{refusal_message}
-use Rattle.cap_tools.specs.inside.Listing.{ListingLeaves}
 
 -- The output is as it was, and this is reported.
 pub record OnlyTells (text : List ℕ) (answer : ℕ) (out out' : OutputView) (message : List ℕ)

@@ -1,19 +1,6 @@
 -- How a job ends, in the words of its outcome.
-use Rattle.std.proofs.Common.{◌≡◌, ℕ, List, Some, Bool, IsTrue, refl, sym, ◌∙◌, ap, subst}
-use Rattle.std.specs.List.{slice_get}
-use Rattle.cap_octet.specs.Views.{OutputView}
-use Rattle.cap_process.specs.Messages.{IsTold}
-use Rattle.cap_tools.specs.declared.step.JobEnd.{JobEnd}
+use Rattle.cap_tools.proofs.Common.{◌≡◌, ℕ, List, Some, Bool, IsTrue, refl, sym, ◌∙◌, ap, subst, slice_get, OutputView, IsTold, JobEnd, PacketOrder, Policy, Form, InputView, InputPast, JobState, StepGives, output_form, work_of, JobView, EndsJob, end_message, end_status, offset_at, offset_of, IsStep, ending}
 use Rattle.cap_tools.specs.declared.step.JobEnd.TheVariants as end
-use Rattle.cap_io.specs.Sequence.{PacketOrder}
-use Rattle.cap_process.specs.Verdict.{Policy}
-use Rattle.cap_process.specs.Outcome.{Form}
-use Rattle.cap_inputs.specs.Inputs.{InputView, InputPast}
-use Rattle.cap_tools.specs.Packets.{JobState, StepGives, output_form, work_of}
-use Rattle.cap_tools.specs.Jobs.{JobView, EndsJob, end_message, end_status}
-use Rattle.cap_inputs.specs.Inputs.{offset_at}
-use Rattle.cap_inputs.specs.inside.Inputs.{offset_of}
-use Rattle.cap_tools.specs.inside.Step.{IsStep, ending}
 use Rattle.cap_tools.proofs.Runs.{IsUnderWay}
 
 pub offset-here : (cursors : List InputView) (i : ℕ) (h : InputView) → slice_get cursors i ≡ Some h → offset_at cursors i ≡ h.source.offset

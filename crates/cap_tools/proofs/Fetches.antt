@@ -1,43 +1,13 @@
 -- The steps that read an input on.
-use Rattle.std.proofs.Common.{◌≡◌, inl, inr, ℕ, suc, ◌+◌, ◌<◌, ◌≤◌, Bool, true, false, List, [], ◌∷◌, ◌++◌, length, map, get_or, Option, None, Some, Result, Ok, Err, refl, sym, ◌∙◌, ap, arith, subst}
-use Rattle.std.proofs.lemmas.List.{append_assoc, append-nil}
-use Rattle.std.specs.List.{slice_set}
-use Rattle.cap_octet.specs.Device.{HasGiven, Stops}
-use Rattle.cap_octet.specs.declared.device.DeviceFault.{DeviceFault}
-use Rattle.cap_octet.specs.declared.fault.Fault.{Fault}
-use Rattle.cap_octet.specs.declared.fault.Fault.TheVariants.{ReadFailed}
-use Rattle.cap_io.specs.declared.source.Kind.{Kind}
-use Rattle.cap_io.specs.Capture.{Placed, Items, FaultAt, no_items, kind_of, after_packets}
-use Rattle.cap_io.specs.Source.{SourceView, Phase, Reading, Ended, Failed, Steps, FindsPacket, FindsEnd, FindsFault, Advances}
-use Rattle.cap_io.specs.Position.{IsAt}
-use Rattle.cap_io.proofs.Standing.{IsAt-found, IsAt-closed, IsAt-fault}
+use Rattle.cap_tools.proofs.Common.{◌≡◌, inl, inr, ℕ, suc, ◌+◌, ◌<◌, ◌≤◌, Bool, true, false, List, [], ◌∷◌, ◌++◌, length, map, get_or, Option, None, Some, Result, Ok, Err, refl, sym, ◌∙◌, ap, arith, subst, append_assoc, append-nil, slice_set, HasGiven, Stops, DeviceFault, Fault, ReadFailed, Kind, Placed, Items, FaultAt, no_items, kind_of, after_packets, SourceView, Phase, Reading, Ended, Failed, Steps, FindsPacket, FindsEnd, FindsFault, Advances, IsAt, IsAt-found, IsAt-closed, IsAt-fault, JobEnd, Report, Tally, InputItems, Event, FaultIn, PacketOrder, InTurn, ByTime, Sequence, sequence_of, with_front, whole_input, Policy, Edit, Filter, KeepAll, Count, SelectorState, IsWithin, is_count, PolicyState, with_empty_tally, Form, AsReports, JobProgress, cut_at, no_progress, apply_events, final_progress, end_with, final_text, output_text, text_at_end, first_link, Target, Capture, Text, Lines, HasWrittenTo, form_to, written_to, failures_to, Reports, InputView, InputsView, Future, InputPast, AreInputsAfter, AreSettled, IsInput, ReadsInput, waiting_packets, input_after, input_items, inputs_with, inputs_left, limits_of, sequence_left, IsNext, actual_future, is_in_turn, report_text, reports_text, JobState, AppendsOnce, PacketsDecided, GoesOn, CompletesOutput, BreaksAt, WhyBroken, StopsWriting, StepLeaves, asks_report, progress_at, progress_of, progress_over, output_form, failures_by, written_by, wholes_of, Closes, ClosesBy, unless_failed, sieve, report_at, drained-text, ReportOk, report-ok, reports-more, Grows, course-grows, progress-append, course-close, greatest-here, greatest-same, limits-at, limits-kept, set-here, next-is-of}
 use Rattle.cap_inputs.specs.declared.inputs.Next.TheVariants as next
-use Rattle.cap_tools.specs.declared.step.JobEnd.{JobEnd}
-use Rattle.cap_process.specs.Reports.{Report, Tally}
-use Rattle.cap_io.specs.Sequence.{InputItems, Event, FaultIn, PacketOrder, InTurn, ByTime, Sequence, sequence_of, with_front, whole_input}
-use Rattle.cap_process.specs.Verdict.{Policy, Edit, Filter, KeepAll, Count, SelectorState}
 use Rattle.cap_process.specs.inside.Selector as selecting_inside
-use Rattle.cap_process.specs.Selector.{IsWithin, is_count}
-use Rattle.cap_process.specs.inside.Selector.{PolicyState, with_empty_tally}
-use Rattle.cap_process.specs.Outcome.{Form, AsReports, JobProgress, cut_at, no_progress, apply_events, final_progress, end_with, final_text, output_text, text_at_end, first_link}
-use Rattle.cap_process.specs.Output.{Target, Capture, Text, Lines, HasWrittenTo, form_to, written_to, failures_to}
-use Rattle.cap_process.specs.inside.Output.{Reports}
-use Rattle.cap_inputs.specs.Inputs.{InputView, InputsView, Future, InputPast, AreInputsAfter, AreSettled, IsInput, ReadsInput, waiting_packets, input_after, input_items, inputs_with, inputs_left, limits_of, sequence_left}
-use Rattle.cap_inputs.specs.inside.Inputs.{IsNext, actual_future, is_in_turn}
-use Rattle.cap_process.specs.Reports.{report_text, reports_text}
-use Rattle.cap_tools.specs.Packets.{JobState, AppendsOnce, PacketsDecided, GoesOn, CompletesOutput, BreaksAt, WhyBroken, StopsWriting, StepLeaves, asks_report, progress_at, progress_of, progress_over, output_form, failures_by, written_by, wholes_of}
-use Rattle.cap_tools.specs.inside.Packets.{Closes, ClosesBy, unless_failed, sieve, report_at}
 use Rattle.cap_tools.proofs.Nexts.{told-next}
 use Rattle.cap_tools.proofs.Places.{get-at}
 use Rattle.cap_tools.proofs.Splits.{At, Fit, stands-split, stands-join, stands-length, fits-join, wholes-join, rests-join, finish-here, come-on}
 use Rattle.cap_tools.proofs.Coming.{carries-found, carries-closed, come-first, true-wholes, true-fits, finds}
-use Rattle.cap_process.proofs.Outputs.{drained-text, ReportOk, report-ok, reports-more}
-use Rattle.cap_process.proofs.Growing.{Grows, course-grows}
 use Rattle.cap_tools.proofs.Laws.{ReadLaws, ReadAt, closed_in, read-at}
 use Rattle.cap_tools.proofs.Once.{once-nothing, once-report}
-use Rattle.cap_process.proofs.Outcomes.{progress-append, course-close}
-use Rattle.cap_inputs.proofs.Cursors.{greatest-here, greatest-same, limits-at, limits-kept, set-here}
-use Rattle.cap_inputs.proofs.Nexts.{next-is-of}
 
 abbrev pub inputs_at : PacketOrder → List InputView → InputsView
 inputs_at order cursors = record { order = order; cursors = cursors }

@@ -1,33 +1,9 @@
 -- The step that ends the output.
-use Rattle.std.proofs.Common.{◌≡◌, ℕ, ◌+◌, List, [], ◌∷◌, ◌++◌, map, Option, Some, Result, Ok, Err, refl, sym, ◌∙◌, ap, subst, inr, add-zero}
-use Rattle.std.proofs.lemmas.List.{append-nil}
-use Rattle.std.specs.Option.{option_or}
-use Rattle.cap_octet.specs.Device.{Stops}
-use Rattle.cap_octet.specs.Packet.{Captured}
-use Rattle.cap_octet.specs.declared.device.DeviceFault.{DeviceFault}
-use Rattle.cap_octet.specs.declared.fault.Fault.{Fault}
-use Rattle.cap_octet.specs.declared.fault.Fault.TheVariants.{WriteFailed}
-use Rattle.cap_io.specs.Capture.{first_link_of, items}
-use Rattle.cap_io.specs.Sink.{SinkView, FinishesEmpty, HasPackets, link_or_ethernet}
-use Rattle.cap_io.specs.Text.{file_start, text}
-use Rattle.cap_io.specs.Source.{Ended}
-use Rattle.cap_io.proofs.Texts.{finish-none, finish-none-writes, finish-some}
+use Rattle.cap_tools.proofs.Common.{◌≡◌, ℕ, ◌+◌, List, [], ◌∷◌, ◌++◌, map, Option, Some, Result, Ok, Err, refl, sym, ◌∙◌, ap, subst, inr, add-zero, append-nil, option_or, Stops, Captured, DeviceFault, Fault, WriteFailed, first_link_of, items, SinkView, FinishesEmpty, HasPackets, link_or_ethernet, file_start, text, Ended, finish-none, finish-none-writes, finish-some, Report, Event, InputItems, Complete, sequence_of, with_front, PacketOrder, Policy, SelectorState, Form, AsCapture, JobProgress, closing_text, final_progress, lines_text, end_with, final_text, first_link, Target, Capture, Text, Lines, HasWrittenTo, form_to, written_to, failures_to, EndsOutput, FinishesInto, InputView, Future, InputPast, AreInputsAfter, IsNext, AllEnded, actual_future, first_declared_link, next-is-of, reports_text, JobState, PacketsDecided, CompletesOutput, StopsWriting, progress_at, progress_of, progress_over, wholes_of, course-close}
 use Rattle.cap_inputs.specs.declared.inputs.Next.TheVariants as next
-use Rattle.cap_process.specs.Reports.{Report}
-use Rattle.cap_io.specs.Sequence.{Event, InputItems, Complete, sequence_of, with_front, PacketOrder}
-use Rattle.cap_process.specs.Verdict.{Policy, SelectorState}
-use Rattle.cap_process.specs.Outcome.{Form, AsCapture, JobProgress, closing_text, final_progress, lines_text, end_with, final_text, first_link}
-use Rattle.cap_process.specs.Output.{Target, Capture, Text, Lines, HasWrittenTo, form_to, written_to, failures_to}
-use Rattle.cap_process.specs.inside.Output.{EndsOutput, FinishesInto}
-use Rattle.cap_inputs.specs.Inputs.{InputView, Future, InputPast, AreInputsAfter}
-use Rattle.cap_inputs.specs.inside.Inputs.{IsNext, AllEnded, actual_future, first_declared_link}
-use Rattle.cap_inputs.proofs.Nexts.{next-is-of}
-use Rattle.cap_process.specs.Reports.{reports_text}
-use Rattle.cap_tools.specs.Packets.{JobState, PacketsDecided, CompletesOutput, StopsWriting, progress_at, progress_of, progress_over, wholes_of}
 use Rattle.cap_tools.proofs.Nexts.{told-next}
 use Rattle.cap_tools.proofs.Splits.{At}
 use Rattle.cap_tools.proofs.Coming.{true-whole, true-wholes, true-fit, true-fits}
-use Rattle.cap_process.proofs.Outcomes.{course-close}
 use Rattle.cap_tools.proofs.Laws.{OverAt, over-at}
 use Rattle.cap_tools.proofs.Fetches.{mk, inputs_at}
 use Rattle.cap_tools.proofs.Once.{once-closing}

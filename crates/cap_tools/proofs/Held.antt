@@ -1,9 +1,5 @@
 -- The current packet of the input whose turn it is.
-use Rattle.std.proofs.Common.{◌≡◌, ℕ, ◌+◌, ◌≤◌, Option, None, Some, refl}
-use Rattle.cap_octet.specs.Packet.{Captured}
-use Rattle.cap_process.specs.Selector.{SelectorView, most_spent, spent_by_verdict}
-use Rattle.cap_filter.specs.Programs.{spent_in}
-use Rattle.cap_tools.specs.inside.Packets.{Spends}
+use Rattle.cap_tools.proofs.Common.{◌≡◌, ℕ, ◌+◌, ◌≤◌, Option, None, Some, refl, Captured, SelectorView, most_spent, spent_by_verdict, spent_in, Spends}
 
 pub record Held (o : Option Captured) (old : SelectorView) (number : ℕ) (new : SelectorView) : Type 0 where
   pub packet : Captured

@@ -1,14 +1,6 @@
 -- What a step keeps of the counts.
-use Rattle.std.proofs.Common.{ℕ, ◌+◌, ◌≤◌, Option, None, Some, arith, Bool}
-use Rattle.cap_inputs.specs.Inputs.{InputsView}
-use Rattle.cap_inputs.specs.inside.Inputs.{most_steps}
+use Rattle.cap_tools.proofs.Common.{ℕ, ◌+◌, ◌≤◌, Option, None, Some, arith, Bool, InputsView, most_steps, most_turns, HasFewTurns, IsPaid, steps_owed_in_all, OutputView, Preparing, JobView, StepReads, reads_on, decides_one, leaves_one, reads_nothing}
 use Rattle.cap_tools.specs.inside.Jobs.{IsCounted}
-use Rattle.cap_tools.specs.Bounds.{most_turns}
-use Rattle.cap_tools.specs.inside.Bounds.{HasFewTurns, IsPaid, steps_owed_in_all}
-use Rattle.cap_octet.specs.Views.{OutputView}
-use Rattle.cap_tools.specs.Start.{Preparing}
-use Rattle.cap_tools.specs.Jobs.{JobView}
-use Rattle.cap_tools.specs.Bounds.{StepReads, reads_on, decides_one, leaves_one, reads_nothing}
 
 pub counted-kept : (done : Option ℕ) (turns left left' : ℕ) → left' ≤ left → IsCounted done turns left → IsCounted done turns left'
 counted-kept None turns left left' less is = omega (arith, less, is)

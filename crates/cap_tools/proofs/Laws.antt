@@ -1,21 +1,8 @@
 -- What a place says of what is left, for inputs in turn and for a merge.
-use Rattle.std.proofs.Common.{◌≡◌, inl, inr, ℕ, zero, suc, ◌+◌, ◌<◌, ◌≤◌, Bool, true, false, cond, not, max, List, [], ◌∷◌, ◌++◌, length, drop, Option, None, Some, refl, sym, ◌∙◌, ap, arith, subst}
-use Rattle.cap_octet.specs.Packet.{Captured}
-use Rattle.cap_octet.specs.declared.fault.Fault.{Fault}
-use Rattle.cap_io.specs.declared.source.Kind.{Kind}
-use Rattle.cap_io.specs.Capture.{Declared, Items, no_items, kind_of}
-use Rattle.cap_io.specs.Position.{IsAt}
-use Rattle.cap_io.specs.Source.{Phase, Ended}
+use Rattle.cap_tools.proofs.Common.{◌≡◌, inl, inr, ℕ, zero, suc, ◌+◌, ◌<◌, ◌≤◌, Bool, true, false, cond, not, max, List, [], ◌∷◌, ◌++◌, length, drop, Option, None, Some, refl, sym, ◌∙◌, ap, arith, subst, Captured, Fault, Kind, Declared, Items, no_items, kind_of, IsAt, Phase, Ended, InputItems, Event, Packet, InputEnd, SequenceEnd, Complete, FaultIn, PacketOrder, InTurn, ByTime, with_front, sequence_in_turn, sequence_by_time, fault_without_packets, sequence_of_entries, sort_entries, all_entries, unless_fault, Policy, Form, JobProgress, apply_events, end_input, unless_ended, InputView, InputPast, Future, AreFutures, AreInputsAfter, IsInput, ended_count, input_after_decided, is_open, items_left, inputs_left, key_of, sequence_left, packet_time, AllEnded, AllReady, IsNextIn, IsOpen, IsReady, KeysOver, KeysFrom, NoneEnded, NoneWaits, count-open, count-all, merged-broken}
 use Rattle.cap_inputs.specs.declared.inputs.Next.TheVariants as next
-use Rattle.cap_io.specs.Sequence.{InputItems, Event, Packet, InputEnd, SequenceEnd, Complete, FaultIn, PacketOrder, InTurn, ByTime, with_front, sequence_in_turn, sequence_by_time, fault_without_packets, sequence_of_entries, sort_entries, all_entries, unless_fault}
-use Rattle.cap_process.specs.Verdict.{Policy}
-use Rattle.cap_process.specs.Outcome.{Form, JobProgress, apply_events, end_input, unless_ended}
-use Rattle.cap_inputs.specs.Inputs.{InputView, InputPast, Future, AreFutures, AreInputsAfter, IsInput, ended_count, input_after_decided, is_open, items_left, inputs_left, key_of, sequence_left, packet_time}
-use Rattle.cap_inputs.specs.inside.Inputs.{AllEnded, AllReady, IsNextIn, IsOpen, IsReady, KeysOver, KeysFrom, NoneEnded, NoneWaits}
 use Rattle.cap_tools.proofs.Splits.{At, Fit, fits-join, rests-join, rests-length}
 use Rattle.cap_tools.proofs.Coming.{from_turn, left-decided, turn-closes, turn-broken}
-use Rattle.cap_inputs.proofs.Nexts.{count-open, count-all}
-use Rattle.cap_inputs.proofs.Order.{merged-broken}
 use Rattle.cap_tools.proofs.Merges.{InputFrom, InputOver, InputsFrom, InputsOver, ended_from, ended_over, ended-rest, merge-decides, none-broken, waits_from, waits_over}
 
 -- ---- which inputs are ready

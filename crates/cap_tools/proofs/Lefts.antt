@@ -1,16 +1,6 @@
 -- Each step leaves less to do, and is paid by what was read.
-use Rattle.std.proofs.Common.{◌≡◌, ℕ, ◌+◌, ◌*◌, ◌^◌, ◌<◌, ◌≤◌, suc, Bool, true, false, List, [], ◌∷◌, ◌++◌, length, Result, Ok, Err, refl, sym, ◌∙◌, ap, arith}
-use Rattle.std.proofs.lemmas.List.{length-append}
-use Rattle.std.specs.List.{slice_set}
-use Rattle.cap_octet.specs.declared.fault.Fault.{Fault}
-use Rattle.cap_io.specs.Source.{SourceView, Phase, Reading, Ended, Failed, Steps, end_offset, phase_after}
-use Rattle.cap_io.specs.Sequence.{PacketOrder, InTurn, ByTime}
+use Rattle.cap_tools.proofs.Common.{◌≡◌, ℕ, ◌+◌, ◌*◌, ◌^◌, ◌<◌, ◌≤◌, suc, Bool, true, false, List, [], ◌∷◌, ◌++◌, length, Result, Ok, Err, refl, sym, ◌∙◌, ap, arith, length-append, slice_set, Fault, SourceView, Phase, Reading, Ended, Failed, Steps, end_offset, phase_after, PacketOrder, InTurn, ByTime, InputView, InputsView, IsInput, MarksDecided, ReadSteps, input_after, input_after_decided, input_steps_left, is_packet_found, steps_left_in, steps_owed, with_cursor, owed_by, steps_left, IsNext, IsNextIn, IsOpen, set-here, most_turns, reads_of, IsPaid, steps_owed_in_all, owed_in}
 use Rattle.cap_inputs.specs.declared.inputs.Next.TheVariants as next
-use Rattle.cap_inputs.specs.Inputs.{InputView, InputsView, IsInput, MarksDecided, ReadSteps, input_after, input_after_decided, input_steps_left, is_packet_found, steps_left_in, steps_owed, with_cursor}
-use Rattle.cap_inputs.specs.inside.Inputs.{owed_by, steps_left, IsNext, IsNextIn, IsOpen}
-use Rattle.cap_inputs.proofs.Cursors.{set-here}
-use Rattle.cap_tools.specs.Bounds.{most_turns, reads_of}
-use Rattle.cap_tools.specs.inside.Bounds.{IsPaid, steps_owed_in_all, owed_in}
 use Rattle.cap_tools.proofs.Fetches.{among-same}
 
 -- ---- one input for another

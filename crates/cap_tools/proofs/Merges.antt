@@ -1,13 +1,7 @@
 -- Merging: what the keys of the inputs say of all that may come.
-use Rattle.std.proofs.Common.{◌≡◌, ℕ, ◌+◌, ◌<◌, ◌≤◌, true, false, max, List, [], ◌∷◌, ◌++◌, length, Some, refl, sym, ◌∙◌, ap, subst}
-use Rattle.cap_octet.specs.Packet.{Captured}
-use Rattle.cap_io.specs.Capture.{Placed, Items, after_packets}
-use Rattle.cap_io.specs.Source.{Ended}
-use Rattle.cap_io.specs.Sequence.{Packet, SequenceEnd, Complete, with_front, first_end, fault_without_packets, sequence_by_time}
-use Rattle.cap_inputs.specs.Inputs.{InputView, Future, AreFutures, waiting_packets, items_left, inputs_left, no_future, input_after_decided}
+use Rattle.cap_tools.proofs.Common.{◌≡◌, ℕ, ◌+◌, ◌<◌, ◌≤◌, true, false, max, List, [], ◌∷◌, ◌++◌, length, Some, refl, sym, ◌∙◌, ap, subst, Captured, Placed, Items, after_packets, Ended, Packet, SequenceEnd, Complete, with_front, first_end, fault_without_packets, sequence_by_time, InputView, Future, AreFutures, waiting_packets, items_left, inputs_left, no_future, input_after_decided, IsOver, IsFrom, end_at, AllOver, AllFrom, merged-next}
 use Rattle.cap_tools.proofs.Splits.{Fit}
 use Rattle.cap_tools.proofs.Coming.{hand_is}
-use Rattle.cap_inputs.proofs.Order.{IsOver, IsFrom, end_at, AllOver, AllFrom, merged-next}
 
 -- a packet waits, whose greatest time so far is over the key, or at least the key; or the input is
 -- at its clean end

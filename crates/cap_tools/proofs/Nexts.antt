@@ -1,16 +1,5 @@
 -- What comes next, as a step knows it, is what comes next in the order.
-use Rattle.std.proofs.Common.{◌≡◌, ◌⊎◌, inl, inr, ℕ, ◌+◌, true, List, [], ◌∷◌, ◌++◌, Option, None, Some, refl, sym, ◌∙◌, ap}
-use Rattle.cap_octet.specs.Packet.{Captured}
-use Rattle.cap_octet.specs.declared.fault.Fault.{Fault}
-use Rattle.cap_io.specs.declared.source.Kind.{Kind}
-use Rattle.cap_io.specs.Capture.{Placed, kind_of}
-use Rattle.cap_io.specs.Sequence.{Event, Packet, InputEnd, Complete, PacketOrder, InTurn, ByTime}
-use Rattle.cap_inputs.specs.Inputs.{InputPast}
-use Rattle.cap_process.specs.Verdict.{Policy, Edit, Filter, KeepAll, Count, SelectorState, Verdict, Pass, PassLast, PassesAs, Skip, Refuse, judge}
-use Rattle.cap_process.specs.Outcome.{Form, JobProgress, IsNextAnswer, apply_event, apply_verdict, closing_text, decide, unless_refused, end_input, first_link, form_refuses, packet_bytes, report_bytes, text_after, text_of_progress}
-use Rattle.cap_process.proofs.Outcomes.{progress-next}
-use Rattle.cap_tools.specs.Packets.{JobState, Meets, PacketsDecided, a_packet, all_ends, an_end, asks_report, output_form, progress_of, wholes_of, work_of}
-use Rattle.cap_tools.specs.inside.Packets.{NextPacket, NextReport, NextClosing}
+use Rattle.cap_tools.proofs.Common.{◌≡◌, ◌⊎◌, inl, inr, ℕ, ◌+◌, true, List, [], ◌∷◌, ◌++◌, Option, None, Some, refl, sym, ◌∙◌, ap, Captured, Fault, Kind, Placed, kind_of, Event, Packet, InputEnd, Complete, PacketOrder, InTurn, ByTime, InputPast, Policy, Edit, Filter, KeepAll, Count, SelectorState, Verdict, Pass, PassLast, PassesAs, Skip, Refuse, judge, Form, JobProgress, IsNextAnswer, apply_event, apply_verdict, closing_text, decide, unless_refused, end_input, first_link, form_refuses, packet_bytes, report_bytes, text_after, text_of_progress, progress-next, JobState, Meets, PacketsDecided, a_packet, all_ends, an_end, asks_report, output_form, progress_of, wholes_of, work_of, NextPacket, NextReport, NextClosing}
 use Rattle.cap_tools.proofs.Once.{packet-more, report-more}
 
 -- ---- what the next answer adds

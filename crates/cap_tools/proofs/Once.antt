@@ -1,15 +1,5 @@
 -- What a step appends to the output is one answer, or nothing.
-use Rattle.std.proofs.Common.{◌≡◌, ℕ, List, [], ◌∷◌, ◌++◌, Option, Some, refl, sym, ◌∙◌, ap}
-use Rattle.std.proofs.lemmas.List.{append_assoc, append-nil}
-use Rattle.cap_octet.specs.Packet.{Captured}
-use Rattle.cap_io.proofs.Texts.{text-more}
-use Rattle.cap_io.specs.Text.{added_text, text}
-use Rattle.cap_io.specs.Sequence.{Complete}
-use Rattle.cap_process.specs.Reports.{Report, report_text, reports_text}
-use Rattle.cap_process.specs.Outcome.{Form, AsCapture, AsReports, AsLines, JobProgress, closing_text, packet_bytes, report_bytes, output_text}
-use Rattle.cap_process.specs.Output.{Target, HasWrittenTo, form_to, written_to}
-use Rattle.cap_tools.specs.Packets.{AppendsOnce, nothing, packet, report, closes}
-use Rattle.cap_process.proofs.Outputs.{drained-text, lines-one, reports-more}
+use Rattle.cap_tools.proofs.Common.{◌≡◌, ℕ, List, [], ◌∷◌, ◌++◌, Option, Some, refl, sym, ◌∙◌, ap, append_assoc, append-nil, Captured, text-more, added_text, text, Complete, Report, report_text, reports_text, Form, AsCapture, AsReports, AsLines, JobProgress, closing_text, packet_bytes, report_bytes, output_text, Target, HasWrittenTo, form_to, written_to, AppendsOnce, nothing, packet, report, closes, drained-text, lines-one, reports-more}
 
 pub once-nothing : (form : Form) (link : Option ℕ) (far next : JobProgress) (old new : Target) → next.packets ≡ far.packets → next.reports ≡ far.reports → written_to new ≡ written_to old → AppendsOnce form link far next old new
 once-nothing form link far next old new packets reports same = record {

@@ -1,7 +1,5 @@
 -- One of the inputs, by its place.
-use Rattle.std.proofs.Common.{◌≡◌, ℕ, List, [], ◌∷◌, ◌++◌, length, Some, refl, ap, ◌∙◌}
-use Rattle.std.specs.List.{slice_get}
-use Rattle.cap_inputs.specs.Inputs.{InputView, IsInput}
+use Rattle.cap_tools.proofs.Common.{◌≡◌, ℕ, List, [], ◌∷◌, ◌++◌, length, Some, refl, ap, ◌∙◌, slice_get, InputView, IsInput}
 
 pub get-at : {A : Type 0} (xs ys : List A) (x : A) (i : ℕ) → length xs ≡ i → slice_get (xs ++ x ∷ ys) i ≡ Some x
 get-at [] ys x i is = rw (← is) refl

@@ -1,16 +1,6 @@
 -- The first step of a job.
-use Rattle.std.proofs.Common.{◌≡◌, ◌+◌, true, false, Option, None, Some, List, [], ◌∷◌, refl, ap₂, arith, suc}
-use Rattle.std.specs.List.{All}
-use Rattle.std.specs.Option.{is_some, option_map}
-use Rattle.flt_bpf.specs.Content.{Content}
-use Rattle.flt_ast.specs.Tree.{empty, truth}
-use Rattle.cap_filter.specs.FilterRules.{Rule, by_reading, by_answer}
-use Rattle.cap_filter.specs.Filters.{AreNew}
+use Rattle.cap_tools.proofs.Common.{◌≡◌, ◌+◌, true, false, Option, None, Some, List, [], ◌∷◌, refl, ap₂, arith, suc, All, is_some, option_map, Content, empty, truth, Rule, by_reading, by_answer, AreNew, Preparing, preparing_of, IsReadyIf, JobView, spent_in}
 use Rattle.cap_tools.specs.declared.start.Preparation.{Preparation}
-use Rattle.cap_tools.specs.Start.{Preparing, preparing_of}
-use Rattle.cap_tools.specs.inside.Commands.{IsReadyIf}
-use Rattle.cap_tools.specs.Jobs.{JobView}
-use Rattle.cap_filter.specs.Programs.{spent_in}
 
 pub none-before : {Z : Type 0} (p : Option (Preparation Z)) → is_some p ≡ false → option_map preparing_of p ≡ None
 none-before None is = refl

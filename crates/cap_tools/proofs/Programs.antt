@@ -1,17 +1,5 @@
 -- The programs of a job stay those for what is asked, whichever of them run.
-use Rattle.std.proofs.Common.{◌≡◌, ℕ, zero, suc, List, [], ◌∷◌, map, true, false, if◌then◌else◌, Option, None, Some, refl, sym, ◌∙◌, ap, subst}
-use Rattle.cap_octet.specs.Packet.{Captured}
-use Rattle.flt_bpf.specs.declared.insn.Insn.{Insn}
-use Rattle.flt_bpf.specs.Content.{Content}
-use Rattle.flt_ast.specs.Tree.{Expression, empty, truth}
-use Rattle.cap_octet.specs.declared.link.Link.{Link}
-use Rattle.cap_octet.specs.Link.{all_links}
-use Rattle.cap_filter.specs.Programs.{AreMade, ran_at, ran_if}
-use Rattle.cap_filter.specs.FilterRules.{Rule, by_reading, by_answer}
-use Rattle.cap_filter.specs.Filters.{AreNew, place_by, spent_on}
-use Rattle.cap_process.specs.Verdict.{Policy, Edit, Filter, KeepAll, Count, is_too_many}
-use Rattle.cap_process.specs.Selector.{AreFor, HavePrograms, SelectorView, spent_by, spent_by_verdict}
-use Rattle.cap_tools.specs.inside.Packets.{Spends}
+use Rattle.cap_tools.proofs.Common.{◌≡◌, ℕ, zero, suc, List, [], ◌∷◌, map, true, false, if◌then◌else◌, Option, None, Some, refl, sym, ◌∙◌, ap, subst, Captured, Insn, Content, Expression, empty, truth, Link, all_links, AreMade, ran_at, ran_if, Rule, by_reading, by_answer, AreNew, place_by, spent_on, Policy, Edit, Filter, KeepAll, Count, is_too_many, AreFor, HavePrograms, SelectorView, spent_by, spent_by_verdict, Spends}
 
 -- a run leaves a program's instructions
 made-ran : (e : Expression) (links : List Link) (programs : List Content) (i : ℕ) (p : Captured) → AreMade e links programs → AreMade e links (ran_at i p programs)

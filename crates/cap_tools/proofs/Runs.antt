@@ -1,13 +1,5 @@
 -- Many steps.
-use Rattle.std.proofs.Common.{◌≡◌, ℕ, Bool, zero, suc, List, [], ◌∷◌, refl, ◌∙◌, ap}
-use Rattle.cap_io.specs.Capture.{Placed}
-use Rattle.cap_process.specs.Messages.{IsTold}
-use Rattle.cap_inputs.specs.Inputs.{InputPast, device_limits}
-use Rattle.cap_command.specs.Call.{RunResult}
-use Rattle.cap_tools.specs.declared.step.JobEnd.{JobEnd}
-use Rattle.cap_tools.specs.Packets.{EndLeaves, JobState, failures_by, finish_at, output_form, written_by}
-use Rattle.cap_tools.specs.inside.Packets.{texts}
-use Rattle.cap_tools.specs.Jobs.{JobView, Decided, StaysDecided, end_message, end_status}
+use Rattle.cap_tools.proofs.Common.{◌≡◌, ℕ, Bool, zero, suc, List, [], ◌∷◌, refl, ◌∙◌, ap, Placed, IsTold, InputPast, device_limits, RunResult, JobEnd, EndLeaves, JobState, failures_by, finish_at, output_form, written_by, texts, JobView, Decided, StaysDecided, end_message, end_status}
 
 -- A job that went on from its first view, without a failure of the output: of the same texts more
 -- bytes are done.

@@ -1,11 +1,5 @@
 -- One input among others, with how far it is and what may come of it.
-use Rattle.std.proofs.Common.{◌≡◌, ℕ, suc, List, [], ◌∷◌, ◌++◌, length, refl, sym, ◌∙◌, ap}
-use Rattle.cap_io.specs.Capture.{Placed}
-use Rattle.cap_io.specs.Source.{Ended}
-use Rattle.cap_io.specs.Position.{IsAt}
-use Rattle.cap_io.specs.Sequence.{InputItems, Event, sequence_of, with_front, PacketOrder}
-use Rattle.cap_inputs.specs.Inputs.{InputView, Future, InputPast, AreInputsAfter, AreFutures, AreSettled, input_items, inputs_with, items_left, inputs_left, no_future, sequence_left}
-use Rattle.cap_tools.specs.Packets.{finish_at}
+use Rattle.cap_tools.proofs.Common.{◌≡◌, ℕ, suc, List, [], ◌∷◌, ◌++◌, length, refl, sym, ◌∙◌, ap, Placed, Ended, IsAt, InputItems, Event, sequence_of, with_front, PacketOrder, InputView, Future, InputPast, AreInputsAfter, AreFutures, AreSettled, input_items, inputs_with, items_left, inputs_left, no_future, sequence_left, finish_at}
 
 abbrev pub At : InputPast → InputView → Type 0
 At s h = IsAt s.text s.done s.packets h.waiting h.source

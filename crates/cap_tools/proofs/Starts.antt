@@ -1,23 +1,6 @@
 -- A job of which nothing is done.
-use Rattle.cap_command.specs.Command.{most_inputs}
-use Rattle.std.proofs.Common.{◌≡◌, ℕ, suc, ◌+◌, ◌*◌, ◌^◌, ◌<◌, ◌≤◌, List, [], ◌∷◌, map, drop, length, refl, sym, ◌∙◌, ap, arith}
-use Rattle.cap_process.specs.declared.output.Writing.{Writing}
+use Rattle.cap_tools.proofs.Common.{most_inputs, ◌≡◌, ℕ, suc, ◌+◌, ◌*◌, ◌^◌, ◌<◌, ◌≤◌, List, [], ◌∷◌, map, drop, length, refl, sym, ◌∙◌, ap, arith, Writing, HasWrittenTo, target_at, nothing_counted, append-nil, IsAt-start, HasPackets-none, InputItems, sequence_in_turn, sequence_by_time, PacketOrder, InTurn, ByTime, Policy, FreshInput, fresh_view, nothing_done, fresh_inputs, state_with, Future, AreInputsAfter, KnowGreatest, AreFutures, AreSettled, ended_count, inputs_with, inputs_left, input_items, steps_left_in, steps_left, most_steps, reads_of, most_turns, steps_owed_in_all, owed_in, PacketsDecided}
 use Rattle.cap_process.specs.declared.output.Writing.TheVariants as writing
-use Rattle.cap_process.specs.Output.{HasWrittenTo, target_at}
-use Rattle.cap_process.specs.Reports.{nothing_counted}
-use Rattle.std.proofs.lemmas.List.{append-nil}
-use Rattle.cap_io.proofs.Standing.{IsAt-start}
-use Rattle.cap_io.proofs.Texts.{HasPackets-none}
-use Rattle.cap_io.specs.Sequence.{InputItems, sequence_in_turn, sequence_by_time, PacketOrder, InTurn, ByTime}
-use Rattle.cap_process.specs.Verdict.{Policy}
-use Rattle.cap_octet.specs.Views.{FreshInput}
-use Rattle.cap_inputs.specs.Fresh.{fresh_view, nothing_done, fresh_inputs}
-use Rattle.cap_process.specs.inside.Selector.{state_with}
-use Rattle.cap_inputs.specs.Inputs.{Future, AreInputsAfter, KnowGreatest, AreFutures, AreSettled, ended_count, inputs_with, inputs_left, input_items, steps_left_in}
-use Rattle.cap_inputs.specs.inside.Inputs.{steps_left, most_steps}
-use Rattle.cap_tools.specs.Bounds.{reads_of, most_turns}
-use Rattle.cap_tools.specs.inside.Bounds.{steps_owed_in_all, owed_in}
-use Rattle.cap_tools.specs.Packets.{PacketsDecided}
 use Rattle.cap_tools.proofs.Coming.{come-first}
 use Rattle.cap_tools.proofs.Fetches.{mk}
 

@@ -1,20 +1,7 @@
 -- What a job holds is bounded.
-use Rattle.std.proofs.Common.{◌≡◌, ℕ, ◌+◌, ◌*◌, ◌≤◌, List, [], ◌∷◌, ◌++◌, length, map, Bool, Result, sym, arith, subst}
-use Rattle.std.specs.List.{All}
+use Rattle.cap_tools.proofs.Common.{◌≡◌, ℕ, ◌+◌, ◌*◌, ◌≤◌, List, [], ◌∷◌, ◌++◌, length, map, Bool, Result, sym, arith, subst, All, Fault, Declared, Nothing, PcapFile, PcapngFile, most_in_unit, SourceView, Phase, Reading, Ended, Failed, SectionFits, Steps, Writing, HasFewOutputInterfaces, Target, Capture, Text, Lines, target_at, InputView, InputsView, IsInput, ReadSteps, MarksDecided, input_after, input_after_decided, HasFewMarks, FreshInput, fresh_view, JobState, IsBounded, IsLight, IsSmall, declared_weight, inputs_weight, names_weight, target_weight}
 use Rattle.std.proofs.lemmas.List.Elements.{All-nil, All-cons, All-head, All-tail, All-set}
-use Rattle.cap_octet.specs.declared.fault.Fault.{Fault}
-use Rattle.cap_io.specs.Capture.{Declared, Nothing, PcapFile, PcapngFile}
-use Rattle.cap_io.specs.Reading.{most_in_unit}
-use Rattle.cap_io.specs.Source.{SourceView, Phase, Reading, Ended, Failed, SectionFits, Steps}
-use Rattle.cap_process.specs.declared.output.Writing.{Writing}
 use Rattle.cap_process.specs.declared.output.Writing.TheVariants as writing
-use Rattle.cap_process.specs.Output.{HasFewOutputInterfaces, Target, Capture, Text, Lines, target_at}
-use Rattle.cap_inputs.specs.Inputs.{InputView, InputsView, IsInput, ReadSteps, MarksDecided, input_after, input_after_decided}
-use Rattle.cap_process.specs.inside.Selector.{HasFewMarks}
-use Rattle.cap_octet.specs.Views.{FreshInput}
-use Rattle.cap_inputs.specs.Fresh.{fresh_view}
-use Rattle.cap_tools.specs.Packets.{JobState}
-use Rattle.cap_tools.specs.Bounds.{IsBounded, IsLight, IsSmall, declared_weight, inputs_weight, names_weight, target_weight}
 
 -- ---- one input for another
 

@@ -4,7 +4,7 @@ use Rattle.flt_bpf.specs.declared.insn.Insn.{Insn}
 use Rattle.flt_bpf.specs.Content.{Content}
 use Rattle.flt_bpf.specs.Listing.{listing}
 use Rattle.cap_octet.specs.Device.{Stops}
-use Rattle.cap_filter.specs.declared.refusal.Refusal.{Refusal}
+use Rattle.cap_filter.specs.declared.filter.Refusal.{Refusal}
 use Rattle.cap_process.specs.Messages.{IsTold, refusal_message, write_failed_message}
 use Rattle.cap_filter.specs.Refusals.{refusal_status}
 use Rattle.cap_filter.specs.FilterRules.{Rule}

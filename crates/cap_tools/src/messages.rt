@@ -6,7 +6,7 @@ ghost use Rattle.cap_tools.specs.Jobs.{end_message};
 ghost use Rattle.cap_process.specs.Reports.{name_at};
 
 use crate::step::JobEnd;
-use cap_filter::refusal::Refusal;
+use cap_filter::filter::Refusal;
 use cap_inputs::Inputs;
 use cap_octet::{DeviceFault, Input, Output};
 use cap_process::message::{report_fault, report_refusal, report_write_failed};

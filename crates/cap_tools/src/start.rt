@@ -9,8 +9,7 @@ ghost use Rattle.cap_io.specs.Sequence.{order_of};
 ghost use Rattle.cap_tools.specs.Start.{assignment, lines_unless, preparing_of};
 
 use cap_command::{Command, Compile, Print};
-use cap_filter::filter::{Filter, filter_of_listing, filter_of_words};
-use cap_filter::refusal::Refusal;
+use cap_filter::filter::{Filter, Refusal, filter_of_listing, filter_of_words};
 use cap_print::Options;
 use cap_process::{Policy, Writing};
 use std::alloc::Allocator;

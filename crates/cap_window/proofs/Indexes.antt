@@ -1,15 +1,7 @@
 -- The index stays an index when a mark comes, when the oldest goes, and when all get new numbers.
-use Rattle.std.proofs.Common.{◌≡◌, ◌≢◌, ℕ, zero, suc, ◌+◌, ◌-◌, ◌^◌, ◌<◌, ◌≤◌, inl, inr, Bool, List, [], ◌∷◌, ◌++◌, length, get_or, drop, refl, sym, ap, ◌∙◌, subst, arith, set, IsTrue, length-append, length-drop, eq-zero-or-pos}
-use Rattle.std.proofs.lemmas.Bool.{cases_order, eq-eqb, eqb-true}
-use Rattle.std.proofs.lemmas.Grind.{get_or_after_one}
-use Rattle.std.proofs.lemmas.List.{get_or_append_left, get_or-append_right, get_or-set_other, get_or-set_same, length-set}
+use Rattle.cap_window.proofs.Common.{◌≡◌, ◌≢◌, ℕ, zero, suc, ◌+◌, ◌-◌, ◌^◌, ◌<◌, ◌≤◌, inl, inr, Bool, List, [], ◌∷◌, ◌++◌, length, get_or, drop, refl, sym, ap, ◌∙◌, subst, arith, set, IsTrue, length-append, length-drop, eq-zero-or-pos, cases_order, eq-eqb, eqb-true, get_or_after_one, get_or_append_left, get_or-append_right, get_or-set_other, get_or-set_same, length-set, take, Links, Mark, IsHung, IsIndex, IsPutOnTop, IsSoundIndex, IsMarkTree, Empty, Topped, but, every, marks_with_bit, has_hash, hash_of, link_by_bit, links_at, mark_at, last}
 use Rattle.std.proofs.lemmas.Nat.{and_le_r}
 use Rattle.std.specs.Int.{w32, from_le_bytes}
-use Rattle.std.specs.Prelude.{take}
-use Rattle.cap_window.specs.declared.links.Links.{Links}
-use Rattle.cap_window.specs.declared.mark.Mark.{Mark}
-use Rattle.cap_window.specs.inside.Index.{IsHung, IsIndex, IsPutOnTop, IsSoundIndex, IsMarkTree, Empty, Topped, but, every, marks_with_bit, has_hash, hash_of, link_by_bit, links_at, mark_at}
-use Rattle.cap_window.specs.Marks.{last}
 use Rattle.cap_window.proofs.Trees.{raised, reframed, rewanted}
 
 -- the oldest mark goes

@@ -1,17 +1,12 @@
 -- Marks in a window.
-use Rattle.cap_window.specs.declared.links.Links.{Links}
-use Rattle.std.specs.Option.{IsSome, option_copied}
-use Rattle.std.proofs.Common.{◌≡◌, ◌↔◌, ℕ, ◌+◌, ◌-◌, ◌≤◌, ◌==◌, Bool, List, [], ◌∷◌, ◌++◌, length, drop, sym, ap, ◌∙◌, arith, length-append, length-drop, IsTrue, Bor, Option, Some, None, rules}
+use Rattle.cap_window.proofs.Common.{Links, IsSome, option_copied, ◌≡◌, ◌↔◌, ℕ, ◌+◌, ◌-◌, ◌≤◌, ◌==◌, Bool, List, [], ◌∷◌, ◌++◌, length, drop, sym, ap, ◌∙◌, arith, length-append, length-drop, IsTrue, Bor, Option, Some, None, rules, drop-drop, drop-append-le, Mark, is_same_mark, has_same, last}
 use Rattle.std.proofs.lemmas.Bool.Decides.{Decides-and, Decides-eqb, Decides-like}
-use Rattle.std.proofs.lemmas.List.{drop-drop, drop-append-le}
 use Rattle.std.proofs.lemmas.List.Folds.{list_any_at}
 use Rattle.std.proofs.lemmas.Map.Views.{Contains-from_any}
 use Rattle.std.proofs.lemmas.Slice.Eq.{bytes_eq-Decides}
 use Rattle.std.specs.Bool.{Decides, one_answer}
 use Rattle.std.specs.List.{Contains}
 use Rattle.std.specs.Str.{bytes_eq}
-use Rattle.cap_window.specs.declared.mark.Mark.{Mark}
-use Rattle.cap_window.specs.Marks.{is_same_mark, has_same, last}
 
 abbrev with_digest : ℕ → List ℕ → Mark
 with_digest length digest = record { length = length; digest = digest }

@@ -1,11 +1,6 @@
 -- A search for an equal mark goes down the tree of its hash, by the bits of the mark that is looked
 -- for.
-use Rattle.std.proofs.Common.{◌≡◌, ◌≢◌, ℕ, ◌+◌, ◌-◌, ◌<◌, ◌≤◌, inl, inr, Bool, not, List, length, refl, sym, ap, ◌∙◌, subst, arith, IsTrue}
-use Rattle.std.proofs.lemmas.Bool.{eq-eqb, cases_order}
-use Rattle.cap_window.specs.Marks.{is_same_mark}
-use Rattle.cap_window.specs.inside.Index.{IsMarkTree, Empty, Topped, every, marks_with_bit, but, has_hash, hash_of, mark_bit, link_by_bit, links_at, mark_at}
-use Rattle.cap_window.specs.declared.links.Links.{Links}
-use Rattle.cap_window.specs.declared.mark.Mark.{Mark}
+use Rattle.cap_window.proofs.Common.{◌≡◌, ◌≢◌, ℕ, ◌+◌, ◌-◌, ◌<◌, ◌≤◌, inl, inr, Bool, not, List, length, refl, sym, ap, ◌∙◌, subst, arith, IsTrue, eq-eqb, cases_order, is_same_mark, IsMarkTree, Empty, Topped, every, marks_with_bit, but, has_hash, hash_of, mark_bit, link_by_bit, links_at, mark_at, Links, Mark}
 use Rattle.cap_window.proofs.Marks.{is_same-Decides}
 use Rattle.cap_window.proofs.Trees.{join, true-not, in_half}
 

@@ -1,11 +1,5 @@
 -- What holds of trees of marks, and of the index that they are.
-use Rattle.std.proofs.Common.{◌≡◌, ◌≢◌, ℕ, ◌+◌, ◌-◌, ◌^◌, ◌<◌, ◌≤◌, ◌⊎◌, inl, inr, Bool, true, false, not, ◌&&◌, List, length, refl, sym, ap, ◌∙◌, subst, arith, IsTrue, min, set}
-use Rattle.std.proofs.lemmas.Bool.{cases_order}
-use Rattle.cap_window.specs.Marks.{is_same_mark}
-use Rattle.std.proofs.lemmas.List.{get_or-set_other, get_or-set_same}
-use Rattle.cap_window.specs.inside.Index.{IsOnTop, IsPutOnTop, IsMarkTree, Empty, Topped, HasNoMark, every, marks_with_bit, but, mark_bit, link_by_bit, links_at, mark_at}
-use Rattle.cap_window.specs.declared.links.Links.{Links}
-use Rattle.cap_window.specs.declared.mark.Mark.{Mark}
+use Rattle.cap_window.proofs.Common.{◌≡◌, ◌≢◌, ℕ, ◌+◌, ◌-◌, ◌^◌, ◌<◌, ◌≤◌, ◌⊎◌, inl, inr, Bool, true, false, not, ◌&&◌, List, length, refl, sym, ap, ◌∙◌, subst, arith, IsTrue, min, set, cases_order, is_same_mark, get_or-set_other, get_or-set_same, IsOnTop, IsPutOnTop, IsMarkTree, Empty, Topped, HasNoMark, every, marks_with_bit, but, mark_bit, link_by_bit, links_at, mark_at, Links, Mark}
 use Rattle.cap_window.proofs.Marks.{is_same-Decides}
 
 -- ---- tests

@@ -1,22 +1,14 @@
 -- Words that clap takes enter a subcommand, since the line requires one.
-use Rattle.std.proofs.Common.{◌≡◌, ◌∙◌, ap, sym, refl, subst, Bool, true, false, List, [], ◌∷◌, Option, Some, None}
-use Rattle.std.specs.Prelude.{◌&&◌, is_some, not, find, if◌then◌else◌, option_map}
-use Rattle.std.specs.Prelude.{Box}
+use Rattle.capkit.proofs.Common.{◌≡◌, ◌∙◌, ap, sym, refl, subst, Bool, true, false, List, [], ◌∷◌, Option, Some, None, ◌&&◌, is_some, not, find, if◌then◌else◌, option_map, Box, list_any, ArgMatches, subcommand_name_of, subcommand_rows_of, TakesWords, line_app, name_of, Asks, Subcommand}
 use Rattle.std.specs.Box.{box_value}
-use Rattle.std.specs.List.{list_any}
 use Rattle.clap.specs.Facts.{explicit_source}
 use Rattle.clap.specs.Faults.{built_fault, check_fault, defaults_fault, entered_fault, level_fault, settle_fault, walk_fault}
 use Rattle.clap.specs.Kinds.{Kinds, check_kinds, or_else}
 use Rattle.clap.specs.Simple.{App, Shape, argument_words, built, entered, label_of, names_of, rows_at, subcommand_rows}
 use Rattle.clap.specs.Walk.{Held, Names, Row, Text, answers_to, finished, nothing_held, settled, stop_after, walk, walk_from}
 use Rattle.clap.specs.declared.parser.matches.ArgMatches.TheViews.{out-ArgMatches, out-SubCommand}
-use Rattle.clap.specs.declared.parser.matches.ArgMatches.{ArgMatches}
-use Rattle.clap.specs.Words.{subcommand_name_of, subcommand_rows_of}
 use Rattle.clap.specs.declared.parser.matches.SubCommand.{SubCommand}
-use Rattle.capkit_args.specs.Arguments.{TakesWords, line_app, name_of}
 use Rattle.capkit_args.specs.inside.Arguments.{subcommand_of_name}
-use Rattle.capkit.specs.Line.{Asks}
-use Rattle.capkit_args.specs.declared.arguments.Subcommand.{Subcommand}
 use Rattle.capkit_args.specs.declared.arguments.Subcommand.TheVariants as sub
 
 -- where no step of several fails, the last one doesn't

@@ -1,15 +1,5 @@
 -- When the names of several inputs have a fault.
-use Rattle.std.proofs.Common.{◌≡◌, ◌≤◌, ◌∙◌, ap, ap₂, sym, Bool, true, false, List, length, map, Option, Some, None}
-use Rattle.std.specs.Prelude.{nat_lt, if◌then◌else◌}
-use Rattle.std.specs.Borrow.{Bor}
-use Rattle.std.proofs.lemmas.Bool.{le-ltb}
-use Rattle.std.proofs.lemmas.List.{length-map}
-use Rattle.cap_command.specs.Command.{most_inputs}
-use Rattle.clap.specs.Words.{Text}
-use Rattle.capkit.specs.Line.{files_fault, or_else}
-use Rattle.capkit.specs.Names.{uses_name_twice}
-use Rattle.capkit.specs.declared.usage.Usage.{Usage}
-use Rattle.capkit.specs.declared.usage.Usage.TheVariants.{NameUsedTwice, TooManyValues}
+use Rattle.capkit.proofs.Common.{◌≡◌, ◌≤◌, ◌∙◌, ap, ap₂, sym, Bool, true, false, List, length, map, Option, Some, None, nat_lt, if◌then◌else◌, Bor, le-ltb, length-map, most_inputs, Text, files_fault, or_else, uses_name_twice, Usage, NameUsedTwice, TooManyValues}
 
 abbrev pub text_of : Bor Text → Text
 text_of name = name.now

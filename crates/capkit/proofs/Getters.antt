@@ -1,12 +1,6 @@
 -- What the getters of clap's matches read.
-use Rattle.std.proofs.Common.{◌≡◌, ap, sym, refl, List, ℕ, Bool, true, false, Option, Some, None, unwrap_or, codes}
-use Rattle.std.specs.Option.{option_map_or}
-use Rattle.std.specs.Str.{bytes_eq}
-use Rattle.std.specs.Str.Parse.{ParsesBool}
-use Rattle.std.proofs.lemmas.Bool.{false_from_ne_true}
+use Rattle.capkit.proofs.Common.{◌≡◌, ap, sym, refl, List, ℕ, Bool, true, false, Option, Some, None, unwrap_or, codes, option_map_or, bytes_eq, ParsesBool, false_from_ne_true, ReadsOne, first_value-rows, one_text-rows, raw_values-rows}
 use Rattle.std.proofs.lemmas.Slice.Eq.{bytes_eq-Decides}
-use Rattle.clap.specs.Words.{ReadsOne}
-use Rattle.clap.proofs.WalkLemmas.{first_value-rows, one_text-rows, raw_values-rows}
 
 pub ruleset reads = (first_value-rows, one_text-rows, raw_values-rows)
 

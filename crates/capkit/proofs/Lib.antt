@@ -1,5 +1,6 @@
 mod Enters
 mod FileNames
+pub mod Common
 pub mod Getters
 mod Joining
 mod Numbers

@@ -1,17 +1,8 @@
 -- What a text of digits parses to, and where a word has a hyphen.
-use Rattle.std.proofs.Common.{inl, inr, lit<, suc, ◌+◌, ◌≤◌, cond, ◌≡◌, ◌<◌, ◌^◌, ℕ, Bool, true, false, List, [], ◌∷◌, length, refl, subst, sym, ◌∙◌, rules, arith}
-use Rattle.std.specs.Prelude.{IfSome, nat_lt, Result, Ok, Err, ◌||◌, not, if◌then◌else◌, Option, Some, None}
-use Rattle.std.specs.Char.{is_ascii_digit}
-use Rattle.std.specs.List.{after_first, before_first, list_all, list_any, position_or_len}
-use Rattle.std.specs.Borrow.{Bor}
-use Rattle.std.specs.Option.{MatchOption}
+use Rattle.capkit.proofs.Common.{inl, inr, lit<, suc, ◌+◌, ◌≤◌, cond, ◌≡◌, ◌<◌, ◌^◌, ℕ, Bool, true, false, List, [], ◌∷◌, length, refl, subst, sym, ◌∙◌, rules, arith, IfSome, nat_lt, Result, Ok, Err, ◌||◌, not, if◌then◌else◌, Option, Some, None, is_ascii_digit, after_first, before_first, list_all, list_any, position_or_len, Bor, MatchOption, ParsesUnsigned, digits_value, and_parts, cases_lt, le-ltb, lt-ltb, ltb-true, IsDigitsTest, numerals_by_value, parse_digits, is_hyphen, range_number, is_decimal, sides_of}
 use Rattle.std.specs.Result.{OkIff}
-use Rattle.std.specs.Str.Parse.{ParsesUnsigned, digits_value}
-use Rattle.std.proofs.lemmas.Bool.{and_parts, cases_lt, le-ltb, lt-ltb, ltb-true}
 use Rattle.std.proofs.lemmas.Bool.Decides.{nat_tests}
-use Rattle.std.proofs.lemmas.Str.Parse.{IsDigitsTest, numerals_by_value, parse_digits}
 use Rattle.std.proofs.lemmas.Str.Pattern.{IsSplitOnceResult, split_once_first}
-use Rattle.capkit.specs.Range.{is_hyphen, range_number, is_decimal, sides_of}
 
 test : IsDigitsTest (λ ds. list_all is_ascii_digit ds ≡ true)
 test = search rules

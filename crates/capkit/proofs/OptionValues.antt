@@ -1,20 +1,12 @@
 -- What the options of an edit and of a print mean.
-use Rattle.std.proofs.Common.{◌≡◌, ◌≤◌, ◌^◌, ◌+◌, ◌-◌, ◌*◌, ◌∙◌, ◌==◌, ap, refl, ℕ, Bool, true, false, length, take, drop, Option, Some, None, Result, Ok, Err, arith}
-use Rattle.std.specs.Prelude.{◌&&◌, IfSome, nat_le, nat_lt, if◌then◌else◌}
-use Rattle.std.specs.List.{position}
-use Rattle.std.specs.Option.{option_and_then, option_map_or}
-use Rattle.std.specs.Str.Parse.{ParsesUnsigned, digits_value, without_leading_plus}
-use Rattle.std.proofs.lemmas.Bool.{and_from, and_parts, le-leb}
+use Rattle.capkit.proofs.Common.{◌≡◌, ◌≤◌, ◌^◌, ◌+◌, ◌-◌, ◌*◌, ◌∙◌, ◌==◌, ap, refl, ℕ, Bool, true, false, length, take, drop, Option, Some, None, Result, Ok, Err, arith, ◌&&◌, IfSome, nat_le, nat_lt, if◌then◌else◌, position, option_and_then, option_map_or, ParsesUnsigned, digits_value, without_leading_plus, and_from, and_parts, le-leb, is_at_least_one, is_time, is_window, least_window, most_window, ReadsOne, Text, number_between}
 use Rattle.cap_octet.specs.Date.{NANOS_PER_SECOND}
 use Rattle.cap_octet.specs.Digits.{decimal_value}
 use Rattle.cap_octet.specs.Seconds.{fraction_nanoseconds, duration_at, duration_value, duration_of_parts, time_below_end}
 use Rattle.cap_octet.specs.Timestamp.{clock_of_parts, date_time_value, day_of_parts, number_at, optional_fraction, is_date_time, time_value, time_of_parts}
-use Rattle.cap_command.specs.Command.{is_at_least_one, is_time, is_window, least_window, most_window}
-use Rattle.clap.specs.Words.{ReadsOne, Text}
 use Rattle.clap.specs.ValueTests.{is_numeral, is_unsigned_in}
 use Rattle.clap.specs.declared.builder.value_parser.ValueParser.TheVariants as parser
 use Rattle.clap.proofs.ValueTestLemmas.{Accepts-accepts, accepts-Accepts}
-use Rattle.capkit.specs.Line.{number_between}
 
 -- ---- numbers
 

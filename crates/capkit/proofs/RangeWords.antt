@@ -1,17 +1,6 @@
 -- When the words for ranges have a fault.
-use Rattle.std.proofs.Common.{◌≡◌, ◌≤◌, ◌<◌, ◌∙◌, ap, sym, refl, ℕ, Bool, true, false, List, [], ◌∷◌, length, map, take, Option, Some, None, slice_index_or}
-use Rattle.std.specs.Prelude.{is_none, if◌then◌else◌}
-use Rattle.std.specs.Borrow.{Bor}
-use Rattle.std.specs.List.{list_all, list_any}
-use Rattle.std.proofs.lemmas.Bool.{cond-false, and_from, cond-true, le-leb, le-ltb, lt-ltb}
+use Rattle.capkit.proofs.Common.{◌≡◌, ◌≤◌, ◌<◌, ◌∙◌, ap, sym, refl, ℕ, Bool, true, false, List, [], ◌∷◌, length, map, take, Option, Some, None, slice_index_or, is_none, if◌then◌else◌, Bor, list_all, list_any, cond-false, and_from, cond-true, le-leb, le-ltb, lt-ltb, length-map, take_all, list_any-map, has_proper_ranges, is_range, most_ranges, Text, range_fault, range_number, range_between, range_of, sides_of, BadRange, TooManyValues}
 use Rattle.std.proofs.lemmas.List.Folds.{list_any_at}
-use Rattle.std.proofs.lemmas.List.{length-map, take_all}
-use Rattle.clap.proofs.WalkLemmas.{list_any-map}
-use Rattle.cap_command.specs.Command.{has_proper_ranges, is_range, most_ranges}
-use Rattle.clap.specs.Words.{Text}
-use Rattle.capkit.specs.Line.{range_fault}
-use Rattle.capkit.specs.Range.{range_number, range_between, range_of, sides_of}
-use Rattle.capkit.specs.declared.usage.Usage.TheVariants.{BadRange, TooManyValues}
 
 abbrev is_bad : Text → Bool
 is_bad word = is_none (range_of word)

@@ -13,8 +13,8 @@ use capkit_args::ids;
 use clap::ArgMatches;
 use std::alloc::{AllocError, Global};
 
-/// The names of the inputs, in order, borrowed from the words: one at least, since clap takes no
-/// line without it. An error means that memory ran out.
+/// The names of the inputs, in order, borrowed from the words: at least one, since clap refuses a
+/// line without any. An error means that memory ran out.
 fn names_in<'a>(alloc: Global, matches: &ArgMatches<'a>) -> Result<Vec<&'a str>, AllocError>
     ensures { IfOk result (λ names. map (λ name. name.now) names.items
         ≡ files_in (rows_of (found_of matches.entry.now))) }

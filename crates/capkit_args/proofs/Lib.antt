@@ -1,3 +1,4 @@
+pub mod Common
 mod Folds
 mod LocalOptions
 mod Parses

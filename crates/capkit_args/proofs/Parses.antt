@@ -1,6 +1,5 @@
 -- What a parse of the command line gives and refuses.
-use Rattle.std.proofs.Common.{◌≡◌, ◌∙◌, ap, sym, subst, true, List, Result, Ok, Err, IfOk, IfErr, map, refl, inl}
-use Rattle.clap.specs.Words.{App, FailsBy, HasKind, HasMatchesOf, Text, fault_of, is_simple, is_simple_and_free, kind_of, subcommand_of, subcommand_rows_of, takes}
+use Rattle.capkit_args.proofs.Common.{◌≡◌, ◌∙◌, ap, sym, subst, true, List, Result, Ok, Err, IfOk, IfErr, map, refl, inl, App, FailsBy, HasKind, HasMatchesOf, Text, fault_of, is_simple, is_simple_and_free, kind_of, subcommand_of, subcommand_rows_of, takes, AreChoices, RefusesWords, TakesWords, format_names, line_app, link_names}
 use Rattle.clap.specs.declared.builder.value_parser.ValueParser.{ValueParser}
 use Rattle.clap.specs.declared.builder.value_parser.ValueParser.TheVariants as parser
 use Rattle.clap.specs.declared.error.Error.{Error}
@@ -8,7 +7,6 @@ use Rattle.clap.specs.declared.error.kind.ErrorKind.TheVariants.{OutOfMemory}
 use Rattle.clap.specs.declared.parser.matches.ArgMatches.{ArgMatches}
 use Rattle.cap_octet.specs.Format.{all_formats}
 use Rattle.cap_octet.specs.Link.{all_links}
-use Rattle.capkit_args.specs.Arguments.{AreChoices, RefusesWords, TakesWords, format_names, line_app, link_names}
 
 simple_line : (formats links : ValueParser) → is_simple (line_app formats links) ≡ true
 simple_line formats links = refl

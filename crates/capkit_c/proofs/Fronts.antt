@@ -1,34 +1,12 @@
 -- The unit that a text begins with, from the record or the block that it is.
-use Rattle.std.proofs.Common.{◌≡◌, ℕ, ◌+◌, ◌-◌, ◌<◌, ◌≤◌, List, [], ◌∷◌, ◌++◌, length, take, drop, Option, Some, None, Ok, refl, sym, ap, ◌∙◌, subst, arith}
-use Rattle.std.specs.List.{slice_get}
-use Rattle.std.specs.Option.{option_map}
-use Rattle.std.proofs.lemmas.List.{drop-take, length-take-le, take-append-drop, take-take}
-use Rattle.cap_octet.specs.Checks.{checked}
-use Rattle.cap_octet.specs.Packet.{Captured}
-use Rattle.cap_octet.specs.declared.number.Order.{Order}
-use Rattle.cap_octet.proofs.Checks.{checked_ok}
-use Rattle.cap_pcap.specs.declared.header.Head.{Head}
-use Rattle.cap_pcap.specs.declared.header.RecordHead.{RecordHead}
-use Rattle.cap_pcap.specs.Record.{record_fault, record_header_in, record_size, record_packet}
-use Rattle.cap_pcap.proofs.Records.{passes, record_header_in-append}
+use Rattle.capkit_c.proofs.Common.{◌≡◌, ℕ, ◌+◌, ◌-◌, ◌<◌, ◌≤◌, List, [], ◌∷◌, ◌++◌, length, take, drop, Option, Some, None, Ok, refl, sym, ap, ◌∙◌, subst, arith, slice_get, option_map, drop-take, length-take-le, take-append-drop, take-take, checked, Captured, Order, checked_ok, Head, RecordHead, record_fault, record_header_in, record_size, record_packet, record_header_in-append, is_section, Described, Section, packet_of, packets_in, parts_after, LieAsSaid, section_of, Declared, Nothing, PcapFile, PcapngFile, IsUnit, Whole, a_block, a_first_block, file_after, first_link_after, front_of, is_pcapng, Following, BlockStands, IsNoBlock, IsOfIfAny, spans_of, declared_by, ArePlaced, Begins, IsNoUnit, BeginsWithUnit, UnitPacket, Refusal, FileState, Interface}
+use Rattle.cap_pcap.proofs.Records.{passes}
 use Rattle.cap_pcapng.specs.Comment.{comment_in}
-use Rattle.cap_pcapng.specs.Frame.{is_section}
-use Rattle.cap_pcapng.specs.Interface.{Described}
-use Rattle.cap_pcapng.specs.Unit.{Section, packet_of, packets_in, parts_after}
-use Rattle.cap_pcapng.specs.Effect.{LieAsSaid, section_of}
-use Rattle.cap_io.specs.Capture.{Declared, Nothing, PcapFile, PcapngFile, IsUnit, Whole, a_block, a_first_block, file_after, first_link_after, front_of, is_pcapng}
 use Rattle.cap_io.proofs.CapturesCame.{first-packets, section-kept}
 use Rattle.cap_io.proofs.Fronts.{front_of-following, front_of-pcapng, front_of-record, front_of_block-none, is_pcapng-append}
 use Rattle.cap_io.proofs.Units.{front_of-unit}
-use Rattle.capkit_c.specs.inside.Blocks.{Following, BlockStands, IsNoBlock, IsOfIfAny, spans_of}
-use Rattle.cap_io.specs.Reading.{declared_by}
-use Rattle.capkit_c.specs.inside.Units.{ArePlaced, Begins, IsNoUnit, BeginsWithUnit}
-use Rattle.capkit_c.specs.declared.memory.block.UnitPacket.{UnitPacket}
-use Rattle.capkit_c.specs.declared.memory.block.Refusal.{Refusal}
 use Rattle.capkit_c.specs.declared.memory.block.Refusal.TheVariants as refusal
-use Rattle.cap_io.specs.declared.file_state.FileState.{FileState}
 use Rattle.cap_io.specs.declared.file_state.FileState.TheVariants as form
-use Rattle.capkit_c.specs.declared.memory.layout.Interface.{Interface}
 
 -- ---- the kind of a file
 

@@ -1,23 +1,7 @@
 -- What reading the unit at a reader's place leaves.
-use Rattle.std.proofs.Common.{◌≡◌, ℕ, ◌+◌, ◌-◌, ◌<◌, ◌≤◌, List, [], length, take, drop, Option, Some, None, refl, sym, ap, ◌∙◌, subst, arith}
-use Rattle.std.specs.Prelude.{min}
-use Rattle.std.proofs.lemmas.List.{drop-drop, length-drop}
-use Rattle.cap_octet.specs.Packet.{Captured}
-use Rattle.cap_octet.specs.declared.fault.Fault.{Fault}
-use Rattle.cap_io.specs.Capture.{Declared, NoUnit, Whole, first_link_of, front_of}
-use Rattle.cap_io.specs.Reading.{declared_by}
-use Rattle.cap_pcapng.specs.Interface.{Described}
-use Rattle.capkit_c.specs.Layout.{HasLink, declared_in, first_interfaces, reader_form, most_known}
-use Rattle.capkit_c.specs.Units.{IsPastUnit, IsPacketFound, NextLeaves, Stays, comment_by, ends, fails, finds, is_full, passes}
-use Rattle.capkit_c.specs.inside.Blocks.{spans_of}
-use Rattle.capkit_c.specs.inside.Units.{ArePlaced, Counts, IsNoUnit, IsAtEnd, IsPlaced, BeginsWithUnit, placed_packet}
-use Rattle.capkit_c.specs.declared.memory.block.UnitPacket.{UnitPacket}
+use Rattle.capkit_c.proofs.Common.{◌≡◌, ℕ, ◌+◌, ◌-◌, ◌<◌, ◌≤◌, List, [], length, take, drop, Option, Some, None, refl, sym, ap, ◌∙◌, subst, arith, min, drop-drop, length-drop, Captured, Fault, Declared, NoUnit, Whole, first_link_of, front_of, declared_by, Described, HasLink, declared_in, first_interfaces, reader_form, most_known, IsPastUnit, IsPacketFound, NextLeaves, Stays, comment_by, ends, fails, finds, is_full, passes, spans_of, ArePlaced, Counts, IsNoUnit, IsAtEnd, IsPlaced, BeginsWithUnit, placed_packet, UnitPacket, FileState, Interface, Packet, Reader}
 use Rattle.capkit_c.specs.declared.memory.block.Refusal.TheVariants as refusal
-use Rattle.cap_io.specs.declared.file_state.FileState.{FileState}
 use Rattle.cap_io.specs.declared.file_state.FileState.TheVariants as form
-use Rattle.capkit_c.specs.declared.memory.layout.Interface.{Interface}
-use Rattle.capkit_c.specs.declared.memory.layout.Packet.{Packet}
-use Rattle.capkit_c.specs.declared.memory.layout.Reader.{Reader}
 use Rattle.capkit_c.specs.declared.memory.reader.Found.TheVariants as found
 use Rattle.capkit_c.specs.declared.memory.reader.ReadUnit.{ReadUnit}
 

@@ -1,8 +1,7 @@
 -- A text is one expression, so all programs that are compiled of it are within one bound.
-use Rattle.std.proofs.Common.{◌≡◌, ◌≤◌, ℕ, List, length, ap, sym, subst, ◌∙◌}
+use Rattle.capkit_c.proofs.Common.{◌≡◌, ◌≤◌, ℕ, List, length, ap, sym, subst, ◌∙◌, Insn, IsBound, IsFor}
 use Rattle.flt_words.specs.declared.token.Token.{Token}
 use Rattle.flt_words.proofs.OneAnswer.{same_answer}
-use Rattle.flt_bpf.specs.declared.insn.Insn.{Insn}
 use Rattle.flt_ast.specs.Counts.{bound_of}
 use Rattle.flt_ast.specs.Filled.{fill_expression}
 use Rattle.flt_lang.specs.Grammar.{IsReadAs, kinds_of}
@@ -10,8 +9,6 @@ use Rattle.flt_ast.specs.Tree.{Expression}
 use Rattle.flt_lang.proofs.Complete.{complete}
 use Rattle.flt_ast.proofs.NodesBack.{same_nodes}
 use Rattle.cap_filter.specs.Expressions.{IsExpression, HasTree}
-use Rattle.capkit_c.specs.Bounding.{IsBound}
-use Rattle.capkit_c.specs.Compiling.{IsFor}
 
 one_tree : (tokens more : List Token) (a b : Expression) → tokens ≡ more → IsReadAs (kinds_of tokens) a → IsReadAs (kinds_of more) b → a ≡ b
 one_tree tokens more a b same reads_a reads_b =

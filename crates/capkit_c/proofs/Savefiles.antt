@@ -1,16 +1,6 @@
 -- What the first bytes of a text say is what the text says.
-use Rattle.std.proofs.Common.{◌≡◌, ℕ, ◌-◌, ◌<◌, ◌≤◌, List, ◌++◌, length, take, drop, Ok, Err, Some, None, sym, ap, ◌∙◌, arith}
-use Rattle.std.proofs.lemmas.List.{length-take-le, take-append-drop}
-use Rattle.cap_octet.specs.Checks.{checked, first_failing}
-use Rattle.cap_octet.specs.declared.fault.Fault.{Fault}
-use Rattle.cap_octet.specs.declared.fault.Fault.TheVariants.{Truncated}
-use Rattle.cap_octet.proofs.Checks.{checked_ok, checked_err}
-use Rattle.cap_pcap.specs.declared.header.Head.{Head}
-use Rattle.cap_pcap.specs.declared.header.RecordHead.{RecordHead}
-use Rattle.cap_pcap.specs.Header.{header_fault, header_in}
-use Rattle.cap_pcap.specs.Record.{captured_len, field_checks, record_fault, record_header_in}
+use Rattle.capkit_c.proofs.Common.{◌≡◌, ℕ, ◌-◌, ◌<◌, ◌≤◌, List, ◌++◌, length, take, drop, Ok, Err, Some, None, sym, ap, ◌∙◌, arith, length-take-le, take-append-drop, checked, first_failing, Fault, Truncated, checked_ok, checked_err, Head, RecordHead, header_fault, header_in, captured_len, field_checks, record_fault, record_header_in, field_checks-append, record_header_in-append, record_fault-fields, record_fault-short, record_fault-whole}
 use Rattle.cap_pcap.proofs.Headers.{header_in-append, header_fault-append}
-use Rattle.cap_pcap.proofs.Records.{field_checks-append, record_header_in-append, record_fault-fields, record_fault-short, record_fault-whole}
 
 -- ---- a file header
 

@@ -1,17 +1,7 @@
 -- What a step of a search leaves.
-use Rattle.std.proofs.Common.{◌≡◌, ℕ, ◌+◌, ◌-◌, ◌<◌, ◌≤◌, List, [], ◌∷◌, length, take, drop, Option, Some, None, refl, sym, ap, ◌∙◌, subst, arith}
-use Rattle.std.proofs.lemmas.List.{drop-drop, length-drop}
-use Rattle.cap_octet.specs.Packet.{Captured}
-use Rattle.cap_io.specs.Capture.{Declared, NoUnit, Whole, front_of}
-use Rattle.capkit_c.specs.Layout.{HasLink, declared_in}
-use Rattle.flt_bpf.specs.declared.insn.Insn.{Insn}
-use Rattle.capkit_c.specs.Matching.{Judges, Skips, at_packet, past_packet, past_unit}
+use Rattle.capkit_c.proofs.Common.{◌≡◌, ℕ, ◌+◌, ◌-◌, ◌<◌, ◌≤◌, List, [], ◌∷◌, length, take, drop, Option, Some, None, refl, sym, ap, ◌∙◌, subst, arith, drop-drop, length-drop, Captured, Declared, NoUnit, Whole, front_of, HasLink, declared_in, Insn, Judges, Skips, at_packet, past_packet, past_unit, DeclaresOne, IsPastUnit, IsPacketFound, IsStop, NextLeaves, PacketLeaves, PassesUnits, Stays, UnitHas, comment_by, ends, fails, finds, is_full, one_passed, passes, Interface, Packet, Reader}
 use Rattle.capkit_c.specs.inside.Matching.{StepLeaves}
-use Rattle.capkit_c.specs.Units.{DeclaresOne, IsPastUnit, IsPacketFound, IsStop, NextLeaves, PacketLeaves, PassesUnits, Stays, UnitHas, comment_by, ends, fails, finds, is_full, one_passed, passes}
 use Rattle.capkit_c.specs.Laws.{packet_from, reader_from}
-use Rattle.capkit_c.specs.declared.memory.layout.Interface.{Interface}
-use Rattle.capkit_c.specs.declared.memory.layout.Packet.{Packet}
-use Rattle.capkit_c.specs.declared.memory.layout.Reader.{Reader}
 use Rattle.capkit_c.specs.declared.memory.reader.Found.{Found}
 use Rattle.capkit_c.specs.declared.memory.reader.Found.TheVariants as found
 

@@ -1,26 +1,12 @@
 -- The block that a text begins with.
-use Rattle.std.proofs.Common.{◌≡◌, ℕ, ◌<◌, ◌≤◌, inl, inr, List, [], ◌∷◌, ◌++◌, length, take, drop, Option, Some, None, Ok, Err, refl, sym, ap, ap₂, ◌∙◌, subst, arith}
-use Rattle.std.specs.Option.{option_map}
-use Rattle.std.proofs.lemmas.List.{length-take-le, take-append-drop, take-take}
-use Rattle.cap_octet.specs.Checks.{checked, first_failing}
-use Rattle.cap_octet.specs.declared.fault.Fault.{Fault}
-use Rattle.cap_octet.specs.declared.fault.Fault.TheVariants.{Truncated}
-use Rattle.cap_octet.specs.declared.number.Order.{Order}
-use Rattle.cap_octet.proofs.Checks.{checked_err}
+use Rattle.capkit_c.proofs.Common.{◌≡◌, ℕ, ◌<◌, ◌≤◌, inl, inr, List, [], ◌∷◌, ◌++◌, length, take, drop, Option, Some, None, Ok, Err, refl, sym, ap, ap₂, ◌∙◌, subst, arith, option_map, length-take-le, take-append-drop, take-take, checked, first_failing, Fault, Truncated, Order, checked_err, frame_checks, frame_fault, frame_in, Described, Section, block_size, checks_among, frame_after, interfaces_before, order_before, parts_after, unit_fault, Enters, IsBlockFault, BlockPacketIfAny, BlockStands, IsNoBlock, IsRefusal, LiesIfAny, spans_of, Refusal, UnitPacket}
 use Rattle.cap_pcapng.specs.Block.{Parts, block_checks, parts_in}
-use Rattle.cap_pcapng.specs.Frame.{frame_checks, frame_fault, frame_in}
-use Rattle.cap_pcapng.specs.Interface.{Described}
-use Rattle.cap_pcapng.specs.Unit.{Section, block_size, checks_among, frame_after, interfaces_before, order_before, parts_after, unit_fault}
 use Rattle.cap_pcapng.specs.declared.frames.Frame.{Frame}
 use Rattle.cap_pcapng.proofs.Units.{frame_checks-append, frame_in-append, block_checks-append, parts_in-append, unit_fault-frame, unit_fault-short, unit_fault-block, unit_fault-among}
-use Rattle.cap_pcapng.specs.Effect.{Enters, IsBlockFault}
 use Rattle.cap_pcapng.specs.declared.effect.PacketSpans.{PacketSpans}
 use Rattle.cap_io.proofs.BlocksCame.{BlockCame, FrontSays, WholeCame, block_came, front_says, says_after}
 use Rattle.cap_io.proofs.BlocksCame as came
-use Rattle.capkit_c.specs.inside.Blocks.{BlockPacketIfAny, BlockStands, IsNoBlock, IsRefusal, LiesIfAny, spans_of}
-use Rattle.capkit_c.specs.declared.memory.block.Refusal.{Refusal}
 use Rattle.capkit_c.specs.declared.memory.block.Refusal.TheVariants as refusal
-use Rattle.capkit_c.specs.declared.memory.block.UnitPacket.{UnitPacket}
 
 -- ---- the first 12 bytes
 

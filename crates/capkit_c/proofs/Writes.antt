@@ -1,7 +1,5 @@
 -- Bytes by another way to say them, and none that is refused.
-use Rattle.std.proofs.Common.{◌≡◌, ℕ, List, Option, None, subst, sym}
-use Rattle.cap_octet.specs.declared.fault.Fault.{Fault}
-use Rattle.capkit_c.specs.Buffers.{WriteLeaves}
+use Rattle.capkit_c.proofs.Common.{◌≡◌, ℕ, List, Option, None, subst, sym, Fault, WriteLeaves}
 use Rattle.capkit_c.specs.declared.memory.writing.Written.{Written}
 
 pub unrefused : (refusal : Option Fault) (bytes exact old new : List ℕ) (written : Written) → refusal ≡ None → exact ≡ bytes

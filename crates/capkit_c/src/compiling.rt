@@ -5,7 +5,7 @@ ghost use Rattle.capkit_c.specs.Compiling.{CompilesText, IsFailure, WritesProgra
 ghost use Rattle.capkit_c.specs.Compiling.{HasNoLink, IsLinkFor, IsNotUtf8, are_blanks};
 ghost use Rattle.capkit_c.specs.Compiling.{failure_number, failure_status, file_link_type};
 
-use cap_filter::compile::compile_text;
+use cap_filter::expression::compile_text;
 use cap_octet::Link;
 use cap_octet::assigned::LINKTYPE_RAW;
 use flt_bpf::Insn;

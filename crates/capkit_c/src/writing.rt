@@ -1,4 +1,5 @@
-//! The units of a capture, put into the caller's buffer.
+//! Calls for C that write a capture to the caller's buffer, one file header, record or block per
+//! call.
 ghost use Rattle.std.specs.Prelude.{◌≡◌, [], None};
 ghost use Rattle.cap_octet.specs.Checks.{first_failing};
 ghost use Rattle.cap_io.specs.Text.{record_text};
@@ -14,9 +15,9 @@ use crate::memory::{
 };
 use crate::reading::fault_number;
 
-/// Returns the number that `library/include/capkit.h` gives the result of a write: 0 if the unit is
-/// written, 225 if the buffer has no room for it, or that of the fault if it is refused. `length`
-/// becomes the size of the unit, or 0 if it is refused.
+/// Returns the result of a write as a number of `library/include/capkit.h`: 0 if the unit is
+/// written, 225 if the buffer is too small, or the number of the fault if the unit is refused.
+/// `length` becomes the size of the unit, or 0 if it is refused.
 fn tell_written(written: Written, length: &mut usize) -> u32
     ensures number { result ≡ written_number written }
     ensures length { length.new ≡ written_length written }
@@ -37,8 +38,11 @@ fn tell_written(written: Written, length: &mut usize) -> u32
     }
 }
 
-/// Puts the file header of a pcap file, with the greatest snapshot length, at the start of the
-/// buffer. Returns 0, or 225 if the buffer has no room for it; `length` is its size in either case.
+/// Writes the file header of a pcap file, with the greatest snapshot length, to the start of the
+/// buffer. Times are in microseconds if `nanoseconds` is 0, else in nanoseconds.
+///
+/// The result is 0, or 225 if the buffer is too small, which is then unchanged. In both cases
+/// `length` becomes the size of the header.
 #[unsafe(no_mangle)]
 pub extern "C" fn capkit_write_file_header(
     nanoseconds: u32,
@@ -53,9 +57,11 @@ pub extern "C" fn capkit_write_file_header(
     tell_written(write_file_header(nanoseconds, link_type, buffer), length)
 }
 
-/// Puts a record of a pcap file, as `capkit_write_file_header` puts the header. `time` is in
-/// nanoseconds since 1970. If the packet is refused, the result is 204 (`TooLong`) or 210
-/// (`TimeOutOfRange`), and the length is 0.
+/// Writes a record of a pcap file; buffer and result are as for `capkit_write_file_header`. `time`
+/// is in nanoseconds since 1970, and `original` is the length on the wire.
+///
+/// A refused packet has the result 204 (`TooLong`) or 210 (`TimeOutOfRange`) and the length 0; the
+/// buffer is unchanged.
 #[unsafe(no_mangle)]
 pub extern "C" fn capkit_write_record(
     nanoseconds: u32,
@@ -74,8 +80,8 @@ pub extern "C" fn capkit_write_record(
     tell_written(written, length)
 }
 
-/// Puts the section header block that a pcapng file begins with, as `capkit_write_file_header` puts
-/// a header.
+/// Writes the section header block that a pcapng file begins with; buffer and result are as for
+/// `capkit_write_file_header`.
 #[unsafe(no_mangle)]
 pub extern "C" fn capkit_write_section(buffer: &mut [u8], length: &mut usize) -> u32
     ensures { WriteTells None section_text buffer.old buffer.new length.new result }
@@ -83,8 +89,9 @@ pub extern "C" fn capkit_write_section(buffer: &mut [u8], length: &mut usize) ->
     tell_written(write_section(buffer), length)
 }
 
-/// Puts an interface description block, as `capkit_write_file_header` puts a header. If the name
-/// has over 255 bytes, the result is 208 (`BadOption`), and the length is 0.
+/// Writes an interface description block; buffer and result are as for `capkit_write_file_header`.
+/// A name of more than 255 bytes has the result 208 (`BadOption`) and the length 0; the buffer is
+/// unchanged.
 #[unsafe(no_mangle)]
 pub extern "C" fn capkit_write_interface(
     link_type: u16,
@@ -99,9 +106,11 @@ pub extern "C" fn capkit_write_interface(
     tell_written(write_interface(link_type, snap, name, buffer), length)
 }
 
-/// Puts an enhanced packet block, as `capkit_write_file_header` puts a header. `time` is in
-/// nanoseconds since 1970. If the packet is refused, the result is 204 (`TooLong`), 208
-/// (`BadOption`), 210 (`TimeOutOfRange`) or 221 (`TooManyOutputInterfaces`), and the length is 0.
+/// Writes an enhanced packet block; buffer and result are as for `capkit_write_file_header`. `time`
+/// is in nanoseconds since 1970, and `original` is the length on the wire.
+///
+/// A refused packet has the result 204 (`TooLong`), 208 (`BadOption`), 210 (`TimeOutOfRange`) or
+/// 221 (`TooManyOutputInterfaces`) and the length 0; the buffer is unchanged.
 #[unsafe(no_mangle)]
 pub extern "C" fn capkit_write_packet(
     interface: u32,

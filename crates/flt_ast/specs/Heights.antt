@@ -1,9 +1,11 @@
--- The number of operands that wait while the nodes of a tree are evaluated in order.
+-- Heights of the operand stack: how many numbers wait on it while the nodes of a tree are evaluated
+-- one by one, operands before their operator.
 use Rattle.std.specs.Prelude.{ℕ, ◌+◌, ◌-◌}
 use Rattle.flt_ast.specs.declared.node.Node.{Node}
 use Rattle.flt_ast.specs.declared.node.Node.TheVariants as node
 
--- how many numbers wait to be operands after a node, if h wait before it
+-- the height of the stack after a node, if it is h before: a number or `len` adds one, an operator
+-- replaces two numbers by one, a comparison removes two, and other nodes keep the height
 abbrev pub height_after : ℕ → Node → ℕ
 height_after h (node.Literal n) = h + 1
 height_after h node.Len = h + 1
@@ -12,8 +14,8 @@ height_after h (node.Apply o) = h - 1
 height_after h (node.Compare c) = h - 2
 height_after h _ = h
 
--- how many numbers wait after a node; in `less` and `greater`, with the two of their own, which
--- wait only there
+-- the greatest height of the stack during a node and after it, if it is h before: `less` and
+-- `greater` add two numbers of their own, and remove them again
 abbrev pub peak_height : ℕ → Node → ℕ
 peak_height h (node.Sized s n) = h + 2
 peak_height h n = height_after h n

@@ -4,8 +4,8 @@ use Rattle.flt_ast.specs.declared.value.NetMask.{NetMask}
 use Rattle.flt_ast.specs.declared.value.NetMask.TheVariants as mask
 use Rattle.flt_ast.specs.declared.value.Value.{Value}
 use Rattle.flt_ast.specs.declared.value.Value.TheVariants as value
-use Rattle.flt_ast.specs.declared.net.Ip4Net.{Ip4Net}
-use Rattle.flt_ast.specs.declared.net.Ip6Net.{Ip6Net}
+use Rattle.flt_ast.specs.declared.value.Ip4Net.{Ip4Net}
+use Rattle.flt_ast.specs.declared.value.Ip6Net.{Ip6Net}
 
 -- the mask of the first n of a number of bits
 abbrev pub first_bits : ℕ → ℕ → ℕ

@@ -1,5 +1,5 @@
-//! What fits: which values, protocols and directions go with a type, and which numbers are in
-//! range. `node` asks it of each node with a value (faults E7 and E8).
+//! Decides which values, protocols and directions go with a type, and which numbers are in range.
+//! `node` asks this for each node with a value (faults E7 and E8).
 
 ghost use Rattle.std.specs.Prelude.{◌≡◌};
 ghost use Rattle.flt_ast.specs.Fits.{has_ip4_addresses, has_ip6_addresses};

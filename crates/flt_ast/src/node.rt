@@ -1,4 +1,4 @@
-//! The nodes of a tree, what each is found to be wrong with, and what each counts as.
+//! The nodes of a tree: which faults each has, and what each counts as.
 
 use crate::fits::{Fit, fit_of, is_cast_misfit};
 use crate::node_counts::{accessor_tests, cast_tests, check_tests, value_tests};
@@ -150,9 +150,9 @@ impl Node {
         }
     }
 
-    /// How many numbers wait to be operands after this node, where `height` wait before it. In a
-    /// tree a node's operands wait before it, so the subtractions never stop at 0. A height is at
-    /// most the number of nodes in a list, and so below 2^63.
+    /// The height of the operand stack after this node, if it is `height` before: how many numbers
+    /// wait to be operands. In a tree the operands of a node wait before it, so the subtractions
+    /// never stop at 0. A height is at most the number of nodes in a list, and so below 2^63.
     pub fn height_after(self, height: usize) -> usize
         requires { height < 2 ^ 63 }
         ensures { result ≡ height_after height self }
@@ -165,8 +165,8 @@ impl Node {
         }
     }
 
-    /// The most numbers that wait at once while the node is worked on, where `height` wait before
-    /// it; `less N` has two of its own.
+    /// The greatest height of the operand stack during this node and after it, if it is `height`
+    /// before. `less N` adds two numbers of its own, and removes them again.
     pub fn peak_height(self, height: usize) -> usize
         requires { height < 2 ^ 63 }
         ensures { result ≡ peak_height height self }

@@ -1,9 +1,9 @@
-//! How many elementary tests a primitive counts as: at least those of the formula that it means.
-//! docs/inside/COMPILER.md has the table.
+//! The number of elementary tests that a primitive counts as: at least the number in the formula
+//! that it means. docs/inside/COMPILER.md has the table.
 //!
-//! A number of tests fits a byte: no node counts as more than the 15 of `portrange` without a
-//! protocol, for both sides. The bounds in the clauses, up to 27, are greater than the counts
-//! because they take a direction for 8 tests, the most that `side_tests` returns.
+//! The number fits a byte: it is at most 15, that of `portrange` without a protocol for both sides.
+//! The clauses state greater bounds, up to 27, because they allow 8 tests for the sides, the most
+//! that `side_tests` returns.
 
 ghost use Rattle.std.specs.Prelude.{◌≡◌, ◌≤◌};
 ghost use Rattle.flt_ast.specs.Counts.{side_tests, proto_tests, check_tests, ether_tests};
@@ -15,8 +15,7 @@ use crate::qualifiers::{CompleteQualifiers, Direction};
 use crate::value::Value;
 use flt_words::{Cast, Protocol, Side, ValueType};
 
-/// The tests of a direction: `tests` for the source or the destination, and as many for the other
-/// one if both are meant.
+/// The number of tests for a direction: `tests` for each side that it means.
 fn side_tests(direction: Direction, tests: u8) -> u8
     requires { tests ≤ 4 }
     ensures count { result ≡ side_tests direction tests }
@@ -28,8 +27,8 @@ fn side_tests(direction: Direction, tests: u8) -> u8
     }
 }
 
-/// The tests of a protocol number: the EtherType and the number, for IPv4 and for IPv6 if no
-/// protocol is named. `ether proto`, which has one test, counts as two.
+/// The number of tests for a protocol number: two, for the EtherType and the number; four if no
+/// protocol is named, for IPv4 and IPv6. `ether proto`, which has one test, counts as two.
 fn proto_tests(protocol: Option<Protocol>) -> u8
     ensures count { result ≡ proto_tests protocol }
     ensures upper_bound { result ≤ 4 }
@@ -40,7 +39,8 @@ fn proto_tests(protocol: Option<Protocol>) -> u8
     }
 }
 
-/// The tests of only a protocol: one above IP is tested as its number is (`tcp` is `proto 6`).
+/// The number of tests for a protocol by itself: one above IP counts as its number does (`tcp` as
+/// `proto 6`), any other as one test.
 pub(crate) fn check_tests(protocol: Protocol) -> u8
     ensures count { result ≡ check_tests protocol }
     ensures upper_bound { result ≤ 4 }
@@ -53,7 +53,8 @@ pub(crate) fn check_tests(protocol: Protocol) -> u8
     }
 }
 
-/// The tests of a MAC address: that the link is Ethernet, and each side as four bytes and two.
+/// The number of tests for a MAC address: one whether the link is Ethernet, and two for each side
+/// (four bytes, then two).
 fn ether_tests(direction: Direction) -> u8
     ensures count { result ≡ ether_tests direction }
     ensures upper_bound { result ≤ 9 }
@@ -61,8 +62,8 @@ fn ether_tests(direction: Direction) -> u8
     1 + side_tests(direction, 2)
 }
 
-/// The tests of `broadcast`, which is the MAC address of a destination, and of `multicast`: the
-/// protocol, and one bit or byte of the address.
+/// The number of tests for `broadcast`, which is tested as the MAC address of a destination, or for
+/// `multicast`: the protocol, and one bit or byte of the address.
 pub(crate) fn cast_tests(cast: Cast) -> u8
     ensures count { result ≡ cast_tests cast }
     ensures upper_bound { result ≤ 9 }
@@ -73,8 +74,8 @@ pub(crate) fn cast_tests(cast: Cast) -> u8
     }
 }
 
-/// The tests of an IPv4 address or network, which without a protocol may be one of IPv4, ARP or
-/// RARP: the EtherType and each side, for each of the three.
+/// The number of tests for an IPv4 address or network: one for the EtherType, and one for each
+/// side. Without a protocol there are three times as many, for IPv4, ARP and RARP.
 fn ip4_tests(protocol: Option<Protocol>, direction: Direction) -> u8
     ensures count { result ≡ ip4_tests protocol direction }
     ensures upper_bound { result ≤ 27 }
@@ -86,7 +87,7 @@ fn ip4_tests(protocol: Option<Protocol>, direction: Direction) -> u8
     }
 }
 
-/// The tests whether a packet is TCP, or whether it is UDP; both if no protocol is named.
+/// The number of tests for TCP or UDP: one if the protocol is named, else one for each.
 fn transport_tests(protocol: Option<Protocol>) -> u8
     ensures count { result ≡ transport_tests protocol }
     ensures upper_bound { result ≤ 2 }
@@ -97,8 +98,8 @@ fn transport_tests(protocol: Option<Protocol>) -> u8
     }
 }
 
-/// The tests of ports, `tests` a side: 1 of a port, 2 of a range. Over IPv4 there is one more,
-/// since a later fragment has no ports; over IPv6 none.
+/// The number of tests for ports, with `tests` for each side: 1 for a port, 2 for a range. IPv4
+/// takes one more than IPv6, since a later fragment has no ports.
 fn port_tests(protocol: Option<Protocol>, direction: Direction, tests: u8) -> u8
     requires { tests ≤ 2 }
     ensures count { result ≡ port_tests protocol direction tests }
@@ -109,7 +110,8 @@ fn port_tests(protocol: Option<Protocol>, direction: Direction, tests: u8) -> u8
     (1 + transport + 1 + sides) + (1 + transport + sides)
 }
 
-/// The tests of an address or a network, by its kind; an IPv6 address is tested as four words.
+/// The number of tests for an address or a network, depending on its kind; an IPv6 address is
+/// tested as four words.
 fn address_tests(protocol: Option<Protocol>, direction: Direction, value: Value) -> u8
     ensures count { result ≡ address_tests protocol direction value }
     ensures upper_bound { result ≤ 27 }
@@ -121,7 +123,7 @@ fn address_tests(protocol: Option<Protocol>, direction: Direction, value: Value)
     }
 }
 
-/// The tests of a value with all its qualifiers.
+/// The number of tests for a value with all its qualifiers.
 pub(crate) fn value_tests(qualifiers: CompleteQualifiers, value: Value) -> u8
     ensures count { result ≡ value_tests qualifiers value }
     ensures upper_bound { result ≤ 27 }
@@ -138,8 +140,8 @@ pub(crate) fn value_tests(qualifiers: CompleteQualifiers, value: Value) -> u8
     }
 }
 
-/// The tests of an accessor, such as `tcp[13]`: its protocol; above IPv4 the EtherType, its
-/// number and that the packet isn't a later fragment.
+/// The number of tests for an accessor, such as `tcp[13]`: one for its protocol; above IPv4 three,
+/// for the EtherType, the protocol number, and that the packet isn't a later fragment.
 pub(crate) fn accessor_tests(protocol: Protocol) -> u8
     ensures count { result ≡ accessor_test_count protocol }
     ensures upper_bound { result ≤ 3 }

@@ -1,4 +1,4 @@
-//! What stands before a value: its qualifiers, as in `tcp dst port 80`.
+//! The qualifiers before a value, as in `tcp dst port 80`.
 
 use flt_words::{Join, Protocol, Side, ValueType};
 

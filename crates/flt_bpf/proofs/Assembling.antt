@@ -1,10 +1,7 @@
 -- A listing is assembled from the bytes of its lines, and a front of it is written at each place.
-use Rattle.std.proofs.Common.{◌≡◌, ℕ, ◌+◌, ◌-◌, ◌<◌, ◌≤◌, List, [], ◌∷◌, ◌++◌, length, take, drop, length-append, append_assoc, refl, sym, ap, ◌∙◌, arith, get_or}
-use Rattle.std.specs.Prelude.{decimal}
-use Rattle.std.proofs.lemmas.List.{take_all, take_more, drop_more, length-drop, take-append-drop, take-append-le}
+use Rattle.flt_bpf.proofs.Common.{◌≡◌, ℕ, ◌+◌, ◌-◌, ◌<◌, ◌≤◌, List, [], ◌∷◌, ◌++◌, length, take, drop, length-append, append_assoc, refl, sym, ap, ◌∙◌, arith, get_or, decimal, take_all, take_more, drop_more, take-append-drop, take-append-le, Insn, BLANK, LINE_FEED, insn_line, insn_lines, listing}
+use Rattle.std.proofs.lemmas.List.{length-drop}
 use Rattle.std.proofs.Math.Seq.{take-append-add}
-use Rattle.flt_bpf.specs.declared.insn.Insn.{Insn}
-use Rattle.flt_bpf.specs.Listing.{BLANK, LINE_FEED, insn_line, insn_lines, listing}
 
 -- the numbers of a line, put one before the other
 pub line_assembled : (i : Insn) (code jt jf k : ℕ) (a b c d : List ℕ) → code ≡ i.code → jt ≡ i.jt → jf ≡ i.jf → k ≡ i.k → a ≡ decimal code ++ BLANK ∷ b → b ≡ decimal jt ++ BLANK ∷ c → c ≡ decimal jf ++ BLANK ∷ d → d ≡ decimal k ++ LINE_FEED ∷ [] → a ≡ insn_line i ++ LINE_FEED ∷ []

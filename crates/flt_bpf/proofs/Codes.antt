@@ -1,8 +1,6 @@
 -- The code of an operation that a code gives is that code.
-use Rattle.std.proofs.Common.{◌≡◌, ℕ, List, [], ◌∷◌, Some, arith}
-use Rattle.std.proofs.lemmas.Bool.Decides.{nat_tests}
-use Rattle.flt_bpf.specs.declared.operation.Operation.{Operation}
-use Rattle.flt_bpf.specs.Instructions.{code_of, found, operations, operation_of}
+use Rattle.flt_bpf.proofs.Common.{◌≡◌, ℕ, List, [], ◌∷◌, Some, arith, nat_tests, Operation, code_of, found, operations}
+use Rattle.flt_bpf.specs.Instructions.{operation_of}
 
 found_code : (os : List Operation) (code : ℕ) (o : Operation) → found os code ≡ Some o → code_of o ≡ code
 found_code [] code o e = cc

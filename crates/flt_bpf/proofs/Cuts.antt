@@ -1,11 +1,5 @@
 -- A text that is cut at the first of some byte.
-use Rattle.std.proofs.Common.{◌≡◌, ℕ, zero, suc, ◌+◌, ◌-◌, ◌<◌, List, [], ◌∷◌, length, get_or, take, drop, length-drop, true, false, refl, sym, ap, ◌∙◌, arith}
-use Rattle.std.specs.Prelude.{◌==◌}
-use Rattle.std.specs.List.{slice_split}
-use Rattle.std.proofs.lemmas.Bool.Decides.{nat_tests}
-use Rattle.std.proofs.lemmas.List.Splits.{slice_split-cons_yes, slice_split-cons_no}
-use Rattle.std.specs.List.{onto_first}
-use Rattle.std.proofs.lemmas.List.{take_all}
+use Rattle.flt_bpf.proofs.Common.{◌≡◌, ℕ, zero, suc, ◌+◌, ◌-◌, ◌<◌, List, [], ◌∷◌, length, get_or, take, drop, length-drop, true, false, refl, sym, ap, ◌∙◌, arith, ◌==◌, slice_split, nat_tests, slice_split-cons_yes, slice_split-cons_no, onto_first, take_all}
 
 -- no byte below a place is the one
 pub cut_here : (c : ℕ) (bs : List ℕ) (at : ℕ) → ((k : ℕ) → k < at → get_or bs k 0 ≡ c → ⊥) → at < length bs → get_or bs at 0 ≡ c → slice_split (λ b. b == c) bs ≡ take at bs ∷ slice_split (λ b. b == c) (drop (suc at) bs)

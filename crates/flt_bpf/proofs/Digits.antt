@@ -1,16 +1,9 @@
 -- What the reader takes for a number is one, and the numbers that are written are taken for
 -- themselves.
-use Rattle.std.proofs.Common.{◌≡◌, ℕ, zero, suc, ◌^◌, ◌<◌, List, [], ◌∷◌, length, Bool, true, false, Some, None, refl, ap, arith}
-use Rattle.std.specs.Prelude.{nat_lt, not, ◌==◌, ◌&&◌, if◌then◌else◌, All, decimal}
+use Rattle.flt_bpf.proofs.Common.{◌≡◌, ℕ, zero, suc, ◌^◌, ◌<◌, List, [], ◌∷◌, length, Bool, true, false, Some, None, refl, ap, arith, nat_lt, not, ◌==◌, ◌&&◌, if◌then◌else◌, All, decimal, nat_tests, decimal_is_IsNumeral, length-decimal-le, All-cons, All-nil, IsWrittenNumber, both, digits_from_test, digits_pass, numeral}
 use Rattle.std.specs.Str.Parse.{AllDigits, digits_value}
-use Rattle.std.proofs.lemmas.Bool.Decides.{nat_tests}
-use Rattle.std.proofs.lemmas.Fmt.{decimal_is_IsNumeral, length-decimal-le}
-use Rattle.std.proofs.lemmas.List.Elements.{All-cons, All-nil}
 use Rattle.std.proofs.lemmas.Str.Parse.{digit_from_value}
-use Rattle.flt_bpf.specs.Listing.{IsWrittenNumber}
-use Rattle.cap_octet.proofs.Numerals.{both, digits_from_test, digits_pass}
 use Rattle.cap_octet.specs.Digits.{are_digits}
-use Rattle.flt_bpf.specs.inside.Reading.{numeral}
 
 some : (n : ℕ) → not (n == 0) ≡ true → 0 < n
 some zero e = absurd (cc)

@@ -1,10 +1,5 @@
 -- The instruction that the reader finds on a line is the line's.
-use Rattle.std.proofs.Common.{◌≡◌, ℕ, ◌^◌, List, [], ◌∷◌, Bool, true, false, Option, Some, None, refl, ap, ◌∙◌, subst, arith}
-use Rattle.std.specs.Prelude.{nat_lt, ◌&&◌, if◌then◌else◌}
-use Rattle.std.proofs.lemmas.Bool.Decides.{nat_tests}
-use Rattle.flt_bpf.specs.declared.insn.Insn.{Insn}
-use Rattle.flt_bpf.specs.Listing.{HasFieldsInRange, IsInsnLine}
-use Rattle.flt_bpf.specs.inside.Reading.{line_numbers, insn_from, insn_of}
+use Rattle.flt_bpf.proofs.Common.{◌≡◌, ℕ, ◌^◌, List, [], ◌∷◌, Bool, true, false, Option, Some, None, refl, ap, ◌∙◌, subst, arith, nat_lt, ◌&&◌, if◌then◌else◌, nat_tests, Insn, HasFieldsInRange, IsInsnLine, line_numbers, insn_from, insn_of}
 use Rattle.flt_bpf.proofs.Numbers.{line_numbers_are, line_numbers_read}
 
 -- the four numbers of an instruction

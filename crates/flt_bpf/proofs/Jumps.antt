@@ -1,7 +1,5 @@
 -- The jumps of code that has one more instruction in front.
-use Rattle.std.proofs.Common.{◌≡◌, ℕ, zero, suc, ◌+◌, List, ◌∷◌, Some, arith, ap, ◌∙◌, inl, inr}
-use Rattle.std.specs.Prelude.{◌≢◌, ◌⊎◌, slice_get}
-use Rattle.flt_bpf.specs.declared.insn.Insn.{Insn}
+use Rattle.flt_bpf.proofs.Common.{◌≡◌, ℕ, zero, suc, ◌+◌, List, ◌∷◌, Some, arith, ap, ◌∙◌, inl, inr, ◌≢◌, ◌⊎◌, slice_get, Insn}
 use Rattle.flt_bpf.specs.Layout.{JUMP, IsNeeded, JumpsAreNeeded}
 
 -- a jump that is needed stays so

@@ -1,4 +1,5 @@
 -- The lemmas that several proofs share.
+pub mod Common
 pub mod Rules
 pub mod Codes
 pub mod Checking

@@ -1,13 +1,5 @@
 -- A listing, read line by line.
-use Rattle.std.proofs.Common.{◌≡◌, ℕ, suc, ◌+◌, ◌-◌, ◌<◌, List, [], ◌∷◌, ◌++◌, length, append_assoc, Some, None, Result, Ok, Err, refl, sym, ap, ◌∙◌, arith}
-use Rattle.std.specs.Prelude.{◌==◌, ◌⊎◌}
-use Rattle.std.proofs.Common.{Bool, true, false, cond, inl, inr}
-use Rattle.std.specs.List.{onto_first}
-use Rattle.std.specs.List.{slice_split}
-use Rattle.std.proofs.lemmas.List.Splits.{length-slice_split}
-use Rattle.flt_bpf.specs.declared.insn.Insn.{Insn}
-use Rattle.flt_bpf.specs.Listing.{LINE_FEED, lines_from, lines_of}
-use Rattle.flt_bpf.specs.inside.Reading.{line_numbers, insn_of, onto, read_insn, read_insns}
+use Rattle.flt_bpf.proofs.Common.{◌≡◌, ℕ, suc, ◌+◌, ◌-◌, ◌<◌, List, [], ◌∷◌, ◌++◌, length, append_assoc, Some, None, Result, Ok, Err, refl, sym, ap, ◌∙◌, arith, ◌==◌, ◌⊎◌, Bool, true, false, cond, inl, inr, onto_first, slice_split, length-slice_split, Insn, LINE_FEED, lines_from, lines_of, line_numbers, insn_of, onto, read_insn, read_insns}
 
 -- a line with others after it
 pub line_more : (text piece rest : List ℕ) → slice_split (λ b. b == LINE_FEED) text ≡ piece ∷ slice_split (λ b. b == LINE_FEED) rest → lines_of text ≡ piece ∷ lines_of rest

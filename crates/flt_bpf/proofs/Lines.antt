@@ -1,11 +1,5 @@
 -- The numbers of a line, read one by one.
-use Rattle.std.proofs.Common.{◌≡◌, ℕ, ◌<◌, List, [], ◌∷◌, length, Option, Some, None, refl, sym, ap, ◌∙◌, arith}
-use Rattle.std.specs.Prelude.{◌==◌}
-use Rattle.std.specs.List.{slice_split}
-use Rattle.std.proofs.lemmas.List.Splits.{length-slice_split}
-use Rattle.flt_bpf.specs.declared.insn.Insn.{Insn}
-use Rattle.flt_bpf.specs.Listing.{BLANK}
-use Rattle.flt_bpf.specs.inside.Reading.{numeral, after, later_numbers, numbers_of, line_numbers, insn_from, insn_of, only_of}
+use Rattle.flt_bpf.proofs.Common.{◌≡◌, ℕ, ◌<◌, List, [], ◌∷◌, length, Option, Some, None, refl, sym, ap, ◌∙◌, arith, ◌==◌, slice_split, length-slice_split, Insn, BLANK, numeral, after, later_numbers, numbers_of, line_numbers, insn_from, insn_of, only_of}
 
 numbers_more : (w : List ℕ) (ws : List (List ℕ)) → 0 < length ws → numbers_of (w ∷ ws) ≡ after (numeral w) (later_numbers ws)
 numbers_more w [] l = absurd (omega arith)

@@ -1,10 +1,5 @@
 -- The numbers that the reader finds on a line are the line's.
-use Rattle.std.proofs.Common.{◌≡◌, ℕ, zero, suc, ◌<◌, List, [], ◌∷◌, ◌++◌, length, append_assoc, Bool, Option, Some, None, refl, sym, ap, ◌∙◌, subst, arith}
-use Rattle.std.specs.Prelude.{◌==◌, replicate}
-use Rattle.std.specs.List.{slice_split, join_with_byte}
-use Rattle.std.proofs.lemmas.List.Splits.{slice_split_at, slice_split_none, length-slice_split, slice_split-cons_yes, join_with_byte-slice_split}
-use Rattle.flt_bpf.specs.Listing.{BLANK, IsWrittenNumber, AreNumbers}
-use Rattle.flt_bpf.specs.inside.Reading.{numeral, after, later_numbers, numbers_of, line_numbers}
+use Rattle.flt_bpf.proofs.Common.{◌≡◌, ℕ, zero, suc, ◌<◌, List, [], ◌∷◌, ◌++◌, length, append_assoc, Bool, Option, Some, None, refl, sym, ap, ◌∙◌, subst, arith, ◌==◌, replicate, slice_split, join_with_byte, slice_split_at, slice_split_none, length-slice_split, slice_split-cons_yes, join_with_byte-slice_split, BLANK, IsWrittenNumber, AreNumbers, numeral, after, later_numbers, numbers_of, line_numbers}
 use Rattle.flt_bpf.proofs.Digits.{numeral_is, numeral_read, number_lacks}
 
 -- blanks and then numbers

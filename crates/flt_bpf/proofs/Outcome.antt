@@ -1,11 +1,7 @@
 -- How reading a text ends, in the words of its lines.
-use Rattle.std.proofs.Common.{◌≡◌, ℕ, List, Result, Ok, Err}
-use Rattle.std.specs.Prelude.{MatchResult, IfOk, IfErr}
-use Rattle.flt_bpf.specs.declared.insn.Insn.{Insn}
+use Rattle.flt_bpf.proofs.Common.{◌≡◌, ℕ, List, Result, Ok, Err, MatchResult, IfOk, IfErr, Insn, IsListing, read, IsFaultOf}
 use Rattle.flt_bpf.specs.declared.fault.ListingFault.{ListingFault}
 use Rattle.flt_bpf.specs.declared.fault.ListingFault.TheVariants.{NotListing, Memory}
-use Rattle.flt_bpf.specs.Listing.{IsListing}
-use Rattle.flt_bpf.specs.inside.Reading.{read, IsFaultOf}
 use Rattle.flt_bpf.specs.Refusal.{IsReasonFor}
 use Rattle.flt_bpf.proofs.Readings.{read_is}
 use Rattle.flt_bpf.proofs.Wrong.{read_refused}

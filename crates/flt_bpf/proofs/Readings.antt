@@ -1,13 +1,6 @@
 -- What the reader computes of a text: the instructions exactly where it is their listing, else the
 -- first wrong line.
-use Rattle.std.proofs.Common.{◌≡◌, ℕ, zero, suc, ◌+◌, ◌≤◌, List, [], ◌∷◌, length, Bool, true, false, Option, Some, None, Result, Ok, Err, refl, sym, ap, ◌∙◌, subst, arith}
-use Rattle.std.specs.Prelude.{nat_lt, if◌then◌else◌}
-use Rattle.std.specs.List.{AllZip}
-use Rattle.std.proofs.lemmas.Bool.Decides.{nat_tests}
-use Rattle.flt_bpf.specs.declared.insn.Insn.{Insn}
-use Rattle.flt_bpf.specs.Valid.{MOST_INSTRUCTIONS}
-use Rattle.flt_bpf.specs.Listing.{MOST_BYTES, IsWrittenNumber, IsInsnLine, lines_of, AreListingLines, IsListing}
-use Rattle.flt_bpf.specs.inside.Reading.{line_numbers, insn_of, onto, read_insn, read_insns, read_from, read_lines, read}
+use Rattle.flt_bpf.proofs.Common.{◌≡◌, ℕ, zero, suc, ◌+◌, ◌≤◌, List, [], ◌∷◌, length, Bool, true, false, Option, Some, None, Result, Ok, Err, refl, sym, ap, ◌∙◌, subst, arith, nat_lt, if◌then◌else◌, AllZip, nat_tests, Insn, MOST_INSTRUCTIONS, MOST_BYTES, IsWrittenNumber, IsInsnLine, lines_of, AreListingLines, IsListing, line_numbers, insn_of, onto, read_insn, read_insns, read_from, read_lines, read}
 use Rattle.flt_bpf.proofs.Numbers.{line_numbers_are, line_numbers_read}
 use Rattle.flt_bpf.proofs.InsnLines.{insn_is, insn_read}
 

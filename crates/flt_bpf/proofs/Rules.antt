@@ -1,19 +1,9 @@
 -- The check of one instruction finds a fault exactly where the instruction breaks that rule.
-use Rattle.std.proofs.Common.{◌≡◌, ℕ, ◌+◌, ◌-◌, ◌<◌, ◌≤◌, Bool, true, false, Option, Some, None, refl, ap, ◌∙◌, subst, arith, ◌⊎◌, inl, inr}
-use Rattle.std.specs.Prelude.{nat_lt, ◌&&◌, ◌==◌, if◌then◌else◌}
-use Rattle.std.proofs.lemmas.Bool.Decides.{nat_tests}
-use Rattle.flt_bpf.specs.declared.insn.Insn.{Insn}
-use Rattle.flt_bpf.specs.declared.fault.CheckFault.{CheckFault}
-use Rattle.flt_bpf.specs.declared.fault.CheckFault.TheVariants.{Empty, TooLong, UnknownCode, JumpOut, NoSuchWord, DivisionByZero, ShiftTooFar, NoReturn}
-use Rattle.flt_bpf.specs.declared.operation.Operation.{Operation}
-use Rattle.flt_bpf.specs.declared.operation.Operation.TheVariants.{Load, Store, Compute, Jump, JumpIf}
-use Rattle.flt_bpf.specs.declared.operation.Source.TheVariants.{Memory}
+use Rattle.flt_bpf.proofs.Common.{◌≡◌, ℕ, ◌+◌, ◌-◌, ◌<◌, ◌≤◌, Bool, true, false, Option, Some, None, refl, ap, ◌∙◌, subst, arith, ◌⊎◌, inl, inr, nat_lt, ◌&&◌, ◌==◌, if◌then◌else◌, nat_tests, Insn, CheckFault, Empty, TooLong, UnknownCode, JumpOut, NoSuchWord, DivisionByZero, ShiftTooFar, NoReturn, Operation, Load, Store, Compute, Jump, JumpIf, Memory, Constant, IndexRegister, unless, constant_fault, fault_if_known, WORDS, OperationBreaks}
 use Rattle.flt_bpf.specs.declared.operation.AluOperation.{AluOperation}
 use Rattle.flt_bpf.specs.declared.operation.AluOperation.TheVariants.{Divide, Remainder, ShiftLeft, ShiftRight}
-use Rattle.flt_bpf.specs.declared.operation.Operand.TheVariants.{Constant, IndexRegister}
 use Rattle.flt_bpf.specs.Instructions.{operation_of}
-use Rattle.flt_bpf.specs.Check.{unless, constant_fault, fault_if_known, fault_of}
-use Rattle.flt_bpf.specs.Valid.{WORDS, OperationBreaks}
+use Rattle.flt_bpf.specs.Check.{fault_of}
 
 -- a test that was not passed, and the fault for it
 record Failed (passed : Bool) (g f : CheckFault) : Type 0 where

@@ -1,14 +1,7 @@
 -- The search for the first fault of a program goes over its instructions from the first on.
-use Rattle.std.proofs.Common.{◌≡◌, ℕ, ◌+◌, ◌-◌, ◌<◌, ◌≤◌, List, [], ◌∷◌, length, Some, None, ap, ◌∙◌, arith, drop, length-drop, get_or}
-use Rattle.std.specs.Prelude.{slice_get}
-use Rattle.std.proofs.lemmas.List.{drop_more, drop_all}
-use Rattle.std.proofs.lemmas.Option.{slice_get_within, slice_get-get_or, get_or_from_slice_get}
-use Rattle.std.proofs.lemmas.Bool.Decides.{nat_tests}
-use Rattle.flt_bpf.specs.declared.insn.Insn.{Insn}
-use Rattle.flt_bpf.specs.declared.fault.CheckFault.{CheckFault}
+use Rattle.flt_bpf.proofs.Common.{◌≡◌, ℕ, ◌+◌, ◌-◌, ◌<◌, ◌≤◌, List, [], ◌∷◌, length, Some, None, ap, ◌∙◌, arith, drop, length-drop, get_or, slice_get, drop_more, drop_all, slice_get_within, slice_get-get_or, get_or_from_slice_get, nat_tests, Insn, CheckFault, is_return, ends_in_return, first_at, first_check_fault, or_later, no_return, program_fault}
 use Rattle.flt_bpf.specs.Instructions.{operation_of}
-use Rattle.flt_bpf.specs.Check.{fault_of, is_return, ends_in_return}
-use Rattle.flt_bpf.specs.inside.Check.{first_at, first_check_fault, or_later, no_return, program_fault}
+use Rattle.flt_bpf.specs.Check.{fault_of}
 use Rattle.flt_bpf.proofs.Checking.{last_returns}
 
 not_too_long : (prog : List Insn) → 0 < length prog → length prog ≤ 32768 → program_fault prog ≡ or_later (first_check_fault prog 0) (no_return (ends_in_return prog))

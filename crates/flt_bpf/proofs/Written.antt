@@ -1,12 +1,5 @@
 -- The listing that is written of instructions is a listing of them.
-use Rattle.std.proofs.Common.{◌≡◌, ℕ, suc, ◌*◌, ◌^◌, ◌<◌, ◌≤◌, List, [], ◌∷◌, ◌++◌, length, length-append, append_assoc, Bool, false, refl, sym, ap, ◌∙◌, subst, arith}
-use Rattle.std.specs.Prelude.{◌==◌, All, decimal}
-use Rattle.std.specs.List.{slice_split, AllZip}
-use Rattle.std.proofs.lemmas.Fmt.{length-decimal-le}
-use Rattle.std.proofs.lemmas.List.Elements.{All-append, All-cons}
-use Rattle.std.proofs.lemmas.List.Splits.{slice_split_at, length-slice_split}
-use Rattle.flt_bpf.specs.declared.insn.Insn.{Insn}
-use Rattle.flt_bpf.specs.Listing.{BLANK, LINE_FEED, insn_line, insn_lines, listing, AreNumbers, HasFieldsInRange, IsInsnLine, lines_from, lines_of, AreListingLines, IsListing}
+use Rattle.flt_bpf.proofs.Common.{◌≡◌, ℕ, suc, ◌*◌, ◌^◌, ◌<◌, ◌≤◌, List, [], ◌∷◌, ◌++◌, length, length-append, append_assoc, Bool, false, refl, sym, ap, ◌∙◌, subst, arith, ◌==◌, All, decimal, slice_split, AllZip, length-decimal-le, All-append, All-cons, slice_split_at, length-slice_split, Insn, BLANK, LINE_FEED, insn_line, insn_lines, listing, AreNumbers, HasFieldsInRange, IsInsnLine, lines_from, lines_of, AreListingLines, IsListing}
 use Rattle.flt_bpf.proofs.Digits.{decimal_number, number_lacks}
 
 -- a number, one blank, and a rest

@@ -1,5 +1,5 @@
-//! What the codes of instructions mean. The codes are those of BPF: `BPF_LD | BPF_W | BPF_ABS` is
-//! 32. docs/inside/MACHINE.md has them in a table.
+//! The operations that instructions have by their codes. These are the codes of BPF:
+//! `BPF_LD | BPF_W | BPF_ABS` is 32. docs/inside/MACHINE.md has them in a table.
 
 ghost use Rattle.std.specs.Prelude.{◌≡◌, Some, true};
 ghost use Rattle.std.specs.Option.{is_some};

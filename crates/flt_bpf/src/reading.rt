@@ -1,5 +1,5 @@
-//! Listings, read: the count of instructions on a line, and then an instruction a line, as four
-//! numbers (code, jt, jf, k), as `tcpdump -ddd` writes them.
+//! Reads listings, as `tcpdump -ddd` writes them: the first line has the number of instructions,
+//! each line after it one instruction, as four numbers (code, jt, jf, k).
 
 ghost use Rattle.std.specs.Prelude.{◌≡◌, ℕ, ◌+◌, ◌<◌, ◌≤◌, ◌==◌, List, ◌∷◌, length, Option, Some};
 ghost use Rattle.std.specs.Prelude.{Ok, IfOk, IfErr, IfSome, IfNone as OnNone, MatchResult};
@@ -16,7 +16,7 @@ use crate::program::MOST_INSTRUCTIONS;
 use cap_octet::digits::decimal_value;
 use std::alloc::Allocator;
 
-/// The most bytes of a listing.
+/// The most bytes that a listing may have.
 pub const MOST_BYTES: usize = 1_048_576;
 
 /// The byte between the numbers of a line.
@@ -25,15 +25,16 @@ pub(crate) const BLANK: u8 = b' ';
 /// The byte that ends a line.
 pub(crate) const LINE_FEED: u8 = b'\n';
 
-/// A text up to the first of some byte, and what follows that byte, if there is one.
+/// A text that is cut at the first occurrence of a byte: the piece before it, and what follows it
+/// if it occurs.
 #[derive(Clone, Copy)]
 struct Cut<'a> {
     piece: &'a [u8],
     rest: Option<&'a [u8]>,
 }
 
-/// Cuts a text at the first byte that is `stop`, which is in neither part; without one the piece is
-/// all of the text.
+/// Cuts a text at its first byte `stop`, which is in neither part. A text without `stop` is one
+/// piece.
 fn split_at_first(text: &[u8], stop: u8) -> Cut<'_>
     ensures pieces { slice_split (λ b. b == stop) text.now
         ≡ result.piece.now ∷ pieces_after stop result.rest }
@@ -53,8 +54,8 @@ fn split_at_first(text: &[u8], stop: u8) -> Cut<'_>
     }
 }
 
-/// The number that 1 to 10 decimal digits write, as many as a number of 32 bits has; `None` for
-/// other texts.
+/// The value of 1 to 10 decimal digits, as many as a number of 32 bits may have; `None` for any
+/// other text.
 fn parse_number(digits: &[u8]) -> Option<u64>
     ensures { result ≡ numeral digits.now }
 {
@@ -64,15 +65,15 @@ fn parse_number(digits: &[u8]) -> Option<u64>
     decimal_value(digits)
 }
 
-/// A number of a line, and what follows the blanks after it.
+/// The first number of a line, and what follows the blanks after it.
 #[derive(Clone, Copy)]
 struct FirstNumber<'a> {
     number: u64,
     rest: &'a [u8],
 }
 
-/// The text without the blanks at its start. Several blanks between two numbers count as one, so
-/// both texts have the same numbers.
+/// The text without the blanks at its start. Its numbers are the same, since several blanks between
+/// two numbers count as one.
 fn after_blanks(text: &[u8]) -> &[u8]
     ensures { later_numbers (slice_split (λ b. b == BLANK) text.now) ≡ line_numbers result.now }
 {
@@ -84,8 +85,8 @@ fn after_blanks(text: &[u8]) -> &[u8]
     &text[text.len()..]
 }
 
-/// The number before the first blank of a line, and the line from its next number on. `None` if
-/// there is no blank, or no number before it.
+/// The number before the first blank of a line, and the line from the next number on. `None` if the
+/// line has no blank, or no number before it.
 fn first_number(line: &[u8]) -> Option<FirstNumber<'_>>
     ensures first { IfSome result (λ first. line_numbers line.now
         ≡ after (Some first.number) (line_numbers first.rest.now)) }
@@ -108,7 +109,7 @@ fn only_number(line: &[u8]) -> Option<u64>
     }
 }
 
-/// The instruction with these fields, or `None` if one is out of the range of its type.
+/// The instruction with these fields; `None` if a field is out of range for its type.
 fn insn_with_fields(code: u64, jt: u64, jf: u64, k: u64) -> Option<Insn>
     ensures { result ≡ insn_from code jt jf k }
 {
@@ -124,7 +125,7 @@ fn insn_with_fields(code: u64, jt: u64, jf: u64, k: u64) -> Option<Insn>
     }
 }
 
-/// The instruction on a line of four numbers, or `None` for another line.
+/// The instruction on a line of four numbers; `None` for any other line.
 fn insn_on_line(line: &[u8]) -> Option<Insn>
     ensures { result ≡ insn_of (line_numbers line.now) }
 {
@@ -137,14 +138,14 @@ fn insn_on_line(line: &[u8]) -> Option<Insn>
     }
 }
 
-/// The first line of a text, and what follows it.
+/// The first line of a text, without its line feed, and what follows it.
 #[derive(Clone, Copy)]
 struct FirstLine<'a> {
     line: &'a [u8],
     rest: &'a [u8],
 }
 
-/// The first line of a text that isn't empty.
+/// Cuts a text, which must not be empty, after its first line.
 fn first_line(text: &[u8]) -> FirstLine<'_>
     requires { 0 < length text.now }
     ensures { lines_of text.now ≡ result.line.now ∷ lines_of result.rest.now }
@@ -163,7 +164,8 @@ fn first_line(text: &[u8]) -> FirstLine<'_>
 }
 
 /// Reads `count` instructions, one per line; `text` is a listing from its line 2 on. Errors:
-/// `NotListing` with the first wrong line of the listing, or `Memory`.
+/// `NotListing(n)`, n being the first wrong line of the listing, or `Memory` if an allocation
+/// fails.
 fn insns_on_lines<A: Allocator>(
     alloc: A,
     count: usize,
@@ -196,8 +198,8 @@ fn insns_on_lines<A: Allocator>(
     }
 }
 
-/// The instructions of a listing, or why a text is none: what `read_listing` returns. The clause
-/// here cites `read`, which computes them; that of `read_listing` says what a listing is.
+/// Reads the instructions of a listing, as `read_listing` returns them. The clause here cites
+/// `read`, a definition that computes them; the clauses of `read_listing` state what a listing is.
 fn insns_of_listing<A: Allocator>(alloc: A, text: &[u8]) -> Result<Vec<Insn, A>, ListingFault>
     ensures { MatchResult result (λ insns. read text.now ≡ Ok insns.items)
         (λ fault. IsFaultOf fault (read text.now)) }
@@ -214,8 +216,8 @@ fn insns_of_listing<A: Allocator>(alloc: A, text: &[u8]) -> Result<Vec<Insn, A>,
     }
 }
 
-/// The instructions of a listing. The reader also takes several blanks between numbers, leading
-/// zeros (at most 10 digits per number), and a last line without a line feed. Errors:
+/// Reads the instructions of a listing. Several blanks between numbers, leading zeros (at most 10
+/// digits per number) and a last line without a line feed are accepted too. Errors:
 /// `NotListing(n)`, n being the first wrong line (1 for a text over 1,048,576 bytes), or `Memory`
 /// if an allocation fails.
 pub fn read_listing<A: Allocator>(alloc: A, text: &[u8]) -> Result<Vec<Insn, A>, ListingFault>

@@ -1,4 +1,4 @@
-//! Which registers an operation reads, and which it sets.
+//! The registers that an operation reads, and those that it sets.
 
 ghost use Rattle.std.specs.Prelude.{◌≡◌};
 ghost use Rattle.flt_bpf.specs.Registers.{reads_accumulator, reads_index};

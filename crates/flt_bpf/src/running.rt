@@ -1,5 +1,5 @@
-//! Runs of valid programs. From here neither the loop nor the count of a program can be named, so
-//! whatever walks a program counts.
+//! Runs of valid programs. The loop and the count of a program are private to `program.rt`, so each
+//! run here is counted.
 
 ghost use Rattle.std.specs.Prelude.{◌≡◌, ◌+◌, ◌-◌, ◌^◌, ◌≤◌, length, min};
 ghost use Rattle.flt_bpf.specs.Machine.{machine, Answered};

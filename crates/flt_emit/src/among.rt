@@ -1,4 +1,4 @@
-//! The code of the question whether a field is in some intervals.
+//! Emits the code that checks whether a field is in one of some intervals.
 
 ghost use Rattle.std.specs.Prelude.{◌≡◌};
 ghost use Rattle.flt_emit.specs.inside.Code.{are_few, low_of, emit_interval, emit_chain};

@@ -1,4 +1,4 @@
-//! Code that grows from its end to its beginning.
+//! The code so far, which grows from its end to its beginning.
 
 ghost use Rattle.std.specs.Prelude.{◌≡◌, ◌-◌, [], ◌∷◌, length, drop, OnOk, IfOk};
 ghost use Rattle.flt_emit.specs.inside.Code.{plain, emit_branch};

@@ -1,6 +1,15 @@
-//! The tests that primitives are made of, as data: each looks at one field of a packet, or the link
-//! type itself decides it. `table.rt` has them for each link, `emit.rt` their code.
+//! The tests that primitives are made of, as data, and their table for every link: each looks at
+//! one field of a packet, unless the link type itself decides the test. The doc of each function
+//! says what holds if its test matches. `emit.rt` has their code.
 
+ghost use Rattle.std.specs.Prelude.{◌≡◌, ◌≤◌, IfSome, Some, None};
+ghost use Rattle.cap_octet.specs.Link.{longest_header, network_offset};
+ghost use Rattle.flt_emit.specs.Elementary.{is_at, is_masked, compares_at, kind_test, type_test};
+ghost use Rattle.flt_emit.specs.Elementary.{has_type, has_type_at};
+ghost use Rattle.flt_emit.specs.Elementary.{first_fragment, has_ip_proto, has_ip6_proto};
+
+use cap_octet::Link;
+use cap_octet::assigned::{ETHERTYPE_ARP, ETHERTYPE_IPV4, ETHERTYPE_IPV6, ETHERTYPE_RARP};
 use flt_bpf::operation::Width;
 use flt_words::Comparison;
 
@@ -64,4 +73,112 @@ pub struct Sides {
     pub width: Width,
     pub source: Offset,
     pub destination: Offset,
+}
+
+/// The place where the network header begins, in bytes from the start of the packet.
+pub fn network_offset(link: Link) -> u32
+    ensures place { result ≡ network_offset link }
+    ensures near { result ≤ longest_header }
+{
+    link.header_length() as u32
+}
+
+/// The field at a place is a number.
+pub fn is_at(at: u32, width: Width, value: u32) -> Elementary
+    ensures { result ≡ is_at at width value }
+{
+    compares_at(Offset::Fixed(at), width, Comparison::Equal, value)
+}
+
+/// The bits of the field at a place under a mask are a number.
+fn is_masked(at: u32, width: Width, mask: u32, value: u32) -> Elementary
+    ensures { result ≡ is_masked at width mask value }
+{
+    Elementary::Field(FieldTest {
+        offset: Offset::Fixed(at),
+        width,
+        mask: Some(mask),
+        comparison: Comparison::Equal,
+        value,
+    })
+}
+
+/// The field at `offset` compares with a number as `comparison` says.
+pub fn compares_at(offset: Offset, width: Width, comparison: Comparison, value: u32) -> Elementary
+    ensures { result ≡ compares_at offset width comparison value }
+{
+    Elementary::Field(FieldTest {
+        offset,
+        width,
+        mask: None,
+        comparison,
+        value,
+    })
+}
+
+/// The EtherType at a place in the link header is this number. Raw IP has none.
+fn has_type_at(type_offset: Option<usize>, ethertype: u32) -> Elementary
+    requires { IfSome type_offset (λ at. at ≤ longest_header) }
+    ensures { result ≡ has_type_at type_offset ethertype }
+{
+    match type_offset {
+        None => Elementary::Outcome(false),
+        Some(at) => is_at(at as u32, Width::HalfWord, ethertype),
+    }
+}
+
+/// The EtherType in the link header is this number.
+pub fn has_type(link: Link, ethertype: u32) -> Elementary
+    ensures { result ≡ has_type link ethertype }
+{
+    has_type_at(link.type_offset(), ethertype)
+}
+
+/// A frame is of a kind: by the EtherType at a place, or of raw IP, which has none, by the version
+/// in the upper half of its first byte.
+fn type_test(type_offset: Option<usize>, kind: FrameKind) -> Elementary
+    requires { IfSome type_offset (λ at. at ≤ longest_header) }
+    ensures { result ≡ type_test type_offset kind }
+{
+    match (type_offset, kind) {
+        (_, FrameKind::Ethernet) => Elementary::Outcome(false),
+        (None, FrameKind::Ip) => is_masked(0, Width::Byte, 0xf0, 0x40),
+        (None, FrameKind::Ip6) => is_masked(0, Width::Byte, 0xf0, 0x60),
+        (at, FrameKind::Ip) => has_type_at(at, u32::from(ETHERTYPE_IPV4)),
+        (at, FrameKind::Ip6) => has_type_at(at, u32::from(ETHERTYPE_IPV6)),
+        (at, FrameKind::Arp) => has_type_at(at, u32::from(ETHERTYPE_ARP)),
+        (at, FrameKind::Rarp) => has_type_at(at, u32::from(ETHERTYPE_RARP)),
+    }
+}
+
+/// A frame is of a kind: Ethernet only by the link type, the others as in `type_test`.
+pub fn kind_test(link: Link, kind: FrameKind) -> Elementary
+    ensures { result ≡ kind_test link kind }
+{
+    match kind {
+        FrameKind::Ethernet => Elementary::Outcome(matches!(link, Link::Ether)),
+        _ => type_test(link.type_offset(), kind),
+    }
+}
+
+/// An IPv4 packet is the first fragment, or whole: the offset, the lower 13 bits of the half word
+/// at byte 6, is 0 (RFC 791, section 3.1).
+pub fn first_fragment(link: Link) -> Elementary
+    ensures { result ≡ first_fragment link }
+{
+    is_masked(network_offset(link) + 6, Width::HalfWord, 0x1fff, 0)
+}
+
+/// The protocol that an IPv4 header names, at byte 9, is this number (RFC 791, section 3.1).
+pub fn has_ip_proto(link: Link, protocol: u32) -> Elementary
+    ensures { result ≡ has_ip_proto link protocol }
+{
+    is_at(network_offset(link) + 9, Width::Byte, protocol)
+}
+
+/// The next header that an IPv6 header names, at byte 6, is this number (RFC 8200, section 3).
+pub fn has_ip6_proto(link: Link, protocol: u32) -> Elementary
+    ensures { result ≡ has_ip6_proto link protocol }
+{
+    is_at(network_offset(link) + 6, Width::Byte, protocol)
 }

@@ -1,4 +1,4 @@
-//! The code of elementary tests.
+//! Emits the code of elementary tests.
 
 ghost use Rattle.std.specs.Prelude.{◌≡◌, length, OnOk};
 ghost use Rattle.flt_emit.specs.inside.Code.{emit_field, emit_mask, emit_comparison};

@@ -1,15 +1,8 @@
 -- MAC and IPv6 addresses in full mean their tokens.
-use Rattle.std.proofs.Common.{◌≡◌, ℕ, suc, zero, ◌+◌, ◌*◌, ◌/◌, ◌%◌, ◌^◌, ◌<◌, ◌≤◌, List, [], ◌∷◌, ◌++◌, length, refl, arith, Bool, true, false, ◌==◌, cond, lit<, lit≤, append_assoc, pow-suc}
-use Rattle.std.proofs.lemmas.Bool.Decides.{nat_tests}
-use Rattle.std.proofs.lemmas.Fmt.{digits_is_IsNumeral}
-use Rattle.std.specs.Char.{digit_value}
-use Rattle.std.specs.Fmt.{digit_glyph, digits, digits_onto}
-use Rattle.std.specs.Str.Parse.{IsNumeral, digits_value}
+use Rattle.flt_explain.proofs.Common.{◌≡◌, ℕ, suc, zero, ◌+◌, ◌*◌, ◌/◌, ◌%◌, ◌^◌, ◌<◌, ◌≤◌, List, [], ◌∷◌, ◌++◌, length, refl, arith, Bool, true, false, ◌==◌, cond, lit<, lit≤, append_assoc, pow-suc, nat_tests, digits_is_IsNumeral, digit_value, digit_glyph, digits_onto, IsNumeral, digits_value, IsMac, IsWholeIp6, whole, mac, ip6, octet, hex_byte, group_at}
+use Rattle.std.specs.Fmt.{digits}
 use Rattle.flt_words.specs.declared.token.TokenKind.TheVariants as token
-use Rattle.flt_words.specs.Addresses.{IsMac, IsWholeIp6}
-use Rattle.flt_words.specs.Addresses.IsIp6.{whole}
-use Rattle.flt_words.specs.Words.Spells.{mac, ip6}
-use Rattle.flt_explain.specs.Texts.{octet, hex_byte, bytes_text, mac_word, group_at, groups_text, ip6_word}
+use Rattle.flt_explain.specs.Texts.{bytes_text, mac_word, groups_text, ip6_word}
 use Rattle.flt_explain.proofs.WordPieces.{IsPart, part_of_digits, part_join}
 use Rattle.flt_explain.proofs.WordTokens.{IsWordFor}
 

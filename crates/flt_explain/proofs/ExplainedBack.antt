@@ -1,24 +1,8 @@
 -- What an expression means is read as the expression.
-use Rattle.std.proofs.Common.{ℕ, suc, ◌≤◌, List, [], length, refl, sym, subst, arith, Bool, true, false, Option, Some, None}
-use Rattle.flt_words.specs.declared.token.Protocol.{Protocol}
-use Rattle.flt_words.specs.declared.token.TokenKind.{TokenKind}
-use Rattle.flt_words.specs.declared.token.ValueType.{ValueType}
-use Rattle.flt_words.specs.declared.token.ValueType.TheVariants.{Proto}
-use Rattle.flt_words.specs.Tokens.Tokens.{short}
-use Rattle.flt_ast.specs.declared.qualifiers.Direction.{Direction}
+use Rattle.flt_explain.proofs.Common.{ℕ, suc, ◌≤◌, List, [], length, refl, sym, subst, arith, Bool, true, false, Option, Some, None, Protocol, TokenKind, ValueType, Proto, short, Direction, Qualifiers, CompleteQualifiers, NetMask, Value, NumberTree, literal, len, named, load, negated, applied, TruthTree, check, cast, sized, bare, valued, qualified, compared, denied, joined, Expression, empty, truth, IsResolved, IsReadAs, Other, mask_tokens, prefix_tokens, value_tokens, protocol_tokens, direction_tokens, written_direction, written_type, written_tokens, typed_tokens, qualifier_tokens, number_tokens, open_operand, close_operand, truth_tokens, explained_tokens, explained_text, IsReadBack, IsWritable, IsWritableMask, IsWritableNumber, IsWritablePrefix, IsWritableTruth, IsWritableValue}
 use Rattle.flt_ast.specs.declared.qualifiers.Direction.TheVariants as direction
-use Rattle.flt_ast.specs.declared.qualifiers.Qualifiers.{Qualifiers}
-use Rattle.flt_ast.specs.declared.qualifiers.CompleteQualifiers.{CompleteQualifiers}
-use Rattle.flt_ast.specs.declared.value.NetMask.{NetMask}
 use Rattle.flt_ast.specs.declared.value.NetMask.TheVariants as mask
-use Rattle.flt_ast.specs.declared.value.Value.{Value}
 use Rattle.flt_ast.specs.declared.value.Value.TheVariants as value
-use Rattle.flt_ast.specs.Tree.{NumberTree, literal, len, named, load, negated, applied, TruthTree, check, cast, sized, bare, valued, qualified, compared, denied, joined, Expression, empty, truth}
-use Rattle.flt_ast.specs.Resolved.{IsResolved}
-use Rattle.flt_lang.specs.Grammar.{IsReadAs}
-use Rattle.flt_explain.specs.declared.spelling.Following.TheVariants.{Other}
-use Rattle.flt_explain.specs.Explained.{mask_tokens, prefix_tokens, value_tokens, protocol_tokens, direction_tokens, written_direction, written_type, written_tokens, typed_tokens, qualifier_tokens, number_tokens, open_operand, close_operand, truth_tokens, explained_tokens, explained_text}
-use Rattle.flt_explain.specs.Writable.{IsReadBack, IsWritable, IsWritableMask, IsWritableNumber, IsWritablePrefix, IsWritableTruth, IsWritableValue}
 use Rattle.flt_explain.proofs.TextTokens.{AreSpelled, lexes}
 use Rattle.flt_explain.proofs.ReadBack.{reread_tokens}
 

@@ -1,29 +1,13 @@
 -- The tokens of a resolved tree are read as that tree.
-use Rattle.std.proofs.Common.{◌≡◌, ℕ, suc, zero, refl, ap, Bool, true, false, ◌&&◌, ◌||◌, not, is_some, List, [], ◌∷◌, Option, Some, None}
+use Rattle.flt_explain.proofs.Common.{◌≡◌, ℕ, suc, zero, refl, ap, Bool, true, false, ◌&&◌, ◌||◌, not, is_some, List, [], ◌∷◌, Option, Some, None, Operator, Protocol, TokenKind, ValueType, Proto, Direction, Qualifiers, CompleteQualifiers, NetMask, Value, NumberTree, literal, len, named, load, negated, applied, TruthTree, check, cast, sized, bare, valued, qualified, compared, denied, joined, Expression, empty, truth, latest, with_inherited, complete, completed_qualifiers, only_host, fill_expression, IsResolved, any_primitive, fill_fault, is_misfit, is_out_of_range, is_unfilled, has_bits_past_mask, ReadsProtocol, no_protocol, protocol, ReadsDirection, no_direction, one_side, source_first, of_type, ReadsQualifiers, qualifiers, is_written, ReadsMask, no_mask, prefix, dotted_mask, ReadsValue, number, dotted, ip6_prefix, range, level, Number, of_literal, of_len, of_name, enclosed, of_sized_load, minus, single, chain, Truth, of_check, of_cast, of_protocol_cast, of_sized, of_valued, relation, denial, enclosed_truth, term, terms, IsReadAs, no_tokens, all_tokens, mask_tokens, value_tokens, protocol_tokens, direction_tokens, typed_tokens, qualifier_tokens, number_tokens, open_operand, close_operand, truth_tokens, explained_tokens, IsWritable, IsWritableNumber, IsWritableTruth}
 use Rattle.flt_words.specs.declared.token.Join.TheVariants as join
-use Rattle.flt_words.specs.declared.token.Operator.{Operator}
 use Rattle.flt_words.specs.declared.token.Operator.TheVariants as operator
-use Rattle.flt_words.specs.declared.token.Protocol.{Protocol}
-use Rattle.flt_words.specs.declared.token.TokenKind.{TokenKind}
 use Rattle.flt_words.specs.declared.token.TokenKind.TheVariants as token
-use Rattle.flt_words.specs.declared.token.ValueType.{ValueType}
-use Rattle.flt_words.specs.declared.token.ValueType.TheVariants.{Proto}
-use Rattle.flt_ast.specs.declared.qualifiers.Direction.{Direction}
 use Rattle.flt_ast.specs.declared.qualifiers.Direction.TheVariants as direction
-use Rattle.flt_ast.specs.declared.qualifiers.Qualifiers.{Qualifiers}
-use Rattle.flt_ast.specs.declared.qualifiers.CompleteQualifiers.{CompleteQualifiers}
-use Rattle.flt_ast.specs.declared.value.NetMask.{NetMask}
 use Rattle.flt_ast.specs.declared.value.NetMask.TheVariants as mask
-use Rattle.flt_ast.specs.declared.value.Value.{Value}
 use Rattle.flt_ast.specs.declared.value.Value.TheVariants as value
-use Rattle.flt_ast.specs.Tree.{NumberTree, literal, len, named, load, negated, applied, TruthTree, check, cast, sized, bare, valued, qualified, compared, denied, joined, Expression, empty, truth}
-use Rattle.flt_ast.specs.Filled.{latest, with_inherited, complete, completed_qualifiers, only_host, fill_expression}
-use Rattle.flt_ast.specs.Resolved.{IsResolved, any_primitive, fill_fault, is_misfit, is_out_of_range, is_unfilled, has_bits_past_mask}
 use Rattle.flt_ast.specs.Fits.{fit_of, is_either, is_misfit_fit, is_proto}
-use Rattle.flt_lang.specs.Values.{ReadsProtocol, no_protocol, protocol, ReadsDirection, no_direction, one_side, source_first, of_type, ReadsQualifiers, qualifiers, is_written, ReadsMask, no_mask, prefix, dotted_mask, ReadsValue, number, dotted, ip6, ip6_prefix, mac, range}
-use Rattle.flt_lang.specs.Grammar.{level, Number, of_literal, of_len, of_name, enclosed, of_sized_load, minus, single, chain, Truth, of_check, of_cast, of_protocol_cast, of_sized, of_valued, relation, denial, enclosed_truth, term, terms, IsReadAs, no_tokens, all_tokens}
-use Rattle.flt_explain.specs.Explained.{mask_tokens, value_tokens, protocol_tokens, direction_tokens, typed_tokens, qualifier_tokens, number_tokens, open_operand, close_operand, truth_tokens, explained_tokens}
-use Rattle.flt_explain.specs.Writable.{IsWritable, IsWritableNumber, IsWritableTruth}
+use Rattle.flt_lang.specs.Values.{ip6, mac}
 
 -- a number of a level is one of each looser level
 any : {ts rest : List TokenKind} {a : NumberTree} → Number 0 ts a rest → Number 4 ts a rest

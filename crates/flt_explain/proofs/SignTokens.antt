@@ -1,18 +1,11 @@
 -- A sign in a text is a token.
-use Rattle.std.proofs.Common.{◌≡◌, ℕ, ◌<◌, ◌≤◌, List, [], ◌∷◌, ◌++◌, length, get_or, take, refl, ◌∙◌, arith, Bool, true, false, ◌==◌, ◌&&◌, None, Some}
+use Rattle.flt_explain.proofs.Common.{◌≡◌, ℕ, ◌<◌, ◌≤◌, List, [], ◌∷◌, ◌++◌, length, get_or, take, refl, ◌∙◌, arith, Bool, true, false, ◌==◌, ◌&&◌, None, Some, Operator, TokenKind, within_word, look_up, symbol_of, IsToken, symbol_meaning, longest_one, longest_two, comparison_sign, operator_sign}
 use Rattle.flt_words.specs.declared.token.Comparison.{Comparison}
 use Rattle.flt_words.specs.declared.token.Comparison.TheVariants as comparison
-use Rattle.flt_words.specs.declared.token.Operator.{Operator}
 use Rattle.flt_words.specs.declared.token.Operator.TheVariants as operator
-use Rattle.flt_words.specs.declared.token.TokenKind.{TokenKind}
 use Rattle.flt_words.specs.declared.token.TokenKind.TheVariants as token
-use Rattle.flt_words.specs.Characters.{within_word}
-use Rattle.flt_words.specs.Spellings.{look_up, symbol_of, symbols}
-use Rattle.flt_words.specs.Tokens.{IsToken}
-use Rattle.flt_words.specs.Tokens.PieceMeans.{symbol_meaning}
-use Rattle.flt_words.proofs.Pieces.{longest_one, longest_two}
+use Rattle.flt_words.specs.Spellings.{symbols}
 use Rattle.flt_words.proofs.Symbols.{symbol_piece}
-use Rattle.flt_explain.specs.Texts.{comparison_sign, operator_sign}
 
 -- what may follow a token that leaves a gap where it can
 pub data End (inside : Bool) : ℕ → Type 0 where

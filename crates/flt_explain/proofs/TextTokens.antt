@@ -1,21 +1,10 @@
 -- The text of tokens is cut into these tokens.
-use Rattle.std.proofs.Common.{◌≡◌, ◌⊎◌, inl, inr, ⊎_elim, ℕ, suc, zero, ◌+◌, ◌<◌, List, [], ◌∷◌, ◌++◌, length, get_or, take, drop, refl, sym, ap, ◌∙◌, subst, arith, Bool, true, false, ◌==◌, ◌||◌, cond, count_by, nat_lt, codes, if◌then◌else◌, Ok, append_assoc, append-nil, length-append}
-use Rattle.std.proofs.lemmas.Bool.Decides.{nat_tests}
-use Rattle.std.proofs.lemmas.List.{drop_at, get_or_at, take_at}
+use Rattle.flt_explain.proofs.Common.{◌≡◌, ◌⊎◌, inl, inr, ⊎_elim, ℕ, suc, zero, ◌+◌, ◌<◌, List, [], ◌∷◌, ◌++◌, length, get_or, take, drop, refl, sym, ap, ◌∙◌, subst, arith, Bool, true, false, ◌==◌, ◌||◌, cond, count_by, nat_lt, codes, if◌then◌else◌, Ok, append_assoc, append-nil, length-append, nat_tests, drop_at, get_or_at, take_at, Operator, Token, TokenKind, is_inside, IsToken, TokensFrom, kinds_of, Following, gap, joins_next, joins_previous, next_after, spelling, tokens_text, IsSpellable}
 use Rattle.std.proofs.lemmas.List.Sums.{sum_by-append}
-use Rattle.flt_words.specs.declared.token.Operator.{Operator}
 use Rattle.flt_words.specs.declared.token.Operator.TheVariants as operator
-use Rattle.flt_words.specs.declared.token.Token.{Token}
-use Rattle.flt_words.specs.declared.token.TokenKind.{TokenKind}
 use Rattle.flt_words.specs.declared.token.TokenKind.TheVariants as token
-use Rattle.flt_words.specs.Characters.{is_inside}
-use Rattle.flt_words.specs.Tokens.{IsToken, TokensFrom}
 use Rattle.flt_words.specs.Tokens.TokensFrom.{at_end, blank, token as one_more}
 use Rattle.flt_words.proofs.BracketCounts.{closings, openings, token_has}
-use Rattle.flt_lang.specs.Grammar.{kinds_of}
-use Rattle.flt_explain.specs.declared.spelling.Following.{Following}
-use Rattle.flt_explain.specs.Texts.{gap, joins_next, joins_previous, next_after, spelling, tokens_text}
-use Rattle.flt_explain.specs.inside.Writable.{IsSpellable}
 use Rattle.flt_explain.proofs.WordPieces.{word_token}
 use Rattle.flt_explain.proofs.SignTokens.{End, Ends, goes_on, no_more, word_ends, comparison_token, operator_token, open_token, close_token, bracket_token, close_bracket_token, divide_token, colon_token}
 use Rattle.flt_explain.proofs.SignTokens as signs

@@ -1,19 +1,7 @@
 -- A word in a text, after which no byte of it follows, is a token.
-use Rattle.std.proofs.Common.{◌≡◌, ℕ, suc, zero, ◌+◌, ◌-◌, ◌<◌, ◌≤◌, List, [], ◌∷◌, ◌++◌, length, get_or, refl, sym, ap, ◌∙◌, arith, Bool, true, false, ◌&&◌, nat_lt, Some}
-use Rattle.std.proofs.lemmas.Bool.Decides.{nat_tests}
-use Rattle.std.proofs.lemmas.List.{get_or-append-add, get_or_append_left, length-append, take_at}
-use Rattle.std.specs.Char.{digit_value, is_ascii_alphanumeric}
-use Rattle.std.specs.List.{AllByRecursion, list_all}
-use Rattle.std.specs.Str.Parse.{AllDigits}
-use Rattle.flt_words.specs.declared.token.TokenKind.{TokenKind}
-use Rattle.flt_words.specs.Characters.{starts_word, within_word}
-use Rattle.flt_words.specs.Spellings.{keyword_of, keywords}
-use Rattle.flt_words.specs.Tokens.{IsToken, IsWordPiece}
-use Rattle.flt_words.specs.Tokens.PieceMeans.{word_meaning}
-use Rattle.flt_words.specs.Words.{Spells, fits}
-use Rattle.flt_words.specs.Words.WordMeans.{known}
-use Rattle.flt_words.proofs.Pieces.{IsScanned, longest_word}
-use Rattle.flt_words.proofs.Tables.{both, found_passes}
+use Rattle.flt_explain.proofs.Common.{◌≡◌, ℕ, suc, zero, ◌+◌, ◌-◌, ◌<◌, ◌≤◌, List, [], ◌∷◌, ◌++◌, length, get_or, refl, sym, ap, ◌∙◌, arith, Bool, true, false, ◌&&◌, nat_lt, Some, nat_tests, get_or-append-add, get_or_append_left, take_at, digit_value, is_ascii_alphanumeric, AllByRecursion, list_all, AllDigits, TokenKind, starts_word, within_word, keyword_of, IsToken, IsWordPiece, word_meaning, Spells, fits, known, IsScanned, longest_word, both, found_passes}
+use Rattle.std.proofs.lemmas.List.{length-append}
+use Rattle.flt_words.specs.Spellings.{keywords}
 
 -- the text could be a word
 pub record IsPart (inside : Bool) (word : List ℕ) : Type 0 where

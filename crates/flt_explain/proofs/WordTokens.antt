@@ -1,37 +1,22 @@
 -- Each word that is written means its token.
-use Rattle.std.proofs.Common.{◌≡◌, ◌⊎◌, inl, inr, ⊎_elim, ℕ, suc, zero, ◌+◌, ◌*◌, ◌%◌, ◌^◌, ◌<◌, ◌≤◌, List, [], ◌∷◌, ◌++◌, length, get_or, refl, sym, ap, subst, arith, Bool, true, false, ◌==◌, ◌||◌, codes, Some, lit<, lit≤}
+use Rattle.flt_explain.proofs.Common.{◌≡◌, ◌⊎◌, inl, inr, ⊎_elim, ℕ, suc, zero, ◌+◌, ◌*◌, ◌%◌, ◌^◌, ◌<◌, ◌≤◌, List, [], ◌∷◌, ◌++◌, length, get_or, refl, sym, ap, subst, arith, Bool, true, false, ◌==◌, ◌||◌, codes, Some, lit<, lit≤, decimal_digit, decimal_is_IsNumeral, first_decimal, decimal, digits_value, Protocol, TokenKind, ValueType, Host, Net, Port, PortRange, Proto, IsDotted, within_word, WritesDecimal, keyword_of, Spells, fits, keyword, keyword_is_plain, Following, Other, Icmp, IcmpBracket, protocol_word, join_word, side_word, type_word, size_word, cast_word, name_word, octet, IsDottedAddress, has_name}
 use Rattle.std.proofs.lemmas.Bool.{eqb-true}
-use Rattle.std.proofs.lemmas.Fmt.{decimal_digit, decimal_is_IsNumeral, first_decimal}
-use Rattle.std.specs.Fmt.{decimal}
-use Rattle.std.specs.Str.Parse.{digits_value}
 use Rattle.flt_words.specs.declared.token.Cast.{Cast}
 use Rattle.flt_words.specs.declared.token.Cast.TheVariants.{Broadcast, Multicast}
 use Rattle.flt_words.specs.declared.token.Join.{Join}
 use Rattle.flt_words.specs.declared.token.Join.TheVariants as join
-use Rattle.flt_words.specs.declared.token.Protocol.{Protocol}
 use Rattle.flt_words.specs.declared.token.Protocol.TheVariants as protocol
 use Rattle.flt_words.specs.declared.token.Side.{Side}
 use Rattle.flt_words.specs.declared.token.Side.TheVariants.{Source, Destination}
 use Rattle.flt_words.specs.declared.token.Size.{Size}
 use Rattle.flt_words.specs.declared.token.Size.TheVariants as size
-use Rattle.flt_words.specs.declared.token.TokenKind.{TokenKind}
 use Rattle.flt_words.specs.declared.token.TokenKind.TheVariants as token
-use Rattle.flt_words.specs.declared.token.ValueType.{ValueType}
-use Rattle.flt_words.specs.declared.token.ValueType.TheVariants.{Host, Net, Port, PortRange, Proto}
-use Rattle.flt_words.specs.Addresses.{IsDotted}
-use Rattle.flt_words.specs.Characters.{within_word}
-use Rattle.flt_words.specs.Numbers.{WritesDecimal}
 use Rattle.flt_words.specs.Numbers.IsNumber.{decimal as decimal_number}
 use Rattle.flt_words.specs.Numbers.IsRange.{joined as dashed}
-use Rattle.flt_words.specs.Spellings.{keyword_of, keywords}
-use Rattle.flt_words.specs.Words.{Spells, fits}
-use Rattle.flt_words.specs.Words.Spells.{keyword, number, dotted, range}
+use Rattle.flt_words.specs.Spellings.{keywords}
+use Rattle.flt_words.specs.Words.Spells.{number, dotted, range}
 use Rattle.flt_words.proofs.Digits.{fits as word_sized}
-use Rattle.flt_words.proofs.Tables.{keyword_is_plain}
-use Rattle.flt_explain.specs.declared.spelling.Following.{Following}
-use Rattle.flt_explain.specs.declared.spelling.Following.TheVariants.{Other, Icmp, IcmpBracket}
-use Rattle.flt_explain.specs.Texts.{protocol_word, join_word, side_word, type_word, size_word, cast_word, name_word, octet, dotted_word}
-use Rattle.flt_explain.specs.Writable.{IsDottedAddress, has_name}
+use Rattle.flt_explain.specs.Texts.{dotted_word}
 use Rattle.flt_explain.proofs.WordPieces.{IsPart, part_of_digits, part_of_keyword, part_join}
 
 pub record IsWordFor (inside : Bool) (word : List ℕ) (kind : TokenKind) : Type 0 where

@@ -1,33 +1,15 @@
 -- Each tree that is read of a text is writable.
-use Rattle.std.proofs.Common.{◌≡◌, ℕ, suc, zero, ◌+◌, ◌-◌, ◌*◌, ◌^◌, ◌<◌, ◌≤◌, List, [], ◌∷◌, length, map, lit≤, refl, ap, ◌∙◌, subst, arith, Bool, true, false, ◌&&◌, cond, codes, Option, Some, Result, Ok, Err}
-use Rattle.std.proofs.lemmas.Bool.Decides.{nat_tests}
+use Rattle.flt_explain.proofs.Common.{◌≡◌, ℕ, suc, zero, ◌+◌, ◌-◌, ◌*◌, ◌^◌, ◌<◌, ◌≤◌, List, [], ◌∷◌, length, map, lit≤, refl, ap, ◌∙◌, subst, arith, Bool, true, false, ◌&&◌, cond, codes, Option, Some, Result, Ok, Err, nat_tests, length-map, AllByRecursion, list_all, IsNumeral, digits_value, Token, TokenKind, IsDotted, IsIp6, IsMac, AreIp6Ends, shortened, whole, WritesDecimal, is_word_sized, look_up, PieceMeans, Tokens, TokensFrom, before, symbol_meaning, word_meaning, short, too_long, Spells, WordMeans, fits, keyword, mac, ip6, known, both, found_passes, kinds_of, IsDottedAddress, has_name, IsSpellable}
 use Rattle.std.proofs.lemmas.Int.Digits.{number_lt}
-use Rattle.std.proofs.lemmas.List.{length-map}
 use Rattle.std.specs.Int.Digits.{AllBelowBase, number_from_digits}
-use Rattle.std.specs.List.{AllByRecursion, list_all}
 use Rattle.std.specs.Str.{bytes_eq}
-use Rattle.std.specs.Str.Parse.{IsNumeral, digits_value}
 use Rattle.flt_words.specs.declared.fault.ExprFault.{ExprFault}
-use Rattle.flt_words.specs.declared.token.Token.{Token}
-use Rattle.flt_words.specs.declared.token.TokenKind.{TokenKind}
 use Rattle.flt_words.specs.declared.token.TokenKind.TheVariants as token
-use Rattle.flt_words.specs.Addresses.{IsDotted, IsIp6, IsMac, AreIp6Ends}
-use Rattle.flt_words.specs.Addresses.IsIp6.{shortened, whole}
-use Rattle.flt_words.specs.Numbers.{WritesDecimal, is_word_sized}
-use Rattle.flt_words.specs.Spellings.{keywords, look_up, symbols}
-use Rattle.flt_words.specs.Tokens.{PieceMeans, Tokens, TokensFrom, before}
-use Rattle.flt_words.specs.Tokens.PieceMeans.{symbol_meaning, word_meaning}
-use Rattle.flt_words.specs.Tokens.Tokens.{short, too_long}
+use Rattle.flt_words.specs.Spellings.{keywords, symbols}
 use Rattle.flt_words.specs.Tokens.TokensFrom.{at_end, blank, refused, token as one_more}
-use Rattle.flt_words.specs.Words.{Spells, WordMeans, fits}
-use Rattle.flt_words.specs.Words.Spells.{keyword, number, dotted, range, mac, ip6}
-use Rattle.flt_words.specs.Words.WordMeans.{known}
+use Rattle.flt_words.specs.Words.Spells.{number, dotted, range}
 use Rattle.flt_words.proofs.AddressValues.{ends_fit, number_between, number_zeros}
 use Rattle.flt_words.proofs.Groups.{small_hexadecimal}
-use Rattle.flt_words.proofs.Tables.{both, found_passes}
-use Rattle.flt_lang.specs.Grammar.{kinds_of}
-use Rattle.flt_explain.specs.Writable.{IsDottedAddress, has_name}
-use Rattle.flt_explain.specs.inside.Writable.{IsSpellable}
 
 -- a token of a table
 table_test : TokenKind → Bool

@@ -1,21 +1,6 @@
 -- What is read of writable tokens is writable, and stays so as it is resolved.
-use Rattle.std.proofs.Common.{ℕ, List, Option, Some, None, Ok, refl, lit<}
-use Rattle.std.specs.List.{AllByRecursion}
-use Rattle.flt_words.specs.declared.token.Protocol.{Protocol}
-use Rattle.flt_words.specs.declared.token.Token.{Token}
-use Rattle.flt_words.specs.declared.token.TokenKind.{TokenKind}
-use Rattle.flt_words.specs.declared.token.ValueType.{ValueType}
-use Rattle.flt_words.specs.Tokens.{Tokens}
-use Rattle.flt_ast.specs.declared.qualifiers.Direction.{Direction}
-use Rattle.flt_ast.specs.declared.qualifiers.Qualifiers.{Qualifiers}
-use Rattle.flt_ast.specs.declared.value.NetMask.{NetMask}
-use Rattle.flt_ast.specs.declared.value.Value.{Value}
-use Rattle.flt_ast.specs.Tree.{NumberTree, TruthTree, check, cast, sized, bare, valued, qualified, compared, denied, joined, Expression, empty, truth}
-use Rattle.flt_ast.specs.Filled.{latest, with_inherited, complete, only_host, fill_expression}
-use Rattle.flt_lang.specs.Values.{ReadsProtocol, no_protocol, protocol, ReadsDirection, no_direction, one_side, source_first, destination_first, ReadsType, no_type, of_type, ReadsQualifiers, qualifiers, ReadsMask, no_mask, prefix, dotted_mask, ReadsValue, number, dotted, ip6, ip6_prefix, mac, range}
-use Rattle.flt_lang.specs.Grammar.{Number, of_literal, of_len, of_name, enclosed, of_load, of_sized_load, minus, single, chain, Truth, of_check, of_cast, of_protocol_cast, of_sized, of_valued, of_bare, relation, denial, enclosed_truth, term, terms, IsReadAs, no_tokens, all_tokens, kinds_of}
-use Rattle.flt_explain.specs.Writable.{IsWritable, IsWritableMask, IsWritableNumber, IsWritableTruth, IsWritableValue}
-use Rattle.flt_explain.specs.inside.Writable.{IsSpellable}
+use Rattle.flt_explain.proofs.Common.{ℕ, List, Option, Some, None, Ok, refl, lit<, AllByRecursion, Protocol, Token, TokenKind, ValueType, Tokens, Direction, Qualifiers, NetMask, Value, NumberTree, TruthTree, check, cast, sized, bare, valued, qualified, compared, denied, joined, Expression, empty, truth, latest, with_inherited, complete, only_host, fill_expression, ReadsProtocol, no_protocol, protocol, ReadsDirection, no_direction, one_side, source_first, destination_first, ReadsType, no_type, of_type, ReadsQualifiers, qualifiers, ReadsMask, no_mask, prefix, dotted_mask, ReadsValue, number, dotted, ip6_prefix, range, Number, of_literal, of_len, of_name, enclosed, of_load, of_sized_load, minus, single, chain, Truth, of_check, of_cast, of_protocol_cast, of_sized, of_valued, of_bare, relation, denial, enclosed_truth, term, terms, IsReadAs, no_tokens, all_tokens, kinds_of, IsWritable, IsWritableMask, IsWritableNumber, IsWritableTruth, IsWritableValue, IsSpellable}
+use Rattle.flt_lang.specs.Values.{ip6, mac}
 use Rattle.flt_explain.proofs.WritableTokens.{all_spellable}
 
 abbrev All : List TokenKind → Type 0

@@ -1,15 +1,9 @@
 -- The nodes from the last to the first are written as the tokens of their tree.
-use Rattle.std.proofs.Common.{◌≡◌, ℕ, ◌+◌, ◌-◌, ◌<◌, ◌≤◌, refl, sym, ap, ◌∙◌, subst, arith, Bool, true, false, List, [], ◌∷◌, Some, None, length, drop, get_or, nat_lt}
-use Rattle.std.proofs.lemmas.Bool.Decides.{nat_tests}
-use Rattle.std.proofs.lemmas.List.{drop_more, length-drop}
-use Rattle.flt_words.specs.declared.token.TokenKind.{TokenKind}
+use Rattle.flt_explain.proofs.Common.{◌≡◌, ℕ, ◌+◌, ◌-◌, ◌<◌, ◌≤◌, refl, sym, ap, ◌∙◌, subst, arith, Bool, true, false, List, [], ◌∷◌, Some, None, length, drop, get_or, nat_lt, nat_tests, drop_more, length-drop, TokenKind, NumberTree, literal, len, named, load, negated, applied, TruthTree, check, cast, sized, bare, valued, qualified, compared, denied, joined, Expression, empty, truth, number_tokens, truth_tokens, explained_tokens, open_operand, WriterState, write_pending, parenthesis_before, is_more, write_nodes, write_node}
 use Rattle.flt_ast.specs.declared.node.Node.{Node}
 use Rattle.flt_ast.specs.declared.node.Node.TheVariants as node
-use Rattle.flt_ast.specs.Tree.{NumberTree, literal, len, named, load, negated, applied, TruthTree, check, cast, sized, bare, valued, qualified, compared, denied, joined, Expression, empty, truth}
 use Rattle.flt_ast.specs.Nodes.{number_nodes, truth_nodes, expr_nodes}
 use Rattle.flt_explain.specs.declared.backward.Pending.{Pending}
-use Rattle.flt_explain.specs.Explained.{number_tokens, truth_tokens, explained_tokens, open_operand}
-use Rattle.flt_explain.specs.inside.Backward.{WriterState, write_pending, parenthesis_before, is_more, write_nodes, write_node}
 
 pub number_written : (a : NumberTree) (rest : List Node) → write_nodes (number_nodes a rest) ≡ write_pending (write_nodes rest).pending (number_tokens a (write_nodes rest).tokens)
 number_written (literal n) rest = refl

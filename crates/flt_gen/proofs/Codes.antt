@@ -1,19 +1,9 @@
 -- An instruction with the code of an operation is one of it.
-use Rattle.std.proofs.Common.{◌≡◌, ℕ, List, ◌∷◌, Some, refl, ap, ◌∙◌}
-use Rattle.flt_bpf.specs.declared.insn.Insn.{Insn}
-use Rattle.flt_bpf.specs.declared.machine.State.{State}
-use Rattle.flt_bpf.specs.declared.operation.Operation.{Operation}
-use Rattle.flt_bpf.specs.declared.operation.Operation.TheVariants.{LoadAbsolute, LoadIndirect, Load, Store, Compute, JumpIf}
-use Rattle.flt_bpf.specs.declared.operation.Register.TheVariants.{Accumulator, Index}
-use Rattle.flt_bpf.specs.declared.operation.Width.TheVariants.{Word}
-use Rattle.flt_bpf.specs.declared.operation.Source.TheVariants.{Immediate}
+use Rattle.flt_gen.proofs.Common.{◌≡◌, ℕ, List, ◌∷◌, Some, refl, ap, ◌∙◌, Insn, State, Operation, LoadAbsolute, LoadIndirect, Load, Store, Compute, JumpIf, Accumulator, Index, Word, Immediate, Constant, answer_of, answer_after, code_of, does, does_if_known, plain}
 use Rattle.flt_bpf.specs.declared.operation.AluOperation.TheVariants.{Add}
 use Rattle.flt_bpf.specs.declared.operation.Test.TheVariants.{Equal}
-use Rattle.flt_bpf.specs.declared.operation.Operand.TheVariants.{Constant}
-use Rattle.flt_bpf.specs.Answer.{answer_of, answer_after}
-use Rattle.flt_bpf.specs.Instructions.{code_of, operation_of}
-use Rattle.flt_bpf.specs.Machine.{step, does, does_if_known}
-use Rattle.flt_emit.specs.inside.Code.{plain}
+use Rattle.flt_bpf.specs.Instructions.{operation_of}
+use Rattle.flt_bpf.specs.Machine.{step}
 
 pub code_is : (o : Operation) → operation_of (code_of o) ≡ Some o
 unfolding operation_of

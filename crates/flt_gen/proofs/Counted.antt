@@ -1,34 +1,16 @@
 -- The counts of the table's formulas are at most those of the tree.
-use Rattle.std.proofs.Common.{◌≡◌, ℕ, ◌+◌, ◌-◌, ◌≤◌, max, min, List, [], ◌∷◌, length, Option, Some, None, refl, arith}
-use Rattle.flt_words.specs.declared.token.Protocol.{Protocol}
+use Rattle.flt_gen.proofs.Common.{◌≡◌, ℕ, ◌+◌, ◌-◌, ◌≤◌, max, min, List, [], ◌∷◌, length, Option, Some, None, refl, arith, Protocol, Source, Destination, And, Or, ValueType, Host, Net, Port, PortRange, Proto, Direction, Value, Link, FrameKind, Elementary, Interval, MaskedField, Sides, One, Between, Transport, Formula, Single, Both, Either, Among, all_of, sides, Numbers, no_numbers, any_sides, after, any_proto, mac_tests, check_formula, cast_formula, proto_formula, hosts_of_kind, hosts_formula, net_formula, net_test, ip6_formula, ether_host, port_formula, port_test, port_sides, transport, value_formula, first_ends, tests, nodes, words}
 use Rattle.flt_words.specs.declared.token.Protocol.TheVariants as protocol
-use Rattle.flt_words.specs.declared.token.Side.TheVariants.{Source, Destination}
-use Rattle.flt_words.specs.declared.token.Join.TheVariants.{And, Or}
 use Rattle.flt_words.specs.declared.token.Cast.{Cast}
 use Rattle.flt_words.specs.declared.token.Cast.TheVariants.{Broadcast, Multicast}
-use Rattle.flt_words.specs.declared.token.ValueType.{ValueType}
-use Rattle.flt_words.specs.declared.token.ValueType.TheVariants.{Host, Net, Port, PortRange, Proto}
-use Rattle.flt_ast.specs.declared.qualifiers.Direction.{Direction}
 use Rattle.flt_ast.specs.declared.qualifiers.Direction.TheVariants as direction
-use Rattle.flt_ast.specs.declared.value.Value.{Value}
 use Rattle.flt_ast.specs.declared.value.Value.TheVariants as value
 use Rattle.flt_ast.specs.Counts as count
-use Rattle.cap_octet.specs.declared.link.Link.{Link}
-use Rattle.flt_emit.specs.declared.elementary.FrameKind.{FrameKind}
 use Rattle.flt_emit.specs.declared.elementary.FrameKind.TheVariants as kind
-use Rattle.flt_emit.specs.declared.elementary.Elementary.{Elementary}
-use Rattle.flt_emit.specs.declared.elementary.Interval.{Interval}
-use Rattle.flt_emit.specs.declared.elementary.MaskedField.{MaskedField}
-use Rattle.flt_emit.specs.declared.elementary.Sides.{Sides}
 use Rattle.flt_gen.specs.declared.address.Hosts.{Hosts}
 use Rattle.flt_gen.specs.declared.address.Hosts.TheVariants as hosts
 use Rattle.flt_gen.specs.declared.address.NetTest.{NetTest}
-use Rattle.flt_gen.specs.declared.port.Ports.TheVariants.{One, Between}
 use Rattle.flt_gen.specs.declared.port.PortTest.{PortTest}
-use Rattle.flt_gen.specs.declared.port.Transport.{Transport}
-use Rattle.flt_emit.specs.Formula.{Formula, Single, Both, Either, Among, all_of, sides, Numbers, no_numbers, any_sides}
-use Rattle.flt_gen.specs.Primitives.{after, any_proto, mac_tests, check_formula, cast_formula, proto_formula, hosts_of_kind, hosts_formula, net_formula, net_test, ip6_formula, ether_host, port_formula, port_test, port_sides, transport, value_formula}
-use Rattle.flt_gen.specs.inside.Counts.{first_ends, tests, nodes, words}
 use Rattle.flt_gen.proofs.Ascending.{Searchable, Searches}
 
 -- a formula without comparisons, with at most n tests, in which all numbers that are searched

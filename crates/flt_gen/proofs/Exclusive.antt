@@ -1,12 +1,6 @@
 -- A frame is of one kind at most.
-use Rattle.std.proofs.Common.{◌≡◌, ℕ, List, Bool, true, false, Option, Some, None, refl, ap, ◌∙◌, arith}
-use Rattle.std.specs.Prelude.{◌==◌}
-use Rattle.std.proofs.lemmas.Bool.Decides.{nat_tests}
-use Rattle.flt_bpf.specs.declared.operation.Width.TheVariants.{HalfWord, Byte}
-use Rattle.flt_bpf.specs.Machine.{field}
+use Rattle.flt_gen.proofs.Common.{◌≡◌, ℕ, List, Bool, true, false, Option, Some, None, refl, ap, ◌∙◌, arith, ◌==◌, nat_tests, HalfWord, Byte, field, Elementary, Yes, No, reading_of, with, under_mask, elementary_reads, type_test}
 use Rattle.flt_emit.specs.declared.elementary.FrameKind.TheVariants.{Ip, Ip6, Arp, Rarp}
-use Rattle.flt_emit.specs.declared.elementary.Elementary.{Elementary}
-use Rattle.flt_emit.specs.Elementary.{Yes, No, reading_of, with, under_mask, elementary_reads, type_test}
 
 pub is_yes : (b : Bool) → reading_of (Some b) ≡ Yes → b ≡ true
 is_yes true e = refl

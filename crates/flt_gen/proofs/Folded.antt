@@ -1,29 +1,8 @@
 -- An expression with its arithmetic of numbers folded means the same, and counts no more.
-use Rattle.std.proofs.Common.{◌≡◌, ℕ, ◌+◌, ◌%◌, ◌^◌, ◌≤◌, List, [], ◌∷◌, false, Option, Some, None, refl, sym, ap, ◌∙◌, arith, fold}
-use mathlib.Core.Bool.{or_assoc}
-use Rattle.std.specs.Prelude.{◌||◌}
-use Rattle.flt_words.specs.declared.token.Operator.{Operator}
+use Rattle.flt_gen.proofs.Common.{◌≡◌, ℕ, ◌+◌, ◌%◌, ◌^◌, ◌≤◌, List, [], ◌∷◌, false, Option, Some, None, refl, sym, ap, ◌∙◌, arith, fold, or_assoc, ◌||◌, Operator, Comparison, Protocol, field, Node, NumberTree, literal, named, load, negated, applied, TruthTree, compared, denied, joined, Expression, empty, truth, number_size, number_words, number_tests, truth_size, truth_words, truth_tests, bound_of, words_of, number_nodes, truth_nodes, expr_nodes, number_onto, truth_onto, expr_onto, is_unfilled, any_primitive, some_primitive, Link, MatchResult, Yes, with, reading_of, compares, elementary_reads, width_of, base, number, result_of, accessors, accessor_tests, Formula, Compare, both, either, negation, reads, relation_reads, guarded_formula, checked_formula, Elementary, constant, formula, holds, short_bound_of, negated_constant, applied_constant, number_or, negated_number, applied_number, folded_number, and_denied, joined_truth, folded_truth, folded_expression, node_or, with_negation, with_operator, Held, with_held, with_folded}
 use Rattle.flt_words.specs.declared.token.Join.{Join}
 use Rattle.flt_words.specs.declared.token.Join.TheVariants as join
-use Rattle.flt_words.specs.declared.token.Comparison.{Comparison}
-use Rattle.flt_words.specs.declared.token.Protocol.{Protocol}
-use Rattle.flt_bpf.specs.Machine.{field}
-use Rattle.flt_ast.specs.declared.node.Node.{Node}
 use Rattle.flt_ast.specs.declared.node.Node.TheVariants as node
-use Rattle.flt_ast.specs.Tree.{NumberTree, literal, named, load, negated, applied, TruthTree, compared, denied, joined, Expression, empty, truth}
-use Rattle.flt_ast.specs.Counts.{number_size, number_words, number_tests, truth_size, truth_words, truth_tests, bound_of, words_of}
-use Rattle.flt_ast.specs.Nodes.{number_nodes, truth_nodes, expr_nodes}
-use Rattle.flt_ast.specs.inside.Nodes.{number_onto, truth_onto, expr_onto}
-use Rattle.flt_ast.specs.Resolved.{is_unfilled, any_primitive, some_primitive}
-use Rattle.cap_octet.specs.declared.link.Link.{Link}
-use Rattle.flt_emit.specs.Elementary.{MatchResult, Yes, with, reading_of, compares, elementary_reads}
-use Rattle.flt_emit.specs.Numbers.{width_of, base, number, result_of, accessors, accessor_tests}
-use Rattle.flt_emit.specs.Formula.{Formula, Compare, both, either, negation, reads, relation_reads, guarded_formula, checked_formula}
-use Rattle.flt_emit.specs.declared.elementary.Elementary.{Elementary}
-use Rattle.flt_emit.specs.inside.Code.{constant}
-use Rattle.flt_gen.specs.Reading.{formula, holds}
-use Rattle.flt_gen.specs.Counts.{short_bound_of}
-use Rattle.flt_gen.specs.inside.Folding.{negated_constant, applied_constant, number_or, negated_number, applied_number, folded_number, and_denied, joined_truth, folded_truth, folded_expression, node_or, with_negation, with_operator, Held, with_held, with_folded}
 use Rattle.flt_gen.proofs.Numbers.{constant_is}
 use Rattle.flt_gen.proofs.Held.{held_truth, none_held, back_truth}
 use Rattle.flt_gen.proofs.Once.{both_again}

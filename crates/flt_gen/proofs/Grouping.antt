@@ -1,44 +1,13 @@
 -- The formula of a truth in which hosts or ports are looked for together reads as the truth's own,
 -- and has no more tests.
-use Rattle.std.proofs.Common.{◌≡◌, ℕ, suc, ◌+◌, ◌-◌, ◌*◌, ◌^◌, ◌<◌, ◌≤◌, max, min, List, [], ◌∷◌, length, Bool, true, false, Option, Some, None, refl, sym, ap, ap₂, ◌∙◌, subst, arith}
-use Rattle.std.specs.Prelude.{◌==◌, ◌||◌, ◌&&◌, nat_lt, nat_le, bit_and, if◌then◌else◌}
-use Rattle.std.proofs.Math.Nat.{suc-mul}
-use Rattle.std.proofs.lemmas.Bool.Decides.{nat_tests}
-use Rattle.std.proofs.lemmas.Bool.{and_parts, or_parts}
-use Rattle.flt_words.specs.declared.token.Protocol.{Protocol}
-use Rattle.flt_words.specs.declared.token.Protocol.TheVariants.{Ip, Tcp, Udp}
-use Rattle.flt_words.specs.declared.token.Side.TheVariants.{Source, Destination}
-use Rattle.flt_words.specs.declared.token.Join.TheVariants.{And, Or}
+use Rattle.flt_gen.proofs.Common.{◌≡◌, ℕ, suc, ◌+◌, ◌-◌, ◌*◌, ◌^◌, ◌<◌, ◌≤◌, max, min, List, [], ◌∷◌, length, Bool, true, false, Option, Some, None, refl, sym, ap, ap₂, ◌∙◌, subst, arith, ◌==◌, ◌||◌, ◌&&◌, nat_lt, nat_le, bit_and, if◌then◌else◌, suc-mul, nat_tests, and_parts, or_parts, Protocol, Ip, Tcp, Udp, Source, Destination, And, Or, ValueType, Host, Net, Port, PortRange, Direction, CompleteQualifiers, Value, first_bits, Interval, Sides, Member, Entry, Comparison, NumberTree, TruthTree, check, cast, sized, bare, valued, qualified, compared, denied, joined, is_unfilled, any_primitive, Link, MatchResult, Yes, Several, Formula, Compare, Both, Either, Except, is_in, is_within, both, either, negation, Numbers, any_sides, reads, check_formula, cast_formula, sized_formula, hosts_formula, port_test, port_formula, qualified_formula, protocols_of, relation_formula, qualified_needed, formula, first_ends, tests, nodes, words, insert_ascending, sought, Group, no_group, entry, found_member, others_with, with_member, same_type, same_protocol, same_direction, agree, goes_with, net_numbers, member_of, group_and, larger_group, is_searched, numbers_of, mask_of, several_formula, rows_formula, group_formula, or_any, or_group, truth_member, choice, grouped_formula, MOST_TOGETHER, FEWEST_RANGES}
 use Rattle.flt_words.specs.declared.token.Size.{Size}
 use Rattle.flt_words.specs.declared.token.Size.TheVariants as size
-use Rattle.flt_words.specs.declared.token.ValueType.{ValueType}
-use Rattle.flt_words.specs.declared.token.ValueType.TheVariants.{Host, Net, Port, PortRange}
-use Rattle.flt_ast.specs.declared.qualifiers.Direction.{Direction}
 use Rattle.flt_ast.specs.declared.qualifiers.Direction.TheVariants as direction
-use Rattle.flt_ast.specs.declared.qualifiers.CompleteQualifiers.{CompleteQualifiers}
-use Rattle.flt_ast.specs.declared.value.Value.{Value}
 use Rattle.flt_ast.specs.declared.value.Value.TheVariants as value
 use Rattle.flt_ast.specs.declared.value.NetMask.TheVariants as mask
-use Rattle.flt_ast.specs.Nets.{first_bits}
-use Rattle.flt_emit.specs.declared.elementary.Interval.{Interval}
-use Rattle.flt_emit.specs.declared.elementary.Sides.{Sides}
-use Rattle.flt_gen.specs.declared.group.Member.{Member}
-use Rattle.flt_gen.specs.declared.group.Entry.{Entry}
-use Rattle.flt_words.specs.declared.token.Comparison.{Comparison}
-use Rattle.flt_ast.specs.Tree.{NumberTree, TruthTree, check, cast, sized, bare, valued, qualified, compared, denied, joined}
 use Rattle.flt_ast.specs.Counts as count
-use Rattle.flt_ast.specs.Resolved.{is_unfilled, any_primitive}
-use Rattle.cap_octet.specs.declared.link.Link.{Link}
-use Rattle.flt_emit.specs.Elementary.{MatchResult, Yes}
 use Rattle.flt_gen.specs.declared.address.Hosts.TheVariants as hosts
-use Rattle.flt_gen.specs.declared.port.Ports.TheVariants.{Several}
-use Rattle.flt_emit.specs.Formula.{Formula, Compare, Both, Either, Except, is_in, is_within, both, either, negation, Numbers, any_sides, reads}
-use Rattle.flt_gen.specs.Primitives.{check_formula, cast_formula, sized_formula, hosts_formula, port_test, port_formula, qualified_formula}
-use Rattle.flt_gen.specs.inside.Emitted.{protocols_of, relation_formula, qualified_needed}
-use Rattle.flt_gen.specs.Reading.{formula}
-use Rattle.flt_gen.specs.inside.Counts.{first_ends, tests, nodes, words}
-use Rattle.flt_gen.specs.inside.Intervals.{insert_ascending, sought}
-use Rattle.flt_gen.specs.inside.Group.{Group, no_group, entry, found_member, others_with, with_member, same_type, same_protocol, same_direction, agree, goes_with, net_numbers, member_of, group_and, larger_group, is_searched, numbers_of, mask_of, several_formula, rows_formula, group_formula, or_any, or_group, truth_member, choice, grouped_formula, MOST_TOGETHER, FEWEST_RANGES}
 use Rattle.flt_gen.proofs.Ascending.{if_case, Searchable, Searches, Ordered, Points, ordered_inserted, points_inserted, length_inserted, within_inserted, searchable_joined, joined_tests, joined_points}
 use Rattle.flt_gen.proofs.Counted.{Bare, bare_within, bare_some, bare_either, bare_after, any_tests, Sought, bare_any, bare_check, bare_cast, of_kinds, bare_hosts, bare_ports}
 use Rattle.flt_gen.proofs.Needed.{bare_needed, value_same}

@@ -1,11 +1,6 @@
 -- The nodes of a tree that are held, and put back.
-use Rattle.std.proofs.Common.{◌≡◌, ℕ, suc, ◌+◌, List, [], ◌∷◌, refl, ◌∙◌, arith}
-use Rattle.flt_ast.specs.declared.node.Node.{Node}
+use Rattle.flt_gen.proofs.Common.{◌≡◌, ℕ, suc, ◌+◌, List, [], ◌∷◌, refl, ◌∙◌, arith, Node, NumberTree, load, negated, applied, TruthTree, compared, denied, joined, number_nodes, truth_nodes, number_onto, truth_onto, hold, put_back}
 use Rattle.flt_ast.specs.declared.node.Node.TheVariants as node
-use Rattle.flt_ast.specs.Tree.{NumberTree, load, negated, applied, TruthTree, compared, denied, joined}
-use Rattle.flt_ast.specs.Nodes.{number_nodes, truth_nodes}
-use Rattle.flt_ast.specs.inside.Nodes.{number_onto, truth_onto}
-use Rattle.flt_gen.specs.inside.Folding.{hold, put_back}
 
 pub one_more : (need : ℕ) → need + 1 ≡ suc need
 one_more need = omega arith

@@ -1,9 +1,5 @@
 -- Where code leads: its answer from a place on.
-use Rattle.std.proofs.Common.{◌≡◌, ℕ, ◌-◌, ◌≤◌, List, length, Some, sym, ap, ◌∙◌, arith}
-use Rattle.flt_bpf.specs.declared.insn.Insn.{Insn}
-use Rattle.flt_bpf.specs.declared.machine.State.{State}
-use Rattle.flt_bpf.specs.Answer.{answer_of}
-use Rattle.flt_bpf.proofs.Suffix.{answer_drop}
+use Rattle.flt_gen.proofs.Common.{◌≡◌, ℕ, ◌-◌, ◌≤◌, List, length, Some, sym, ap, ◌∙◌, arith, Insn, State, answer_of, answer_drop}
 use Rattle.flt_gen.proofs.Tails.{Extends}
 
 -- a state with the words of memory that programs may use

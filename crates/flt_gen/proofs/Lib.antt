@@ -1,3 +1,4 @@
+pub mod Common
 pub mod Codes
 pub mod Tails
 pub mod Ascending

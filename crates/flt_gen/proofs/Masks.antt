@@ -1,14 +1,7 @@
 -- A mask of 128 bits, by the four words in which it stands.
-use Rattle.std.proofs.Common.{◌≡◌, ℕ, ◌+◌, ◌-◌, ◌*◌, ◌^◌, ◌≤◌, [], ◌∷◌, map, refl, ap, ◌∙◌, arith, Option, None, Some, ⊎_elim}
+use Rattle.flt_gen.proofs.Common.{◌≡◌, ℕ, ◌+◌, ◌-◌, ◌*◌, ◌^◌, ◌≤◌, [], ◌∷◌, map, refl, ap, ◌∙◌, arith, Option, None, Some, ⊎_elim, cases_lt, pow-add, first_bits, ip6_mask, word_mask, ◌==◌, unwrap_or, nat_tests, partial_mask, ip6_tests}
 use Rattle.std.proofs.Math.Pow.{pow_mono}
-use Rattle.std.proofs.lemmas.Bool.{cases_lt}
-use Rattle.std.proofs.lemmas.Nat.{pow-add}
 use Rattle.std.specs.Int.Digits.{number_from_digits}
-use Rattle.flt_ast.specs.Nets.{first_bits, ip6_mask}
-use Rattle.flt_gen.specs.Laws.{word_mask}
-use Rattle.std.specs.Prelude.{◌==◌, unwrap_or}
-use Rattle.std.proofs.lemmas.Bool.Decides.{nat_tests}
-use Rattle.flt_gen.specs.Primitives.{partial_mask, ip6_tests}
 use Rattle.flt_gen.proofs.Ascending.{if_case}
 
 -- each word lacks a power of 2, the whole word where it has no bit of the mask; so does the mask

@@ -1,32 +1,11 @@
 -- Words of IPv6 addresses of which no bit counts: the formula reads the same, and has no more
 -- tests.
-use Rattle.std.proofs.Common.{◌≡◌, ℕ, ◌+◌, ◌-◌, ◌*◌, ◌/◌, ◌%◌, ◌^◌, ◌≤◌, List, [], ◌∷◌, length, Bool, true, false, Option, Some, None, refl, sym, ap, ◌∙◌, arith}
-use Rattle.std.specs.Prelude.{◌==◌, ◌&&◌, nat_le, if◌then◌else◌, bit_and}
+use Rattle.flt_gen.proofs.Common.{◌≡◌, ℕ, ◌+◌, ◌-◌, ◌*◌, ◌/◌, ◌%◌, ◌^◌, ◌≤◌, List, [], ◌∷◌, length, Bool, true, false, Option, Some, None, refl, sym, ap, ◌∙◌, arith, ◌==◌, ◌&&◌, nat_le, if◌then◌else◌, bit_and, nat_tests, and_parts, Source, Destination, And, Or, Protocol, ValueType, Net, Direction, Value, first_bits, Word, big_endian_at, field, Link, Fixed, Elementary, MatchResult, Yes, reading_of, with, under_mask, kind_test, elementary_reads, network_offset, both, either, all_of, sides, reads, partial_mask, address_test, ip6_test, ip6_tests, ip6_formula, value_formula, is_empty, is_idle, capture_test, last_test, needed_tests, ip6_needed, value_needed}
 use Rattle.std.specs.Int.Bits.{and_zero_r}
-use Rattle.std.proofs.lemmas.Bool.Decides.{nat_tests}
-use Rattle.std.proofs.lemmas.Bool.{and_parts}
-use Rattle.flt_words.specs.declared.token.Side.TheVariants.{Source, Destination}
-use Rattle.flt_words.specs.declared.token.Join.TheVariants.{And, Or}
-use Rattle.flt_words.specs.declared.token.Protocol.{Protocol}
-use Rattle.flt_words.specs.declared.token.ValueType.{ValueType}
-use Rattle.flt_words.specs.declared.token.ValueType.TheVariants.{Net}
-use Rattle.flt_ast.specs.declared.qualifiers.Direction.{Direction}
 use Rattle.flt_ast.specs.declared.qualifiers.Direction.TheVariants as direction
-use Rattle.flt_ast.specs.declared.value.Value.{Value}
 use Rattle.flt_ast.specs.declared.value.Value.TheVariants as value
-use Rattle.flt_ast.specs.Nets.{first_bits}
 use Rattle.flt_ast.specs.Counts as count
-use Rattle.flt_bpf.specs.declared.operation.Width.TheVariants.{Word}
-use Rattle.flt_bpf.specs.Machine.{big_endian_at, field}
-use Rattle.cap_octet.specs.declared.link.Link.{Link}
 use Rattle.flt_emit.specs.declared.elementary.FrameKind.TheVariants as kind
-use Rattle.flt_emit.specs.declared.elementary.Offset.TheVariants.{Fixed}
-use Rattle.flt_emit.specs.declared.elementary.Elementary.{Elementary}
-use Rattle.flt_emit.specs.Elementary.{MatchResult, Yes, reading_of, with, under_mask, kind_test, elementary_reads}
-use Rattle.cap_octet.specs.Link.{network_offset}
-use Rattle.flt_emit.specs.Formula.{both, either, all_of, sides, reads}
-use Rattle.flt_gen.specs.Primitives.{partial_mask, address_test, ip6_test, ip6_tests, ip6_formula, value_formula}
-use Rattle.flt_gen.specs.inside.Emitted.{is_empty, is_idle, capture_test, last_test, needed_tests, ip6_needed, value_needed}
 use Rattle.flt_gen.proofs.Ascending.{if_case}
 use Rattle.flt_gen.proofs.Counted.{Bare, bare_after, bare_sides, bare_value}
 

@@ -1,8 +1,5 @@
 -- The test of a kind of network header reads what the packet's network header is.
-use Rattle.std.proofs.Common.{◌≡◌, get_or-drop, ℕ, ◌+◌, ◌*◌, ◌/◌, ◌%◌, ◌<◌, List, length, drop, Bool, true, false, nat_lt, nat_le, ◌==◌, Option, Some, None, refl, sym, ap, subst, ◌∙◌, arith, if◌then◌else◌}
-use Rattle.std.specs.Prelude.{◌↔◌, ◌^◌, All, bit_and, slice_index}
-use Rattle.std.proofs.lemmas.Bool.Decides.{nat_tests}
-use Rattle.std.proofs.lemmas.Bool.{eqb-true}
+use Rattle.flt_gen.proofs.Common.{◌≡◌, get_or-drop, ℕ, ◌+◌, ◌*◌, ◌/◌, ◌%◌, ◌<◌, List, length, drop, Bool, true, false, nat_lt, nat_le, ◌==◌, Option, Some, None, refl, sym, ap, subst, ◌∙◌, arith, if◌then◌else◌, ◌↔◌, ◌^◌, All, bit_and, slice_index, nat_tests, eqb-true, HalfWord, big_endian_at, Link, MatchResult, Yes, No, Rejected, reading_of, with, elementary_reads, is_at, kind_test, type_test, link_of, link_type, type_offset, frame_kind, carries_kind, carries}
 use Rattle.std.proofs.lemmas.Grind.{and_high_numeral}
 use Rattle.cap_octet.specs.Assigned.{ETHERTYPE_IPV4, ETHERTYPE_IPV6, ETHERTYPE_ARP, ETHERTYPE_RARP}
 use Rattle.cap_octet.specs.NetworkHeader.{header_after, network_header, header_by_ethertype, header_by_version}
@@ -12,13 +9,8 @@ use Rattle.cap_octet.specs.declared.network.NetworkHeader.TheVariants.{Known, Ot
 use Rattle.cap_octet.specs.declared.network.NetworkKind.{NetworkKind}
 use Rattle.cap_octet.specs.declared.network.NetworkKind.TheVariants.{Ipv4, Ipv6, Arp, Rarp}
 use Rattle.cap_octet.specs.declared.number.Order.TheVariants.{Big}
-use Rattle.flt_bpf.specs.declared.operation.Width.TheVariants.{HalfWord}
-use Rattle.flt_bpf.specs.Machine.{big_endian_at}
-use Rattle.cap_octet.specs.declared.link.Link.{Link}
 use Rattle.cap_octet.specs.declared.link.Link.TheVariants.{Ether}
-use Rattle.flt_emit.specs.Elementary.{MatchResult, Yes, No, Rejected, reading_of, with, elementary_reads, is_at, kind_test, type_test}
-use Rattle.cap_octet.specs.Link.{all_links, link_of, link_type, type_offset}
-use Rattle.flt_gen.specs.Laws.{frame_kind, carries_kind, carries}
+use Rattle.cap_octet.specs.Link.{all_links}
 use Rattle.flt_gen.proofs.Exclusive.{is_yes}
 
 -- a test reads what a packet's header is

@@ -1,35 +1,9 @@
 -- What the code of arithmetic does.
-use Rattle.std.proofs.Common.{◌≡◌, ℕ, ◌+◌, ◌-◌, ◌%◌, ◌^◌, ◌<◌, ◌≤◌, List, ◌∷◌, length, Bool, true, false, Option, Some, None, refl, sym, ap, ap₂, ◌∙◌, subst, arith}
-use Rattle.std.specs.Prelude.{slice_get, slice_set, nat_lt, if◌then◌else◌}
-use Rattle.std.specs.Option.{option_map}
+use Rattle.flt_gen.proofs.Common.{◌≡◌, ℕ, ◌+◌, ◌-◌, ◌%◌, ◌^◌, ◌<◌, ◌≤◌, List, ◌∷◌, length, Bool, true, false, Option, Some, None, refl, sym, ap, ap₂, ◌∙◌, subst, arith, slice_get, slice_set, nat_lt, if◌then◌else◌, option_map, mod-add-mod, nat_tests, get_or-set_same, get_or-set_other, Insn, State, Accumulator, Index, Width, Byte, Operand, Constant, IndexRegister, Goes, Lost, field, compute, operand_value, into, word_into, header_length, Operator, Protocol, Ether, Tcp, Udp, Icmp, NumberTree, literal, len, named, load, negated, applied, Link, with, network_offset, width_of, base, result_of, number, number_words, plain, alu_operation, computation, takes_constant, constant, constant_operand, emit_base, emit_transport, emit_accessor, emit_operands, emit_number, answer_of, answer_after, LoadIndirect, Load, LoadHeaderLength, Store, Negate, CopyToIndex, Immediate, Memory, Length}
 use Rattle.std.proofs.Math.ListN.{length-set}
-use Rattle.std.proofs.Math.Nat.{mod-add-mod}
-use Rattle.std.proofs.lemmas.Bool.Decides.{nat_tests}
 use Rattle.std.proofs.lemmas.Option.{slice_get-get_or}
-use Rattle.std.proofs.lemmas.List.{get_or-set_same, get_or-set_other}
-use Rattle.flt_bpf.specs.declared.insn.Insn.{Insn}
-use Rattle.flt_bpf.specs.declared.machine.State.{State}
-use Rattle.flt_bpf.specs.declared.operation.Register.TheVariants.{Accumulator, Index}
-use Rattle.flt_bpf.specs.declared.operation.Width.{Width}
-use Rattle.flt_bpf.specs.declared.operation.Width.TheVariants.{Byte}
-use Rattle.flt_bpf.specs.declared.operation.Operand.{Operand}
-use Rattle.flt_bpf.specs.declared.operation.Operand.TheVariants.{Constant, IndexRegister}
-use Rattle.flt_bpf.specs.Machine.{Goes, Lost, field, compute, operand_value, into, word_into, header_length}
-use Rattle.flt_words.specs.declared.token.Operator.{Operator}
 use Rattle.flt_words.specs.declared.token.Operator.TheVariants.{Add}
-use Rattle.flt_words.specs.declared.token.Protocol.{Protocol}
-use Rattle.flt_words.specs.declared.token.Protocol.TheVariants.{Ether, Tcp, Udp, Icmp}
-use Rattle.flt_ast.specs.Tree.{NumberTree, literal, len, named, load, negated, applied}
-use Rattle.cap_octet.specs.declared.link.Link.{Link}
-use Rattle.flt_emit.specs.Elementary.{with}
-use Rattle.cap_octet.specs.Link.{network_offset}
-use Rattle.flt_emit.specs.Numbers.{width_of, base, result_of, number}
-use Rattle.flt_ast.specs.Counts.{number_words}
-use Rattle.flt_emit.specs.inside.Code.{plain, alu_operation, computation, takes_constant, constant, constant_operand, emit_base, emit_transport, emit_accessor, emit_operands, emit_number}
 use Rattle.flt_gen.proofs.Tails.{by_right}
-use Rattle.flt_bpf.specs.Answer.{answer_of, answer_after}
-use Rattle.flt_bpf.specs.declared.operation.Operation.TheVariants.{LoadIndirect, Load, LoadHeaderLength, Store, Negate, CopyToIndex}
-use Rattle.flt_bpf.specs.declared.operation.Source.TheVariants.{Immediate, Memory, Length}
 use Rattle.flt_gen.proofs.Codes.{run_plain}
 
 get_set_same : (xs : List ℕ) (i v : ℕ) → i < length xs → slice_get (slice_set xs i v) i ≡ Some v

@@ -1,19 +1,6 @@
 -- The tests of a protocol's accessors stand once: the formula reads the same, and has no more
 -- tests.
-use Rattle.std.proofs.Common.{◌≡◌, ℕ, ◌+◌, ◌≤◌, List, [], ◌∷◌, true, refl, sym, ap, ◌∙◌, arith}
-use Rattle.flt_words.specs.declared.token.Comparison.{Comparison}
-use Rattle.flt_words.specs.declared.token.Protocol.{Protocol}
-use Rattle.flt_words.specs.declared.token.Protocol.TheVariants.{Ether, Tcp}
-use Rattle.flt_ast.specs.Tree.{NumberTree, load, negated, applied, compared}
-use Rattle.flt_ast.specs.Counts.{accessor_test_count, number_tests, truth_tests}
-use Rattle.cap_octet.specs.declared.link.Link.{Link}
-use Rattle.flt_emit.specs.declared.elementary.Elementary.{Elementary}
-use Rattle.flt_emit.specs.Elementary.{MatchResult, Yes, elementary_reads}
-use Rattle.flt_emit.specs.Numbers.{accessors, accessor_tests}
-use Rattle.flt_emit.specs.Formula.{Formula, Compare, both, reads, guarded_formula, checked_formula}
-use Rattle.flt_gen.specs.inside.Counts.{tests, nodes, words}
-use Rattle.flt_gen.specs.inside.Emitted.{equals, without_protocol, protocols_of, relation_formula}
-use Rattle.flt_gen.specs.Reading.{formula}
+use Rattle.flt_gen.proofs.Common.{◌≡◌, ℕ, ◌+◌, ◌≤◌, List, [], ◌∷◌, true, refl, sym, ap, ◌∙◌, arith, Comparison, Protocol, Ether, Tcp, NumberTree, load, negated, applied, compared, accessor_test_count, number_tests, truth_tests, Link, Elementary, MatchResult, Yes, elementary_reads, accessors, accessor_tests, Formula, Compare, both, reads, guarded_formula, checked_formula, tests, nodes, words, equals, without_protocol, protocols_of, relation_formula, formula}
 use Rattle.flt_gen.proofs.Ascending.{if_case, Searches}
 
 equal_are : (p q : Protocol) → equals p q ≡ true → p ≡ q

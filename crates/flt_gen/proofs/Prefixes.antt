@@ -1,18 +1,8 @@
 -- Networks as intervals: what is asked under the mask of one prefix can be asked under that of a
 -- longer one.
-use Rattle.std.proofs.Common.{◌≡◌, ℕ, suc, ◌+◌, ◌-◌, ◌*◌, ◌/◌, ◌^◌, ◌<◌, ◌≤◌, Bool, true, false, Some, None, refl, sym, ap, ◌∙◌, arith, pow_mono, inl, inr}
-use Rattle.std.specs.Prelude.{◌==◌, ◌&&◌, nat_lt, nat_le, bit_and, if◌then◌else◌}
-use Rattle.std.proofs.Math.Nat.{div-mul-le_self, lt-div-mul-add, le-div_iff_mul-le, mul-le-mul_right, pow-succ', suc-mul}
-use Rattle.std.proofs.lemmas.Bool.{cases_lt}
-use Rattle.std.proofs.lemmas.Bool.Decides.{nat_tests}
-use Rattle.std.proofs.lemmas.Nat.{and_le_r, pow_pos}
+use Rattle.flt_gen.proofs.Common.{◌≡◌, ℕ, suc, ◌+◌, ◌-◌, ◌*◌, ◌/◌, ◌^◌, ◌<◌, ◌≤◌, Bool, true, false, Some, None, refl, sym, ap, ◌∙◌, arith, inl, inr, ◌==◌, ◌&&◌, nat_lt, nat_le, bit_and, if◌then◌else◌, div-mul-le_self, lt-div-mul-add, le-div_iff_mul-le, mul-le-mul_right, pow-succ', suc-mul, cases_lt, nat_tests, and_le_r, pow_pos, first_bits, under_mask, is_in, Member, partial_mask, agree, mask_of}
+use Rattle.std.proofs.Common.{pow_mono}
 use Rattle.std.proofs.lemmas.Nat.Bits.{and_high_mask, and_high_mask_twice}
-use Rattle.flt_ast.specs.Nets.{first_bits}
-use Rattle.flt_emit.specs.Elementary.{under_mask}
-use Rattle.flt_emit.specs.Formula.{is_in}
-use Rattle.flt_gen.specs.declared.group.Member.{Member}
-use Rattle.flt_gen.specs.Primitives.{partial_mask}
-use Rattle.flt_gen.specs.inside.Group.{agree, mask_of}
 use Rattle.flt_gen.proofs.Runs.{one_number}
 
 -- numbers of a member that mean the same under a mask of so many bits

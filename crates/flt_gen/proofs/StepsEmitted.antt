@@ -1,14 +1,6 @@
 -- A formula's steps, emitted from the last to the first, are the formula's code.
-use Rattle.std.proofs.Common.{◌≡◌, ◌<◌, ◌≤◌, List, [], ◌∷◌, length, drop, get_or, Bool, true, false, Result, Ok, Err, refl, sym, ap, ◌∙◌, arith}
-use Rattle.std.specs.Prelude.{OnOk, if◌then◌else◌}
+use Rattle.flt_gen.proofs.Common.{◌≡◌, ◌<◌, ◌≤◌, List, [], ◌∷◌, length, drop, get_or, Bool, true, false, Result, Ok, Err, refl, sym, ap, ◌∙◌, arith, OnOk, if◌then◌else◌, And, Or, Link, Elementary, Formula, Single, Both, Either, all_of, Numbers, is_idle, needed_tests, Steps, Part, Joint, Meaning, meaning, with_parts, with_formula, no_steps, IsPut, IsJoined, Walk, finish_formula, emit_part, emit_parts}
 use Rattle.std.specs.declared.alloc.AllocError.{AllocError}
-use Rattle.flt_words.specs.declared.token.Join.TheVariants.{And, Or}
-use Rattle.cap_octet.specs.declared.link.Link.{Link}
-use Rattle.flt_emit.specs.declared.elementary.Elementary.{Elementary}
-use Rattle.flt_emit.specs.Formula.{Formula, Single, Both, Either, all_of, Numbers}
-use Rattle.flt_gen.specs.inside.Emitted.{is_idle, needed_tests}
-use Rattle.flt_gen.specs.inside.Steps.{Steps, Part, Joint, Meaning, meaning, with_parts, with_formula, no_steps, IsPut, IsJoined}
-use Rattle.flt_gen.specs.inside.Walk.{Walk, finish_formula, emit_part, emit_parts}
 
 parts_emitted : (link : Link) (w : Walk) (f : Formula) (ps : List Part) → emit_parts link w (with_parts f ps) ≡ emit_parts link (finish_formula link f w) ps
 parts_emitted link w (Both a b) ps =

@@ -1,37 +1,11 @@
 -- Addresses or ports that are looked for together read as one after the other.
-use Rattle.std.proofs.Common.{◌≡◌, ℕ, ◌+◌, ◌-◌, ◌*◌, ◌^◌, ◌%◌, ◌≤◌, List, [], ◌∷◌, Bool, true, false, Option, Some, None, refl, sym, ap, ap₂, ◌∙◌, subst, arith}
-use Rattle.std.specs.Prelude.{◌==◌, ◌||◌, ◌&&◌, nat_le, min, max, bit_and, if◌then◌else◌}
-use Rattle.std.proofs.lemmas.Bool.Decides.{nat_tests}
-use mathlib.Core.Bool.{or-false}
-use Rattle.flt_words.specs.declared.token.Protocol.{Protocol}
-use Rattle.flt_words.specs.declared.token.Protocol.TheVariants.{Ip, Arp, Rarp, Tcp, Udp}
-use Rattle.flt_words.specs.declared.token.ValueType.{ValueType}
-use Rattle.flt_words.specs.declared.token.ValueType.TheVariants.{Host, Net, Port, PortRange}
-use Rattle.flt_words.specs.declared.token.Side.TheVariants.{Source, Destination}
-use Rattle.flt_words.specs.declared.token.Join.TheVariants.{And, Or}
-use Rattle.flt_ast.specs.declared.qualifiers.Direction.{Direction}
+use Rattle.flt_gen.proofs.Common.{◌≡◌, ℕ, ◌+◌, ◌-◌, ◌*◌, ◌^◌, ◌%◌, ◌≤◌, List, [], ◌∷◌, Bool, true, false, Option, Some, None, refl, sym, ap, ap₂, ◌∙◌, subst, arith, ◌==◌, ◌||◌, ◌&&◌, nat_le, min, max, bit_and, if◌then◌else◌, nat_tests, or-false, Protocol, Ip, Tcp, Udp, ValueType, Host, Net, Port, PortRange, Source, Destination, And, Or, Direction, CompleteQualifiers, Value, first_bits, Link, type_offset, FrameKind, Elementary, Interval, Member, One, Between, Several, Sides, Transport, MatchResult, Yes, No, Rejected, reading_of, with, field_at, under_mask, kind_test, elementary_reads, Formula, is_in, is_within, both, either, all_of, sides, Numbers, no_numbers, any_sides, reads, address_places, address_test, port_is, port_between, port_places, port_sides, transport, following, ip_transport, ip6_transport, port_test, port_formula, net_test, net_formula, value_formula, joined_all, sought, mask_of, found_member, net_numbers, member_of, several_formula}
+use Rattle.flt_words.specs.declared.token.Protocol.TheVariants.{Arp, Rarp}
 use Rattle.flt_ast.specs.declared.qualifiers.Direction.TheVariants as direction
-use Rattle.flt_ast.specs.declared.qualifiers.CompleteQualifiers.{CompleteQualifiers}
-use Rattle.flt_ast.specs.declared.value.Value.{Value}
 use Rattle.flt_ast.specs.declared.value.Value.TheVariants as value
 use Rattle.flt_ast.specs.declared.value.NetMask.TheVariants as mask
-use Rattle.flt_ast.specs.Nets.{first_bits}
-use Rattle.cap_octet.specs.declared.link.Link.{Link}
-use Rattle.cap_octet.specs.Link.{type_offset}
-use Rattle.flt_emit.specs.declared.elementary.FrameKind.{FrameKind}
 use Rattle.flt_emit.specs.declared.elementary.FrameKind.TheVariants as kind
-use Rattle.flt_emit.specs.declared.elementary.Elementary.{Elementary}
-use Rattle.flt_emit.specs.declared.elementary.Interval.{Interval}
-use Rattle.flt_gen.specs.declared.group.Member.{Member}
 use Rattle.flt_gen.specs.declared.port.Ports.{Ports}
-use Rattle.flt_gen.specs.declared.port.Ports.TheVariants.{One, Between, Several}
-use Rattle.flt_emit.specs.declared.elementary.Sides.{Sides}
-use Rattle.flt_gen.specs.declared.port.Transport.{Transport}
-use Rattle.flt_emit.specs.Elementary.{MatchResult, Yes, No, Rejected, reading_of, with, field_at, under_mask, kind_test, elementary_reads}
-use Rattle.flt_emit.specs.Formula.{Formula, is_in, is_within, both, either, all_of, sides, Numbers, no_numbers, any_sides, reads}
-use Rattle.flt_gen.specs.Primitives.{address_places, address_test, port_is, port_between, port_places, port_sides, transport, following, ip_transport, ip6_transport, port_test, port_formula, net_test, net_formula, value_formula}
-use Rattle.flt_gen.specs.inside.Intervals.{joined_all, sought}
-use Rattle.flt_gen.specs.inside.Group.{mask_of, found_member, net_numbers, member_of, several_formula}
 use Rattle.flt_gen.proofs.Ascending.{Ordered, within_joined}
 use Rattle.flt_gen.proofs.Exclusive.{ip_no_ip6, ip_no_arp, ip_no_rarp, arp_no_rarp}
 use Rattle.flt_gen.proofs.Prefixes.{Good, same_hit, net_hit, whole_mask}

@@ -1,15 +1,6 @@
 -- The walk over the nodes of an expression makes its program.
-use Rattle.std.proofs.Common.{◌≡◌, ℕ, ◌-◌, List, [], ◌∷◌, length, drop, take, get_or, zero, suc, ◌<◌, Option, Some, None, refl, sym, ap, ◌∙◌, arith}
-use Rattle.std.specs.Prelude.{reverse}
-use Rattle.std.proofs.Math.Seq.{take-suc}
-use Rattle.std.proofs.lemmas.List.{reverse-append}
-use Rattle.flt_ast.specs.declared.node.Node.{Node}
+use Rattle.flt_gen.proofs.Common.{◌≡◌, ℕ, ◌-◌, List, [], ◌∷◌, length, drop, take, get_or, zero, suc, ◌<◌, Option, Some, None, refl, sym, ap, ◌∙◌, arith, reverse, take-suc, reverse-append, Node, Expression, expr_onto, Link, expression_code, program_code, Walk, emit_node, emit_both_nodes, or_walk, emit_nodes, start_walk, insns_of}
 use Rattle.flt_ast.specs.declared.node.Node.TheVariants as node
-use Rattle.flt_ast.specs.Tree.{Expression}
-use Rattle.flt_ast.specs.inside.Nodes.{expr_onto}
-use Rattle.cap_octet.specs.declared.link.Link.{Link}
-use Rattle.flt_gen.specs.inside.ProgramCode.{expression_code, program_code}
-use Rattle.flt_gen.specs.inside.Walk.{Walk, emit_node, emit_both_nodes, or_walk, emit_nodes, start_walk, insns_of}
 use Rattle.flt_gen.proofs.Walking.{expression_walked}
 
 -- by the nodes of the tree turned round

@@ -1,32 +1,10 @@
 -- The walk over the nodes of a tree, the last first, puts the code of the tree's formula in front.
-use Rattle.std.specs.Prelude.{◌+◌, if◌then◌else◌}
-use Rattle.std.proofs.Common.{◌≡◌, ℕ, List, [], ◌∷◌, Bool, true, false, Option, Some, None, refl, sym, ap, ◌∙◌}
-use Rattle.flt_bpf.specs.declared.insn.Insn.{Insn}
-use Rattle.flt_words.specs.declared.token.Join.TheVariants.{And, Or}
-use Rattle.flt_words.specs.declared.token.Comparison.{Comparison}
-use Rattle.flt_ast.specs.declared.qualifiers.CompleteQualifiers.{CompleteQualifiers}
-use Rattle.flt_ast.specs.declared.value.Value.{Value}
-use Rattle.flt_ast.specs.declared.node.Node.{Node}
-use Rattle.flt_ast.specs.declared.node.Node.TheVariants.{Apply, Compare, Literal, Not}
-use Rattle.flt_bpf.specs.declared.operation.Operand.TheVariants.{Constant, IndexRegister}
-use Rattle.flt_words.specs.declared.token.Operator.{Operator}
-use Rattle.flt_gen.specs.Reading.{formula}
-use Rattle.flt_gen.specs.inside.Group.{Group, no_group, larger_group, truth_member, choice, or_any, or_group, group_formula, grouped_formula}
-use Rattle.flt_ast.specs.Tree.{NumberTree, literal, len, named, load, negated, applied, TruthTree, qualified, compared, denied, joined, Expression, empty, truth}
-use Rattle.flt_ast.specs.inside.Nodes.{number_onto, truth_onto, expr_onto}
-use Rattle.cap_octet.specs.declared.link.Link.{Link}
+use Rattle.flt_gen.proofs.Common.{◌+◌, if◌then◌else◌, ◌≡◌, ℕ, List, [], ◌∷◌, Bool, true, false, Option, Some, None, refl, sym, ap, ◌∙◌, Insn, And, Or, Comparison, CompleteQualifiers, Value, Node, Apply, Literal, Not, Constant, IndexRegister, Operator, formula, Group, no_group, larger_group, truth_member, choice, or_any, or_group, group_formula, grouped_formula, NumberTree, literal, len, named, load, negated, applied, TruthTree, qualified, compared, denied, joined, Expression, empty, truth, number_onto, truth_onto, expr_onto, Link, Entry, protocols_of, relation_formula, qualified_needed, accessor_tests, Elementary, Protocol, plain, computation, takes_constant, emit_comparison, emit_operands, emit_right, emit_number, Block, emit_elementary, emit_formula, emit_all, emit_accessor_tests, expression_code, Walk, targets, finish_truth, finish_number, with_insns, finish_formula, flush_members, flush_group, emit_value, emit_truth_node, emit_node, or_walk, start_walk, emit_nodes}
+use Rattle.flt_ast.specs.declared.node.Node.TheVariants.{Compare}
 use Rattle.flt_emit.specs.declared.code.Targets.{Targets}
-use Rattle.flt_gen.specs.declared.group.Entry.{Entry}
 use Rattle.flt_gen.specs.declared.waiting.LeftTruth.{LeftTruth}
 use Rattle.flt_gen.specs.declared.waiting.Pending.TheVariants as next
-use Rattle.flt_gen.specs.inside.Emitted.{protocols_of, relation_formula, qualified_needed}
 use Rattle.flt_emit.specs.Formula.{Formula, Both, Either, Except, Compare as compare, guarded_formula, checked_formula}
-use Rattle.flt_emit.specs.Numbers.{accessor_tests}
-use Rattle.flt_emit.specs.declared.elementary.Elementary.{Elementary}
-use Rattle.flt_words.specs.declared.token.Protocol.{Protocol}
-use Rattle.flt_emit.specs.inside.Code.{plain, computation, takes_constant, emit_comparison, emit_operands, emit_right, emit_number, Block, emit_elementary, emit_formula, emit_all}
-use Rattle.flt_gen.specs.inside.ProgramCode.{emit_accessor_tests, expression_code}
-use Rattle.flt_gen.specs.inside.Walk.{Walk, targets, finish_truth, finish_number, with_insns, finish_formula, flush_members, flush_group, emit_value, emit_truth_node, emit_node, or_walk, start_walk, emit_nodes}
 
 guarded_emitted : (link : Link) (ts : List Elementary) (f : Formula) (hit miss : ℕ) (c : List Insn) → emit_formula link (guarded_formula ts f) hit miss c ≡ (let e = emit_formula link f hit miss c in emit_all ts e.entry miss e.code)
 guarded_emitted link [] f hit miss c = refl

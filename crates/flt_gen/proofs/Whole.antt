@@ -1,37 +1,14 @@
 -- The wide code of an expression decides it, within its bounds; and so does what replaces it.
-use Rattle.std.proofs.Common.{◌≡◌, ℕ, ◌+◌, ◌-◌, ◌*◌, ◌≤◌, List, [], ◌∷◌, length, drop, take, false, cond, Some, None, refl, sym, ap, ◌∙◌, subst, arith, fold, length-drop}
-use Rattle.std.specs.Prelude.{◌≢◌, ◌↔◌, reverse}
-use Rattle.std.proofs.lemmas.List.Elements.{All-cons, All-drop, All-nil}
-use Rattle.std.proofs.lemmas.List.Sums.{sum_by-take-drop}
-use Rattle.flt_bpf.specs.declared.insn.Insn.{Insn}
-use Rattle.flt_bpf.specs.declared.operation.Operation.TheVariants.{ReturnConstant}
-use Rattle.flt_bpf.specs.Answer.{answer_of}
-use Rattle.flt_bpf.specs.Check.{IsFaultless, IsValidUnlessLong, fault_of}
+use Rattle.flt_gen.proofs.Common.{◌≡◌, ℕ, ◌+◌, ◌-◌, ◌*◌, ◌≤◌, List, [], ◌∷◌, length, drop, take, false, cond, Some, None, refl, sym, ap, ◌∙◌, subst, arith, fold, length-drop, ◌≢◌, ◌↔◌, reverse, All-cons, All-drop, All-nil, sum_by-take-drop, Insn, ReturnConstant, answer_of, IsFaultless, IsValidUnlessLong, is_branch, JUMP, HasNoJump, IsShort, start, valid_if_short, faultless_drop, ends_drop, answer_drop, machine_answers, Node, tests_of, nodes_of, words_of, bound_of, expr_nodes, is_unfilled, some_primitive, Expression, empty, truth, Link, MatchResult, Yes, plain, IsProgramOf, short_bound_of, holds, with_folded, folded_expression, no_group, grouped_formula, returns_code, expression_code, program_code, emit_nodes, start_walk, insns_of}
+use Rattle.flt_bpf.specs.Check.{fault_of}
 use Rattle.flt_bpf.specs.inside.Check.{first_check_fault}
 use Rattle.flt_bpf.specs.Instructions.{operation_of}
-use Rattle.flt_bpf.specs.Layout.{is_branch, JUMP, HasNoJump, IsShort}
-use Rattle.flt_bpf.specs.Machine.{step, start}
+use Rattle.flt_bpf.specs.Machine.{step}
 use Rattle.flt_bpf.specs.Valid.{IsValid}
 use Rattle.flt_bpf.proofs.Checking.{first_none, parts}
-use Rattle.flt_bpf.proofs.Suffix.{valid_if_short, faultless_drop, ends_drop, answer_drop, machine_answers}
 use Rattle.flt_short.specs.Threads.{Threads}
 use Rattle.flt_short.specs.Alike.{Shortens}
 use Rattle.flt_short.proofs.Likeness.{met_of}
-use Rattle.flt_ast.specs.declared.node.Node.{Node}
-use Rattle.flt_ast.specs.Counts.{tests_of, nodes_of, words_of, bound_of}
-use Rattle.flt_ast.specs.Nodes.{expr_nodes}
-use Rattle.flt_ast.specs.Resolved.{is_unfilled, some_primitive}
-use Rattle.flt_ast.specs.Tree.{Expression, empty, truth}
-use Rattle.cap_octet.specs.declared.link.Link.{Link}
-use Rattle.flt_emit.specs.Elementary.{MatchResult, Yes}
-use Rattle.flt_emit.specs.inside.Code.{plain}
-use Rattle.flt_gen.specs.Correct.{IsProgramOf}
-use Rattle.flt_gen.specs.Counts.{short_bound_of}
-use Rattle.flt_gen.specs.Reading.{holds}
-use Rattle.flt_gen.specs.inside.Folding.{with_folded, folded_expression}
-use Rattle.flt_gen.specs.inside.Group.{no_group, grouped_formula}
-use Rattle.flt_gen.specs.inside.ProgramCode.{returns_code, expression_code, program_code}
-use Rattle.flt_gen.specs.inside.Walk.{emit_nodes, start_walk, insns_of}
 use Rattle.flt_gen.proofs.Folded.{words_no_more, bound_no_more, short_no_more, filled_folded, nodes_folded, holds_folded}
 use Rattle.flt_gen.proofs.Grouping.{kept_none, grouped_stands}
 use Rattle.flt_gen.proofs.Grows.{branches, Sound, grows_none, Fits, fits_more, emitted_fits}

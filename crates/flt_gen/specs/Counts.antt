@@ -3,6 +3,6 @@ use Rattle.std.specs.Prelude.{ℕ, ◌+◌, ◌*◌}
 use Rattle.flt_ast.specs.Tree.{Expression}
 use Rattle.flt_ast.specs.Counts.{tests_of, nodes_of}
 
--- the most instructions of an expression's program that needs no `ja`
+-- the most instructions that the program of an expression has, if it needs no `ja`
 abbrev pub short_bound_of : Expression → ℕ
 short_bound_of e = 2 + 4 * tests_of e + 6 * nodes_of e

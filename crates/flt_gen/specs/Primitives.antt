@@ -17,7 +17,7 @@ use Rattle.flt_ast.specs.declared.qualifiers.Direction.TheVariants as direction
 use Rattle.flt_ast.specs.declared.qualifiers.CompleteQualifiers.{CompleteQualifiers}
 use Rattle.flt_ast.specs.declared.value.Value.{Value}
 use Rattle.flt_ast.specs.declared.value.Value.TheVariants as value
-use Rattle.flt_ast.specs.declared.net.Ip4Net.{Ip4Net}
+use Rattle.flt_ast.specs.declared.value.Ip4Net.{Ip4Net}
 use Rattle.flt_ast.specs.Nets.{first_bits, ip4_net}
 use Rattle.flt_ast.specs.Tree.{literal, len}
 use Rattle.cap_octet.specs.declared.link.Link.{Link}

@@ -1,6 +1,6 @@
 //! Hosts and networks of IPv4 and IPv6, as rows of the table of primitives. A word of an IPv6
-//! address of which no bit counts is tested only if that decides: `.._needed` in clauses is the
-//! row without the other such words.
+//! address without significant bits is tested only if the test decides something: in clauses,
+//! `.._needed` is the row without the other tests of such words.
 
 ghost use Rattle.std.specs.Prelude.{◌≡◌, ◌+◌, ◌≤◌, OnOk};
 ghost use Rattle.cap_octet.specs.Link.{longest_header};

@@ -1,6 +1,6 @@
-//! Arithmetic of only numbers becomes one number before code is emitted for it, except what
-//! divides by 0; and negations between `and` become one of what is between `or`, which is looked
-//! for together.
+//! Simplifies the nodes of an expression before code is emitted for them. Arithmetic on constants
+//! becomes one number, unless it divides by 0; and `not a and not b` becomes `not (a or b)`, so
+//! that `a` and `b` can be looked for together.
 
 ghost use Rattle.std.specs.Prelude.{◌≡◌, [], fold, reverse, OnOk, IfOk};
 ghost use Rattle.std.specs.Option.{IfSome};

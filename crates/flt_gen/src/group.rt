@@ -1,5 +1,5 @@
-//! Addresses or ports that are looked for together. They come from the last one to the first, so
-//! each is put in front of the others.
+//! Groups of addresses or ports, which one search looks for together. The walk adds the members
+//! from the last one in the expression to the first.
 
 ghost use Rattle.std.specs.Prelude.{◌≡◌, ◌≤◌, [], nat_lt, if◌then◌else◌, Some, None, length, IfOk, OnOk};
 ghost use Rattle.std.specs.List.{insert};

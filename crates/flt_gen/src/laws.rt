@@ -1,15 +1,18 @@
-//! Laws of the table of primitives.
+//! Laws of the table of primitives, on the masks of IPv6 and on the kinds of network headers. Each
+//! is a theorem, and its function does nothing.
 
 ghost use Rattle.flt_gen.specs.Laws.{MasksJoin, MatchesKind, RejectsShort};
 
-/// The masks of the four words of an IPv6 address or network, joined, are its mask.
+/// An IPv6 address or network is tested in four words of 32 bits. The masks of the four tests,
+/// joined, are the mask of 128 bits that the prefix length means; all bits without a prefix length.
 pub fn masks_join()
     ensures { MasksJoin }
 {}
 
-/// `ip`, `ip6`, `arp` and `rarp` match exactly the packets that have this network header in a
-/// printed line. They reject exactly those of which too little is captured for one; none on a link
-/// that can't carry the kind (ARP and RARP on raw IP).
+/// `ip`, `ip6`, `arp` and `rarp` agree with printed lines, which take the kind of a packet from
+/// `network_header`. Each of the four matches exactly the packets of its kind. It rejects exactly
+/// the packets of which too few bytes are captured to show a kind; but `arp` and `rarp` reject none
+/// on raw IP, which can't carry them.
 pub fn kinds_agree()
     ensures kind { MatchesKind }
     ensures short { RejectsShort }

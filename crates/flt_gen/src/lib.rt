@@ -1,4 +1,4 @@
-//! From filter expressions to programs of the packet-filter machine. `cap_filter` calls
+//! Compiles filter expressions to programs of the packet-filter machine. `cap_filter` calls
 //! [`generate`]; read that first, then `walk::Walk` and `steps::Steps`.
 //!
 //! - `program` has all stages. `folding` first computes arithmetic on constants, and joins
@@ -8,7 +8,7 @@
 //! - `steps` has a primitive's formula as tests and operators. `protocol`, `address` and `port` put
 //!   the rows of the table of primitives (`specs/Primitives.antt`) into steps; `group` puts hosts
 //!   or ports that are looked for together, `value` any other value.
-//! - `stack` is the list in which things wait, and `laws` has laws of the table of primitives.
+//! - `stack` is the stack that these use, and `laws` has laws of the table of primitives.
 #![tactic(auto)]
 
 mod address;

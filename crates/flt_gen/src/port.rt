@@ -1,5 +1,5 @@
 //! Ports, as a row of the table of primitives. They are tested layer by layer: the network header
-//! (`put_ports`), TCP or UDP (`put_transport_ports`), that it isn't a later fragment
+//! (`put_ports`), TCP or UDP (`put_transport_ports`), that the packet isn't a later fragment
 //! (`put_ports_after`), the ports (`put_port_sides`).
 
 ghost use Rattle.std.specs.Prelude.{◌≡◌, OnOk};

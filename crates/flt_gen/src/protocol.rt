@@ -17,7 +17,8 @@ use flt_emit::{
 use flt_words::{Cast, Comparison, Join, Protocol, Side};
 use std::alloc::{AllocError, Allocator};
 
-/// The tests that the six bytes from a place on are a MAC address of 48 bits: four bytes, and two.
+/// The tests for a MAC address of 48 bits in the six bytes from a place on: one for the first four
+/// bytes, one for the last two.
 fn mac_tests(at: u32, address: u64) -> [Elementary; 2]
     requires { at ≤ 6 }
     ensures { result ≡ mac_tests at address }
@@ -30,8 +31,8 @@ fn mac_tests(at: u32, address: u64) -> [Elementary; 2]
     ]
 }
 
-/// The test that the destination is a group of stations: the lowest bit of its first byte, with
-/// which a frame of Ethernet begins, is set.
+/// The test for a group address as destination: the lowest bit of the first byte of an Ethernet
+/// frame is set.
 fn is_group_address() -> Elementary
     ensures { result ≡ is_group_address }
 {
@@ -54,7 +55,7 @@ impl<A: Allocator> Steps<A> {
         self.put_tests(&[kind_test(link, FrameKind::Ip), has_ip_proto(link, protocol)])
     }
 
-    /// Adds the steps of IPv6 with this next header. Extension headers aren't looked past.
+    /// Adds the steps of IPv6 with this next header. Extension headers aren't skipped.
     fn put_ip6_proto(&mut self, link: Link, protocol: u32) -> Result<(), AllocError>
         ensures { OnOk result (IsPut (ip6_proto link protocol) self.old self.new) }
     {
@@ -73,7 +74,7 @@ impl<A: Allocator> Steps<A> {
         self.put_join(Join::Or)
     }
 
-    /// Adds the steps of only a protocol's keyword, such as `tcp` or `arp`.
+    /// Adds the steps of a protocol's keyword by itself, such as `tcp` or `arp`.
     pub fn put_check(&mut self, link: Link, protocol: Protocol) -> Result<(), AllocError>
         ensures { OnOk result (IsPut (check_formula link protocol) self.old self.new) }
     {
@@ -90,8 +91,8 @@ impl<A: Allocator> Steps<A> {
         }
     }
 
-    /// Adds the steps of `proto N`, after the protocol `below`, whose header names N: `ip`, `ip6`,
-    /// `ether`, or none for either of IPv4 and IPv6. After another one it is no.
+    /// Adds the steps of `proto N`, where N is a field of the protocol `below`: `ip`, `ip6` or
+    /// `ether`; `None` means IPv4 or IPv6. With any other protocol no packet matches.
     pub fn put_proto(
         &mut self,
         link: Link,
@@ -127,7 +128,7 @@ impl<A: Allocator> Steps<A> {
     }
 
     /// Adds the steps of `broadcast` or `multicast`, with the protocol before it, or none. With a
-    /// protocol that doesn't go with it, it is no: such expressions were refused before.
+    /// protocol that isn't allowed, no packet matches; such expressions were refused before.
     pub fn put_cast(
         &mut self,
         link: Link,

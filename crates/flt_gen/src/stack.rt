@@ -1,4 +1,4 @@
-//! A list from which the latest entry is taken first.
+//! A stack: a list from which the latest entry is taken first.
 
 ghost use Rattle.std.specs.Prelude.{◌≡◌, List, [], ◌∷◌, reverse, OnOk, MatchOption};
 

@@ -1,6 +1,7 @@
-//! What waits in the lists of `Walk` (walk.rt) while it takes an expression's nodes, from the last
-//! one to the first: left operands of truths (parts that are yes or no) and of numbers, and the
-//! protocols of a relation's accessors, whose tests are emitted once its operands are.
+//! The entries that wait in the lists of `Walk` (walk.rt) while it reads the nodes of an
+//! expression, from the last one to the first: left operands of truths (parts that are yes or no)
+//! and of numbers, and the protocols of the accessors in a relation, whose tests are emitted once
+//! its operands are.
 
 ghost use Rattle.std.specs.Prelude.{◌≡◌, OnOk};
 ghost use Rattle.flt_gen.specs.inside.Emitted.{equals, without_protocol, with_accessor};

@@ -1,6 +1,6 @@
-//! The walk over an expression's nodes from the last to the first, which emits code in front of
-//! code. What comes later waits in lists, so that a long chain of operands needs no more of the
-//! processor's stack than a short one.
+//! Walks over the nodes of an expression from the last to the first, and emits the code of each in
+//! front of the code so far. Operands that come later wait in lists, so that a long chain of
+//! operands needs no more of the machine's stack than a short one.
 //!
 //! `tcp and (host A or host B)` has the nodes `tcp`, A, B, `or`, `and`. From the last one on:
 //!

@@ -1,15 +1,9 @@
 -- A value with nothing before it, as tokens and as the machine reads it. A number alone waits,
 -- since it may be arithmetic.
-use Rattle.std.proofs.Common.{◌≡◌, ℕ, suc, ◌-◌, ◌<◌, ◌≤◌, List, ◌∷◌, length, drop, refl, ap, ◌∙◌, arith, Some, None, Bool, true, false}
-use Rattle.flt_words.specs.declared.token.TokenKind.{TokenKind}
+use Rattle.flt_lang.proofs.Common.{◌≡◌, ℕ, suc, ◌-◌, ◌<◌, ◌≤◌, List, ◌∷◌, length, drop, refl, ap, ◌∙◌, arith, Some, None, Bool, true, false, TokenKind, Value, Node, Frame, ReadsValue, ◌>>=◌, next_precedence, begin, run, with_frames, bare_of}
 use Rattle.flt_words.specs.declared.token.TokenKind.TheVariants as token
-use Rattle.flt_ast.specs.declared.value.Value.{Value}
-use Rattle.flt_ast.specs.declared.node.Node.{Node}
 use Rattle.flt_ast.specs.declared.node.Node.TheVariants as node
-use Rattle.flt_lang.specs.declared.frame.Frame.{Frame}
 use Rattle.flt_lang.specs.declared.frame.Operand.TheVariants as operand
-use Rattle.flt_lang.specs.Values.{ReadsValue}
-use Rattle.flt_lang.specs.inside.Parser.{◌>>=◌, next_precedence, begin, run, with_frames, bare_of}
 use Rattle.flt_lang.proofs.ValuesBack.{value_back}
 use Rattle.flt_lang.proofs.Valued.{value_suffix, value_some, run_begins}
 

@@ -1,24 +1,10 @@
 -- Where an operand begins, the machine reads what the grammar reads.
-use Rattle.std.proofs.Common.{◌≡◌, ℕ, suc, zero, ◌-◌, length, drop, inl, List, [], ◌∷◌, refl, sym, ap, ◌∙◌, subst, Option, Some, None, true, nat_le, zero-le}
-use Rattle.flt_words.specs.declared.token.Protocol.{Protocol}
-use Rattle.flt_words.specs.declared.token.Operator.TheVariants.{Subtract}
+use Rattle.flt_lang.proofs.Common.{◌≡◌, ℕ, suc, zero, ◌-◌, length, drop, inl, List, [], ◌∷◌, refl, sym, ap, ◌∙◌, subst, Option, Some, None, true, nat_le, zero-le, Protocol, Subtract, TokenKind, Value, Qualifiers, Node, Frame, Operand, len, named, TruthTree, check, cast, sized, bare, valued, is_written, qualifiers_of, value_of, is_accessor, stands_alone, has_casts, of_len, of_name, Truth, of_check, of_cast, of_protocol_cast, of_sized, of_valued, of_bare, truth_onto, operand_precedence, Begun, begin, valued_of, valued_or, check_of, primitive, bare_of, with_frames}
 use Rattle.flt_words.specs.declared.token.Size.{Size}
-use Rattle.flt_words.specs.declared.token.TokenKind.{TokenKind}
 use Rattle.flt_words.specs.declared.token.TokenKind.TheVariants as token
-use Rattle.flt_ast.specs.declared.value.Value.{Value}
-use Rattle.flt_ast.specs.declared.qualifiers.Qualifiers.{Qualifiers}
-use Rattle.flt_ast.specs.declared.node.Node.{Node}
 use Rattle.flt_ast.specs.declared.node.Node.TheVariants as node
-use Rattle.flt_lang.specs.declared.frame.Frame.{Frame}
 use Rattle.flt_lang.specs.declared.frame.Frame.TheVariants as frame
-use Rattle.flt_lang.specs.declared.frame.Operand.{Operand}
 use Rattle.flt_lang.specs.declared.frame.Operand.TheVariants as operand
-use Rattle.flt_ast.specs.Tree.{len, named, TruthTree, check, cast, sized, bare, valued}
-use Rattle.flt_lang.specs.Values.{is_written}
-use Rattle.flt_lang.specs.inside.Values.{qualifiers_of, value_of}
-use Rattle.flt_lang.specs.Grammar.{is_accessor, stands_alone, has_casts, of_len, of_name, Truth, of_check, of_cast, of_protocol_cast, of_sized, of_valued, of_bare}
-use Rattle.flt_ast.specs.inside.Nodes.{truth_onto}
-use Rattle.flt_lang.specs.inside.Parser.{operand_precedence, Begun, begin, valued_of, valued_or, check_of, primitive, bare_of, with_frames}
 use Rattle.flt_lang.proofs.Valued.{qualifiers_sound, value_sound, side_written, left_after}
 use Rattle.flt_lang.proofs.Bare.{value_left}
 use Rattle.flt_lang.proofs.Stacked.{some_first, some_then, Stacked, Following}

@@ -1,13 +1,7 @@
 -- Counts over the nodes are counts over the tree.
-use Rattle.std.proofs.Common.{◌≡◌, ℕ, ◌+◌, ◌≤◌, List, [], ◌∷◌, refl, sym, ap, ◌∙◌, arith, sum_by, fold, max, lit≤}
+use Rattle.flt_lang.proofs.Common.{◌≡◌, ℕ, ◌+◌, ◌≤◌, List, [], ◌∷◌, refl, sym, ap, ◌∙◌, arith, sum_by, fold, max, lit≤, Node, NumberTree, literal, len, named, load, negated, applied, TruthTree, check, cast, sized, bare, valued, qualified, compared, denied, joined, Expression, empty, truth, number_nodes, truth_nodes, expr_nodes, tree_of, IsTree, number_tests, truth_tests, tests_of, number_size, truth_size, nodes_of, number_words, truth_words, words_of, node_tests, node_size, climb}
 use Rattle.std.proofs.lemmas.List.Sums.{sum_by-cons}
-use Rattle.flt_ast.specs.declared.node.Node.{Node}
 use Rattle.flt_ast.specs.declared.node.Node.TheVariants as node
-use Rattle.flt_ast.specs.Tree.{NumberTree, literal, len, named, load, negated, applied, TruthTree, check, cast, sized, bare, valued, qualified, compared, denied, joined, Expression, empty, truth}
-use Rattle.flt_ast.specs.Nodes.{number_nodes, truth_nodes, expr_nodes, tree_of}
-use Rattle.flt_ast.specs.inside.Nodes.{IsTree}
-use Rattle.flt_ast.specs.Counts.{number_tests, truth_tests, tests_of, number_size, truth_size, nodes_of, number_words, truth_words, words_of, node_tests, node_size}
-use Rattle.flt_ast.specs.inside.Heights.{climb}
 
 one_more : (f : Node → ℕ) (n : Node) (rest : List Node) → sum_by f (n ∷ rest) ≡ f n + sum_by f rest
 one_more f n rest = sum_by-cons f n rest

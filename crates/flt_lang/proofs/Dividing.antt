@@ -1,13 +1,7 @@
 -- A division by 0 stands right after the 0.
-use Rattle.std.proofs.Common.{◌≡◌, List, [], ◌∷◌, refl, sym, ap, ◌∙◌, Bool, false, ◌||◌}
-use Rattle.flt_ast.specs.declared.node.Node.{Node}
+use Rattle.flt_lang.proofs.Common.{◌≡◌, List, [], ◌∷◌, refl, sym, ap, ◌∙◌, Bool, false, ◌||◌, Node, NumberTree, literal, len, named, load, negated, applied, TruthTree, check, cast, sized, bare, valued, qualified, compared, denied, joined, Expression, empty, truth, number_nodes, truth_nodes, expr_nodes, tree_of, IsTree, any_primitive, some_primitive, some_zero_divisor}
 use Rattle.flt_ast.specs.declared.node.Node.TheVariants as node
-use Rattle.flt_ast.specs.Tree.{NumberTree, literal, len, named, load, negated, applied, TruthTree, check, cast, sized, bare, valued, qualified, compared, denied, joined, Expression, empty, truth}
-use Rattle.flt_ast.specs.Nodes.{number_nodes, truth_nodes, expr_nodes, tree_of}
-use Rattle.flt_ast.specs.inside.Nodes.{IsTree}
-use Rattle.flt_ast.specs.Resolved.{any_primitive, some_primitive}
 use Rattle.flt_ast.specs.Checks.{is_zero, has_zero_divisor, divides_by_zero}
-use Rattle.flt_ast.specs.inside.Checks.{some_zero_divisor}
 use Rattle.flt_lang.proofs.Primitives.{or_assoc, or_false}
 
 number_zero : (a : NumberTree) (q : Bool) (rest : List Node) → some_zero_divisor q (number_nodes a rest) ≡ (has_zero_divisor a || some_zero_divisor (is_zero a) rest)

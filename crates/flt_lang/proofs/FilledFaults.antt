@@ -1,19 +1,7 @@
 -- A filled tree has none of the faults that its source has not.
-use Rattle.std.proofs.Common.{◌≡◌, List, refl, ap, ◌∙◌, Bool, true, false, not, ◌||◌, ◌&&◌, is_some, Option, Some, None, unwrap_or}
+use Rattle.flt_lang.proofs.Common.{◌≡◌, List, refl, ap, ◌∙◌, Bool, true, false, not, ◌||◌, ◌&&◌, is_some, Option, Some, None, unwrap_or, Direction, Qualifiers, Value, Node, TruthTree, check, cast, sized, bare, valued, qualified, compared, denied, joined, Expression, empty, truth, tree_of, IsTree, fit_of, is_misfit_fit, is_proto, is_either, type_or_host, completed_qualifiers, latest, with_inherited, complete, only_host, expr_inherited, fill_expression, inherited_nodes, is_misfit, is_out_of_range, has_bits_past_mask, is_unfilled, any_primitive, some_primitive, first_fault, fill_fault, IsResolved, nodes_fault}
 use Rattle.flt_words.specs.declared.token.Join.TheVariants as join
-use Rattle.flt_ast.specs.declared.qualifiers.Direction.{Direction}
 use Rattle.flt_ast.specs.declared.qualifiers.Direction.TheVariants as direction
-use Rattle.flt_ast.specs.declared.qualifiers.Qualifiers.{Qualifiers}
-use Rattle.flt_ast.specs.declared.value.Value.{Value}
-use Rattle.flt_ast.specs.declared.node.Node.{Node}
-use Rattle.flt_ast.specs.Tree.{TruthTree, check, cast, sized, bare, valued, qualified, compared, denied, joined, Expression, empty, truth}
-use Rattle.flt_ast.specs.Nodes.{tree_of}
-use Rattle.flt_ast.specs.inside.Nodes.{IsTree}
-use Rattle.flt_ast.specs.Fits.{fit_of, is_misfit_fit, is_proto, is_either}
-use Rattle.flt_ast.specs.Filled.{type_or_host, completed_qualifiers, latest, with_inherited, complete, only_host, expr_inherited, fill_expression}
-use Rattle.flt_ast.specs.inside.Filled.{inherited_nodes}
-use Rattle.flt_ast.specs.Resolved.{is_misfit, is_out_of_range, has_bits_past_mask, is_unfilled, any_primitive, some_primitive, first_fault, fill_fault, IsResolved}
-use Rattle.flt_ast.specs.inside.Resolved.{nodes_fault}
 use Rattle.flt_lang.proofs.Filling.{inherited_whole}
 use Rattle.flt_lang.proofs.Primitives.{fault_is}
 

@@ -1,12 +1,5 @@
 -- The nodes of a tree whose values inherit, and of one that is completed.
-use Rattle.std.proofs.Common.{◌≡◌, List, [], refl, sym, ap, ◌∙◌, map}
-use Rattle.flt_ast.specs.declared.qualifiers.Qualifiers.{Qualifiers}
-use Rattle.flt_ast.specs.declared.node.Node.{Node}
-use Rattle.flt_ast.specs.Tree.{NumberTree, literal, len, named, load, negated, applied, TruthTree, check, cast, sized, bare, valued, qualified, compared, denied, joined, Expression, empty, truth}
-use Rattle.flt_ast.specs.Nodes.{number_nodes, truth_nodes, expr_nodes, tree_of}
-use Rattle.flt_ast.specs.inside.Nodes.{tree_back, IsTree}
-use Rattle.flt_ast.specs.Filled.{latest, with_inherited, complete, only_host, expr_inherited, fill_expression, completed_node}
-use Rattle.flt_ast.specs.inside.Filled.{inherited_nodes}
+use Rattle.flt_lang.proofs.Common.{◌≡◌, List, [], refl, sym, ap, ◌∙◌, map, Qualifiers, Node, NumberTree, literal, len, named, load, negated, applied, TruthTree, check, cast, sized, bare, valued, qualified, compared, denied, joined, Expression, empty, truth, number_nodes, truth_nodes, expr_nodes, tree_of, tree_back, IsTree, latest, with_inherited, complete, only_host, expr_inherited, fill_expression, completed_node, inherited_nodes}
 
 number_inherited : (a : NumberTree) (q : Qualifiers) (rest : List Node) → inherited_nodes q (number_nodes a rest) ≡ number_nodes a (inherited_nodes q rest)
 number_inherited (literal n) q rest = refl

@@ -1,10 +1,5 @@
 -- Tokens with a first one.
-use Rattle.std.proofs.Common.{◌≡◌, ℕ, ◌+◌, ◌-◌, ◌<◌, List, [], ◌∷◌, length, take, drop, get_or, ap, arith, Some, None, one-add}
-use Rattle.std.proofs.lemmas.List.{take_rest}
-use Rattle.flt_words.specs.declared.token.Token.{Token}
-use Rattle.flt_ast.specs.declared.value.Value.{Value}
-use Rattle.flt_lang.specs.Grammar.{kinds_of}
-use Rattle.flt_lang.specs.inside.Values.{value_of}
+use Rattle.flt_lang.proofs.Common.{◌≡◌, ℕ, ◌+◌, ◌-◌, ◌<◌, List, [], ◌∷◌, length, take, drop, get_or, ap, arith, Some, None, one-add, take_rest, Token, Value, kinds_of, value_of}
 
 -- the first token and those after it are all
 pub first_and_rest : (ts : List Token) (t : Token) → 0 < length ts → (get_or ts 0 t).kind ∷ kinds_of (take (length ts - 1) (drop 1 ts)) ≡ kinds_of ts

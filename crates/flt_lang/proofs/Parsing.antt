@@ -1,15 +1,7 @@
 -- What the parser needs of the machine.
-use Rattle.std.proofs.Common.{◌≡◌, List, reverse, sym, ap, ◌∙◌, subst, Some, None}
-use Rattle.flt_words.specs.declared.token.TokenKind.{TokenKind}
-use Rattle.flt_ast.specs.declared.node.Node.{Node}
-use Rattle.flt_ast.specs.Tree.{Expression}
-use Rattle.flt_ast.specs.Nodes.{expr_nodes, tree_of}
-use Rattle.flt_ast.specs.inside.Nodes.{tree_back, IsTree}
-use Rattle.flt_lang.specs.Grammar.{IsReadAs}
-use Rattle.flt_lang.specs.inside.Parser.{nodes_of_tokens}
+use Rattle.flt_lang.proofs.Common.{◌≡◌, List, reverse, sym, ap, ◌∙◌, subst, Some, None, TokenKind, Node, Expression, expr_nodes, tree_of, tree_back, IsTree, IsReadAs, nodes_of_tokens, expr_turned}
 use Rattle.flt_lang.proofs.Complete.{complete}
 use Rattle.flt_lang.proofs.Sound.{sound}
-use Rattle.flt_ast.proofs.NodesBack.{expr_turned}
 
 -- where the machine fails there is no tree
 pub no_tree : (tokens : List TokenKind) → nodes_of_tokens tokens ≡ None → (tree : Expression) → IsReadAs tokens tree → ⊥

@@ -1,10 +1,5 @@
 -- Runs of prefix tokens, counted from the left.
-use Rattle.std.proofs.Common.{◌≡◌, ◌↔◌, ◌⊎◌, IsTrue, inl, inr, ℕ, zero, suc, ◌+◌, ◌<◌, ◌≤◌, List, [], ◌∷◌, length, get_or, take, drop, refl, sym, ◌∙◌, arith, Bool, true, false, ◌||◌, ◌&&◌, cond, nat_lt}
-use Rattle.std.proofs.lemmas.Bool.{false≢true, lt-ltb, ltb-false, ltb-true}
-use Rattle.std.proofs.lemmas.List.{drop_more}
-use Rattle.std.specs.List.{list_all}
-use Rattle.flt_words.specs.declared.token.Token.{Token}
-use Rattle.flt_lang.specs.Nesting.{HasLongPrefix, is_prefix_operator}
+use Rattle.flt_lang.proofs.Common.{◌≡◌, ◌↔◌, ◌⊎◌, IsTrue, inl, inr, ℕ, zero, suc, ◌+◌, ◌<◌, ◌≤◌, List, [], ◌∷◌, length, get_or, take, drop, refl, sym, ◌∙◌, arith, Bool, true, false, ◌||◌, ◌&&◌, cond, nat_lt, false≢true, lt-ltb, ltb-false, ltb-true, drop_more, list_all, Token, HasLongPrefix, is_prefix_operator}
 
 -- after a given number of prefix tokens, some run gets longer than 100
 abbrev pub has_long_run : ℕ → List Token → Bool

@@ -1,11 +1,6 @@
 -- One turn of the loop that lets tight frames take the operand.
-use Rattle.std.proofs.Common.{◌≡◌, ℕ, ◌≤◌, ◌<◌, List, [], ◌∷◌, refl, Some, None, true, false, nat_le, arith}
-use Rattle.std.proofs.lemmas.Bool.{le-leb}
+use Rattle.flt_lang.proofs.Common.{◌≡◌, ℕ, ◌≤◌, ◌<◌, List, [], ◌∷◌, refl, Some, None, true, false, nat_le, arith, le-leb, Node, Frame, Operand, precedence, fill_frame, reduce, IsLoose}
 use Rattle.std.proofs.lemmas.Bool.Decides.{nat_tests}
-use Rattle.flt_ast.specs.declared.node.Node.{Node}
-use Rattle.flt_lang.specs.declared.frame.Frame.{Frame}
-use Rattle.flt_lang.specs.declared.frame.Operand.{Operand}
-use Rattle.flt_lang.specs.inside.Parser.{precedence, fill_frame, reduce, IsLoose}
 
 pub le_true : (m n : ℕ) → m ≤ n → nat_le m n ≡ true
 le_true m n h = le-leb m n h

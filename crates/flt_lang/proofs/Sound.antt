@@ -1,20 +1,9 @@
 -- What the machine reads, the grammar reads.
-use Rattle.std.proofs.Common.{◌≡◌, ℕ, suc, zero, ◌+◌, ◌≤◌, inl, List, [], ◌∷◌, refl, sym, ap, ◌∙◌, subst, arith, Option, Some, None, Bool, true, false, nat_le, if◌then◌else◌, lit≤, zero-le}
-use Rattle.std.proofs.lemmas.Bool.{leb-true}
-use Rattle.flt_words.specs.declared.token.Operator.TheVariants.{Divide}
-use Rattle.flt_words.specs.declared.token.TokenKind.{TokenKind}
+use Rattle.flt_lang.proofs.Common.{◌≡◌, ℕ, suc, zero, ◌+◌, ◌≤◌, inl, List, [], ◌∷◌, refl, sym, ap, ◌∙◌, subst, arith, Option, Some, None, Bool, true, false, nat_le, if◌then◌else◌, lit≤, zero-le, leb-true, Divide, TokenKind, Node, Frame, Operand, literal, load, Expression, empty, truth, no_mask, prefix, number, level, Number, of_literal, enclosed, of_load, of_sized_load, single, chain, Truth, of_bare, enclosed_truth, term, IsReadAs, no_tokens, all_tokens, ◌>>=◌, operand_precedence, token_precedence, next_precedence, as_number, as_truth, reduce, Begun, after_token, begin, whole, finish, run, nodes_of_tokens, enclosed_operand, next_of, after_operand, truth_onto, expr_onto}
 use Rattle.flt_words.specs.declared.token.TokenKind.TheVariants as token
-use Rattle.flt_ast.specs.declared.node.Node.{Node}
 use Rattle.flt_ast.specs.declared.node.Node.TheVariants as node
-use Rattle.flt_lang.specs.declared.frame.Frame.{Frame}
 use Rattle.flt_lang.specs.declared.frame.Frame.TheVariants as frame
-use Rattle.flt_lang.specs.declared.frame.Operand.{Operand}
 use Rattle.flt_lang.specs.declared.frame.Operand.TheVariants as operand
-use Rattle.flt_ast.specs.Tree.{literal, load, Expression, empty, truth}
-use Rattle.flt_lang.specs.Values.{no_mask, prefix, number}
-use Rattle.flt_lang.specs.Grammar.{level, Number, of_literal, enclosed, of_load, of_sized_load, single, chain, Truth, of_bare, enclosed_truth, term, IsReadAs, no_tokens, all_tokens}
-use Rattle.flt_lang.specs.inside.Parser.{◌>>=◌, operand_precedence, token_precedence, next_precedence, as_number, as_truth, reduce, Begun, after_token, begin, whole, finish, run, nodes_of_tokens, enclosed_operand, next_of, after_operand}
-use Rattle.flt_ast.specs.inside.Nodes.{truth_onto, expr_onto}
 use Rattle.flt_lang.proofs.Stacked.{some_first, some_then, widened, either_number, either_truth, Between, Following, number_between, truth_between, chain_of, reduce_sound, loosened}
 use Rattle.flt_lang.proofs.Begins.{left, SoFar, After, begun, begin_sound}
 

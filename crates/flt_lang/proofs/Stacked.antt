@@ -1,23 +1,12 @@
 -- What the parser keeps stands for the tokens before: each frame for its left side, the operand for
 -- a number or a truth.
-use Rattle.std.proofs.Common.{◌≡◌, ℕ, suc, zero, ◌+◌, ◌≤◌, ◌⊎◌, inl, inr, ⊎_elim, List, [], ◌∷◌, refl, sym, ap, ◌∙◌, subst, arith, Option, Some, None, Bool, true, false, nat_le, if◌then◌else◌, lit≤, zero-le}
-use Rattle.std.proofs.lemmas.Bool.{leb-true}
+use Rattle.flt_lang.proofs.Common.{◌≡◌, ℕ, suc, zero, ◌+◌, ◌≤◌, ◌⊎◌, inl, inr, ⊎_elim, List, [], ◌∷◌, refl, sym, ap, ◌∙◌, subst, arith, Option, Some, None, Bool, true, false, nat_le, if◌then◌else◌, lit≤, zero-le, leb-true, Subtract, Divide, TokenKind, Node, Frame, Operand, NumberTree, literal, negated, applied, TruthTree, bare, compared, denied, joined, no_mask, number, level, is_accessor, Number, of_literal, minus, single, chain, Truth, of_bare, relation, denial, term, terms, ◌>>=◌, precedence, operand_precedence, prefix_mask, as_number, as_truth, Read, fill_frame, Reduced, reduce, number_onto, truth_onto}
 use Rattle.std.proofs.str.Laws.{order}
-use Rattle.flt_words.specs.declared.token.Operator.TheVariants.{Subtract, Divide}
-use Rattle.flt_words.specs.declared.token.TokenKind.{TokenKind}
 use Rattle.flt_words.specs.declared.token.TokenKind.TheVariants as token
 use Rattle.flt_ast.specs.declared.value.Value.TheVariants as value
-use Rattle.flt_ast.specs.declared.node.Node.{Node}
 use Rattle.flt_ast.specs.declared.node.Node.TheVariants as node
-use Rattle.flt_lang.specs.declared.frame.Frame.{Frame}
 use Rattle.flt_lang.specs.declared.frame.Frame.TheVariants as frame
-use Rattle.flt_lang.specs.declared.frame.Operand.{Operand}
 use Rattle.flt_lang.specs.declared.frame.Operand.TheVariants as operand
-use Rattle.flt_ast.specs.Tree.{NumberTree, literal, negated, applied, TruthTree, bare, compared, denied, joined}
-use Rattle.flt_lang.specs.Values.{no_mask, number}
-use Rattle.flt_lang.specs.Grammar.{level, is_accessor, Number, of_literal, minus, single, chain, Truth, of_bare, relation, denial, term, terms}
-use Rattle.flt_lang.specs.inside.Parser.{◌>>=◌, precedence, operand_precedence, prefix_mask, as_number, as_truth, Read, fill_frame, Reduced, reduce}
-use Rattle.flt_ast.specs.inside.Nodes.{number_onto, truth_onto}
 use Rattle.flt_lang.proofs.ValuesBack.{level_small}
 
 -- a chain of steps that succeeds has a first step that does

@@ -1,12 +1,5 @@
 -- What the loop of the reader needs of the machine.
-use Rattle.std.proofs.Common.{◌≡◌, ℕ, ◌+◌, ◌-◌, ◌<◌, List, [], ◌∷◌, length, take, drop, get_or, sym, ap, ◌∙◌, arith, Option, Some, None, one-add}
-use Rattle.std.proofs.lemmas.List.{drop-map, drop-drop, take_rest}
-use Rattle.flt_words.specs.declared.token.Token.{Token}
-use Rattle.flt_ast.specs.declared.node.Node.{Node}
-use Rattle.flt_lang.specs.declared.frame.Frame.{Frame}
-use Rattle.flt_lang.specs.declared.frame.Operand.{Operand}
-use Rattle.flt_lang.specs.Grammar.{kinds_of}
-use Rattle.flt_lang.specs.inside.Parser.{State, run, after_operand, begin_at}
+use Rattle.flt_lang.proofs.Common.{◌≡◌, ℕ, ◌+◌, ◌-◌, ◌<◌, List, [], ◌∷◌, length, take, drop, get_or, sym, ap, ◌∙◌, arith, Option, Some, None, one-add, drop-map, drop-drop, take_rest, Token, Node, Frame, Operand, kinds_of, State, run, after_operand, begin_at}
 use Rattle.flt_lang.proofs.Fronts.{first_and_rest}
 use Rattle.flt_lang.proofs.Valued.{run_begins, run_skip}
 

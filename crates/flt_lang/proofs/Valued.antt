@@ -1,26 +1,9 @@
 -- A value with what stands before it, as tokens and as the machine reads it.
-use Rattle.std.proofs.Common.{◌≡◌, ℕ, suc, zero, ◌+◌, ◌-◌, ◌<◌, ◌≤◌, List, [], ◌∷◌, length, drop, refl, sym, ap, ◌∙◌, subst, arith, is_some, ◌||◌, Option, Some, None, Bool, true, false}
-use Rattle.std.proofs.lemmas.List.{drop-drop}
-use Rattle.flt_words.specs.declared.token.Protocol.{Protocol}
-use Rattle.flt_words.specs.declared.token.Operator.TheVariants.{Divide}
-use Rattle.flt_words.specs.declared.token.Side.{Side}
-use Rattle.flt_words.specs.declared.token.Side.TheVariants.{Source, Destination}
-use Rattle.flt_words.specs.declared.token.ValueType.{ValueType}
-use Rattle.flt_words.specs.declared.token.TokenKind.{TokenKind}
+use Rattle.flt_lang.proofs.Common.{◌≡◌, ℕ, suc, zero, ◌+◌, ◌-◌, ◌<◌, ◌≤◌, List, [], ◌∷◌, length, drop, refl, sym, ap, ◌∙◌, subst, arith, is_some, ◌||◌, Option, Some, None, Bool, true, false, drop-drop, Protocol, Divide, Side, Source, Destination, ValueType, TokenKind, Direction, Qualifiers, NetMask, Value, Node, Frame, Operand, ReadsProtocol, no_protocol, protocol, ReadsDirection, no_direction, one_side, source_first, destination_first, ReadsType, no_type, of_type, ReadsQualifiers, qualifiers, is_written, ReadsMask, no_mask, prefix, dotted_mask, ReadsValue, number, dotted, ip6, ip6_prefix, mac, range, starts_value, protocol_of, direction_of, type_of, qualifiers_of, mask_of, value_of, ◌>>=◌, next_precedence, State, begin, run, valued_of, valued_or, primitive, with_frames}
 use Rattle.flt_words.specs.declared.token.TokenKind.TheVariants as token
-use Rattle.flt_ast.specs.declared.qualifiers.Direction.{Direction}
-use Rattle.flt_ast.specs.declared.qualifiers.Qualifiers.{Qualifiers}
-use Rattle.flt_ast.specs.declared.value.NetMask.{NetMask}
-use Rattle.flt_ast.specs.declared.value.Value.{Value}
 use Rattle.flt_ast.specs.declared.value.Value.TheVariants as value
-use Rattle.flt_ast.specs.declared.node.Node.{Node}
 use Rattle.flt_ast.specs.declared.node.Node.TheVariants as node
-use Rattle.flt_lang.specs.declared.frame.Frame.{Frame}
-use Rattle.flt_lang.specs.declared.frame.Operand.{Operand}
 use Rattle.flt_lang.specs.declared.frame.Operand.TheVariants as operand
-use Rattle.flt_lang.specs.Values.{ReadsProtocol, no_protocol, protocol, ReadsDirection, no_direction, one_side, source_first, destination_first, ReadsType, no_type, of_type, ReadsQualifiers, qualifiers, is_written, ReadsMask, no_mask, prefix, dotted_mask, ReadsValue, number, dotted, ip6, ip6_prefix, mac, range}
-use Rattle.flt_lang.specs.inside.Values.{starts_value, protocol_of, direction_of, type_of, qualifiers_of, mask_of, value_of}
-use Rattle.flt_lang.specs.inside.Parser.{◌>>=◌, next_precedence, State, begin, run, valued_of, valued_or, primitive, with_frames}
 use Rattle.flt_lang.proofs.ValuesBack.{type_back, direction_back, qualifiers_back, ends_protocol, value_back}
 
 -- rest is what is left of ts

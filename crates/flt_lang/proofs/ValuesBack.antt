@@ -1,22 +1,8 @@
 -- What stands before a value, and the value, are read from the left as far as they go.
-use Rattle.std.proofs.Common.{◌≡◌, ◌≤◌, List, ◌∷◌, refl, arith, lit≤, Option, Some, None, Bool, true}
-use Rattle.flt_words.specs.declared.token.Protocol.{Protocol}
-use Rattle.flt_words.specs.declared.token.Operator.{Operator}
+use Rattle.flt_lang.proofs.Common.{◌≡◌, ◌≤◌, List, ◌∷◌, refl, arith, lit≤, Option, Some, None, Bool, true, Protocol, Operator, Side, Source, Destination, ValueType, TokenKind, Direction, Qualifiers, NetMask, Value, ReadsProtocol, no_protocol, protocol, ReadsDirection, no_direction, one_side, source_first, destination_first, ReadsType, no_type, of_type, ReadsQualifiers, qualifiers, ReadsMask, no_mask, prefix, dotted_mask, ReadsValue, number, dotted, ip6, ip6_prefix, mac, range, starts_value, protocol_of, direction_of, type_of, qualifiers_of, mask_of, value_of, level, next_precedence}
 use Rattle.flt_words.specs.declared.token.Operator.TheVariants as operator
-use Rattle.flt_words.specs.declared.token.Side.{Side}
-use Rattle.flt_words.specs.declared.token.Side.TheVariants.{Source, Destination}
-use Rattle.flt_words.specs.declared.token.ValueType.{ValueType}
-use Rattle.flt_words.specs.declared.token.TokenKind.{TokenKind}
 use Rattle.flt_words.specs.declared.token.TokenKind.TheVariants as token
-use Rattle.flt_ast.specs.declared.qualifiers.Direction.{Direction}
 use Rattle.flt_ast.specs.declared.qualifiers.Direction.TheVariants as direction
-use Rattle.flt_ast.specs.declared.qualifiers.Qualifiers.{Qualifiers}
-use Rattle.flt_ast.specs.declared.value.NetMask.{NetMask}
-use Rattle.flt_ast.specs.declared.value.Value.{Value}
-use Rattle.flt_lang.specs.Values.{ReadsProtocol, no_protocol, protocol, ReadsDirection, no_direction, one_side, source_first, destination_first, ReadsType, no_type, of_type, ReadsQualifiers, qualifiers, ReadsMask, no_mask, prefix, dotted_mask, ReadsValue, number, dotted, ip6, ip6_prefix, mac, range}
-use Rattle.flt_lang.specs.inside.Values.{starts_value, protocol_of, direction_of, type_of, qualifiers_of, mask_of, value_of}
-use Rattle.flt_lang.specs.Grammar.{level}
-use Rattle.flt_lang.specs.inside.Parser.{next_precedence}
 
 pub level_small : (o : Operator) → level o ≤ 3
 level_small operator.Multiply = lit≤ tt

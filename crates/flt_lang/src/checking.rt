@@ -1,10 +1,10 @@
-//! Which expressions code can be made of: the last step before the compiler.
+//! Checks whether code can be made of an expression: the last step before the compiler.
 
 ghost use Rattle.std.specs.Prelude.{◌≡◌, IfOk, IfErr, Some, None};
 ghost use Rattle.flt_ast.specs.Resolved.{IsResolved};
 ghost use Rattle.flt_ast.specs.Checks.{check_fault};
 
-use crate::sums;
+use crate::counts;
 use flt_ast::{Checked, Expr};
 use flt_words::ExprFault;
 use std::alloc::Allocator;
@@ -20,14 +20,14 @@ pub fn check<A: Allocator>(expr: Expr<A>) -> Result<Checked<A>, ExprFault>
     ensures fits { IfOk result (λ _. check_fault expr ≡ None) }
     ensures err { IfErr result (λ fault. check_fault expr ≡ Some fault) }
 {
-    if sums::divides_by_zero(&expr) {
+    if counts::divides_by_zero(&expr) {
         return Err(ExprFault::DivisionByZero);
     }
-    if sums::words_in(&expr) > 16 {
+    if counts::words_in(&expr) > 16 {
         return Err(ExprFault::TooManyWords);
     }
-    // The bound, as in `counts`, but of numbers that may not fit 32 bits yet.
-    if 2 + 6 * (sums::tests_in(&expr) + sums::nodes_in(&expr)) > 32768 {
+    // The bound, as `counts::bound` has it, but of numbers that may not fit 32 bits yet.
+    if 2 + 6 * (counts::tests_in(&expr) + counts::nodes_in(&expr)) > 32768 {
         return Err(ExprFault::ProgramTooLong);
     }
     Ok(Checked { expr })

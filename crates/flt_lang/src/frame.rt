@@ -1,6 +1,6 @@
-//! What the parser keeps: frames that wait for an operand, and the operand that was just read.
-//! Three precedences rule it, of which the greater binds more loosely: that of a frame, that of the
-//! next token, and that of the loosest operand which the latest frame takes.
+//! Parts of the state of the parser: frames that wait for an operand, and the operand that was just
+//! read. Three precedences decide its next step: that of a frame, that of the next token, and that
+//! of the loosest operand which the latest frame takes. A greater one binds more loosely.
 //!
 //!                   frame    next token    loosest operand that the frame takes
 //!     a sign `-`      0                      0

@@ -12,10 +12,8 @@ pub mod laws;
 mod nesting;
 mod parser;
 mod primitive;
-mod protocols;
 mod reader;
 mod resolving;
-mod sums;
 
 pub use checking::check;
 pub use counts::{bound, nodes, tests, words};

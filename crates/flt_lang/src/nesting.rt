@@ -1,5 +1,5 @@
-//! How deep tokens nest (E6): 100 levels are allowed, and 100 tokens `not` and `-` in a row, as
-//! docs/FILTER.md has it. It is tested before anything is read.
+//! Checks, before anything is read, how deep tokens nest (E6). Up to 100 levels are allowed, and up
+//! to 100 tokens `not` and `-` in a row, as docs/FILTER.md has it.
 
 ghost use Rattle.std.specs.Prelude.{◌≡◌, ◌↔◌, IsTrue};
 ghost use Rattle.flt_lang.specs.Nesting.{is_opening, is_closing, is_prefix_operator, HasDeepFront};

@@ -1,4 +1,4 @@
-//! Tokens become a tree: what is refused at once, and the tree that `Reader` reads of the others.
+//! Parses tokens into a tree: refuses those that nest too deep, and lets `Reader` read the others.
 
 ghost use Rattle.std.specs.Prelude.{◌≡◌, ◌↔◌, ◌⊎◌, Err, IfOk, IfErr};
 ghost use Rattle.flt_ast.specs.Tree.{Expression};

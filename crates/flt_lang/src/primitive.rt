@@ -1,24 +1,69 @@
-//! Values and what stands before them. Each reader begins at the first of its tokens, takes as many
+//! Reads the parts of a primitive: the role of a protocol, by the token after it, and values with
+//! the qualifiers before them. Each reader of these begins at the first of its tokens, takes as many
 //! as it can, and returns what it read and how many tokens that is.
 
-ghost use Rattle.std.specs.Prelude.{◌≡◌, ◌∷◌, List, IsTrue, IfSome, IfNone};
+ghost use Rattle.std.specs.Prelude.{◌≡◌, ◌∷◌, ◌⊎◌, List, IsTrue, IfSome, IfNone};
 ghost use Rattle.std.specs.Prelude.{Some, None, length, slice_get, drop, ◌<◌, ◌≤◌};
 ghost use Rattle.flt_words.specs.declared.token.TokenKind.{TokenKind};
 ghost use Rattle.flt_ast.specs.declared.qualifiers.Qualifiers.{Qualifiers};
-ghost use Rattle.flt_lang.specs.Grammar.{kinds_of};
+ghost use Rattle.flt_lang.specs.Grammar.{stands_alone, is_accessor, has_casts, kinds_of};
 ghost use Rattle.flt_lang.specs.inside.Values.{qualifiers_of, protocol_of, direction_of, type_of};
 ghost use Rattle.flt_lang.specs.inside.Values.{is_opposite, both_of};
 ghost use Rattle.flt_lang.specs.inside.Values.{mask_of, prefix_of, value_of};
-ghost use Rattle.flt_lang.specs.inside.Parser.{valued_of};
+ghost use Rattle.flt_lang.specs.inside.Parser.{protocol_role, valued_of};
 
 use flt_ast::{Direction, Dotted, NetMask, Qualifiers, Value};
-use flt_words::{Join, Operator, Protocol, Side, Token, TokenKind, ValueType};
+use flt_words::{Cast, Join, Operator, Protocol, Side, Token, TokenKind, ValueType};
 
 /// The kind of the token at an index from 0, if there is one.
 pub fn kind_at(tokens: &[Token], index: usize) -> Option<TokenKind>
     ensures { result ≡ slice_get (kinds_of tokens.now) index }
 {
     Some(tokens.get(index)?.kind)
+}
+
+/// What a protocol is there for, by the token after it.
+#[derive(Clone, Copy)]
+pub enum ProtocolRole {
+    /// It begins an accessor.
+    Bracket,
+    /// It stands before `broadcast` or `multicast`.
+    Cast(Cast),
+    /// It stands alone, or before a value.
+    Other,
+}
+
+/// What the first of the tokens, a protocol, is there for, by the second one. None is taken.
+pub fn protocol_role(tokens: &[Token]) -> ProtocolRole
+    ensures value { result ≡ protocol_role (kinds_of tokens.now) }
+    ensures within { (result ≡ ProtocolRole.Other) ⊎ (1 < length tokens.now) }
+{
+    match kind_at(tokens, 1) {
+        Some(TokenKind::OpenBracket) => ProtocolRole::Bracket,
+        Some(TokenKind::Cast(cast)) => ProtocolRole::Cast(cast),
+        _ => ProtocolRole::Other,
+    }
+}
+
+/// Whether a protocol may stand alone, as a test of its own: `ether` may not.
+pub fn stands_alone(protocol: Protocol) -> bool
+    ensures { result ≡ stands_alone protocol }
+{
+    !matches!(protocol, Protocol::Ether)
+}
+
+/// Whether a protocol may stand before a bracket, as `tcp[`: `icmp6` may not.
+pub fn is_accessor(protocol: Protocol) -> bool
+    ensures { result ≡ is_accessor protocol }
+{
+    !matches!(protocol, Protocol::Icmp6)
+}
+
+/// Whether a protocol may stand before `broadcast` or `multicast`: `ether`, `ip` and `ip6` may.
+pub fn has_casts(protocol: Protocol) -> bool
+    ensures { result ≡ has_casts protocol }
+{
+    matches!(protocol, Protocol::Ether | Protocol::Ip | Protocol::Ip6)
 }
 
 /// The protocol with which tokens begin, and how many tokens it takes: 1, or 0 if there is none.

@@ -1,5 +1,5 @@
-//! The parser's state and its steps. It reads the tokens once, by operator precedence with one
-//! stack of frames, and decides late which sort an operand is of.
+//! The state of the parser, and its steps. The parser reads the tokens once, by operator precedence
+//! with one stack of frames, and decides late which sort an operand is of.
 
 ghost use Rattle.std.specs.Prelude.{◌≡◌, ◌≤◌, ◌<◌, ◌∷◌, [], IfErr, IfNone, IfOk, IfSome};
 ghost use Rattle.std.specs.Prelude.{MatchOption, OnOk, length, reverse, List, Some, None, Err};
@@ -19,8 +19,10 @@ ghost use Rattle.flt_ast.specs.declared.node.Node.{Node};
 ghost use Rattle.flt_lang.specs.Grammar.{kinds_of};
 
 use crate::frame::{Frame, Operand, Sort, operand_precedence, token_precedence};
-use crate::primitive::{kind_at, read_value, read_value_with_qualifiers};
-use crate::protocols::{ProtocolRole, has_casts, is_accessor, protocol_role, stands_alone};
+use crate::primitive::{
+    ProtocolRole, has_casts, is_accessor, kind_at, protocol_role, read_value,
+    read_value_with_qualifiers, stands_alone,
+};
 use flt_ast::{Expr, NetMask, Node, Value};
 use flt_words::{ExprFault, Operator, Protocol, Token, TokenKind};
 use std::alloc::{AllocError, Allocator};

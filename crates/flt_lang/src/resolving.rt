@@ -1,4 +1,4 @@
-//! Values get the qualifiers that hold for them: those of an earlier value, and what is left out.
+//! Gives values their qualifiers: those of an earlier value, and the defaults of what is left out.
 
 ghost use Rattle.std.specs.Prelude.{◌≡◌, map, IfOk, IfErr, Some, None};
 ghost use Rattle.std.specs.List.{list_any};

@@ -1,18 +1,8 @@
 -- How many instructions are laid out.
-use Rattle.std.proofs.Common.{◌≡◌, ℕ, ◌+◌, ◌-◌, ◌*◌, ◌<◌, ◌≤◌, List, [], ◌∷◌, length, Bool, true, cond, Option, Some, refl, sym, subst, arith}
-use Rattle.std.specs.Prelude.{◌≢◌, nat_le, count_by}
-use Rattle.std.proofs.lemmas.Bool.Decides.{nat_tests}
+use Rattle.flt_lay.proofs.Common.{◌≡◌, ℕ, ◌+◌, ◌-◌, ◌*◌, ◌<◌, ◌≤◌, List, [], ◌∷◌, length, Bool, true, cond, Option, Some, refl, sym, subst, arith, ◌≢◌, nat_le, count_by, nat_tests, All-cons, All-head, All-tail, Insn, Operation, Jump, JumpIf, is_branch, JUMP, MOST_OFFSET, HasNoJump, IsShort, back_of_code, Reach, Near, PlacedCode, place_at, with_offsets, with_test_by, with_insn, placed_code, laid_out}
 use Rattle.std.proofs.lemmas.List.Sums.{sum_by-cons}
-use Rattle.std.proofs.lemmas.List.Elements.{All-cons, All-head, All-tail}
-use Rattle.flt_bpf.specs.declared.insn.Insn.{Insn}
-use Rattle.flt_bpf.specs.declared.operation.Operation.{Operation}
-use Rattle.flt_bpf.specs.declared.operation.Operation.TheVariants.{Jump, JumpIf}
 use Rattle.flt_bpf.specs.Instructions.{operation_of}
-use Rattle.flt_bpf.specs.Layout.{is_branch, JUMP, MOST_OFFSET, HasNoJump, IsShort}
-use Rattle.flt_bpf.proofs.Codes.{back_of_code}
-use Rattle.flt_lay.specs.declared.layout.Reach.{Reach}
-use Rattle.flt_lay.specs.declared.layout.Reach.TheVariants.{Near}
-use Rattle.flt_lay.specs.inside.Layout.{PlacedCode, place_at, near_place, with_offsets, with_test, with_test_by, with_insn, placed_code, laid_out}
+use Rattle.flt_lay.specs.inside.Layout.{near_place, with_test}
 
 -- code with at least one and at most a given number of instructions more
 record Grows (c d : List Insn) (most : ℕ) : Type 0 where

@@ -1,20 +1,9 @@
 -- From a jump that is laid out a run goes on where the jump leads.
-use Rattle.std.proofs.Common.{◌≡◌, ℕ, suc, ◌+◌, ◌-◌, ◌<◌, ◌≤◌, List, [], ◌∷◌, length, Bool, true, false, Option, Some, refl, sym, ap, ◌∙◌, subst, arith}
-use Rattle.std.specs.Prelude.{◌==◌, ◌&&◌, nat_le, if◌then◌else◌, All}
-use Rattle.std.proofs.lemmas.Bool.Decides.{nat_tests}
-use Rattle.std.proofs.lemmas.List.Elements.{All-cons, All-head, All-tail, All-take, All-replicate}
-use Rattle.flt_bpf.specs.declared.insn.Insn.{Insn}
-use Rattle.flt_bpf.specs.declared.machine.State.{State}
-use Rattle.flt_bpf.specs.declared.operation.Operation.{Operation}
-use Rattle.flt_bpf.specs.declared.operation.Operation.TheVariants.{Jump, JumpIf}
-use Rattle.flt_bpf.specs.Answer.{answer_of}
+use Rattle.flt_lay.proofs.Common.{◌≡◌, ℕ, suc, ◌+◌, ◌-◌, ◌<◌, ◌≤◌, List, [], ◌∷◌, length, Bool, true, false, Option, Some, refl, sym, ap, ◌∙◌, subst, arith, ◌==◌, ◌&&◌, nat_le, if◌then◌else◌, All, nat_tests, All-cons, All-head, All-tail, All-take, All-replicate, Insn, State, Operation, Jump, JumpIf, answer_of, MOST_OFFSET, Reach, Near, YesFar, NoFar, BothFar, PlacedCode, place_at, with_jump, latest, jump_near, with_test_by, jumps_by, with_insn, jumps_with, placed_code, laid_out}
 use Rattle.flt_bpf.specs.Instructions.{operation_of}
-use Rattle.flt_bpf.specs.Layout.{MOST_OFFSET}
 use Rattle.flt_bpf.specs.Machine.{step}
 use Rattle.flt_lay.specs.declared.layout.PlacedJump.{PlacedJump}
-use Rattle.flt_lay.specs.declared.layout.Reach.{Reach}
-use Rattle.flt_lay.specs.declared.layout.Reach.TheVariants.{Near, YesFar, NoFar, BothFar}
-use Rattle.flt_lay.specs.inside.Layout.{PlacedCode, place_at, with_jump, latest, jump_near, near_place, with_test, with_test_by, jumps_by, with_insn, jumps_with, placed_code, laid_out}
+use Rattle.flt_lay.specs.inside.Layout.{near_place, with_test}
 use Rattle.flt_lay.proofs.Places.{target_inside}
 
 pub jumps : (to : ℕ) (c : List Insn) (p : List ℕ) (n : ℕ) (s : State) → answer_of (with_jump to c) p n 0 s ≡ answer_of c p n (length c - to) s

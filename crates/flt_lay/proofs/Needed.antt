@@ -1,16 +1,8 @@
 -- A jump stands only for a place_at that is too far for its test.
-use Rattle.std.proofs.Common.{◌≡◌, ℕ, zero, suc, ◌+◌, ◌-◌, ◌<◌, List, [], ◌∷◌, length, Bool, true, false, Option, Some, refl, sym, ap, ◌∙◌, arith, inl, inr}
-use Rattle.std.specs.Prelude.{◌≢◌, ◌⊎◌, slice_get, nat_le, ◌&&◌, if◌then◌else◌}
-use Rattle.std.proofs.lemmas.Bool.Decides.{nat_tests}
-use Rattle.flt_bpf.specs.declared.insn.Insn.{Insn}
-use Rattle.flt_bpf.specs.declared.operation.Operation.{Operation}
-use Rattle.flt_bpf.specs.declared.operation.Operation.TheVariants.{Jump, JumpIf}
+use Rattle.flt_lay.proofs.Common.{◌≡◌, ℕ, zero, suc, ◌+◌, ◌-◌, ◌<◌, List, [], ◌∷◌, length, Bool, true, false, Option, Some, refl, sym, ap, ◌∙◌, arith, inl, inr, ◌≢◌, ◌⊎◌, slice_get, nat_le, ◌&&◌, if◌then◌else◌, nat_tests, Insn, Operation, Jump, JumpIf, is_branch, JUMP, MOST_OFFSET, IsNeeded, JumpsAreNeeded, HasNoJump, back_of_code, Near, YesFar, NoFar, BothFar, PlacedCode, with_offsets, with_jump, with_test_by, with_insn, placed_code, laid_out}
 use Rattle.flt_bpf.specs.Instructions.{operation_of}
-use Rattle.flt_bpf.specs.Layout.{is_branch, JUMP, MOST_OFFSET, IsNeeded, JumpsAreNeeded, HasNoJump}
-use Rattle.flt_bpf.proofs.Codes.{back_of_code}
 use Rattle.flt_bpf.proofs.Jumps.{jump_later, needed_put}
-use Rattle.flt_lay.specs.declared.layout.Reach.TheVariants.{Near, YesFar, NoFar, BothFar}
-use Rattle.flt_lay.specs.inside.Layout.{PlacedCode, with_offsets, with_jump, with_test, with_test_by, with_insn, placed_code, laid_out}
+use Rattle.flt_lay.specs.inside.Layout.{with_test}
 
 -- a test and a jump for one of its ways
 needed_one : (c : List Insn) (i : Insn) (jt jf to : ℕ) → i.code ≢ JUMP → is_branch (operation_of i.code) ≡ true → (jt ≡ 0) ⊎ (jf ≡ 0) → MOST_OFFSET < length c - to → JumpsAreNeeded c → JumpsAreNeeded (with_offsets i jt jf ∷ with_jump to c)

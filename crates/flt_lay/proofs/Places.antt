@@ -1,12 +1,7 @@
 -- What is laid out first stays at the end of the code, where its place says.
-use Rattle.std.proofs.Common.{◌≡◌, ℕ, zero, suc, ◌≤◌, List, [], ◌∷◌, ◌++◌, length, drop, Option, Some, refl, sym, ap, ◌∙◌, arith, append_assoc, length-append}
-use Rattle.flt_bpf.specs.declared.insn.Insn.{Insn}
-use Rattle.flt_bpf.specs.declared.operation.Operation.{Operation}
-use Rattle.flt_bpf.specs.declared.operation.Operation.TheVariants.{JumpIf}
+use Rattle.flt_lay.proofs.Common.{◌≡◌, ℕ, zero, suc, ◌≤◌, List, [], ◌∷◌, ◌++◌, length, drop, Option, Some, refl, sym, ap, ◌∙◌, arith, append_assoc, length-append, Insn, Operation, JumpIf, Reach, Near, YesFar, NoFar, BothFar, PlacedCode, place_at, with_test_by, with_insn, placed_code, laid_out}
 use Rattle.flt_bpf.specs.Instructions.{operation_of}
-use Rattle.flt_lay.specs.declared.layout.Reach.{Reach}
-use Rattle.flt_lay.specs.declared.layout.Reach.TheVariants.{Near, YesFar, NoFar, BothFar}
-use Rattle.flt_lay.specs.inside.Layout.{PlacedCode, place_at, with_test, with_test_by, with_insn, placed_code, laid_out}
+use Rattle.flt_lay.specs.inside.Layout.{with_test}
 
 -- code with more in front
 pub record IsEndOf (c d : List Insn) : Type 0 where

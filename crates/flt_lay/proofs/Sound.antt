@@ -1,20 +1,10 @@
 -- Code without a fault stays so.
-use Rattle.std.proofs.Common.{◌≡◌, ℕ, ◌-◌, ◌<◌, ◌≤◌, List, [], ◌∷◌, ◌++◌, length, drop, true, false, Option, Some, None, refl, sym, ap, ◌∙◌, arith, length-drop}
-use Rattle.std.specs.Prelude.{nat_lt, ◌&&◌}
-use Rattle.std.proofs.lemmas.Bool.Decides.{nat_tests}
-use Rattle.flt_bpf.specs.declared.insn.Insn.{Insn}
+use Rattle.flt_lay.proofs.Common.{◌≡◌, ℕ, ◌-◌, ◌<◌, ◌≤◌, List, [], ◌∷◌, ◌++◌, length, drop, true, false, Option, Some, None, refl, sym, ap, ◌∙◌, arith, length-drop, nat_lt, ◌&&◌, nat_tests, Insn, Operation, Load, Compute, Jump, JumpIf, Memory, Test, Operand, unless, fault_if_known, is_return, ends_in_return, IsFaultless, IsValidUnlessLong, Reach, Near, YesFar, NoFar, BothFar, PlacedCode, place_at, with_offsets, with_jump, test_reach, with_test_by, with_insn, placed_code, laid_out}
 use Rattle.flt_bpf.specs.declared.fault.CheckFault.TheVariants.{JumpOut}
-use Rattle.flt_bpf.specs.declared.operation.Operation.{Operation}
-use Rattle.flt_bpf.specs.declared.operation.Operation.TheVariants.{Load, Compute, Jump, JumpIf}
-use Rattle.flt_bpf.specs.declared.operation.Source.TheVariants.{Memory}
-use Rattle.flt_bpf.specs.declared.operation.Test.{Test}
-use Rattle.flt_bpf.specs.declared.operation.Operand.{Operand}
 use Rattle.flt_bpf.specs.declared.operation.Operand.TheVariants.{Constant}
 use Rattle.flt_bpf.specs.Instructions.{operation_of}
-use Rattle.flt_bpf.specs.Check.{unless, fault_of, fault_if_known, is_return, ends_in_return, IsFaultless, IsValidUnlessLong}
-use Rattle.flt_lay.specs.declared.layout.Reach.{Reach}
-use Rattle.flt_lay.specs.declared.layout.Reach.TheVariants.{Near, YesFar, NoFar, BothFar}
-use Rattle.flt_lay.specs.inside.Layout.{PlacedCode, place_at, near_place, with_offsets, with_jump, test_reach, with_test, with_test_by, with_insn, placed_code, laid_out}
+use Rattle.flt_bpf.specs.Check.{fault_of}
+use Rattle.flt_lay.specs.inside.Layout.{near_place, with_test}
 use Rattle.flt_lay.proofs.Places.{emitted_end, target_is, target_inside}
 use Rattle.flt_lay.proofs.Leads.{GoesTo, near_goes, all_lead}
 use Rattle.flt_lay.proofs.Counted.{at_least}

@@ -1,6 +1,6 @@
-//! Wide code laid out as instructions, from its end to its beginning, so that all targets of a test
-//! are placed before it is. What is laid out is always a whole end of the code: each function here
-//! puts more in front of it.
+//! Lays out wide code as instructions, from its end to its beginning, so that all targets of a test
+//! are placed before the test. The instructions placed so far are always a whole end of the code;
+//! each function here puts more in front of them.
 
 ghost use Rattle.std.specs.Prelude.{◌≡◌, ◌+◌, ◌-◌, ◌*◌, ◌^◌, ◌<◌, ◌≤◌, ℕ, List, [], ◌∷◌, length};
 ghost use Rattle.std.specs.Prelude.{IfOk, OnOk, count_by};

@@ -1,8 +1,9 @@
-//! Code whose jumps go any distance, laid out as instructions: a jump (`ja`) is added only for a
+//! Lays out, as instructions, code whose jumps go any distance: a jump (`ja`) is added only for a
 //! target that is too far for its test.
 //!
 //! `flt_gen` calls it, as the last stage before a program is checked. [`laid_out`] takes
-//! `flt_bpf::Wide` instructions and returns `flt_bpf::Insn` ones, which give the same answers.
+//! `flt_bpf::Wide` instructions and returns `flt_bpf::Insn` ones, which return the same on each
+//! packet.
 #![tactic(auto)]
 
 mod layout;

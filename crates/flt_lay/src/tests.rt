@@ -1,4 +1,4 @@
-//! Targets at the borders of what a conditional jump reaches, by runs of what is laid out.
+//! Tests of targets at the limits of what a conditional jump reaches: code is laid out, and run.
 
 ghost use Rattle.std.specs.Prelude.{◌<◌};
 

@@ -1,10 +1,5 @@
 -- What is known at a place holds in each run that comes there.
-use Rattle.std.proofs.Common.{ℕ, zero, suc, List, [], ◌∷◌, inl, inr}
-use Rattle.std.specs.Prelude.{replicate}
-use Rattle.flt_bpf.specs.declared.machine.State.{State}
-use Rattle.flt_short.specs.declared.facts.Known.{Known}
-use Rattle.flt_short.specs.inside.Facts.{nothing_known, unreached}
-use Rattle.flt_short.specs.inside.Arrivals.{known_at, arrived, at_start}
+use Rattle.flt_short.proofs.Common.{ℕ, zero, suc, List, [], ◌∷◌, inl, inr, replicate, State, Known, nothing_known, unreached, known_at, arrived, at_start}
 use Rattle.flt_short.proofs.Knowing.{Holds, joins, nothing_holds}
 
 module _ (p : List ℕ) (n : ℕ) where

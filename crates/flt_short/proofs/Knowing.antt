@@ -1,30 +1,13 @@
 -- What is known holds of the packet and of the registers.
-use Rattle.std.proofs.Common.{◌≡◌, ℕ, zero, suc, ◌+◌, ◌%◌, ◌^◌, List, [], ◌∷◌, Bool, true, false, Option, Some, None, refl, sym, ap, ◌∙◌, subst, arith, ◌⊎◌, inl, inr}
-use Rattle.std.specs.Prelude.{◌==◌, ◌&&◌, not, if◌then◌else◌, map, replicate, slice_set, bit_and}
-use Rattle.std.specs.Option.{option_map, option_or}
-use Rattle.std.proofs.lemmas.Bool.Decides.{nat_tests}
-use Rattle.flt_bpf.specs.declared.machine.State.{State}
-use Rattle.flt_bpf.specs.declared.operation.Operation.{Operation}
-use Rattle.flt_bpf.specs.declared.operation.Operation.TheVariants.{LoadAbsolute, LoadIndirect, Load, JumpIf}
-use Rattle.flt_bpf.specs.declared.operation.Register.TheVariants.{Accumulator}
-use Rattle.flt_bpf.specs.declared.operation.Source.TheVariants.{Length}
+use Rattle.flt_short.proofs.Common.{◌≡◌, ℕ, zero, suc, ◌+◌, ◌%◌, ◌^◌, List, [], ◌∷◌, Bool, true, false, Option, Some, None, refl, sym, ap, ◌∙◌, subst, arith, ◌⊎◌, inl, inr, ◌==◌, ◌&&◌, not, if◌then◌else◌, map, replicate, slice_set, bit_and, option_map, option_or, nat_tests, State, Operation, LoadAbsolute, LoadIndirect, Load, JumpIf, Accumulator, Length, Constant, Byte, Insn, field, header_length, test_holds, operand_value, Field, Held, Known, nothing_claimed, nothing_known, same_optional, same_field, claims_nothing, allows, entails_some, entails, one_of_two, joined_claim, joined_with_any, joined_fact, joined_held, common_header, joined_by, joined, outcome_by_claim, decided, the_two, two_numbers_of, with_fact, captures, any_captures, holds_field, is_captured, claim_after, known_by, known_by_test, and_parts, or_cases}
 use Rattle.flt_bpf.specs.declared.operation.Test.{Test}
 use Rattle.flt_bpf.specs.declared.operation.Test.TheVariants.{Equal}
 use Rattle.flt_bpf.specs.declared.operation.Operand.{Operand}
-use Rattle.flt_bpf.specs.declared.operation.Operand.TheVariants.{Constant}
-use Rattle.flt_bpf.specs.declared.operation.Width.TheVariants.{Byte}
-use Rattle.flt_bpf.specs.declared.insn.Insn.{Insn}
 use Rattle.flt_bpf.specs.Instructions.{operation_of}
-use Rattle.flt_bpf.specs.Machine.{field, header_length, test_holds, operand_value}
-use Rattle.flt_short.specs.declared.facts.Field.{Field}
 use Rattle.flt_short.specs.declared.facts.Claim.{Claim}
 use Rattle.flt_short.specs.declared.facts.Claim.TheVariants.{Nothing, Is, IsNot, IsOneOf}
 use Rattle.flt_short.specs.declared.facts.Fact.{Fact}
-use Rattle.flt_short.specs.declared.facts.Held.{Held}
 use Rattle.flt_short.specs.declared.facts.Held.TheVariants as held
-use Rattle.flt_short.specs.declared.facts.Known.{Known}
-use Rattle.flt_short.specs.inside.Facts.{nothing_claimed, nothing_known, same_optional, same_field, claims_nothing, allows, entails_some, entails, one_of_two, joined_claim, joined_with_any, joined_fact, joined_held, common_header, joined_by, joined, outcome_by_claim, decided, the_two, two_numbers_of, with_fact, captures, any_captures, holds_field, is_captured, claim_after, known_by, known_by_test}
-use Rattle.std.proofs.lemmas.Bool.{and_parts, or_cases}
 use Rattle.flt_short.proofs.Basics.{by_test}
 
 -- what a field of a packet p of original length n is

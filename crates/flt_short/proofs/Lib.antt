@@ -1,3 +1,4 @@
+pub mod Common
 pub mod Arriving
 pub mod Basics
 pub mod Knowing

@@ -1,33 +1,16 @@
 -- Code that is alike has the answers of the old code, and a run of it meets no more instructions.
-use Rattle.std.proofs.Common.{◌≡◌, ◌⊎◌, inl, inr, ℕ, zero, suc, ◌+◌, ◌-◌, ◌%◌, ◌^◌, ◌<◌, ◌≤◌, List, [], ◌∷◌, length, drop, length-drop, Bool, true, false, Option, Some, None, refl, sym, ap, ◌∙◌, subst, arith}
-use Rattle.std.specs.Prelude.{◌≢◌, All, count_by, ◌==◌, nat_lt, ◌&&◌, ◌||◌, not, if◌then◌else◌, slice_get, slice_set, bit_and}
-use Rattle.std.specs.Option.{option_map, option_map_or}
-use Rattle.std.proofs.lemmas.Bool.{and_parts, or_cases}
-use Rattle.std.proofs.lemmas.Bool.Decides.{nat_tests}
+use Rattle.flt_short.proofs.Common.{◌≡◌, ◌⊎◌, inl, inr, ℕ, zero, suc, ◌+◌, ◌-◌, ◌%◌, ◌^◌, ◌<◌, ◌≤◌, List, [], ◌∷◌, length, drop, length-drop, Bool, true, false, Option, Some, None, refl, sym, ap, ◌∙◌, subst, arith, ◌≢◌, All, count_by, ◌==◌, nat_lt, ◌&&◌, ◌||◌, not, if◌then◌else◌, slice_get, slice_set, bit_and, option_map, option_map_or, and_parts, or_cases, nat_tests, slice_get_within, get_or_from_slice_get, Insn, State, Operation, LoadAbsolute, LoadIndirect, Load, LoadHeaderLength, Store, Compute, Negate, Jump, JumpIf, ReturnConstant, ReturnAccumulator, CopyToIndex, CopyToAccumulator, Accumulator, Index, Immediate, Memory, Length, Constant, IndexRegister, Word, Byte, code_of, Next, Goes, Ends, Lost, does, does_if_known, into, into_word, operand_value, test_holds, field, compute, header_length, Answered, run_from, progress_after, step_if_there, machine, start, IsValidUnlessLong, JUMP, is_branch, implies, landing_fits_at, landing_fits, goes_on, direct_code, is_indirect, rejects, is_sure, goes_on_or_rejects, same_target, goes_on_alike, are_copies, lands_at_if, lands_at, code_from, stands_at, stands, are_alike, begins, answer_of, answer_after, parts}
 use Rattle.std.proofs.lemmas.List.{drop-drop}
 use Rattle.std.proofs.Math.Seq.{drop-nil}
-use Rattle.std.proofs.lemmas.Option.{slice_get_within, get_or_from_slice_get}
-use Rattle.flt_bpf.specs.declared.insn.Insn.{Insn}
-use Rattle.flt_bpf.specs.declared.machine.State.{State}
-use Rattle.flt_bpf.specs.declared.operation.Operation.{Operation}
-use Rattle.flt_bpf.specs.declared.operation.Operation.TheVariants.{LoadAbsolute, LoadIndirect, Load, LoadHeaderLength, Store, Compute, Negate, Jump, JumpIf, ReturnConstant, ReturnAccumulator, CopyToIndex, CopyToAccumulator}
-use Rattle.flt_bpf.specs.declared.operation.Register.TheVariants.{Accumulator, Index}
-use Rattle.flt_bpf.specs.declared.operation.Source.TheVariants.{Immediate, Memory, Length}
-use Rattle.flt_bpf.specs.declared.operation.Operand.TheVariants.{Constant, IndexRegister}
 use Rattle.flt_bpf.specs.declared.operation.Test.TheVariants as test
 use Rattle.flt_bpf.specs.declared.operation.AluOperation.TheVariants as arithmetic
 use Rattle.flt_bpf.specs.declared.operation.Width.{Width}
-use Rattle.flt_bpf.specs.declared.operation.Width.TheVariants.{Word, Byte}
-use Rattle.flt_bpf.specs.Instructions.{code_of, operation_of}
-use Rattle.flt_bpf.specs.Machine.{Next, Goes, Ends, Lost, step, does, does_if_known, into, into_word, operand_value, test_holds, field, compute, header_length, Answered, run_from, progress_after, step_if_there, machine, start}
+use Rattle.flt_bpf.specs.Instructions.{operation_of}
+use Rattle.flt_bpf.specs.Machine.{step}
 use Rattle.flt_short.specs.declared.alike.Landing.{Landing}
-use Rattle.flt_bpf.specs.Check.{IsValidUnlessLong}
-use Rattle.flt_bpf.specs.Layout.{JUMP, is_branch}
 use Rattle.flt_short.specs.Alike.{Comes, Shortens}
 use Rattle.flt_bpf.specs.Registers.{reads_accumulator, reads_index, sets_accumulator, sets_index}
-use Rattle.flt_short.specs.inside.Alike.{implies, landing_fits_at, landing_fits, goes_on, same_step, one_test, direct_code, direct_load, is_indirect, header_load, rejects, is_sure, goes_on_or_rejects, same_target, goes_on_alike, are_copies, lands_at_if, lands_at, left_out, code_from, stands_at, stands, are_alike, begins}
-use Rattle.flt_bpf.specs.Answer.{answer_of, answer_after}
-use Rattle.flt_bpf.proofs.Checking.{parts}
+use Rattle.flt_short.specs.inside.Alike.{same_step, one_test, direct_load, header_load, left_out}
 use Rattle.flt_bpf.proofs.Suffix.{answer_drop, machine_answers, valid_if_short}
 use Rattle.flt_short.proofs.Basics.{known_step, into_both, word_both, stored_both, plain_both}
 

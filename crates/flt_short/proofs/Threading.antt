@@ -1,32 +1,12 @@
 -- Threaded code returns the same, and keeps its length, its tests and what breaks no rule.
-use Rattle.std.proofs.Common.{◌≡◌, ℕ, zero, suc, ◌+◌, ◌%◌, ◌^◌, ◌<◌, List, [], ◌∷◌, length, count_by, get_or, cond, Bool, true, false, Option, Some, None, refl, sym, ap, ◌∙◌, subst, arith}
-use Rattle.std.specs.Prelude.{nat_lt, ◌&&◌, if◌then◌else◌, slice_get}
-use Rattle.std.specs.Option.{option_map, option_map_or}
-use Rattle.std.proofs.lemmas.Bool.Decides.{nat_tests}
+use Rattle.flt_short.proofs.Common.{◌≡◌, ℕ, zero, suc, ◌+◌, ◌%◌, ◌^◌, ◌<◌, List, [], ◌∷◌, length, count_by, get_or, cond, Bool, true, false, Option, Some, None, refl, sym, ap, ◌∙◌, subst, arith, nat_lt, ◌&&◌, if◌then◌else◌, slice_get, option_map, option_map_or, nat_tests, Insn, State, Operation, LoadAbsolute, LoadIndirect, Load, LoadHeaderLength, Store, Compute, Negate, Jump, JumpIf, ReturnConstant, ReturnAccumulator, CopyToIndex, CopyToAccumulator, Accumulator, Index, Immediate, Memory, Length, Constant, Byte, Next, does_if_known, test_holds, operand_value, field, compute, header_length, start, answer_of, answer_after, unless, fault_if_known, ends_in_return, IsFaultless, is_branch, Held, Known, at_start, known_at, arrived, masked_by, masked_held, held_without_index, known_after, known_by_test, threaded_offset, threaded_by, threaded_insn, is_reached, with_arrivals_by, with_arrivals, flow, and_parts}
 use Rattle.std.proofs.lemmas.List.Sums.{sum_by-cons}
-use Rattle.flt_bpf.specs.declared.insn.Insn.{Insn}
 use Rattle.flt_bpf.specs.declared.fault.CheckFault.{CheckFault}
-use Rattle.flt_bpf.specs.declared.machine.State.{State}
-use Rattle.flt_bpf.specs.declared.operation.Operation.{Operation}
-use Rattle.flt_bpf.specs.declared.operation.Operation.TheVariants.{LoadAbsolute, LoadIndirect, Load, LoadHeaderLength, Store, Compute, Negate, Jump, JumpIf, ReturnConstant, ReturnAccumulator, CopyToIndex, CopyToAccumulator}
-use Rattle.flt_bpf.specs.declared.operation.Register.TheVariants.{Accumulator, Index}
-use Rattle.flt_bpf.specs.declared.operation.Source.TheVariants.{Immediate, Memory, Length}
-use Rattle.flt_bpf.specs.declared.operation.Operand.TheVariants.{Constant}
 use Rattle.flt_bpf.specs.declared.operation.AluOperation.TheVariants as arithmetic
-use Rattle.flt_bpf.specs.declared.operation.Width.TheVariants.{Byte}
 use Rattle.flt_bpf.specs.Instructions.{operation_of}
-use Rattle.flt_bpf.specs.Machine.{Next, does_if_known, test_holds, operand_value, field, compute, header_length, start}
-use Rattle.flt_bpf.specs.Answer.{answer_of, answer_after}
-use Rattle.flt_bpf.specs.Check.{unless, fault_of, fault_if_known, ends_in_return, IsFaultless}
-use Rattle.flt_bpf.specs.Layout.{is_branch}
+use Rattle.flt_bpf.specs.Check.{fault_of}
 use Rattle.flt_short.specs.Threads.{Threads}
-use Rattle.flt_short.specs.declared.facts.Held.{Held}
 use Rattle.flt_short.specs.declared.facts.Held.TheVariants as held_variant
-use Rattle.flt_short.specs.declared.facts.Known.{Known}
-use Rattle.flt_short.specs.inside.Arrivals.{at_start, known_at, arrived}
-use Rattle.flt_short.specs.inside.Facts.{masked_by, masked_held, held_without_index, known_after, known_by_test}
-use Rattle.flt_short.specs.inside.Threads.{threaded_offset, threaded_by, threaded_insn, is_reached, with_arrivals_by, with_arrivals, flow}
-use Rattle.std.proofs.lemmas.Bool.{and_parts}
 use Rattle.flt_short.proofs.Basics.{by_test, known_step, into_both, word_both, stored_both}
 use Rattle.flt_short.proofs.Arriving.{HoldsAt, start_holds, raised_at, raised_keeps}
 use Rattle.flt_short.proofs.Knowing.{loaded, masked, value_at, loaded_at, HeldHolds, Holds, tested}

@@ -1,31 +1,13 @@
 -- A run may go on where a walk ends in place of where it began.
-use Rattle.std.proofs.Common.{◌≡◌, ℕ, zero, suc, ◌+◌, ◌%◌, ◌^◌, ◌<◌, List, [], ◌∷◌, length, Bool, true, false, Option, Some, None, refl, sym, ap, ◌∙◌, subst, arith, inl, inr}
-use Rattle.std.specs.Prelude.{◌==◌, nat_lt, ◌&&◌, ◌||◌, if◌then◌else◌, slice_get, bit_and}
-use Rattle.std.specs.Option.{is_none, option_map, option_map_or, option_and_then}
-use Rattle.std.proofs.lemmas.Option.{option_and_then_some}
-use Rattle.std.proofs.lemmas.Bool.Decides.{nat_tests}
-use Rattle.flt_bpf.specs.declared.insn.Insn.{Insn}
-use Rattle.flt_bpf.specs.declared.machine.State.{State}
-use Rattle.flt_bpf.specs.declared.operation.Operation.{Operation}
-use Rattle.flt_bpf.specs.declared.operation.Operation.TheVariants.{LoadAbsolute, LoadIndirect, Load, LoadHeaderLength, Compute, JumpIf, ReturnConstant, CopyToAccumulator}
-use Rattle.flt_bpf.specs.declared.operation.Register.TheVariants.{Accumulator, Index}
-use Rattle.flt_bpf.specs.declared.operation.Source.TheVariants.{Immediate, Memory, Length}
-use Rattle.flt_bpf.specs.declared.operation.Operand.TheVariants.{Constant}
+use Rattle.flt_short.proofs.Common.{◌≡◌, ℕ, zero, suc, ◌+◌, ◌%◌, ◌^◌, ◌<◌, List, [], ◌∷◌, length, Bool, true, false, Option, Some, None, refl, sym, ap, ◌∙◌, subst, arith, inl, inr, ◌==◌, nat_lt, ◌&&◌, ◌||◌, if◌then◌else◌, slice_get, bit_and, is_none, option_map, option_map_or, option_and_then, option_and_then_some, nat_tests, Insn, State, Operation, LoadAbsolute, LoadIndirect, Load, LoadHeaderLength, Compute, JumpIf, ReturnConstant, CopyToAccumulator, Accumulator, Index, Immediate, Memory, Length, Constant, Byte, answer_of, answer_after, Field, Held, Known, same_field, same_optional, decided, known_by, is_captured, field_of, masked_field, masked_by, field_at, other_field, spot_at, holds_load, past_insn, ignores_accumulator, is_free_by, is_free, can_stop, walk_on, FUEL, walk_from, number_at, target_by, target, threaded_offset, and_parts, or_cases}
 use Rattle.flt_bpf.specs.declared.operation.Test.TheVariants as test
 use Rattle.flt_bpf.specs.declared.operation.AluOperation.TheVariants as arithmetic
-use Rattle.flt_bpf.specs.declared.operation.Width.TheVariants.{Byte}
 use Rattle.flt_bpf.specs.Instructions.{operation_of}
 use Rattle.flt_bpf.specs.Machine.{Next, Goes, step as does_step, does_if_known, into, field, header_length}
-use Rattle.flt_bpf.specs.Answer.{answer_of, answer_after}
-use Rattle.flt_short.specs.declared.facts.Field.{Field}
-use Rattle.flt_short.specs.declared.facts.Held.{Held}
 use Rattle.flt_short.specs.declared.facts.Held.TheVariants as held
-use Rattle.flt_short.specs.declared.facts.Known.{Known}
 use Rattle.flt_short.specs.declared.thread.Spot.{Spot}
 use Rattle.flt_short.specs.declared.thread.Reached.{Reached}
-use Rattle.flt_short.specs.inside.Facts.{same_field, same_optional, decided, known_by, is_captured, field_of, masked_field, masked_by}
-use Rattle.flt_short.specs.inside.Threads.{field_at, other_field, spot_at, holds_load, past_insn, ignores_accumulator, is_free_by, is_free, can_stop, walk_on, walk, FUEL, walk_from, number_at, target_by, target, threaded_offset}
-use Rattle.std.proofs.lemmas.Bool.{and_parts, or_cases}
+use Rattle.flt_short.specs.inside.Threads.{walk}
 use Rattle.flt_short.proofs.Basics.{by_test, known_step, into_both, word_both}
 use Rattle.flt_short.proofs.Knowing.{loaded, masked, value_at, value_of, loaded_at, numbers, same_masks, same_value, HeldHolds, IndexHolds, Holds, captured_there, decided_right, tested_field}
 

@@ -1,10 +1,13 @@
 //! Checks, instruction by instruction, that a new program does what an old one does. A and X must
-//! be the same only if they may be read later.
-//! `old` is an instruction of the old program, `after` are those after it, `following` the landings
-//! of these, and `new` is the instruction of the new program at the landing of `old`.
+//! be the same in both only if they may be read later.
 //!
-//! Most clauses cite definitions that mirror the code, with the same names or without `is_`; what
-//! follows from them is `Shortens`, the contract of `replaces`.
+//! Each instruction of the old program has a landing: the place from which on the new program does
+//! the same, or nowhere. The rules 1 to 5 (`stands`) check this. `old` is an instruction of the old
+//! program and `landing` is its landing; `after` are the instructions after it and `following`
+//! their landings; `new` is the instruction of the new program at `landing`.
+//!
+//! Most clauses cite definitions that mirror the code, with the same names or without `is_`; the
+//! contract of `replaces` states what follows from them (`Shortens`).
 
 ghost use Rattle.std.specs.Prelude.{◌≡◌, ◌≢◌, ◌↔◌, ◌+◌, ◌-◌, ◌%◌, ◌^◌, ◌==◌, ◌&&◌, nat_lt, length};
 ghost use Rattle.std.specs.Prelude.{IsTrue, All, true, false};
@@ -23,14 +26,17 @@ use crate::valid::{count_tests, is_valid_unless_long};
 use flt_bpf::operation::{AluOperation, Operand, Operation, Register, Source, Test, decode};
 use flt_bpf::{Wide, reads_accumulator, reads_index, sets_accumulator, sets_index};
 
-/// The place from which on a new program does what the old one does from an instruction on.
+/// The place of the new program that corresponds to an instruction of the old one: from there on
+/// the new program does what the old one does from the instruction on.
 #[derive(Clone, Copy)]
 pub struct Landing {
-    /// The number of instructions of the new program from there to its end, or 0 for nowhere.
+    /// The number of instructions from there to the end of the new program; 0 is nowhere.
     pub place: usize,
-    /// A may be read from there on before it is set, so both programs need the same in A there.
+    /// Whether A may be read from there on before it is set, so that A must be the same in both
+    /// programs there.
     pub accumulator: bool,
-    /// X may be read from there on before it is set, so both need the same in X there.
+    /// Whether X may be read from there on before it is set, so that X must be the same in both
+    /// programs there.
     pub index: bool,
 }
 
@@ -41,17 +47,17 @@ fn implies(one: bool, other: bool) -> bool
     if one { other } else { true }
 }
 
-/// Whether an instruction at a place of the new program that skips `skipped` others goes on at the
-/// place `to`, and `to` isn't 0 (nowhere).
+/// Whether an instruction at `place` of the new program, skipping `skipped` others, leads to the
+/// place `to`. Nothing leads to 0 (nowhere).
 fn leads_to(place: usize, skipped: usize, to: usize) -> bool
     ensures { result ≡ ((nat_lt 0 to && nat_lt to place) && place - to - 1 == skipped) }
 {
     (0 < to && to < place) && place - to - 1 == skipped
 }
 
-/// Whether the old instruction after `old` skipped ones lands at the place where the new program,
-/// from `place`, goes on after `new` skipped ones, and the registers that are read from there on
-/// are the same. `accumulator` and `index` are whether A and X are the same.
+/// Whether both programs go on at the same landing, the old one after `old` skipped instructions,
+/// the new one after `new` skipped ones from `place`; and whether the registers that may be read
+/// from there on are the same. `accumulator` and `index` are whether A and X are the same.
 fn landing_fits(
     following: &[Landing],
     old: usize,
@@ -71,8 +77,8 @@ fn landing_fits(
     }
 }
 
-/// Whether both programs go on the same way after an instruction that both have, here with this
-/// operation: all its ways lead to landings that fit.
+/// Whether both programs go on the same way after an instruction that both have, with this
+/// operation: each way from it leads to a landing that fits. A jump (`ja`) is never accepted.
 fn goes_on(
     operation: Operation,
     new: Wide,
@@ -103,8 +109,8 @@ fn goes_on(
     }
 }
 
-/// Whether the instruction of the new program is that of the old one except the offsets, what it
-/// reads is the same in both, and both go on the same way.
+/// Rule 1: the instruction of the new program is that of the old one, perhaps with other offsets.
+/// The registers that it reads are the same in both programs, and both go on the same way.
 #[tactic(auto, unfolding(crate::specs::inside::Alike::same_step))]
 fn is_same_step(new: Wide, landing: Landing, old: Wide, following: &[Landing]) -> bool
     ensures { result ≡ same_step (operation_of old.code) new landing old following.now }
@@ -120,7 +126,7 @@ fn is_same_step(new: Wide, landing: Landing, old: Wide, following: &[Landing]) -
     }
 }
 
-/// Whether two instructions are a mask, and a test of what is left for 0.
+/// Whether two instructions are a mask of A, and a test whether the result is 0.
 pub fn is_masked_test(mask: Wide, test: Wide) -> bool
     ensures { result ≡ is_masked_test mask test }
 {
@@ -129,7 +135,7 @@ pub fn is_masked_test(mask: Wide, test: Wide) -> bool
         && test.k == 0
 }
 
-/// Whether `new` is the test of bits that replaces a mask and a test of the result for 0; its
+/// Whether `new` is the test of bits that replaces a mask and a test whether the result is 0. Its
 /// outcome is the opposite.
 fn is_bits_test(new: Wide, mask: Wide, test: Wide) -> bool
     ensures { result ≡ (is_masked_test mask test && (new.code == ANY_BIT && mask.k == new.k)) }
@@ -139,8 +145,8 @@ fn is_bits_test(new: Wide, mask: Wide, test: Wide) -> bool
             && mask.k == new.k)
 }
 
-/// Whether the new program has one test of bits (`69 k`) for a mask and a test of what is left for
-/// 0 (`84 k`, `21 0`), before which A is the same in both, and after which it isn't read.
+/// Rule 2: one test of bits (`69 k`) replaces a mask and a test whether the result is 0 (`84 k`,
+/// `21 0`). A is the same in both programs before them, and isn't read after them.
 #[tactic(auto, unfolding(crate::specs::inside::Alike::one_test))]
 fn is_one_test(
     new: Wide,
@@ -164,8 +170,8 @@ fn is_one_test(
     }
 }
 
-/// The code of the load at a fixed place that takes as many bytes as the load at X whose code is
-/// `indirect`. `None` if it isn't a load at X.
+/// The code of the load at a fixed place that loads as many bytes as the load at X with the code
+/// `indirect`; `None` if `indirect` isn't the code of a load at X.
 pub fn direct_code(indirect: u16) -> Option<u16>
     ensures { result ≡ direct_code (operation_of indirect) }
 {
@@ -175,7 +181,7 @@ pub fn direct_code(indirect: u16) -> Option<u16>
     }
 }
 
-/// Whether two instructions put a number into A and copy it to X.
+/// Whether two instructions put a number into A, and copy A to X.
 pub fn puts_number_into_index(number: Wide, copy: Wide) -> bool
     ensures { result ≡ puts_number_into_index number copy }
 {
@@ -183,7 +189,7 @@ pub fn puts_number_into_index(number: Wide, copy: Wide) -> bool
         && copy.code == Operation::CopyToIndex.code()
 }
 
-/// Whether `new` is a load at a fixed place of the bytes that `load` takes if X is this number.
+/// Whether `new` loads, at a fixed place, the bytes that `load` loads if X is this number.
 fn is_direct(new: Wide, number: u32, load: Wide) -> bool
     ensures { result ≡ (option_map_or (λ code. code == new.code)
         (direct_code (operation_of load.code)) false && (number + load.k) % 2 ^ 32 == new.k) }
@@ -194,9 +200,8 @@ fn is_direct(new: Wide, number: u32, load: Wide) -> bool
     }
 }
 
-/// Whether one load of the new program, at a fixed place, replaces three instructions of the old
-/// one: a number into A, A into X, a load at X (as `40 i + k` for `0 i`, `7`, `72 k`). X isn't read
-/// after them.
+/// Rule 3: one load at a fixed place (`40 i + k`) replaces three instructions: a number into A, A
+/// into X, a load at X (`0 i`, `7`, `72 k`). X isn't read after them.
 #[tactic(auto, unfolding(crate::specs::inside::Alike::direct_load))]
 fn is_direct_load(
     new: Wide,
@@ -216,8 +221,8 @@ fn is_direct_load(
     }
 }
 
-/// Whether four instructions put a number and a header's length into A and X, add them in A, and
-/// copy the sum to X.
+/// Whether four instructions put a number into A and the length of a header into X, add them in A,
+/// and copy the sum to X.
 pub fn adds_header(number: Wide, length: Wide, add: Wide, to_index: Wide) -> bool
     ensures { result ≡ adds_header number length add to_index }
 {
@@ -227,9 +232,8 @@ pub fn adds_header(number: Wide, length: Wide, add: Wide, to_index: Wide) -> boo
             && to_index.code == Operation::CopyToIndex.code())
 }
 
-/// Whether two pairs of instructions have the same first one, for the length of a header, and then
-/// load equally many bytes at X, each at its own `k`. (`adds_header` checks that the first one
-/// loads a header's length.)
+/// Whether two pairs of instructions begin with the same one, and then load equally many bytes at
+/// X, each at its own `k`. (`adds_header` checks that the first one loads the length of a header.)
 fn loads_alike(old_length: Wide, new_length: Wide, old_load: Wide, new_load: Wide) -> bool
     ensures { result ≡ loads_alike old_length new_length old_load new_load }
 {
@@ -244,9 +248,9 @@ pub fn is_indirect(code: u16) -> bool
     matches!(decode(code), Some(Operation::LoadIndirect(_)))
 }
 
-/// Whether the new program has a header's length and a load at X for five instructions: a number,
-/// the header's length, their sum, which goes to X, and a load at X (as `177 L`, `80 i + k` for
-/// `0 i`, `177 L`, `12`, `7`, `80 k`). X isn't read after them.
+/// Rule 4: the length of a header and a load at X (`177 L`, `80 i + k`) replace five instructions:
+/// a number into A, the length of the header into X, their sum into A, A into X, a load at X
+/// (`0 i`, `177 L`, `12`, `7`, `80 k`). X isn't read after them.
 #[tactic(auto, unfolding(crate::specs::inside::Alike::header_load))]
 fn is_header_load(
     new: &[Wide],
@@ -267,9 +271,9 @@ fn is_header_load(
     }
 }
 
-/// Whether the `k` of a load at X is the sum of a number and that of the load it is instead of, and
-/// what is read after it is the same in both programs. `place` is that of the header's length, in
-/// front of the load.
+/// Whether the `k` of the new load at X is the sum of a number and the `k` of the load that it
+/// replaces, and the registers that may be read after it are the same in both programs. `place` is
+/// that of the instruction before the new load, which loads the length of the header.
 fn is_sum_loaded(number: u32, old_k: u32, new_k: u32, place: usize, following: &[Landing]) -> bool
     ensures { result ≡ ((number + old_k) % 2 ^ 32 == new_k
         && landing_fits following.now 4 0 (place - 1) true false) }
@@ -278,16 +282,16 @@ fn is_sum_loaded(number: u32, old_k: u32, new_k: u32, place: usize, following: &
     number.wrapping_add(old_k) == new_k && landing_fits(following, 4, 0, second, true, false)
 }
 
-/// Whether an instruction returns 0.
+/// Whether an instruction returns the number 0, and so rejects the packet.
 pub fn is_rejection(insn: Wide) -> bool
     ensures { result ≡ rejects insn }
 {
     insn.code == Operation::ReturnConstant.code() && insn.k == 0
 }
 
-/// Whether an operation is one of these: a load of a number or of the length, a copy, a negation,
-/// or arithmetic other than `/` and `%`. After it the run goes on at the next instruction on every
-/// packet, and memory is unchanged.
+/// Whether an operation is one of these: a load of a number or of the packet's length, a copy, a
+/// negation, or arithmetic other than `/` and `%`. After it the run goes on at the next instruction
+/// on every packet, and memory is unchanged.
 pub fn is_sure(operation: Operation) -> bool
     ensures { result ≡ is_sure operation }
 {
@@ -303,7 +307,8 @@ pub fn is_sure(operation: Operation) -> bool
     }
 }
 
-/// Whether after an operation the run goes on at the next instruction, if it doesn't end with 0.
+/// Whether after an operation the run goes on at the next instruction or ends with 0: the operation
+/// isn't a jump, a test or a return.
 pub fn goes_on_or_rejects(operation: Operation) -> bool
     ensures { result ≡ goes_on_or_rejects operation }
 {
@@ -316,7 +321,7 @@ pub fn goes_on_or_rejects(operation: Operation) -> bool
     )
 }
 
-/// The code from a place on; all of it if it has fewer instructions.
+/// The last `place` instructions of the code; all of it if it has fewer.
 fn code_from(code: &[Wide], place: usize) -> &[Wide]
     ensures { result.now ≡ code_from code.now place }
 {
@@ -324,7 +329,8 @@ fn code_from(code: &[Wide], place: usize) -> &[Wide]
 }
 
 /// Whether two ends of the same code begin with the same instructions, up to a return, or to a test
-/// with the same targets. It calls itself for each: few stand between a test and the next one.
+/// with the same targets. The function calls itself for each instruction; few come between a test
+/// and the next one.
 fn are_copies(one: &[Wide], other: &[Wide]) -> bool
     ensures { result ≡ are_copies one.now other.now }
 {
@@ -350,9 +356,9 @@ fn are_copies(one: &[Wide], other: &[Wide]) -> bool
     }
 }
 
-/// Whether the landing of a way is at a place, or at a copy of the code there, and what is read
-/// from there on is the same in both programs. `accumulator` and `index` are whether A and X are
-/// the same.
+/// Whether a way lands at `place`, or at a copy of the code there, and the registers that may be
+/// read from there on are the same in both programs. The way skips `way` instructions of the old
+/// program; `accumulator` and `index` are whether A and X are the same.
 fn lands_at(
     code: &[Wide],
     following: &[Landing],
@@ -374,8 +380,8 @@ fn lands_at(
     }
 }
 
-/// Whether the new program omits an instruction: all its ways land as it does; and it does
-/// nothing that is seen from there on, or the packet is rejected there.
+/// Rule 5: the new program omits the instruction. Each way from it leads to its own landing; and it
+/// has no effect that matters from there on, or the packet is rejected there.
 #[tactic(auto, unfolding(crate::specs::inside::Alike::left_out))]
 fn is_left_out(code: &[Wide], new: Wide, landing: Landing, old: Wide, following: &[Landing]) -> bool
     ensures { result ≡ left_out code.now (operation_of old.code) new landing old following.now }
@@ -405,8 +411,8 @@ fn is_left_out(code: &[Wide], new: Wide, landing: Landing, old: Wide, following:
     }
 }
 
-/// Whether the code does at a landing what an instruction of the old code and those after it do, by
-/// one of five rules. An instruction that lands nowhere needs nothing.
+/// Whether the code, from a landing on, does what an instruction of the old code and those after it
+/// do, by one of the five rules. An instruction that lands nowhere needs none.
 fn stands(code: &[Wide], landing: Landing, old: Wide, after: &[Wide], following: &[Landing]) -> bool
     ensures { result ≡ stands code.now landing old after.now following.now }
 {
@@ -430,7 +436,8 @@ fn stands(code: &[Wide], landing: Landing, old: Wide, after: &[Wide], following:
     }
 }
 
-/// Whether the code does at each landing what the old code does there.
+/// Whether the code does, from each landing on, what the old code does from the instruction on that
+/// lands there.
 fn are_alike(code: &[Wide], old: &[Wide], landings: &[Landing]) -> bool
     requires { length landings.now ≡ length old.now }
     ensures { result ≡ are_alike code.now old.now landings.now }
@@ -447,8 +454,8 @@ fn are_alike(code: &[Wide], old: &[Wide], landings: &[Landing]) -> bool
     true
 }
 
-/// Whether the first instruction of the old code lands at the start of the new code, of this
-/// length: as many instructions from its end as it has. Code without instructions has no beginning.
+/// Whether the first instruction of the old code lands at the start of the new code, which has
+/// `len` instructions. Code without instructions has no start.
 fn begins(landings: &[Landing], len: usize) -> bool
     ensures { result ≡ begins landings.now len }
 {
@@ -465,9 +472,9 @@ fn has_no_jump(code: &[Wide]) -> bool
     code.iter().all(|insn| insn.code != 5)
 }
 
-/// Whether a program is seen to replace an old one: it does the same by its landings, breaks no
-/// rule but perhaps that on the length, has no more instructions and no more tests, and has no
-/// jump. `false` doesn't mean that it may not replace it.
+/// Whether a program is proved to replace an old one: its landings show that it does the same, it
+/// has no more instructions and no more tests, it has no jump, and it breaks no rule except perhaps
+/// that on the length. `false` doesn't mean that the programs differ.
 pub fn replaces(code: &[Wide], old: &[Wide], landings: &[Landing]) -> bool
     ensures { IsTrue result → Shortens code.now old.now }
 {

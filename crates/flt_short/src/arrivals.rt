@@ -1,6 +1,7 @@
-//! The abstract state at each place. Here a place is the index of an instruction from the beginning
-//! of the code, not a distance to its end as in `shorten.rt`. Clauses cite definitions of the same
-//! names; the proofs show that what is known by them holds in each run.
+//! The abstract state (`facts.rt`) at each place: what is known there on all ways to it. Here a
+//! place is the index of an instruction from the beginning of the code, not a distance to its end
+//! as in `shorten.rt`. Clauses cite definitions of the same names; the proofs show that what is
+//! known holds in each run.
 
 ghost use Rattle.std.specs.Prelude.{IfOk, ◌≡◌};
 ghost use Rattle.flt_short.specs.inside.Arrivals.{known_at, arrived, at_start};
@@ -12,7 +13,7 @@ use std::alloc::{AllocError, Allocator};
 /// memory: about 170 bytes for each.
 pub const FEW: usize = 16;
 
-/// What is known at a place; past the code's end, nothing.
+/// The state at a place; past the end of the code, the one in which nothing is known.
 pub fn known_at(seen: &[Known], place: usize) -> Known
     ensures { result ≡ known_at seen.now place }
 {
@@ -22,7 +23,7 @@ pub fn known_at(seen: &[Known], place: usize) -> Known
     }
 }
 
-/// Notes that one more run goes on at a place with this known.
+/// Joins the state of one more run into the state at a place.
 pub fn arrive(seen: &mut [Known], place: usize, known: &Known)
     ensures { seen.new ≡ arrived seen.old place known.now }
 {
@@ -31,8 +32,8 @@ pub fn arrive(seen: &mut [Known], place: usize, known: &Known)
     }
 }
 
-/// What is known before code of this length is read: a run goes on at place 0, and nothing is known
-/// there.
+/// The states before code of this length is read: a run reaches place 0, with nothing known, and
+/// none reaches another place.
 pub fn at_start<A: Allocator>(alloc: A, len: usize) -> Result<Vec<Known, A>, AllocError>
     ensures { IfOk result (λ seen. seen.items ≡ at_start len) }
 {

@@ -1,7 +1,7 @@
 //! The abstract state at an instruction: what is known of the packet, of A and of X in each run
-//! that reaches it, and the join of two such states. Clauses cite definitions of the same names, or
-//! of a function that changes what is known, the one that says its effect: the proofs show that
-//! what is known by these holds in each run.
+//! that reaches it, and the join of two such states. Clauses cite definitions of the same names; a
+//! function that changes what is known cites the definition of its effect. The proofs show that
+//! what is known holds in each run.
 //!
 //! `code` and `k` are those of a load: together they say which bytes of the packet it takes.
 
@@ -20,11 +20,11 @@ ghost use Rattle.flt_short.specs.inside.Facts.{known_by, known_by_test, nothing_
 use flt_bpf::Wide;
 use flt_bpf::operation::{AluOperation, Operand, Operation, Register, Source, Test, decode};
 
-/// How many facts are kept at a place. One more takes the place of another (`place_for`).
+/// The number of facts kept at a place. One more takes the place of another (`place_for`).
 pub const MOST_FACTS: usize = 5;
 
-/// A number of the packet: what the load with this code and this `k` puts into A, at a fixed place
-/// or of the packet's length, and of that the bits of a mask, if there is one.
+/// A number of the packet: the value that the load with this code and this `k` puts into A, from a
+/// fixed place or of the packet's length; if there is a mask, only its bits.
 #[derive(Clone, Copy)]
 pub struct Field {
     pub code: u16,
@@ -32,8 +32,8 @@ pub struct Field {
     pub mask: Option<u32>,
 }
 
-/// What is claimed of a number: nothing, that it is this one, that it isn't, or that it is one of
-/// these two.
+/// A claim about a number: nothing, that it is this one, that it isn't, or that it is one of these
+/// two.
 #[derive(Clone, Copy)]
 pub enum Claim {
     Nothing,
@@ -42,14 +42,14 @@ pub enum Claim {
     IsOneOf(u32, u32),
 }
 
-/// A field is captured, and its number is as claimed. With `Nothing` neither is claimed.
+/// A fact: the field is captured, and its number is as claimed. With `Nothing` neither is claimed.
 #[derive(Clone, Copy)]
 pub struct Fact {
     pub field: Field,
     pub claim: Claim,
 }
 
-/// What A holds in each run that reaches a place.
+/// The abstract value of A: A holds this in each run that reaches the place.
 #[derive(Clone, Copy)]
 pub enum Held {
     /// No run comes there.
@@ -58,11 +58,11 @@ pub enum Held {
     Unknown,
     /// A field, which is captured.
     Field(Field),
-    /// What the load at X with this code and this `k` would put there.
+    /// The value that the load at X with this code and this `k` would put there.
     AtIndex(u16, u32),
 }
 
-/// What holds in each run that reaches a place.
+/// The abstract state at a place: it holds in each run that reaches the place.
 #[derive(Clone, Copy)]
 pub struct Known {
     pub held: Held,
@@ -88,7 +88,7 @@ fn nothing_claimed() -> Fact
     }
 }
 
-/// What is known at a place where runs come of which nothing is known.
+/// The state at a place if nothing is known of the runs that reach it.
 pub fn nothing_known() -> Known
     ensures { result ≡ nothing_known }
 {
@@ -99,7 +99,7 @@ pub fn nothing_known() -> Known
     }
 }
 
-/// What is known at a place where no run comes.
+/// The state at a place that no run reaches.
 pub fn unreached() -> Known
     ensures { result ≡ unreached }
 {
@@ -127,7 +127,7 @@ pub fn same_field(one: Field, other: Field) -> bool
     (one.code == other.code && one.k == other.k) && same_optional(one.mask, other.mask)
 }
 
-/// Whether a claim is none.
+/// Whether a claim is `Nothing`.
 fn claims_nothing(claim: Claim) -> bool
     ensures { result ≡ claims_nothing claim }
 {
@@ -171,8 +171,8 @@ fn entails(claim: Claim, other: Claim) -> bool
     }
 }
 
-/// What holds of a number of which one of two claims holds, not known which: the weaker of the two,
-/// that it is one of two numbers, or nothing.
+/// The join of two claims, of which one holds: the weaker of the two, that the number is one of two
+/// numbers, or nothing.
 fn joined_claim(claim: Claim, other: Claim) -> Claim
     ensures { result ≡ joined_claim claim other }
 {
@@ -188,9 +188,9 @@ fn joined_claim(claim: Claim, other: Claim) -> Claim
     }
 }
 
-/// What holds of a fact's field on two ways, on one of which the fact holds, which claims
-/// something, and on the other one all of `others`: by the first of these that keeps a claim, or
-/// nothing.
+/// The claim about a fact's field that holds on two paths: the fact, which claims something, holds
+/// on one, and all of `others` hold on the other. The first of these that keeps a claim decides; if
+/// there is none, it is `Nothing`.
 fn joined_with_any(fact: &Fact, others: &[Fact]) -> Fact
     ensures { result ≡ joined_with_any fact.now others.now }
 {
@@ -212,8 +212,8 @@ fn joined_with_any(fact: &Fact, others: &[Fact]) -> Fact
     }
 }
 
-/// What is left of a fact where two ways meet, on one of which it holds, and on the other one all
-/// of `others`.
+/// The fact that holds where two paths meet: this one holds on one of them, and all of `others`
+/// hold on the other.
 fn joined_fact(fact: Fact, others: &[Fact]) -> Fact
     ensures { result ≡ joined_fact fact others.now }
 {
@@ -224,8 +224,8 @@ fn joined_fact(fact: Fact, others: &[Fact]) -> Fact
     }
 }
 
-/// Changes facts to what is left of them where two ways meet, on one of which all of them hold, and
-/// on the other one all of `others`.
+/// Changes facts to those that hold where two paths meet: all of them hold on one, and all of
+/// `others` hold on the other.
 fn join_facts(facts: &mut [Fact], others: &[Fact])
     ensures { facts.new ≡ map (λ fact. joined_fact fact others.now) facts.old }
 {
@@ -237,8 +237,8 @@ fn join_facts(facts: &mut [Fact], others: &[Fact])
     }
 }
 
-/// What A holds at a place to which two ways lead: what it holds on both, if that is the same, or
-/// on one of them, if no run comes on the other.
+/// The join of two values of A, where two paths meet: the value that A holds on both, or on one of
+/// them if no run comes on the other.
 fn joined_held(one: Held, other: Held) -> Held
     ensures { result ≡ joined_held one other }
 {
@@ -263,15 +263,15 @@ fn joined_held(one: Held, other: Held) -> Held
     }
 }
 
-/// The header whose length X holds on both of two ways, if that is one header.
+/// The header whose length X holds on both of two paths; `None` if they differ.
 fn common_header(one: Option<u32>, other: Option<u32>) -> Option<u32>
     ensures { result ≡ common_header one other }
 {
     if same_optional(one, other) { one } else { None }
 }
 
-/// Changes what is known at a place to what holds in one more run as well, of which `came` is
-/// known. If no run came before, it is what is known of that one.
+/// The join of states: changes the state at a place so that it also holds in one more run, which
+/// has the state `came`. If no run came before, it becomes `came`.
 pub fn join(known: &mut Known, came: &Known)
     ensures { known.new ≡ joined known.old came.now }
 {
@@ -284,7 +284,7 @@ pub fn join(known: &mut Known, came: &Known)
     known.index = common_header(known.index, came.index);
 }
 
-/// The outcome of the test whether a number is this one, by a claim of it. `None`: the claim
+/// The outcome of the test whether a number is this one, by a claim about it; `None` if the claim
 /// doesn't decide it.
 fn outcome_by_claim(claim: Claim, number: u32) -> Option<bool>
     ensures { result ≡ outcome_by_claim claim number }
@@ -301,8 +301,8 @@ fn outcome_by_claim(claim: Claim, number: u32) -> Option<bool>
     }
 }
 
-/// The outcome of the test whether a field is this number, by the first fact that decides it.
-/// `None`: none does.
+/// The outcome of the test whether a field is this number, by the first fact that decides it;
+/// `None` if no fact does.
 pub fn decided(facts: &[Fact], field: &Field, number: u32) -> Option<bool>
     ensures { result ≡ decided facts.now field.now number }
 {
@@ -338,8 +338,8 @@ fn two_numbers_of(facts: &[Fact], field: &Field) -> Option<(u32, u32)>
     }
 }
 
-/// Whether a new fact may take the place of an old one without loss: that one claims nothing, or
-/// nothing that doesn't follow from the new one.
+/// Whether a new fact may take the place of an old one without loss: the old one claims nothing, or
+/// follows from the new one.
 fn gives_way(old: Fact, fact: Fact) -> bool
     ensures { result ≡ gives_way old fact }
 {
@@ -347,8 +347,8 @@ fn gives_way(old: Fact, fact: Fact) -> bool
         || (same_field(old.field, fact.field) && entails(fact.claim, old.claim))
 }
 
-/// The index of the fact whose place one more fact takes: for the first that gives way to it, or
-/// else of the last.
+/// The index of the fact whose place one more fact takes: the first one that it replaces
+/// without loss, or else the last one.
 fn place_for(facts: &[Fact], fact: &Fact) -> usize
     ensures place { result ≡ place_for facts.now fact.now }
     ensures upper_bound { result ≤ length facts.now }
@@ -365,8 +365,7 @@ fn place_for(facts: &[Fact], fact: &Fact) -> usize
     }
 }
 
-/// Adds a fact: it takes the place of one that gives way to it, else that of the last one, which is
-/// lost.
+/// Adds a fact, in the place of the first one that it replaces without loss, or else of the last.
 fn add_fact(known: &mut Known, field: Field, claim: Claim)
     ensures { known.new ≡ with_fact known.old field claim }
 {
@@ -423,7 +422,7 @@ pub fn field_of(load: Wide) -> Field
     }
 }
 
-/// A field with a mask. `None`: it has one already, and two aren't kept.
+/// A field with a mask; `None` if it has one already, since two aren't kept.
 pub fn masked_field(field: Field, mask: u32) -> Option<Field>
     ensures { result ≡ masked_field field mask }
 {
@@ -437,7 +436,7 @@ pub fn masked_field(field: Field, mask: u32) -> Option<Field>
     }
 }
 
-/// What A holds once it is masked, by what it held.
+/// The value of A after a mask, by the value before.
 fn masked_held(held: Held, mask: u32) -> Held
     ensures { result ≡ masked_held held mask }
 {
@@ -450,8 +449,7 @@ fn masked_held(held: Held, mask: u32) -> Held
     }
 }
 
-/// What is known of A once X may be another number: no longer that it is what a load at X would
-/// put there.
+/// The value of A after X has changed: one that a load at X would put there becomes `Unknown`.
 fn held_without_index(held: Held) -> Held
     ensures { result ≡ held_without_index held }
 {
@@ -461,8 +459,8 @@ fn held_without_index(held: Held) -> Held
     }
 }
 
-/// What A holds after an instruction that isn't a test, by what it held. What a load of the packet
-/// or of its length, or a mask, puts there may be known; after all else it is `Unknown`.
+/// The value of A after an instruction that isn't a test, by the value before. It may be known
+/// after a load of the packet or of its length, and after a mask; after all else it is `Unknown`.
 fn held_after(held: Held, insn: Wide) -> Held
     ensures { result ≡ held_after (operation_of insn.code) held insn }
 {
@@ -483,8 +481,8 @@ fn held_after(held: Held, insn: Wide) -> Held
     }
 }
 
-/// Which header's length X holds after an instruction that isn't a test, by the one it held before.
-/// `None`: none that is known.
+/// The header whose length X holds after an instruction that isn't a test, by the one before;
+/// `None` if none is known.
 fn index_after(index: Option<u32>, insn: Wide) -> Option<u32>
     ensures { result ≡ index_after (operation_of insn.code) index insn }
 {
@@ -495,8 +493,8 @@ fn index_after(index: Option<u32>, insn: Wide) -> Option<u32>
     }
 }
 
-/// Changes what is known before an instruction that isn't a test to what is known after it. Facts
-/// are of the packet, so they stay.
+/// Changes the state before an instruction that isn't a test to the one after it. Facts are about
+/// the packet, so they stay.
 pub fn pass_insn(known: &mut Known, insn: Wide)
     ensures { known.new ≡ known_after (operation_of insn.code) known.old insn }
 {
@@ -504,8 +502,8 @@ pub fn pass_insn(known: &mut Known, insn: Wide)
     known.index = index_after(known.index, insn);
 }
 
-/// What may be claimed of a field by the outcome of the test whether it is a number. If it is
-/// known to be one of two numbers, and isn't the one, it is the other.
+/// The claim about a field after the test whether it is a number had this outcome. If the field is
+/// known to be one of two numbers, and isn't this one, it is the other one.
 fn claim_by_outcome(facts: &[Fact], field: &Field, number: u32, outcome: bool) -> Claim
     ensures { result ≡ claim_after outcome number (two_numbers_of facts.now field.now) }
 {
@@ -526,7 +524,7 @@ fn claim_by_outcome(facts: &[Fact], field: &Field, number: u32, outcome: bool) -
     }
 }
 
-/// Adds to what is known what the outcome of the test whether a field is a number shows.
+/// Adds to the state the fact that the test whether a field is a number had this outcome.
 pub fn learn_number(known: &mut Known, field: Field, number: u32, outcome: bool)
     ensures { known.new ≡ known_by known.old field number outcome }
 {
@@ -534,8 +532,8 @@ pub fn learn_number(known: &mut Known, field: Field, number: u32, outcome: bool)
     add_fact(known, field, claim);
 }
 
-/// Adds to what is known what the outcome of a test shows. Only a test for equality shows
-/// something, while A holds a field.
+/// Adds to the state the fact that a test had this outcome. Only a test for equality shows one, if
+/// A holds a field.
 pub fn learn(known: &mut Known, insn: Wide, outcome: bool)
     ensures { known.new
         ≡ known_by_test (operation_of insn.code) known.old.held known.old insn.k outcome }

@@ -1,11 +1,14 @@
-//! Makes code shorter and faster: tests go on as far as what is known there decides, and fewer
-//! instructions replace several that do the same.
+//! Makes code shorter and faster: moves the targets of tests as far on as what is known at the test
+//! decides, and replaces several instructions by fewer that do the same.
 //!
 //! `flt_gen` calls [`threaded`], then [`shortened`], and both once more.
 //!
-//! Two passes: `thread` moves the targets of tests, by what is known of a packet (`facts`) where
-//! runs come (`arrivals`); `shorten` then proposes shorter code, and `alike` compares it with the
-//! old one, with the rules of `valid`.
+//! - `thread` moves the targets. `facts` has what is known of a packet and of A and X, and
+//!   `arrivals` has it for each place that runs reach.
+//! - `shorten` proposes shorter code. `alike` checks that the new code does what the old one does,
+//!   and `valid` that it breaks no rule.
+//!
+//! The terms of this crate:
 //!
 //! - *known*: what holds of the packet, A and X in each run that reaches a place (`facts`).
 //! - *way*: a part of a run, from one place to another. A test has two ways on, a return none.

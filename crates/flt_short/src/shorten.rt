@@ -1,11 +1,15 @@
-//! The same code with fewer instructions, by peephole rules and tail merging: those that no run
-//! reaches are omitted, a block that exists already isn't emitted again, and fewer instructions
-//! replace several that do the same.
-//! `at` is an index of the old code; `place` counts from the end of the new code, 0 is nowhere. A
-//! *landing* (`alike.rt`) is such a place, and whether A and X are read from there on.
+//! Makes the same code with fewer instructions, by peephole rules and tail merging: instructions
+//! that no run reaches are omitted, a block that exists already isn't emitted again, and fewer
+//! instructions replace several that do the same.
 //!
-//! Only the last two functions have clauses; the others need not be right. `replaces` (`alike.rt`)
-//! checks the new code by the landings noted here; if it returns `false`, the old code is kept.
+//! The old code is read, and the new one grows, from the last instruction to the first. `at` is an
+//! index of the old code; `place` counts from the end of the new code, 0 is nowhere. A *landing*
+//! (`alike.rt`) is the place for an instruction of the old code, and whether A and X are read from
+//! there on.
+//!
+//! Only the last two functions have clauses; a mistake in another one can't change a program's
+//! answers. `replaces` (`alike.rt`) checks the new code with the landings noted here; if it returns
+//! `false`, the old code is kept.
 
 ghost use Rattle.std.specs.Prelude.{IfOk};
 ghost use Rattle.std.specs.Option.{IfSome};
@@ -19,7 +23,7 @@ use flt_bpf::operation::{Operand, Operation, Register, Source, Test, decode};
 use flt_bpf::{Wide, reads_accumulator, reads_index, sets_accumulator, sets_index};
 use std::alloc::{AllocError, Allocator};
 
-/// The factor of a multiplicative hash: 2^64 divided by the golden ratio, to the next odd number.
+/// The factor of a multiplicative hash: 2^64 divided by the golden ratio, rounded to an odd number.
 const HASH_FACTOR: usize = 0x9E37_79B9_7F4A_7C15;
 
 /// The landing of an instruction that isn't in the new code.
@@ -29,7 +33,7 @@ const NOWHERE: Landing = Landing {
     index: false,
 };
 
-/// What the new code's space holds at a place without an instruction.
+/// Fills the space of the new code that has no instruction yet.
 const EMPTY: Wide = Wide {
     code: 0,
     yes: 0,
@@ -37,9 +41,9 @@ const EMPTY: Wide = Wide {
     k: 0,
 };
 
-/// A landing at an instruction with this operation, after which the run goes on at the landing
-/// `next`: a register is read from there on if the operation reads it, or if it is read at `next`
-/// and the operation doesn't set it.
+/// The landing of an instruction with this operation at `place`, after which the run goes on at the
+/// landing `next`. A register is read from `place` on if the operation reads it, or if it is read
+/// at `next` and the operation doesn't set it.
 fn landing_before(operation: Operation, place: usize, next: Landing) -> Landing {
     Landing {
         place,
@@ -49,7 +53,8 @@ fn landing_before(operation: Operation, place: usize, next: Landing) -> Landing 
     }
 }
 
-/// What is read after a test that goes on at one of two landings, as a landing without a place.
+/// The registers that are read after a test which goes on at one of two landings, as a landing
+/// without a place.
 fn landing_after_test(yes: Landing, no: Landing) -> Landing {
     Landing {
         place: 0,
@@ -58,18 +63,18 @@ fn landing_after_test(yes: Landing, no: Landing) -> Landing {
     }
 }
 
-/// In the old code: the index of the instruction `offset` past the next one.
+/// The index in the old code of the instruction `offset` past the next one.
 fn index_after(at: usize, offset: usize) -> usize {
     at.saturating_add(offset).saturating_add(1)
 }
 
-/// In the new code: the place of the instruction right in front of a place.
+/// The place in the new code of the instruction right in front of a place.
 fn place_in_front_of(place: usize) -> usize {
     place.saturating_add(1)
 }
 
-/// Whether an instruction ends a block: a run doesn't just go on at the next one, since this is a
-/// test or a return. (Code in which a run reaches a `ja` isn't shortened.)
+/// Whether an instruction ends a block: it is a test or a return. (A `ja` would too, but code in
+/// which a run reaches one isn't shortened.)
 fn ends_block(insn: Wide) -> bool {
     matches!(
         decode(insn.code),
@@ -77,7 +82,7 @@ fn ends_block(insn: Wide) -> bool {
     )
 }
 
-/// A test with these offsets instead of its own, if they have at most 32 bits.
+/// The test with these offsets instead of its own; `None` if one exceeds 32 bits.
 fn with_offsets(insn: Wide, yes: usize, no: usize) -> Option<Wide> {
     match (u32::try_from(yes), u32::try_from(no)) {
         (Ok(yes), Ok(no)) => Some(Wide { yes, no, ..insn }),
@@ -85,8 +90,8 @@ fn with_offsets(insn: Wide, yes: usize, no: usize) -> Option<Wide> {
     }
 }
 
-/// A copy of an instruction for `farther` instructions further in front: a test gets greater
-/// offsets to the same targets. `None` if they exceed 32 bits.
+/// A copy of an instruction that is put `farther` instructions in front of it: a test gets greater
+/// offsets to the same targets. `None` if one exceeds 32 bits.
 fn with_farther_targets(insn: Wide, farther: usize) -> Option<Wide> {
     match decode(insn.code) {
         Some(Operation::JumpIf(_, _)) => with_offsets(
@@ -98,8 +103,8 @@ fn with_farther_targets(insn: Wide, farther: usize) -> Option<Wide> {
     }
 }
 
-/// How many entries the table of tests has for code of a length: a power of two, and more than the
-/// code has tests.
+/// The number of entries in the table of tests for code of a length: a power of two, greater than
+/// the number of tests in the code.
 fn table_len(len: usize) -> usize {
     let mut entries: usize = 16;
     for _ in 0..32 {
@@ -111,29 +116,29 @@ fn table_len(len: usize) -> usize {
     entries
 }
 
-/// Code that grows from its end to its beginning, while the old code is read in that order too.
-/// If a target is too far or there is no room, an instruction lands nowhere, and so do those
-/// that go on there; or it lands where other code stands. Either way the new code isn't taken.
+/// The new code, which grows from its end to its beginning while the old code is read in that order
+/// too. If a target is too far away or there is no room, an instruction lands nowhere, and so do
+/// those that go on at it; or it lands at other code. Either way the new code isn't taken.
 #[derive(Drop)]
 struct Shortening<'a> {
     /// The old code.
     insns: &'a [Wide],
-    /// Where each instruction of the old code lands in the new one.
+    /// The landing of each instruction of the old code.
     landings: &'a mut [Landing],
-    /// The new code, from its last instruction to its first: `backwards[p]` stands right in front
-    /// of place p, so that its own place is p + 1. It has room for as many as the old one; a longer
-    /// program isn't taken.
+    /// The new code, from its last instruction to its first: `backwards[p]` is right in front of
+    /// place p, so its own place is p + 1. There is room for as many instructions as the old code
+    /// has; longer code isn't taken.
     backwards: &'a mut [Wide],
-    /// How many instructions the new code has.
+    /// The number of instructions of the new code.
     len: usize,
-    /// The places of the new code's tests, each at the first free entry from `first_entry`
-    /// on. 0 is free.
+    /// A hash table of the places of the tests in the new code. Each is at the entry that was the
+    /// first free one from `first_entry` on; 0 is free.
     tests: &'a mut [usize],
 }
 
 impl Shortening<'_> {
-    /// Puts one more instruction in front of the others. Without room for it the new code isn't
-    /// shorter, and isn't taken in the end.
+    /// Puts an instruction in front of the new code. If there is no room, the new code isn't
+    /// shorter than the old one, and isn't taken in the end.
     fn push(&mut self, insn: Wide) {
         if let Some(free) = self.backwards.get_mut(self.len) {
             *free = insn;
@@ -158,7 +163,7 @@ impl Shortening<'_> {
         entry.wrapping_add(1) & self.tests.len().saturating_sub(1)
     }
 
-    /// Notes in the table the test that was put last.
+    /// Adds to the table the test that was put last.
     fn note_test(&mut self, test: Wide) {
         let top = self.len.saturating_sub(1);
         let yes = top.saturating_sub(test.yes as usize);
@@ -180,7 +185,7 @@ impl Shortening<'_> {
         self.insns.get(at).copied()
     }
 
-    /// The place where the instruction of the old code at an index lands; past its end nowhere.
+    /// The landing of the instruction of the old code at an index; past its end nowhere.
     fn landing_at(&self, at: usize) -> Landing {
         self.landings.get(at).copied().unwrap_or(NOWHERE)
     }
@@ -192,8 +197,8 @@ impl Shortening<'_> {
         }
     }
 
-    /// Marks that a run reaches an instruction of the old code: until its landing is noted, a
-    /// landing at place 1 says so.
+    /// Marks that a run reaches an instruction of the old code: the instruction has a landing at
+    /// place 1 until its own is noted.
     fn mark_reached(&mut self, at: usize) {
         self.land(
             at,
@@ -204,8 +209,8 @@ impl Shortening<'_> {
         );
     }
 
-    /// Marks the instructions of the old code that a run reaches. Jumps lead forward, so one look
-    /// at each is enough.
+    /// Marks all instructions of the old code that a run reaches. Jumps only lead forward, so one
+    /// pass over the code is enough.
     fn mark_all_reached(&mut self) {
         self.mark_reached(0);
         for (at, insn) in self.insns.iter().enumerate() {
@@ -230,8 +235,9 @@ impl Shortening<'_> {
         }
     }
 
-    /// One test of bits (`69 k`) instead of the mask at `at` and the test for 0 after it (`84 k`,
-    /// `21 0`), if these are there and A isn't read after them.
+    /// The test of bits (`69 k`) that replaces the mask at `at` and the test for 0 after it
+    /// (`84 k`, `21 0`). `None` if these aren't the instructions at `at`, if A is read after them,
+    /// or if both outcomes land at the same place.
     fn bits_test_at(&self, at: usize) -> Option<Wide> {
         let [mask, test, ..] = self.insns_from(at) else {
             return None;
@@ -244,7 +250,7 @@ impl Shortening<'_> {
         if zero.accumulator || other.accumulator || zero.place == other.place {
             return None;
         }
-        // It holds if a bit is left, so the targets are swapped.
+        // The new test holds if a bit is left, so the targets are swapped.
         Some(Wide {
             code: Operation::JumpIf(Test::AnyBit, Operand::Constant).code(),
             yes: test.no,
@@ -253,8 +259,9 @@ impl Shortening<'_> {
         })
     }
 
-    /// One load at a fixed place (`40 i + k`) instead of the number at `at` and of what puts it
-    /// into X and loads at X (`0 i`, `7`, `72 k`), if these are there and X isn't read after them.
+    /// The load at a fixed place (`40 i + k`) that replaces the number at `at`, its copy to X, and
+    /// the load at X (`0 i`, `7`, `72 k`). `None` if these aren't the instructions at `at`, if X is
+    /// read after them, or if the packet is rejected after them.
     fn direct_load_at(&self, at: usize) -> Option<Wide> {
         let [number, copy, load, ..] = self.insns_from(at) else {
             return None;
@@ -268,9 +275,10 @@ impl Shortening<'_> {
         Some(Wide { code, k, ..*load })
     }
 
-    /// A header's length in X and a load at X (`177 L`, `80 i + k`) instead of the number at `at`
-    /// and of what adds it to that length and loads there (`0 i`, `177 L`, `12`, `7`, `80 k`), if
-    /// these are there and X isn't read after them.
+    /// The length of a header into X, and the load at X (`177 L`, `80 i + k`), which replace the
+    /// number at `at`, that length, their sum, its copy to X, and the load at X (`0 i`, `177 L`,
+    /// `12`, `7`, `80 k`). `None` if these aren't the instructions at `at`, if X is read after
+    /// them, or if the packet is rejected after them.
     fn header_load_at(&self, at: usize) -> Option<(Wide, Wide)> {
         let [number, length, add, copy, load, ..] = self.insns_from(at) else {
             return None;
@@ -286,8 +294,8 @@ impl Shortening<'_> {
         Some((*length, Wide { k, ..*load }))
     }
 
-    /// Whether the instruction of the old code at an index puts a number into A. Checked first,
-    /// because it is quick.
+    /// Whether the instruction of the old code at an index puts a number into A. `is_joined_by`
+    /// checks this first, because it is quick.
     fn is_number_at(&self, at: usize) -> bool {
         let code = Operation::Load(Register::Accumulator, Source::Immediate).code();
         match self.insns.get(at) {
@@ -296,8 +304,9 @@ impl Shortening<'_> {
         }
     }
 
-    /// Whether the instruction `before` ones earlier puts a number into A and is joined with the
-    /// next two (`direct_load_at`) or four (`header_load_at`), among them the one at `at`.
+    /// Whether the instruction `before` ones before `at` puts a number into A, and is joined with
+    /// the next two (`direct_load_at`) or four (`header_load_at`) instructions, so with the one at
+    /// `at`.
     fn is_joined_by(&self, at: usize, before: usize) -> bool {
         let number = at.saturating_sub(before);
         at >= before
@@ -306,9 +315,8 @@ impl Shortening<'_> {
                 || self.header_load_at(number).is_some())
     }
 
-    /// Whether an instruction of the old code further in front is joined with the one at `at`, so
-    /// that this one isn't emitted and lands nowhere. If a run jumps here, the new code isn't
-    /// taken.
+    /// Whether an earlier instruction of the old code is joined with the one at `at`, which then
+    /// isn't emitted and lands nowhere. If a run jumps to that one, the new code isn't taken.
     fn is_joined(&self, at: usize) -> bool {
         if at >= 1 && self.bits_test_at(at - 1).is_some() {
             return true;
@@ -321,8 +329,8 @@ impl Shortening<'_> {
         false
     }
 
-    /// Whether the instruction right in front of a place of the new code has offsets that lead to
-    /// these places.
+    /// Whether the offsets of the instruction right in front of a place of the new code lead to the
+    /// places `yes` and `no`.
     fn has_targets(&self, place: usize, yes: usize, no: usize) -> bool {
         match self.backwards.get(place) {
             Some(other) => {
@@ -333,8 +341,8 @@ impl Shortening<'_> {
         }
     }
 
-    /// Whether the instruction right in front of `at` in the old code also stands right in front of
-    /// a place of the new one.
+    /// Whether the instruction right in front of a place of the new code equals the one right in
+    /// front of `at` in the old code; tests may have other targets.
     fn is_front_at(&self, place: usize, at: usize) -> bool {
         match self.insn_at(at.wrapping_sub(1)) {
             None => false,
@@ -342,9 +350,9 @@ impl Shortening<'_> {
         }
     }
 
-    /// The place in the new code of a test with the same code and `k` as this one and with these
-    /// targets, if there is one; preferably one after the same instruction as this one
-    /// (`is_front_at`), which can then be shared too.
+    /// The place of a test in the new code with the same code, `k` and targets; `None` if there is
+    /// none. A test after the same instruction (`is_front_at`) is preferred, since that instruction
+    /// can then be shared too.
     fn find_same_test(&self, at: usize, insn: Wide, yes: usize, no: usize) -> Option<usize> {
         let mut found = None;
         let mut entry = self.first_entry(insn, yes, no);
@@ -368,8 +376,8 @@ impl Shortening<'_> {
         found
     }
 
-    /// The place of a test with these targets in the new code: one that is present already, or else
-    /// it is put in front. `None`: a target is nowhere, or too far.
+    /// The place in the new code of a test with these targets: that of an equal test if there is
+    /// one, or else the test is put in front. `None` if a target is nowhere or too far away.
     fn place_test(&mut self, at: usize, insn: Wide, yes: usize, no: usize) -> Option<usize> {
         if yes == 0 || no == 0 {
             return None;
@@ -383,8 +391,9 @@ impl Shortening<'_> {
         Some(place_in_front_of(top))
     }
 
-    /// Emits a test for the instruction at `at`, and notes its landing. The offsets count from the
-    /// instruction at `last` of the old code, the last one that it is instead of.
+    /// Emits a test for the instruction at `at`, and notes the landing. The test replaces the
+    /// instructions of the old code from `at` to `last`, and its offsets count from the one at
+    /// `last`.
     fn emit_test(&mut self, at: usize, insn: Wide, last: usize) {
         let yes = self.landing_at(index_after(last, insn.yes as usize));
         let no = self.landing_at(index_after(last, insn.no as usize));
@@ -409,9 +418,9 @@ impl Shortening<'_> {
         }
     }
 
-    /// Emits again, in front, the rest of the block in which the instruction at `from` of the old
-    /// code lands: from there to its test or return. So what goes on there can be put right before
-    /// it.
+    /// Emits again, in front, the remainder of the block in which the instruction at `from` of the
+    /// old code lands: from there to its test or return. Then an instruction that goes on there can
+    /// be put right before the copy.
     fn emit_block_again(&mut self, from: usize) {
         let (landed, top) = (self.landing_at(from).place, self.len);
         let mut low = landed;
@@ -435,8 +444,8 @@ impl Shortening<'_> {
         self.move_block(from, farther);
     }
 
-    /// Notes that the instructions of a block of the old code, from the one at `from` to the last,
-    /// land `farther` instructions in front of their earlier places.
+    /// Notes that a block of the old code, from the instruction at `from` to its last one, now
+    /// lands `farther` instructions in front of its earlier places.
     fn move_block(&mut self, from: usize, farther: usize) {
         for at in from..self.insns.len() {
             let landing = self.landing_at(at);
@@ -451,8 +460,8 @@ impl Shortening<'_> {
         }
     }
 
-    /// Whether an instruction with this code and this `k` stands right in front of a place of the
-    /// new code; for a test, one with any targets.
+    /// Whether the instruction right in front of a place of the new code has the code and the `k`
+    /// of this one; tests may have other targets.
     fn stands_before(&self, place: usize, insn: Wide) -> bool {
         match self.backwards.get(place) {
             Some(other) => other.code == insn.code && other.k == insn.k,
@@ -460,7 +469,7 @@ impl Shortening<'_> {
         }
     }
 
-    /// Whether a run rejects the packet at a place of the new code.
+    /// Whether the instruction at a place of the new code rejects the packet.
     fn rejects(&self, place: usize) -> bool {
         match self.backwards.get(place.wrapping_sub(1)) {
             Some(insn) => is_rejection(*insn),
@@ -468,8 +477,8 @@ impl Shortening<'_> {
         }
     }
 
-    /// Whether an operation is left out in front of a landing, and lands there itself: it can't
-    /// fail, and what it sets isn't read, or a run rejects the packet there.
+    /// Whether an operation is omitted before the landing `next`, and so lands there itself: it
+    /// can't fail, and the register that it sets isn't read; or the packet is rejected there.
     fn is_left_out(&self, operation: Operation, next: Landing) -> bool {
         is_sure(operation)
             && !(sets_accumulator(operation) && next.accumulator)
@@ -477,10 +486,11 @@ impl Shortening<'_> {
             || self.rejects(next.place) && goes_on_or_rejects(operation)
     }
 
-    /// Emits an instruction that is neither a test nor a return for the one at `at`, and notes its
-    /// landing. After it the run goes on at the landing of the instruction at `next` of the old
-    /// code. If the same instruction is in front of that already, none is put; if another one is,
-    /// the block is put again.
+    /// Emits an instruction that is neither a test nor a return for the one at `at`, and notes the
+    /// landing. After the instruction the run goes on at the landing of `next`, an index of the old
+    /// code. If an equal instruction is right in front of that landing, it is shared; if another
+    /// one is, the block at the landing is emitted again, and the instruction is put in front of
+    /// the copy.
     fn emit_plain(&mut self, at: usize, insn: Wide, next: usize) {
         let landing = self.landing_at(next);
         let Some(operation) = decode(insn.code) else {
@@ -518,7 +528,7 @@ impl Shortening<'_> {
         }
     }
 
-    /// Emits an instruction of the old code, joined to those after it if that is shorter.
+    /// Emits an instruction of the old code, joined with those after it if that is shorter.
     fn emit(&mut self, at: usize) {
         if let Some(test) = self.bits_test_at(at) {
             self.emit_test(at, test, index_after(at, 0));
@@ -526,15 +536,15 @@ impl Shortening<'_> {
             self.emit_plain(at, load, index_after(at, 2));
         } else if let Some((length, load)) = self.header_load_at(at) {
             self.emit_plain(at, load, index_after(at, 4));
-            // It goes on at the load, whose landing `at` has until now.
+            // The length is put before the load, whose landing `at` has until now.
             self.emit_plain(at, length, at);
         } else if let Some(insn) = self.insn_at(at) {
             self.emit_alone(at, insn);
         }
     }
 
-    /// Reads one more instruction of the old code, and emits it if a run reaches it, unless one in
-    /// front is joined with it.
+    /// Reads the instruction of the old code at `at`, and emits it if a run reaches it, unless an
+    /// earlier one is joined with it.
     fn read_insn(&mut self, at: usize) {
         let is_reached = self.landing_at(at).place > 0;
         self.land(at, NOWHERE);
@@ -543,7 +553,7 @@ impl Shortening<'_> {
         }
     }
 
-    /// Reads the whole old code. Returns how many instructions the new one has.
+    /// Reads the whole old code. Returns the number of instructions of the new one.
     fn read_all(&mut self) -> usize {
         self.mark_all_reached();
         for at in (0..self.insns.len()).rev() {
@@ -554,7 +564,7 @@ impl Shortening<'_> {
 }
 
 /// Shortens the code `insns` into the space `backwards`, from the last instruction to the first,
-/// and notes the landings. Returns how many instructions the new code has.
+/// and notes the landings. Returns the number of instructions of the new code.
 fn shorten(
     insns: &[Wide],
     landings: &mut [Landing],
@@ -571,8 +581,8 @@ fn shorten(
     shortening.read_all()
 }
 
-/// Returns the length of the new code without the instructions in front of its entry; what landed
-/// at these lands nowhere.
+/// Returns the length of the new code without the instructions in front of its entry. Instructions
+/// of the old code that landed at those now land nowhere.
 fn leave_out_front(landings: &mut [Landing], len: usize) -> usize {
     let entry = match landings.first() {
         Some(first) if first.place > 0 && first.place < len => first.place,
@@ -586,7 +596,8 @@ fn leave_out_front(landings: &mut [Landing], len: usize) -> usize {
     entry
 }
 
-/// The shorter code, made in the space `backwards`, if it replaces the old code `insns`.
+/// The shorter code, made in the space `backwards`; `None` if it doesn't replace the old code
+/// `insns`.
 fn replacement<A: Allocator>(
     insns: &[Wide],
     landings: &mut [Landing],
@@ -601,9 +612,9 @@ fn replacement<A: Allocator>(
     replaces(&backwards, insns, landings).then_some(backwards)
 }
 
-/// Code that replaces the old one: it returns the same on each packet, in no more instructions. If
-/// it can't be made, as for code in which a run reaches a jump (`ja`), it is the old code. An error
-/// is a failed allocation, or an allocator that cannot be cloned.
+/// Replaces code by code that returns the same on each packet, in no more instructions. If no such
+/// code is found, for example because a run reaches a jump (`ja`), the old code is returned. The
+/// error is a failed allocation, or an allocator that can't be cloned.
 pub fn shortened<A: Allocator + Clone>(
     alloc: A,
     insns: Vec<Wide, A>,

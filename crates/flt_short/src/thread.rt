@@ -1,9 +1,11 @@
-//! Jump threading. A walk starts at each target of a test and passes instructions as long as what
-//! is known decides what they do. The test's new target is the last place of the walk at which a
-//! run may go on instead. If the walk ends at a test, `target` tries both of its outcomes too.
+//! Jump threading: moves the targets of tests as far on as what is known at the test decides.
+//!
+//! A walk starts at each target of a test, and passes instructions as long as what is known decides
+//! what they do. The new target is the last place of the walk at which a run may continue instead
+//! of at the old target. If the walk ends at a test, `target` tries both of its outcomes too.
 //!
 //! In a walk a place is an index of the code that follows the test. Clauses cite definitions of the
-//! same names; what follows from these is `Threads`, the contract of `threaded`.
+//! same names; the contract of `threaded` states what follows from them (`Threads`).
 
 ghost use Rattle.std.specs.Prelude.{IfOk, ◌≡◌, ◌<◌, ◌^◌, nat_lt, if◌then◌else◌, length};
 ghost use Rattle.flt_bpf.specs.Instructions.{operation_of};
@@ -26,35 +28,35 @@ use flt_bpf::Wide;
 use flt_bpf::operation::{AluOperation, Operand, Operation, Register, Source, Test, decode};
 use std::alloc::{AllocError, Allocator};
 
-/// The most instructions that a walk passes, so that it ends soon.
+/// The most instructions that a walk passes. It bounds the time that a walk takes.
 const FUEL: usize = 128;
 
 /// Code of at most this many instructions is threaded only if a load occurs twice in it
 /// (`repeats_a_load`). The search takes quadratic time, so longer code is always threaded.
 const SHORT_CODE: usize = 64;
 
-/// The position of a walk. A run that goes on there instead of at the walk's start has in A what A
-/// held at the start; a run that goes the whole way may have another field in A.
+/// The position of a walk. If a run continues there instead of at the start of the walk, A holds
+/// what it held at the start. After the passed instructions, A may hold another field.
 #[derive(Clone, Copy)]
 pub struct Spot {
     /// An index of the code after the test.
     pub place: usize,
-    /// The field that A would hold after the whole way. `None`: it would be as it was at the
-    /// start of the walk.
+    /// The field that A would hold after the passed instructions; `None` if A would be unchanged
+    /// since the start of the walk.
     pub other: Option<Field>,
 }
 
-/// How far a walk is.
+/// How far a walk got.
 #[derive(Clone, Copy)]
 pub struct Reached {
     /// The current position.
     pub spot: Spot,
-    /// The last place on its way at which a run may go on, instead of at the walk's start.
+    /// The last place so far at which a run may continue instead of at the start of the walk.
     pub best: usize,
 }
 
-/// The field that A would hold at the place of a walk, if any: `other` of the spot, or what A holds
-/// at the start of the walk, `held`.
+/// The field that A would hold after the passed instructions: `other` of the spot, or else the
+/// field that A holds at the start of the walk (`held`). `None` if that isn't a known field.
 fn field_at(held: Held, other: Option<Field>) -> Option<Field>
     ensures { result ≡ field_at held other }
 {
@@ -65,8 +67,8 @@ fn field_at(held: Held, other: Option<Field>) -> Option<Field>
     }
 }
 
-/// What `other` of a spot is if A would hold this field: `None` if that is what A holds at the
-/// place where the walk began, `held`.
+/// The `other` of a spot at which A would hold this field: `None` if A holds it at the start of the
+/// walk (`held`) too.
 fn other_field(held: Held, field: Field) -> Option<Field>
     ensures { result ≡ other_field held field }
 {
@@ -82,7 +84,8 @@ fn other_field(held: Held, field: Field) -> Option<Field>
     }
 }
 
-/// The position past a test for equality, if what is known decides the test.
+/// The position after a test whether A is a number; `None` if what is known doesn't decide the
+/// test.
 fn past_test(known: &Known, insn: Wide, spot: Spot) -> Option<Spot>
     requires { spot.place < 2 ^ 63 }
     ensures { result ≡ past_test known.now insn spot }
@@ -102,7 +105,7 @@ fn past_test(known: &Known, insn: Wide, spot: Spot) -> Option<Spot>
     }
 }
 
-/// The position past a mask, if A would hold a field without one.
+/// The position after a mask of A; `None` unless A would hold a field that isn't masked yet.
 fn past_mask(known: &Known, mask: u32, spot: Spot) -> Option<Spot>
     requires { spot.place < 2 ^ 63 }
     ensures { result ≡ past_mask known.now mask spot }
@@ -119,7 +122,7 @@ fn past_mask(known: &Known, mask: u32, spot: Spot) -> Option<Spot>
     }
 }
 
-/// Whether A holds what this load at X would put there.
+/// Whether A, at the start of the walk, holds the value that this load at X would put there.
 fn holds_load(held: Held, insn: Wide) -> bool
     ensures { result ≡ holds_load held insn }
 {
@@ -129,8 +132,8 @@ fn holds_load(held: Held, insn: Wide) -> bool
     }
 }
 
-/// The position past one instruction. `None`: what is known doesn't decide what it does, so the
-/// walk ends in front of it.
+/// The position after one instruction; `None` if what is known doesn't decide what the instruction
+/// does, so that the walk ends before it.
 fn past_insn(known: &Known, insn: Wide, spot: Spot) -> Option<Spot>
     requires { spot.place < 2 ^ 63 }
     ensures { result ≡ past_insn (operation_of insn.code) known.now insn spot }
@@ -169,7 +172,7 @@ fn past_insn(known: &Known, insn: Wide, spot: Spot) -> Option<Spot>
     }
 }
 
-/// Whether an instruction puts something into A, or ends the run, without reading A.
+/// Whether an instruction overwrites A, or ends the run, without reading A.
 fn ignores_accumulator(code: u16) -> bool
     ensures { result ≡ ignores_accumulator (operation_of code) }
 {
@@ -185,7 +188,7 @@ fn ignores_accumulator(code: u16) -> bool
     )
 }
 
-/// Whether the instruction at a place puts something into A, or ends the run, without reading A.
+/// Whether the instruction at a place overwrites A, or ends the run, without reading A.
 fn ignores_accumulator_at(code: &[Wide], place: usize) -> bool
     ensures { result ≡ ignores_accumulator_at code.now place }
 {
@@ -195,8 +198,9 @@ fn ignores_accumulator_at(code: &[Wide], place: usize) -> bool
     }
 }
 
-/// Whether it doesn't matter what A holds at a place: the instruction there, or after a header's
-/// length the next one, puts something into A, or ends the run, without reading A.
+/// Whether the value of A doesn't matter at a place: the instruction there overwrites A, or ends
+/// the run, without reading A. If the instruction loads the length of a header into X, the one
+/// after it decides.
 fn is_free(code: &[Wide], place: usize) -> bool
     ensures { result ≡ is_free code.now place }
 {
@@ -209,15 +213,15 @@ fn is_free(code: &[Wide], place: usize) -> bool
     }
 }
 
-/// Whether a run may go on at the place of a walk, instead of at its start: A is as it would be
-/// after the whole way, or it doesn't matter what A holds.
+/// Whether a run may continue at the position of a walk, instead of at its start: A is the same
+/// there as after the passed instructions, or its value doesn't matter.
 fn can_stop(code: &[Wide], spot: Spot) -> bool
     ensures { result ≡ can_stop code.now spot }
 {
     spot.place < code.len() && (spot.other.is_none() || is_free(code, spot.place))
 }
 
-/// The place of a spot, if a run may go on there; else `best`, the last such place so far.
+/// The place of a spot if a run may continue there; else `best`, the last such place so far.
 fn place_or_best(code: &[Wide], spot: Spot, best: usize) -> usize
     ensures { result ≡ (if can_stop code.now spot then spot.place else best) }
 {
@@ -228,7 +232,7 @@ fn place_or_best(code: &[Wide], spot: Spot, best: usize) -> usize
     }
 }
 
-/// Lets a walk go on as far as what is known decides, past at most `fuel` instructions.
+/// Continues a walk as far as what is known decides, past at most `fuel` instructions.
 #[tactic(auto, unfolding(crate::specs::inside::Threads::walk))]
 fn walk(fuel: usize, known: &Known, code: &[Wide], reached: &mut Reached)
     ensures { reached.new ≡ walk fuel known.now code.now reached.old }
@@ -245,7 +249,7 @@ fn walk(fuel: usize, known: &Known, code: &[Wide], reached: &mut Reached)
     }
 }
 
-/// How far a walk from a place goes.
+/// Walks from a place as far as what is known decides, past at most `FUEL` instructions.
 fn walk_from(known: &Known, code: &[Wide], from: usize) -> Reached
     ensures { result ≡ walk_from known.now code.now from }
 {
@@ -258,8 +262,8 @@ fn walk_from(known: &Known, code: &[Wide], from: usize) -> Reached
     reached
 }
 
-/// The number with which the instruction at a place compares A, if it tests A for equality with a
-/// number.
+/// The number that the instruction at a place compares with A; `None` unless the instruction tests
+/// whether A is a number.
 fn number_at(code: &[Wide], place: usize) -> Option<u32>
     ensures { result ≡ number_at code.now place }
 {
@@ -272,8 +276,8 @@ fn number_at(code: &[Wide], place: usize) -> Option<u32>
     }
 }
 
-/// The last place where a run may go on instead of the place `from`, if the test whether a field
-/// is a number has this outcome.
+/// The last place at which a run may continue instead of at `from`, if the test whether a field is
+/// a number has this outcome.
 fn target_after(
     known: &Known,
     field: Field,
@@ -289,9 +293,9 @@ fn target_after(
     walk_from(&known, code, from).best
 }
 
-/// The last place where a run may go on instead of the place `from`. If the walk ends at a test
-/// whether a field is a number, it is where both outcomes lead, if that is one place further on.
-/// Places are indices of the code after the test.
+/// The last place at which a run may continue instead of at `from`. If the walk ends at a test
+/// whether a field is a number, the walk is repeated with each outcome of the test: if both lead to
+/// the same later place, that is the result. Places are indices of the code after the test.
 fn target(known: &Known, code: &[Wide], from: usize) -> usize
     ensures { result ≡ target known.now code.now from }
 {
@@ -312,8 +316,8 @@ fn target(known: &Known, code: &[Wide], from: usize) -> usize
     }
 }
 
-/// The offset of a test to its target moved as far as what is known decides, or `skipped` if that
-/// doesn't fit 32 bits.
+/// The new offset of a test whose old one is `skipped`: that of the target, moved as far on as what
+/// is known decides. It is `skipped` if the new one exceeds 32 bits.
 fn threaded_offset(known: &Known, following: &[Wide], skipped: u32) -> u32
     ensures { result ≡ threaded_offset known.now following.now skipped }
 {
@@ -325,9 +329,9 @@ fn threaded_offset(known: &Known, following: &[Wide], skipped: u32) -> u32
     }
 }
 
-/// The test with each target as far on as what is known decides. Notes what is known at both. The
-/// instruction after the test is at the place `from` of the whole code. What is known `here`
-/// changes to what is known if the test fails.
+/// Moves both targets of a test as far on as what is known decides, and notes what is known at
+/// them. The instruction after the test is at the place `from` of the whole code. Afterwards `here`
+/// is what is known if the test fails.
 fn thread_test(
     seen: &mut [Known],
     from: usize,
@@ -353,9 +357,9 @@ fn thread_test(
     insn
 }
 
-/// Threads one instruction: only a test that a run reaches may change. Notes what is known at each
-/// place where the run goes on. The next instruction is at the place `from` of the whole code. What
-/// is known `here` may change, and isn't needed any more.
+/// Threads one instruction: only a test changes, and only if runs may reach it. Notes what is known
+/// at each place where a run continues after it. The next instruction is at the place `from` of the
+/// whole code. `here`, what is known before the instruction, may change, and isn't needed any more.
 fn thread_insn(
     seen: &mut [Known],
     from: usize,
@@ -385,7 +389,7 @@ fn thread_insn(
     }
 }
 
-/// Threads all instructions, each with what is known on every way to it.
+/// Threads all instructions in order, each with what is known on every way to it.
 fn thread_all(seen: &mut [Known], insns: &mut [Wide])
     ensures { insns.new ≡ flow 0 seen.old insns.old }
 {
@@ -400,9 +404,8 @@ fn thread_all(seen: &mut [Known], insns: &mut [Wide])
     }
 }
 
-/// The same code, in which each test goes on as far as what is known there decides: `seen` is what
-/// is known at each place before the code is read. Here the contract defines the code; that of
-/// `threaded` states what follows.
+/// Threads code; `seen` is what is known at each place before the first instruction is read. The
+/// contract here defines the new code; that of `threaded` states what follows from it.
 fn threaded_insns<A: Allocator>(seen: &mut [Known], mut insns: Vec<Wide, A>) -> Vec<Wide, A>
     ensures { result.items ≡ flow 0 seen.old insns.items }
 {
@@ -410,14 +413,14 @@ fn threaded_insns<A: Allocator>(seen: &mut [Known], mut insns: Vec<Wide, A>) -> 
     insns
 }
 
-/// As `threaded_insns`, for code of few instructions.
+/// Threads code of at most `FEW` instructions without allocating memory.
 fn threaded_few<A: Allocator>(insns: Vec<Wide, A>) -> Vec<Wide, A>
     ensures { result.items ≡ flow 0 (at_start 16) insns.items }
 {
     threaded_insns(&mut few_at_start(), insns)
 }
 
-/// Whether an instruction is a load of the packet or of a length of it.
+/// Whether an instruction loads bytes of the packet, its length, or the length of a header.
 fn is_load(insn: Wide) -> bool {
     matches!(
         decode(insn.code),
@@ -430,9 +433,9 @@ fn is_load(insn: Wide) -> bool {
     )
 }
 
-/// Whether some load occurs twice. Otherwise threading seldom decides anything; a wrong answer
-/// would only take time or keep code as it is, so there is no clause. It calls itself for each
-/// instruction: the code is short.
+/// Whether a load occurs twice. Otherwise threading seldom changes anything. No clause is needed: a
+/// wrong result would only take time or keep the old code. The function calls itself for each
+/// instruction, at most `SHORT_CODE` times.
 fn repeats_a_load(insns: &[Wide]) -> bool {
     match insns {
         [] => false,
@@ -442,7 +445,7 @@ fn repeats_a_load(insns: &[Wide]) -> bool {
     }
 }
 
-/// Whether an instruction with this code and this `k` is one of these.
+/// Whether one of these instructions has the same code and the same `k`.
 fn is_among(insns: &[Wide], insn: Wide) -> bool {
     for other in insns {
         if other.code == insn.code && other.k == insn.k {
@@ -452,9 +455,9 @@ fn is_among(insns: &[Wide], insn: Wide) -> bool {
     false
 }
 
-/// The same code, in which each test goes on as far as what is known there decides. It returns the
-/// same on each packet. Short code in which no load occurs twice is returned unchanged, since
-/// hardly anything is decided in it. An error is a failed allocation.
+/// Moves the targets of tests as far on as what is known at the test decides. The new code returns
+/// the same on each packet. Code of at most 64 instructions in which no load occurs twice is
+/// returned unchanged, since threading seldom changes it. The error is a failed allocation.
 pub fn threaded<A: Allocator>(alloc: A, insns: Vec<Wide, A>) -> Result<Vec<Wide, A>, AllocError>
     ensures { IfOk result (λ new. Threads new.items insns.items) }
 {

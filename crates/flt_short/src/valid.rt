@@ -1,6 +1,6 @@
-//! Whether code whose tests may skip any number of instructions breaks a rule, and how many tests
-//! it has. The rules are those of `flt_bpf::check`, except that on the length. A yes is proved; a
-//! no says nothing.
+//! Checks that code, whose tests may skip any number of instructions, breaks no rule of
+//! `flt_bpf::check` except perhaps that on the length, and counts its tests. If the check passes,
+//! this is proved; if it fails, nothing is.
 
 ghost use Rattle.std.specs.Prelude.{◌≡◌, None, true, IsTrue, count_by};
 ghost use Rattle.flt_bpf.specs.Check.{fault_of, constant_fault, is_return};
@@ -91,7 +91,7 @@ fn is_test(insn: &Wide) -> bool
     matches!(decode(insn.code), Some(Operation::JumpIf(_, _)))
 }
 
-/// How many tests the code has.
+/// The number of tests in the code.
 pub fn count_tests(code: &[Wide]) -> usize
     ensures { result ≡ count_by (λ i. is_branch (operation_of i.code)) code.now }
 {

@@ -1,18 +1,11 @@
 -- A run that asks each instruction whether it breaks a rule: its steps, and that it is the
 -- machine's run where none does.
-use Rattle.std.proofs.Common.{◌≡◌, ℕ, zero, suc, ◌+◌, ◌-◌, ◌<◌, ◌≤◌, List, length, true, Option, Some, None, refl, sym, ap, ◌∙◌, subst, arith}
-use Rattle.std.specs.Prelude.{slice_get, IsSomeAnd}
+use Rattle.flt_trace.proofs.Common.{◌≡◌, ℕ, zero, suc, ◌+◌, ◌-◌, ◌<◌, ◌≤◌, List, length, true, Option, Some, None, refl, sym, ap, ◌∙◌, subst, arith, slice_get, IsSomeAnd, slice_get_within, slice_get_past, Insn, State, Next, Goes, Ends, Lost, Progress, Stands, Answered, Stuck, step, step_if_there, progress_after, run_from, start, machine, step_unless, step_by_rules, by_rules_from, run_end, run_by_rules, BreaksRuleAt, MeetsNoBrokenRule, OperationBreaks, IsValid}
 use Rattle.std.specs.Option.{is_some}
-use Rattle.std.proofs.lemmas.Option.{slice_get_within, slice_get_past}
-use Rattle.flt_bpf.specs.declared.insn.Insn.{Insn}
-use Rattle.flt_bpf.specs.declared.machine.State.{State}
 use Rattle.flt_bpf.specs.declared.fault.CheckFault.{CheckFault}
 use Rattle.flt_bpf.specs.declared.fault.CheckFault.TheVariants.{Empty, TooLong, UnknownCode, JumpOut, NoSuchWord, DivisionByZero, ShiftTooFar, NoReturn}
 use Rattle.flt_bpf.specs.Check.{fault_of}
 use Rattle.flt_bpf.specs.Instructions.{operation_of}
-use Rattle.flt_bpf.specs.Machine.{Next, Goes, Ends, Lost, Progress, Stands, Answered, Stuck, step, step_if_there, progress_after, run_from, start, machine}
-use Rattle.flt_trace.specs.RunByRules.{step_unless, step_by_rules, by_rules_from, run_end, run_by_rules, BreaksRuleAt, MeetsNoBrokenRule}
-use Rattle.flt_bpf.specs.Valid.{OperationBreaks, IsValid}
 use Rattle.flt_bpf.proofs.Rules.{found_breaks, breaks_found}
 
 -- an instruction without a fault makes the machine's step

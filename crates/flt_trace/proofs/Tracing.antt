@@ -1,12 +1,5 @@
 -- A run is where the trace says, and what is written of it stays.
-use Rattle.std.proofs.Common.{◌≡◌, ◌≢◌, ℕ, zero, suc, ◌+◌, ◌-◌, ◌<◌, ◌≤◌, List, [], ◌∷◌, length, Some, refl, sym, ap, ◌∙◌, subst, arith, length-set, below_more}
-use Rattle.std.specs.Prelude.{slice_get, slice_set, IsSomeAnd}
-use Rattle.flt_bpf.specs.declared.insn.Insn.{Insn}
-use Rattle.flt_bpf.specs.declared.machine.State.{State}
-use Rattle.flt_bpf.specs.Machine.{Next, Goes, Ends, Lost, Stands, step, step_if_there, progress_after, run_from, start, machine}
-use Rattle.flt_bpf.specs.Valid.{IsValid}
-use Rattle.flt_bpf.proofs.Checking.{parts}
-use Rattle.flt_bpf.proofs.Steps.{goes_inside, run_ends, run_goes}
+use Rattle.flt_trace.proofs.Common.{◌≡◌, ◌≢◌, ℕ, zero, suc, ◌+◌, ◌-◌, ◌<◌, ◌≤◌, List, [], ◌∷◌, length, Some, refl, sym, ap, ◌∙◌, subst, arith, length-set, below_more, slice_get, slice_set, IsSomeAnd, Insn, State, Next, Goes, Ends, Lost, Stands, step, step_if_there, progress_after, run_from, start, machine, IsValid, parts, goes_inside, run_ends, run_goes}
 use Rattle.flt_trace.specs.declared.walk.Step.{Step}
 use Rattle.flt_trace.specs.Trace.{IsAfter, Traces}
 use Rattle.flt_trace.specs.inside.Trace.{step_at}

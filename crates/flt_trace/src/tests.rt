@@ -27,7 +27,7 @@ fn printed(rt: HostRuntime) -> Result<(), Fail> {
     Ok(())
 }
 
-/// What a step shows except its words of memory, all of which are 0.
+/// Whether a step has this place and these registers, and 0 in each word of memory.
 fn is_step(step: &Step, place: u32, accumulator: u32, index: u32) -> bool {
     step.place == place
         && step.accumulator == accumulator
@@ -35,7 +35,7 @@ fn is_step(step: &Step, place: u32, accumulator: u32, index: u32) -> bool {
         && step.memory.iter().all(|word| *word == 0)
 }
 
-// ldb [0]; tax; jeq #0x45, if it holds past the next; ret #7; ret #9
+// ldb [0]; tax; jeq #0x45, which skips the next instruction if it holds; ret #7; ret #9
 #[test]
 fn traced(rt: HostRuntime) -> Result<(), Fail> {
     let insns = [

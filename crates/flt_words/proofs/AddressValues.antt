@@ -1,14 +1,6 @@
 -- The numbers of addresses, and that a text has one list of groups.
-use Rattle.std.proofs.Common.{◌≡◌, ℕ, suc, zero, ◌+◌, ◌-◌, ◌*◌, ◌^◌, ◌<◌, ◌≤◌, List, [], ◌∷◌, ◌++◌, length, refl, sym, ap, ◌∙◌, arith, pow-add, pow-suc, length-append, replicate, Some, lit<}
-use Rattle.std.proofs.Math.Nat.{mul-le-mul_right, pow-le-pow_right, pow-zero}
-use Rattle.std.proofs.lemmas.Int.Digits.{number_after_append, number_lt}
-use Rattle.std.proofs.lemmas.List.{length-map}
-use Rattle.std.specs.Int.Digits.{AllBelowBase, number_from_digits, number_from_digits_after}
-use Rattle.std.specs.List.{AllByRecursion, join_with_byte}
-use Rattle.flt_words.specs.declared.address.Group.{Group}
+use Rattle.flt_words.proofs.Common.{◌≡◌, ℕ, suc, zero, ◌+◌, ◌-◌, ◌*◌, ◌^◌, ◌<◌, ◌≤◌, List, [], ◌∷◌, ◌++◌, length, refl, sym, ap, ◌∙◌, arith, pow-add, pow-suc, length-append, replicate, Some, lit<, mul-le-mul_right, pow-le-pow_right, pow-zero, number_after_append, number_lt, length-map, AllBelowBase, number_from_digits, number_from_digits_after, AllByRecursion, join_with_byte, Group, AreGroups, IsGroup, group_value, group_values, separator_of, ReadsGroups, base_of}
 use Rattle.flt_words.specs.declared.address.JoinedGroups.{JoinedGroups}
-use Rattle.flt_words.specs.Addresses.{AreGroups, IsGroup, group_value, group_values, separator_of}
-use Rattle.flt_words.specs.inside.Addresses.{ReadsGroups, base_of}
 use Rattle.flt_words.proofs.Groups.{group_below, group_some, groups_are_parts}
 
 some_joined : (form : Group) (first : List ℕ) (groups : List (List ℕ)) → IsGroup form first → 0 < length (join_with_byte (separator_of form) (first ∷ groups))

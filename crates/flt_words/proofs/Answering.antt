@@ -1,10 +1,6 @@
 -- Answers for a word: one reading's as another's, and two answers as one.
-use Rattle.std.proofs.Common.{◌≡◌, Bool, true, false, ◌&&◌, refl, ◌∙◌, List, ℕ, Result, Ok, Err, MatchResult, IsOkAnd}
-use Rattle.flt_words.specs.declared.number.WordFault.{WordFault}
+use Rattle.flt_words.proofs.Common.{◌≡◌, Bool, true, false, ◌&&◌, refl, ◌∙◌, List, ℕ, Result, Ok, Err, MatchResult, IsOkAnd, WordFault, TokenKind, FindsMeaning, both_known, Spells, fits}
 use Rattle.flt_words.specs.declared.number.WordFault.TheVariants as fault
-use Rattle.flt_words.specs.declared.token.TokenKind.{TokenKind}
-use Rattle.flt_words.specs.inside.Numbers.{FindsMeaning, both_known}
-use Rattle.flt_words.specs.Words.{Spells, fits}
 
 pub answers_along : {A : Type 0} (V W : A → Type 0) (test : A → Bool) → ((a : A) → V a → W a) → ((a : A) → W a → V a) → (r : Result A WordFault) → FindsMeaning V test r → FindsMeaning W test r
 answers_along V W test to from (Ok a) h = (to a h.0, h.1)

@@ -1,18 +1,7 @@
 -- Brackets stand in the tokens of brackets alone.
-use Rattle.std.proofs.Common.{◌≡◌, ℕ, suc, ◌<◌, List, [], ◌∷◌, length, get_or, take, refl, sym, ap, ◌∙◌, arith, Bool, true, false, ◌&&◌, ◌==◌, cond, count_by, codes, Option, Some, Ok}
-use Rattle.std.proofs.lemmas.Bool.{eqb-true, false≢true}
-use Rattle.std.proofs.lemmas.Slice.Eq.{bytes_eq-Decides}
-use Rattle.std.specs.List.{list_all}
-use Rattle.std.specs.Str.{bytes_eq}
-use Rattle.flt_words.specs.declared.token.TokenKind.{TokenKind}
+use Rattle.flt_words.proofs.Common.{◌≡◌, ℕ, suc, ◌<◌, List, [], ◌∷◌, length, get_or, take, refl, sym, ap, ◌∙◌, arith, Bool, true, false, ◌&&◌, ◌==◌, cond, count_by, codes, Option, Some, Ok, eqb-true, false≢true, bytes_eq-Decides, list_all, bytes_eq, TokenKind, within_word, look_up, IsToken, IsWordPiece, PieceMeans, symbol_meaning, word_meaning, Spells, WordMeans, keyword, number, dotted, range, mac, ip6, known}
 use Rattle.flt_words.specs.declared.token.TokenKind.TheVariants as token
-use Rattle.flt_words.specs.Characters.{within_word}
-use Rattle.flt_words.specs.Spellings.{keywords, look_up, symbols}
-use Rattle.flt_words.specs.Tokens.{IsToken, IsWordPiece, PieceMeans}
-use Rattle.flt_words.specs.Tokens.PieceMeans.{symbol_meaning, word_meaning}
-use Rattle.flt_words.specs.Words.{Spells, WordMeans}
-use Rattle.flt_words.specs.Words.Spells.{keyword, number, dotted, range, mac, ip6}
-use Rattle.flt_words.specs.Words.WordMeans.{known}
+use Rattle.flt_words.specs.Spellings.{keywords, symbols}
 use Rattle.flt_words.proofs.Tables.{both, found_passes}
 
 -- how many `[` and how many `]` a token has

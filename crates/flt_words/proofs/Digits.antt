@@ -1,10 +1,6 @@
 -- Digits that write a number, and the tests on them.
-use Rattle.std.proofs.Common.{◌≡◌, ℕ, ◌<◌, ◌≤◌, ◌^◌, List, length, refl, true, false, ◌==◌, arith}
-use Rattle.std.proofs.lemmas.Bool.Decides.{nat_tests}
-use Rattle.std.specs.Str.Parse.{digits_value}
-use Rattle.cap_octet.specs.Digits.{are_digits}
+use Rattle.flt_words.proofs.Common.{◌≡◌, ℕ, ◌<◌, ◌≤◌, ◌^◌, List, length, refl, true, false, ◌==◌, arith, nat_tests, digits_value, are_digits, WritesNumber, is_word_sized}
 use Rattle.cap_octet.proofs.Numerals.{digits_from_test, digits_pass}
-use Rattle.flt_words.specs.Numbers.{WritesNumber, is_word_sized}
 
 pub writes_pass : {radix n : ℕ} {ds : List ℕ} → WritesNumber radix ds n → are_digits radix ds ≡ true
 writes_pass {radix} {n} {ds} w = digits_pass radix ds w.numeral.1

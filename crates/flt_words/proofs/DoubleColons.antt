@@ -1,14 +1,6 @@
 -- Where two colons stand in an IPv6 address.
-use Rattle.std.proofs.Common.{◌≡◌, ◌≢◌, ℕ, suc, zero, ◌+◌, ◌<◌, List, [], ◌∷◌, ◌++◌, length, get_or, take, drop, sym, ap, ◌∙◌, subst, arith, false, ◌==◌, Option, Some, None, MatchOption, add-one, length-append, drop-cons}
-use Rattle.std.proofs.Math.Seq.{drop-append-add, get_or-append_seam, take-append_seam}
-use Rattle.std.proofs.lemmas.Bool.Decides.{nat_tests}
-use Rattle.std.proofs.lemmas.List.{get_or-append-add, get_or_append_left, take-append-drop}
-use Rattle.std.specs.List.{AllByRecursion, join_with_byte}
+use Rattle.flt_words.proofs.Common.{◌≡◌, ◌≢◌, ℕ, suc, zero, ◌+◌, ◌<◌, List, [], ◌∷◌, ◌++◌, length, get_or, take, drop, sym, ap, ◌∙◌, subst, arith, false, ◌==◌, Option, Some, None, MatchOption, add-one, length-append, drop-cons, drop-append-add, get_or-append_seam, take-append_seam, nat_tests, get_or-append-add, get_or_append_left, take-append-drop, AllByRecursion, join_with_byte, AreGroups, AreIp6Ends, IsGroup, IsIp6, IsWholeIp6, IsDoubleColon, shortened, whole, has}
 use Rattle.flt_words.specs.declared.address.Group.TheVariants as group
-use Rattle.flt_words.specs.Addresses.{AreGroups, AreIp6Ends, IsGroup, IsIp6, IsWholeIp6}
-use Rattle.flt_words.specs.inside.Addresses.{IsDoubleColon}
-use Rattle.flt_words.specs.Addresses.IsIp6.{shortened, whole}
-use Rattle.flt_words.specs.inside.Characters.{has}
 use Rattle.flt_words.proofs.Cuts.{neither}
 use Rattle.flt_words.proofs.Groups.{group_lacks, group_some}
 

@@ -1,20 +1,8 @@
 -- Groups of digits, and the parts of a text between separators.
-use Rattle.std.proofs.Common.{◌≡◌, ℕ, ◌^◌, ◌<◌, ◌≤◌, List, [], ◌∷◌, ◌++◌, length, refl, sym, ap, ◌∙◌, arith, false, ◌==◌, Result, Ok, Err, lit<, lit≤, MatchOption}
-use Rattle.std.proofs.Math.Nat.{pow-le-pow_right}
-use Rattle.std.proofs.lemmas.Bool.Decides.{nat_tests}
-use Rattle.std.proofs.lemmas.Int.Digits.{digits_value-lt}
-use Rattle.std.specs.List.{AllByRecursion, join_with_byte, slice_split}
+use Rattle.flt_words.proofs.Common.{◌≡◌, ℕ, ◌^◌, ◌<◌, ◌≤◌, List, [], ◌∷◌, ◌++◌, length, refl, sym, ap, ◌∙◌, arith, false, ◌==◌, Result, Ok, Err, lit<, lit≤, MatchOption, pow-le-pow_right, nat_tests, digits_value-lt, AllByRecursion, join_with_byte, slice_split, AllDigits, IsNumeral, digits_value, Group, WordFault, AreGroups, IsGroup, group_value, separator_of, base_of, WritesNumber, is_word_sized, FindsMeaning, has}
 use Rattle.std.specs.Result.{result_ok}
-use Rattle.std.specs.Str.Parse.{AllDigits, IsNumeral, digits_value}
-use Rattle.flt_words.specs.declared.address.Group.{Group}
 use Rattle.flt_words.specs.declared.address.Group.TheVariants as group
-use Rattle.flt_words.specs.declared.number.WordFault.{WordFault}
 use Rattle.flt_words.specs.declared.number.WordFault.TheVariants as fault
-use Rattle.flt_words.specs.Addresses.{AreGroups, IsGroup, group_value, separator_of}
-use Rattle.flt_words.specs.inside.Addresses.{base_of}
-use Rattle.flt_words.specs.Numbers.{WritesNumber, is_word_sized}
-use Rattle.flt_words.specs.inside.Numbers.{FindsMeaning}
-use Rattle.flt_words.specs.inside.Characters.{has}
 use Rattle.flt_words.proofs.Cuts.{digits_lack, neither, same}
 
 not_small : (n : ℕ) → n < 2 ^ 32 → is_word_sized n ≡ false → ⊥

@@ -1,15 +1,5 @@
 -- The steps of cutting a text into tokens.
-use Rattle.std.proofs.Common.{◌≡◌, ℕ, ◌+◌, ◌<◌, ◌≤◌, List, [], ◌∷◌, ◌++◌, length, get_or, take, drop, refl, sym, ap, ◌∙◌, subst, arith, Bool, true, false, ◌==◌, ◌-◌, cond, count_by, nat_lt, Result, Ok, Err}
-use Rattle.std.proofs.Math.Seq.{take-add}
-use Rattle.std.proofs.lemmas.Bool.Decides.{nat_tests}
-use Rattle.std.proofs.lemmas.List.{length-take, take_rest}
-use Rattle.std.proofs.lemmas.List.Sums.{count_by-le-length, count_by_more_no, sum_by-append}
-use Rattle.flt_words.specs.declared.fault.ExprFault.{ExprFault}
-use Rattle.flt_words.specs.declared.token.Token.{Token}
-use Rattle.flt_words.specs.declared.token.TokenKind.{TokenKind}
-use Rattle.flt_words.specs.Characters.{is_blank, is_inside}
-use Rattle.flt_words.specs.Tokens.{IsRefused, IsToken, TokensFrom, before}
-use Rattle.flt_words.specs.Tokens.TokensFrom.{at_end, blank, refused, token}
+use Rattle.flt_words.proofs.Common.{◌≡◌, ℕ, ◌+◌, ◌<◌, ◌≤◌, List, [], ◌∷◌, ◌++◌, length, get_or, take, drop, refl, sym, ap, ◌∙◌, subst, arith, Bool, true, false, ◌==◌, ◌-◌, cond, count_by, nat_lt, Result, Ok, Err, take-add, nat_tests, length-take, take_rest, count_by-le-length, count_by_more_no, sum_by-append, ExprFault, Token, TokenKind, is_blank, is_inside, IsRefused, IsToken, TokensFrom, before, at_end, blank, refused, token}
 
 -- an answer after tokens
 abbrev pub after : List Token → Result (List Token) ExprFault → Result (List Token) ExprFault

@@ -1,20 +1,5 @@
 -- A text has one answer at most.
-use Rattle.std.proofs.Common.{◌≡◌, ℕ, suc, zero, ◌+◌, ◌<◌, ◌≤◌, List, [], ◌∷◌, length, get_or, take, drop, refl, sym, ap, ◌∙◌, subst, arith, Bool, true, false, Result, Ok, Err, Some, length-drop, length-take-le, get_or-drop, add-zero, Option}
-use Rattle.std.proofs.lemmas.Bool.{false≢true}
-use Rattle.std.proofs.lemmas.Bool.Decides.{nat_tests}
-use Rattle.flt_words.specs.declared.fault.ExprFault.{ExprFault}
-use Rattle.flt_words.specs.declared.token.Token.{Token}
-use Rattle.flt_words.specs.declared.token.TokenKind.{TokenKind}
-use Rattle.flt_words.specs.Characters.{is_blank, is_inside, starts_word}
-use Rattle.flt_words.specs.Spellings.{symbol_of}
-use Rattle.flt_words.specs.Tokens.{IsLongest, IsPiece, IsRefused, IsToken, IsWordPiece, PieceMeans, Tokens, TokensFrom, before}
-use Rattle.flt_words.specs.Tokens.IsPiece.{symbol, word}
-use Rattle.flt_words.specs.Tokens.IsRefused.{bad_piece, no_piece}
-use Rattle.flt_words.specs.Tokens.PieceMeans.{symbol_meaning, word_meaning}
-use Rattle.flt_words.specs.Tokens.TokensFrom.{at_end, blank, refused, token}
-use Rattle.flt_words.specs.Tokens.Tokens.{short, too_long}
-use Rattle.flt_words.specs.Words.{Spells, WordMeans, fits}
-use Rattle.flt_words.specs.Words.WordMeans.{known, too_large, unknown}
+use Rattle.flt_words.proofs.Common.{◌≡◌, ℕ, suc, zero, ◌+◌, ◌<◌, ◌≤◌, List, [], ◌∷◌, length, get_or, take, drop, refl, sym, ap, ◌∙◌, subst, arith, Bool, true, false, Result, Ok, Err, Some, length-drop, length-take-le, get_or-drop, add-zero, Option, false≢true, nat_tests, ExprFault, Token, TokenKind, is_blank, is_inside, starts_word, symbol_of, IsLongest, IsPiece, IsRefused, IsToken, IsWordPiece, PieceMeans, Tokens, TokensFrom, before, symbol, word, bad_piece, no_piece, symbol_meaning, word_meaning, at_end, blank, refused, token, short, too_long, Spells, WordMeans, fits, known, too_large, unknown}
 use Rattle.flt_words.proofs.OneKind.{same_kind}
 use Rattle.flt_words.proofs.Pieces.{longest_some, taken, word_some}
 use Rattle.flt_words.proofs.Symbols.{symbol_piece}

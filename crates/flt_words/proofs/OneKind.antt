@@ -1,20 +1,8 @@
 -- A word stands for one thing at most.
-use Rattle.std.proofs.Common.{◌≡◌, ℕ, ◌<◌, List, [], ◌∷◌, ◌++◌, length, refl, sym, ap, ◌∙◌, arith, true, nat_lt, get_or, Some, ◌+◌, ◌-◌, replicate, lit<}
-use Rattle.std.proofs.lemmas.Bool.Decides.{nat_tests}
+use Rattle.flt_words.proofs.Common.{◌≡◌, ℕ, ◌<◌, List, [], ◌∷◌, ◌++◌, length, refl, sym, ap, ◌∙◌, arith, true, nat_lt, get_or, Some, ◌+◌, ◌-◌, replicate, lit<, nat_tests, number_from_digits, AllByRecursion, TokenKind, AreGroups, AreIp6Ends, IsDotted, IsGroup, IsIp6, IsMac, IsWholeIp6, group_values, shortened, whole, IsNumber, IsRange, WritesNumber, joined, decimal, octal, hexadecimal, capital_hexadecimal, keyword_of, Spells, keyword, number, dotted, range, mac, ip6}
 use Rattle.std.proofs.lemmas.Str.Parse.{digit_from_value}
-use Rattle.std.specs.Int.Digits.{number_from_digits}
-use Rattle.std.specs.List.{AllByRecursion}
 use Rattle.flt_words.specs.declared.address.Group.TheVariants as group
-use Rattle.flt_words.specs.declared.token.TokenKind.{TokenKind}
 use Rattle.flt_words.specs.declared.token.TokenKind.TheVariants as token
-use Rattle.flt_words.specs.Addresses.{AreGroups, AreIp6Ends, IsDotted, IsGroup, IsIp6, IsMac, IsWholeIp6, group_values}
-use Rattle.flt_words.specs.Addresses.IsIp6.{shortened, whole}
-use Rattle.flt_words.specs.Numbers.{IsNumber, IsRange, WritesNumber}
-use Rattle.flt_words.specs.Numbers.IsRange.{joined}
-use Rattle.flt_words.specs.Numbers.IsNumber.{decimal, octal, hexadecimal, capital_hexadecimal}
-use Rattle.flt_words.specs.Spellings.{keyword_of}
-use Rattle.flt_words.specs.Words.{Spells}
-use Rattle.flt_words.specs.Words.Spells.{keyword, number, dotted, range, mac, ip6}
 use Rattle.flt_words.proofs.AddressValues.{same_groups}
 use Rattle.flt_words.proofs.DoubleColons.{double_between, ends_from_ip6, no_double_colon, none_before_first}
 use Rattle.flt_words.proofs.OneNumber.{same_number, same_range}

@@ -1,9 +1,5 @@
 -- A word writes one number at most, and one range.
-use Rattle.std.proofs.Common.{◌≡◌, ◌≢◌, inl, inr, ℕ, ◌<◌, List, [], ◌∷◌, length, refl, sym, ◌∙◌, subst, arith, lit≤}
-use Rattle.std.specs.Char.{digit_value}
-use Rattle.flt_words.specs.Numbers.{IsNumber, IsRange, WritesNumber, WritesDecimal}
-use Rattle.flt_words.specs.Numbers.IsNumber.{decimal, octal, hexadecimal, capital_hexadecimal}
-use Rattle.flt_words.specs.Numbers.IsRange.{joined}
+use Rattle.flt_words.proofs.Common.{◌≡◌, ◌≢◌, inl, inr, ℕ, ◌<◌, List, [], ◌∷◌, length, refl, sym, ◌∙◌, subst, arith, lit≤, digit_value, IsNumber, IsRange, WritesNumber, WritesDecimal, decimal, octal, hexadecimal, capital_hexadecimal, joined}
 use Rattle.flt_words.proofs.Cuts.{cut_at}
 use Rattle.flt_words.proofs.Radices.{not_alone, only_hexadecimal, only_octal}
 use Rattle.flt_words.proofs.Ranges.{decimal_lacks, range_parts}

@@ -1,12 +1,5 @@
 -- The longest piece at the front of a text.
-use Rattle.std.proofs.Common.{◌≡◌, ℕ, ◌+◌, ◌-◌, ◌<◌, ◌≤◌, suc, zero, List, [], ◌∷◌, below_more, length, get_or, take, refl, sym, ap, ◌∙◌, arith, Bool, true, false, length-take-le, Some, None, ◌⊎◌, inl, inr, subst, ⊎_elim}
-use Rattle.std.proofs.lemmas.Bool.{cases_lt, false≢true}
-use Rattle.std.proofs.lemmas.List.{get_or-take}
-use Rattle.flt_words.specs.declared.token.TokenKind.{TokenKind}
-use Rattle.flt_words.specs.Characters.{starts_word, within_word}
-use Rattle.flt_words.specs.Spellings.{symbol_of}
-use Rattle.flt_words.specs.Tokens.{IsLongest, IsPiece, IsWordPiece}
-use Rattle.flt_words.specs.Tokens.IsPiece.{symbol, word}
+use Rattle.flt_words.proofs.Common.{◌≡◌, ℕ, ◌+◌, ◌-◌, ◌<◌, ◌≤◌, suc, zero, List, [], ◌∷◌, below_more, length, get_or, take, refl, sym, ap, ◌∙◌, arith, Bool, true, false, length-take-le, Some, None, ◌⊎◌, inl, inr, subst, ⊎_elim, cases_lt, false≢true, get_or-take, TokenKind, starts_word, within_word, symbol_of, IsLongest, IsPiece, IsWordPiece, symbol, word}
 use Rattle.flt_words.proofs.Symbols.{symbol_piece}
 
 -- what the loop over a word's bytes finds out, up to where it stops

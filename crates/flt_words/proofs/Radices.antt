@@ -1,8 +1,5 @@
 -- The front of a word tells in which radix it may be a number.
-use Rattle.std.proofs.Common.{◌≡◌, ◌≢◌, ◌⊎◌, ⊎_elim, ℕ, ◌<◌, ◌≤◌, List, [], ◌∷◌, length, get_or, drop, refl, sym, subst, arith}
-use Rattle.std.specs.Char.{digit_value}
-use Rattle.flt_words.specs.Numbers.{IsNumber, WritesNumber, WritesDecimal}
-use Rattle.flt_words.specs.Numbers.IsNumber.{decimal, octal, hexadecimal, capital_hexadecimal}
+use Rattle.flt_words.proofs.Common.{◌≡◌, ◌≢◌, ◌⊎◌, ⊎_elim, ℕ, ◌<◌, ◌≤◌, List, [], ◌∷◌, length, get_or, drop, refl, sym, subst, arith, digit_value, IsNumber, WritesNumber, WritesDecimal, decimal, octal, hexadecimal, capital_hexadecimal}
 
 pub only_decimal : {word : List ℕ} {n : ℕ} → (length word < 2) ⊎ (get_or word 0 0 ≢ 48) → IsNumber word n → WritesDecimal word n
 only_decimal either (decimal w) = w

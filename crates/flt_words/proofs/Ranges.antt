@@ -1,11 +1,5 @@
 -- A range is cut at its first dash.
-use Rattle.std.proofs.Common.{◌≡◌, ℕ, ◌+◌, List, ◌≤◌, ◌∷◌, ◌++◌, length, take, drop, sym, subst, false, ◌==◌, Some, None, lit≤}
-use Rattle.std.proofs.Math.Seq.{take-append_seam, drop-append-add}
-use Rattle.std.specs.Char.{digit_value}
-use Rattle.std.specs.List.{position}
-use Rattle.flt_words.specs.Numbers.{IsRange, WritesDecimal}
-use Rattle.flt_words.specs.Numbers.IsRange.{joined}
-use Rattle.flt_words.specs.inside.Characters.{has}
+use Rattle.flt_words.proofs.Common.{◌≡◌, ℕ, ◌+◌, List, ◌≤◌, ◌∷◌, ◌++◌, length, take, drop, sym, subst, false, ◌==◌, Some, None, lit≤, take-append_seam, drop-append-add, digit_value, position, IsRange, WritesDecimal, joined, has}
 use Rattle.flt_words.proofs.Cuts.{cut_at, digits_lack, joined_at}
 
 pub decimal_lacks : {digits : List ℕ} {n : ℕ} (c : ℕ) → 10 ≤ digit_value c → WritesDecimal digits n → has c digits ≡ false

@@ -1,15 +1,7 @@
 -- The steps of reading a text's parts as groups.
-use Rattle.std.proofs.Common.{◌≡◌, ℕ, suc, zero, ◌+◌, ◌*◌, ◌^◌, ◌<◌, ◌≤◌, List, [], ◌∷◌, ◌++◌, length, get_or, refl, sym, ap, ◌∙◌, subst, arith, add-one, ◌==◌, map, lit<, pow-add, pow-suc}
-use Rattle.std.proofs.Math.Nat.{add_assoc, mul-le-mul_right, mul-lt-mul_of_pos_right, mul_assoc, pow-le-pow_right, pow-zero}
-use Rattle.std.proofs.lemmas.Int.Digits.{number_push}
+use Rattle.flt_words.proofs.Common.{◌≡◌, ℕ, suc, zero, ◌+◌, ◌*◌, ◌^◌, ◌<◌, ◌≤◌, List, [], ◌∷◌, ◌++◌, length, get_or, refl, sym, ap, ◌∙◌, subst, arith, add-one, ◌==◌, map, lit<, pow-add, pow-suc, add_assoc, mul-le-mul_right, mul-lt-mul_of_pos_right, mul_assoc, pow-le-pow_right, pow-zero, number_push, Bor, number_from_digits, AllByRecursion, join_with_byte, slice_split, Group, AreGroups, IsGroup, group_value, group_values, separator_of, base_of}
 use Rattle.std.proofs.lemmas.List.Splits.{join_with_byte-slice_split}
-use Rattle.std.specs.Borrow.{Bor}
-use Rattle.std.specs.Int.Digits.{number_from_digits}
-use Rattle.std.specs.List.{AllByRecursion, join_with_byte, slice_split}
-use Rattle.flt_words.specs.declared.address.Group.{Group}
 use Rattle.flt_words.specs.declared.address.Group.TheVariants as group
-use Rattle.flt_words.specs.Addresses.{AreGroups, IsGroup, group_value, group_values, separator_of}
-use Rattle.flt_words.specs.inside.Addresses.{base_of}
 use Rattle.flt_words.proofs.Groups.{group_below, groups_are_parts}
 
 abbrev pub parts_of : Group → List ℕ → List (List ℕ)

@@ -1,14 +1,7 @@
 -- A symbol is one or two bytes, and begins as no word and no blank does.
-use Rattle.std.proofs.Common.{◌≡◌, ℕ, ◌<◌, ◌≤◌, List, refl, sym, subst, Bool, true, false, ◌&&◌, ◌||◌, ◌==◌, not, cond, Option, Some, get_or, length, nat_lt, codes, arith, lit≤}
-use Rattle.std.proofs.lemmas.Bool.Decides.{nat_tests}
-use Rattle.std.proofs.lemmas.Slice.Eq.{bytes_eq-Decides}
-use Rattle.std.specs.Char.{is_ascii_alphanumeric}
-use Rattle.std.specs.List.{list_all}
-use Rattle.std.specs.Str.{bytes_eq}
-use Rattle.flt_words.specs.declared.token.TokenKind.{TokenKind}
+use Rattle.flt_words.proofs.Common.{◌≡◌, ℕ, ◌<◌, ◌≤◌, List, refl, sym, subst, Bool, true, false, ◌&&◌, ◌||◌, ◌==◌, not, cond, Option, Some, get_or, length, nat_lt, codes, arith, lit≤, nat_tests, bytes_eq-Decides, is_ascii_alphanumeric, list_all, bytes_eq, TokenKind, is_blank, starts_word, look_up, symbol_of}
 use Rattle.flt_words.specs.declared.token.TokenKind.TheVariants as token
-use Rattle.flt_words.specs.Characters.{is_blank, starts_word}
-use Rattle.flt_words.specs.Spellings.{look_up, symbol_of, symbols}
+use Rattle.flt_words.specs.Spellings.{symbols}
 use Rattle.flt_words.proofs.Tables.{both, found_passes, is_false}
 
 symbol_test : List ℕ → TokenKind → Bool

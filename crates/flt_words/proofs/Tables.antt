@@ -1,12 +1,6 @@
 -- What holds of each entry of a table holds of what is looked up.
-use Rattle.std.proofs.Common.{◌≡◌, ℕ, List, [], ◌∷◌, refl, sym, subst, Bool, true, false, ◌&&◌, not, cond, Option, Some, get_or, nat_lt}
-use Rattle.std.proofs.lemmas.Slice.Eq.{bytes_eq-Decides}
-use Rattle.std.specs.List.{list_all}
-use Rattle.std.specs.Str.{bytes_eq}
-use Rattle.flt_words.specs.declared.token.TokenKind.{TokenKind}
-use Rattle.flt_words.specs.inside.Characters.{has}
-use Rattle.flt_words.specs.Spellings.{Spellings, keyword_of, keywords, look_up}
-use Rattle.flt_words.specs.Words.{fits}
+use Rattle.flt_words.proofs.Common.{◌≡◌, ℕ, List, [], ◌∷◌, refl, sym, subst, Bool, true, false, ◌&&◌, not, cond, Option, Some, get_or, nat_lt, bytes_eq-Decides, list_all, bytes_eq, TokenKind, has, Spellings, keyword_of, look_up, fits}
+use Rattle.flt_words.specs.Spellings.{keywords}
 
 pub both : (a b : Bool) → a && b ≡ true → (a ≡ true) × (b ≡ true)
 both true b h = (refl, h)

@@ -1,19 +1,6 @@
 -- The colons, points and dashes of the kinds of words.
-use Rattle.std.proofs.Common.{◌≡◌, ℕ, ◌≤◌, List, [], ◌∷◌, ◌++◌, length, refl, ap, ◌∙◌, arith, Bool, true, false, ◌==◌, ◌||◌, cond, lit≤, None, Some}
-use Rattle.std.specs.Char.{digit_value}
-use Rattle.std.specs.List.{AllByRecursion, join_with_byte}
-use Rattle.flt_words.specs.declared.address.Group.{Group}
+use Rattle.flt_words.proofs.Common.{◌≡◌, ℕ, ◌≤◌, List, [], ◌∷◌, ◌++◌, length, refl, ap, ◌∙◌, arith, Bool, true, false, ◌==◌, ◌||◌, cond, lit≤, None, Some, digit_value, AllByRecursion, join_with_byte, Group, TokenKind, AreGroups, IsDotted, IsGroup, IsIp6, IsMac, separator_of, shortened, whole, has, IsNumber, IsRange, decimal, octal, hexadecimal, capital_hexadecimal, joined, keyword_of, Spells, keyword, number, dotted, range, mac, ip6}
 use Rattle.flt_words.specs.declared.address.Group.TheVariants as group
-use Rattle.flt_words.specs.declared.token.TokenKind.{TokenKind}
-use Rattle.flt_words.specs.Addresses.{AreGroups, IsDotted, IsGroup, IsIp6, IsMac, separator_of}
-use Rattle.flt_words.specs.Addresses.IsIp6.{shortened, whole}
-use Rattle.flt_words.specs.inside.Characters.{has}
-use Rattle.flt_words.specs.Numbers.{IsNumber, IsRange}
-use Rattle.flt_words.specs.Numbers.IsNumber.{decimal, octal, hexadecimal, capital_hexadecimal}
-use Rattle.flt_words.specs.Numbers.IsRange.{joined}
-use Rattle.flt_words.specs.Spellings.{keyword_of}
-use Rattle.flt_words.specs.Words.{Spells}
-use Rattle.flt_words.specs.Words.Spells.{keyword, number, dotted, range, mac, ip6}
 use Rattle.flt_words.proofs.Cuts.{digits_lack, has-append, same}
 use Rattle.flt_words.proofs.Ranges.{decimal_lacks}
 use Rattle.flt_words.proofs.Tables.{keyword_is_plain}

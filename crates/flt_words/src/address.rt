@@ -1,4 +1,4 @@
-//! Addresses in words: groups of digits that a separator joins.
+//! Reads addresses in words: groups of digits that a separator joins.
 
 ghost use Rattle.std.specs.Prelude.{◌≡◌, ◌≤◌, ◌<◌, ◌+◌, ◌*◌, ◌^◌, ℕ, MatchOption, length};
 ghost use Rattle.std.specs.Str.Parse.{IsNumeral, digits_value};

@@ -1,14 +1,15 @@
-//! The tokens of a text, from its first byte on: at each place the longest word or symbol is one.
+//! Cuts a text into tokens, from its first byte on: at each place the longest word or symbol is the
+//! next token. Blanks separate tokens. Bytes that are neither blanks nor of words are symbols
+//! (`spelling`), or begin no token.
 
 ghost use Rattle.std.specs.Prelude.{◌≡◌, ◌≢◌, ◌<◌, ◌+◌, ◌==◌, ◌≤◌, IfErr, IfOk, MatchOption};
 ghost use Rattle.std.specs.Prelude.{MatchResult, Ok, Err, None, Some, length};
 ghost use Rattle.std.specs.Prelude.{slice_index, take, false, true, ℕ};
-ghost use Rattle.flt_words.specs.Characters.{starts_word};
+ghost use Rattle.flt_words.specs.Characters.{is_blank, starts_word, within_word};
 ghost use Rattle.flt_words.specs.Spellings.{symbol_of};
 ghost use Rattle.flt_words.specs.Tokens.{IsLongest, IsPiece, IsRefused};
 ghost use Rattle.flt_words.specs.Tokens.{IsToken, PieceMeans, Tokens};
 
-use crate::character::{is_blank, starts_word, within_word};
 use crate::fault::ExprFault;
 use crate::spelling::symbol_of;
 use crate::token::{Token, TokenKind};
@@ -17,6 +18,30 @@ use std::alloc::Allocator;
 
 /// The longest text, in bytes (E1).
 const LONGEST: usize = 65536;
+
+/// Whether a byte only separates tokens: space, tab, line feed and carriage return.
+fn is_blank(byte: u8) -> bool
+    ensures { result ≡ is_blank byte }
+{
+    byte == b' ' || byte == b'\t' || byte == b'\n' || byte == b'\r'
+}
+
+/// Whether a word may begin with a byte, and so whether it may end with it: a letter, a digit or,
+/// outside brackets, a colon, as in `::1`. `inside` is whether the byte is in brackets, in
+/// which a colon is a token: `tcp[0:2]`.
+fn starts_word(inside: bool, byte: u8) -> bool
+    ensures { result ≡ starts_word inside byte }
+{
+    byte.is_ascii_alphanumeric() || (!inside && byte == b':')
+}
+
+/// Whether a word may have a byte between its ends: what it may begin with, points and dashes, as
+/// in `10.0.0.1` and `tcp-syn`. `inside` is as in `starts_word`.
+fn within_word(inside: bool, byte: u8) -> bool
+    ensures { result ≡ within_word inside byte }
+{
+    starts_word(inside, byte) || byte == b'.' || byte == b'-'
+}
 
 /// How many bytes the word has with which a text begins. `inside` is whether the text is in
 /// brackets. The word ends with the last byte that may end one: the dash of `10.0.0.1-` isn't part

@@ -6,7 +6,6 @@
 #![tactic(auto)]
 
 mod address;
-mod character;
 mod fault;
 pub mod laws;
 mod lexer;

@@ -1,4 +1,4 @@
-//! Numbers in words, and the range of two. All are below 2^32.
+//! Reads numbers in words, and ranges of two numbers. All are below 2^32.
 
 ghost use Rattle.std.specs.Prelude.{◌≡◌, ◌≤◌, ◌&&◌, ◌==◌, position};
 ghost use Rattle.flt_words.specs.Numbers.{IsNumber, IsRange, WritesNumber};

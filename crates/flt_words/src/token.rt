@@ -1,4 +1,4 @@
-//! What a text is cut into.
+//! The tokens into which a text is cut, and their parts.
 
 /// A protocol, named without a value or before a value, `broadcast`, `multicast` or `[`.
 #[derive(Clone, Copy, PartialEq, Eq)]

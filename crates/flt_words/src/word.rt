@@ -1,5 +1,5 @@
-//! What a word means. Its colons, points and dashes show which kinds it may be of, in this order:
-//! a word with a colon is an address of MAC or IPv6 or nothing, whatever else it has.
+//! The meaning of a word. Its colons, points and dashes show which kinds it may be of, in this
+//! order: a word with a colon is a MAC or IPv6 address or nothing, whatever else it has.
 //!
 //! Each `kind_..` here returns the kind of the word's token, with its value; `Unknown` if the
 //! word means nothing, `TooLarge` if a number in it is above 2^32 - 1. In the clauses 58 is a

@@ -17,46 +17,30 @@ impl Random {
         }
     }
 
-    /// Any number of 64 bits.
-    pub fn word(&mut self) -> u64 {
-        self.generator.next_u64()
-    }
-
     /// Any number of 32 bits.
-    pub fn half(&mut self) -> u32 {
-        self.generator.next_u32()
+    pub fn half(&mut self) -> u64 {
+        u64::from(self.generator.next_u32())
     }
 
     /// A number below this one; 0 if it is 0.
-    pub fn below(&mut self, end: u32) -> u32 {
-        self.half().checked_rem(end).unwrap_or(0)
+    pub fn below(&mut self, end: u64) -> u64 {
+        self.generator.next_u64().checked_rem(end).unwrap_or(0)
     }
 
     /// A place among `count`; 0 if there are none.
     pub fn place(&mut self, count: usize) -> usize {
-        self.below(u32::try_from(count).unwrap_or(u32::MAX)) as usize
+        self.below(count as u64) as usize
     }
 
     /// Whether what happens once in `times` times happens.
-    pub fn one_in(&mut self, times: u32) -> bool {
+    pub fn one_in(&mut self, times: u64) -> bool {
         self.below(times) == 0
     }
 
-    /// Any byte.
-    pub fn byte(&mut self) -> u8 {
-        (self.half() & 0xff) as u8
-    }
-
-    /// One of the numbers.
-    pub fn number_of(&mut self, numbers: &[u16]) -> u16 {
-        let place = self.place(numbers.len());
-        numbers.get(place).copied().unwrap_or(0)
-    }
-
-    /// One of the words.
-    pub fn word_of<'w>(&mut self, words: &[&'w str]) -> &'w str {
-        let place = self.place(words.len());
-        words.get(place).copied().unwrap_or("")
+    /// One of the values.
+    pub fn pick<T: Copy + Default>(&mut self, values: &[T]) -> T {
+        let place = self.place(values.len());
+        values.get(place).copied().unwrap_or_default()
     }
 
     /// Fills the slice with any bytes.

@@ -2,22 +2,24 @@
 
 use std::alloc::{AllocError, Global};
 
-/// How many bytes of a block stand before its body.
-const BEFORE_BODY: usize = 8;
-
 /// How many bytes of a packet's block stand before its data.
 const BEFORE_DATA: usize = 28;
 
-/// How many bytes of a block follow its body.
-const AFTER_BODY: usize = 4;
-
-/// A packet as it was written.
-#[derive(Clone, Copy)]
+/// A packet as it was written. Two are equal if they have the same interface, time, lengths, data
+/// and comment.
+#[derive(Clone, Copy, PartialEq)]
 pub struct Packet<'b> {
     /// The block of its interface.
     interface: &'b [u8],
-    /// Its own block.
-    block: &'b [u8],
+    /// Its own block after the interface's number.
+    fields: &'b [u8],
+    pub link: u16,
+    /// In nanoseconds.
+    pub time: u64,
+    /// The original length.
+    pub original: u32,
+    pub data: &'b [u8],
+    pub comment: &'b [u8],
 }
 
 /// The packets of a file, and whether it was nothing but whole blocks of known kinds.
@@ -27,85 +29,41 @@ pub struct Packets<'b> {
     pub is_whole: bool,
 }
 
-impl Packets<'_> {
-    /// No packets.
-    pub fn none(alloc: Global) -> Self {
-        Packets {
-            list: Vec::new(alloc),
-            is_whole: false,
-        }
-    }
-}
-
 /// The little-endian number at a place.
 fn number(bytes: &[u8], place: usize) -> Option<u32> {
-    match bytes.get(place..place.saturating_add(4))? {
-        [first, second, third, last] => {
-            Some(u32::from_le_bytes([*first, *second, *third, *last]))
-        }
-        _ => None,
-    }
+    Some(u32::from_le_bytes(*bytes.get(place..)?.first_chunk::<4>()?))
 }
 
 /// The first block of some, and what is after it.
 fn block(bytes: &[u8]) -> Option<(&[u8], &[u8])> {
-    let size = number(bytes, 4)? as usize;
-    Some((bytes.get(..size)?, bytes.get(size..)?))
+    bytes.split_at_checked(number(bytes, 4)? as usize)
 }
 
-impl<'b> Packet<'b> {
-    /// Whether both have the same interface, time, lengths, data and comment.
-    pub fn is(&self, other: &Packet<'_>) -> bool {
-        let own = self.block.get(BEFORE_BODY.saturating_add(4)..);
-        let others = other.block.get(BEFORE_BODY.saturating_add(4)..);
-        self.interface == other.interface && own == others
-    }
-
-    /// The link type of its interface.
-    pub fn link(&self) -> u32 {
-        number(self.interface, BEFORE_BODY).unwrap_or(0) & 0xffff
-    }
-
-    /// Its time, in nanoseconds.
-    pub fn time(&self) -> u64 {
-        let high = u64::from(number(self.block, 12).unwrap_or(0));
-        high << 32 | u64::from(number(self.block, 16).unwrap_or(0))
-    }
-
-    /// Its original length.
-    pub fn original(&self) -> u64 {
-        u64::from(number(self.block, 24).unwrap_or(0))
-    }
-
-    /// Its captured bytes.
-    pub fn data(&self) -> &'b [u8] {
-        let size = number(self.block, 20).unwrap_or(0) as usize;
-        let end = BEFORE_DATA.saturating_add(size);
-        self.block.get(BEFORE_DATA..end).unwrap_or_default()
-    }
-
-    /// Its comment.
-    pub fn comment(&self) -> &'b [u8] {
-        let padded = self.data().len().div_ceil(4).saturating_mul(4);
-        let option = BEFORE_DATA.saturating_add(padded);
-        match number(self.block, option) {
-            Some(head) if option.saturating_add(AFTER_BODY) < self.block.len() => {
-                let start = option.saturating_add(4);
-                let end = start.saturating_add((head >> 16) as usize);
-                self.block.get(start..end).unwrap_or_default()
-            }
-            _ => &[],
+/// The comment among options, which is the only one; nothing if there are none.
+fn comment(options: &[u8]) -> &[u8] {
+    match number(options, 0) {
+        Some(head) if 4 < options.len() => {
+            let end = 4usize.saturating_add((head >> 16) as usize);
+            options.get(4..end).unwrap_or_default()
         }
+        _ => &[],
     }
 }
 
 /// The packet of a block, if its interface was described.
-fn packet_of<'b>(block: &'b [u8], interfaces: &[&'b [u8]]) -> Option<Packet<'b>> {
-    let place = number(block, BEFORE_BODY)? as usize;
-    let interface = interfaces.get(place)?;
+fn read_packet<'b>(block: &'b [u8], interfaces: &[&'b [u8]]) -> Option<Packet<'b>> {
+    let interface = interfaces.get(number(block, 8)? as usize)?;
+    let (high, low) = (number(block, 12)?, number(block, 16)?);
+    let end = BEFORE_DATA.saturating_add(number(block, 20)? as usize);
+    let options = end.div_ceil(4).saturating_mul(4);
     Some(Packet {
         interface: *interface,
-        block,
+        fields: block.get(12..)?,
+        link: (number(interface, 8)? & 0xffff) as u16,
+        time: u64::from(high) << 32 | u64::from(low),
+        original: number(block, 24)?,
+        data: block.get(BEFORE_DATA..end)?,
+        comment: comment(block.get(options..)?),
     })
 }
 
@@ -120,13 +78,10 @@ pub fn packets_of<'b>(alloc: Global, bytes: &'b [u8]) -> Result<Packets<'b>, All
             break;
         };
         rest = following;
-        match number(first, 0) {
-            Some(0x0A0D_0D0A) => {}
-            Some(1) => interfaces.push(first)?,
-            Some(6) => match packet_of(first, &interfaces) {
-                Some(packet) => list.push(packet)?,
-                None => is_whole = false,
-            },
+        match (number(first, 0), read_packet(first, &interfaces)) {
+            (Some(0x0A0D_0D0A), _) => {}
+            (Some(1), _) => interfaces.push(first)?,
+            (Some(6), Some(packet)) => list.push(packet)?,
             _ => is_whole = false,
         }
     }

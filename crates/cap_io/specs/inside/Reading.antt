@@ -1,4 +1,4 @@
--- How a unit is read: which bytes came or are missing, and the result of a record or block.
+-- One read of a unit: which bytes came or are missing, and the result for a record or block.
 use Rattle.std.specs.Prelude.{◌≡◌, ℕ, ◌+◌, ◌^◌, ◌<◌, ◌≤◌, ◌⊎◌, Bool, true, false, List, [], ◌∷◌, ◌++◌, length, take, drop, Option, None, Some, Result, Ok, Err, IfOk, IfErr, is_some, IsTrue, OnOk, OnErr}
 use Rattle.std.specs.List.{slice_get}
 use Rattle.cap_octet.specs.Packet.{Captured}
@@ -24,9 +24,9 @@ use Rattle.cap_io.specs.declared.file_state.FileState.TheVariants as state
 use Rattle.cap_io.specs.Capture.{Declared, Nothing, PcapFile, PcapngFile, IsUnit, NoUnit, first_link_after, front_of}
 use Rattle.cap_io.specs.Reading.{most_in_unit, read_failures, IsTaken, TakesMemory, held_length, IsReason, declared_by, packet_in_unit}
 
--- The counts of a device after a unit, or what follows its first `front` bytes, was read: with them
--- `count` bytes came, or at most `most` on an error. A failed read is reported exactly if the
--- device failed in this call.
+-- The counts of a device after a read of a unit whose first `front` bytes had come before. With
+-- these, the unit has `count` bytes; on an error at most `most` bytes came. A failed read is
+-- reported exactly if the device failed in this call.
 pub record Moves {I X : Type 0} (device : Ghosts I) (old new : I) (front : ℕ) (count : X → ℕ)
     (most : ℕ) (r : Result X Fault) : Type 0 where
   pub counted : IfOk r (λ x. device.given new + front ≡ device.given old + count x)
@@ -35,20 +35,20 @@ pub record Moves {I X : Type 0} (device : Ghosts I) (old new : I) (front : ℕ) 
   pub at_most : IfErr r (λ _. device.given new + front ≤ device.given old + most)
   pub failed : device.failures new ≡ device.failures old + read_failures r
   pub sure : device.sure new ≡ device.sure old
-  -- a device that failed had given as many bytes as it was sure to
+  -- a device that failed had given all bytes that it was sure to give
   pub enough : 0 < device.failures new → HasGiven (device.sure new) (device.given new)
   -- what was given is no longer unread
   pub told : IsTrue device.tells
       → device.given new + length (device.unread new)
       ≡ device.given old + length (device.unread old)
 
--- no unit came: for this reason, and after these bytes of what is in its place
+-- no unit came: the fault is a reason for that, and these bytes were taken
 pub record NoUnitCame (declared : Declared) (unread unread' : List ℕ) (fault : Fault) : Type 0 where
   pub why : IsReason declared unread fault
   pub taken : IsTaken declared unread unread' fault
 
--- Bytes after the first `from` of a buffer of `size` didn't all come: with those in front of them
--- fewer than `size` did.
+-- A buffer of `size` bytes had its first `from` ones, and the others didn't all come: too few are
+-- left, or the device failed.
 pub record RestMissing (from size : ℕ) (unread unread' : List ℕ) (fault : Fault) : Type 0 where
   pub why : ((fault ≡ Truncated) × (from + length unread < size)) ⊎ (fault ≡ ReadFailed)
   pub count : ℕ
@@ -61,8 +61,8 @@ abbrev pub FrontCame : List ℕ → List ℕ → Bool → List ℕ → Type 0
 FrontCame unread front true unread' = unread ≡ front ++ unread'
 FrontCame unread front false unread' = (unread ≡ []) × (unread' ≡ [])
 
--- The first bytes of a unit didn't all come: the text has some, but fewer than a unit begins with;
--- or the device failed.
+-- The first `size` bytes of a unit didn't all come: at least one byte is left, but fewer than
+-- `size`; or the device failed.
 pub record FrontMissing (size : ℕ) (unread unread' : List ℕ) (fault : Fault) : Type 0 where
   pub some : 0 < length unread ⊎ (fault ≡ ReadFailed)
   pub missing : RestMissing 0 size unread unread' fault
@@ -85,8 +85,8 @@ known_first_link state.Unknown = None
 known_first_link (state.Pcap head) = Some head.link
 known_first_link (state.Pcapng order first) = first
 
--- Before anything is read there is no interface. A section has no more than may be, and the first
--- link type of a file is known once its section has an interface.
+-- Before anything is read there is no interface. A section has at most the interfaces that are
+-- allowed; once it has one, the first link type of the file is known.
 abbrev pub IsConsistent : FileState → List Described → Type 0
 IsConsistent state.Unknown interfaces = interfaces ≡ []
 IsConsistent (state.Pcap head) interfaces = Unit {0}
@@ -94,7 +94,7 @@ IsConsistent (state.Pcapng order first) interfaces =
     (first_link_after first (record { order = order; interfaces = interfaces }) ≡ first)
     × FitSection interfaces
 
--- a packet's unit lies at the start of the buffer, and its data and its options in its unit
+-- a packet's unit is at the start of the buffer, and its data and options are inside the unit
 pub record FitsBuffer (spans : PacketSpans) (buffer : List ℕ) : Type 0 where
   pub bytes : spans.bytes.start + spans.bytes.length ≤ spans.size
   pub options : spans.options.start + spans.options.length ≤ spans.size
@@ -116,7 +116,7 @@ HasInterfaceIfAny declared spans (next_unit.Other size) = Unit {0}
 HasInterfaceIfAny declared spans next_unit.Packet = HasInterface declared spans
 HasInterfaceIfAny declared spans next_unit.End = Unit {0}
 
--- the place where the packet of a record lies, which has no options
+-- the place of the packet in a record, which has no options
 abbrev pub record_spans : RecordHead → PacketSpans
 record_spans found = record {
   size = 16 + found.captured;
@@ -127,8 +127,8 @@ record_spans found = record {
   orig = found.orig;
 }
 
--- A record that fails no check was taken from what the device had at hand, to the start of the
--- buffer.
+-- A record that fails no check was taken from the bytes that the device had at hand, and copied to
+-- the start of the buffer.
 pub record RecordTaken {I : Type 0} (device : Ghosts I) (head : Head) (old : I) (buffer : List ℕ)
     (found : RecordHead) (new : I) : Type 0 where
   pub says : checked (first_failing (field_checks head (take 16 buffer)))
@@ -176,8 +176,8 @@ pub record EndCame (declared : Declared) (unread : List ℕ) (declared' : Declar
   pub same : declared' ≡ declared
   pub rest : unread' ≡ []
 
--- the result of reading a unit, by what the reader returned: a unit without a packet, one with a
--- packet, or the clean end
+-- the result of reading a unit, for each value that the reader returns: a unit without a packet,
+-- one with a packet, or the clean end
 abbrev pub UnitCame : Declared → List ℕ → List ℕ → PacketSpans → NextUnit → Declared → List ℕ
     → Type 0
 UnitCame declared unread buffer spans (next_unit.Other size) declared' unread' =
@@ -199,22 +199,22 @@ IsSized spans (next_unit.Other size) buffer given = (0 < size) × (given < 2 ^ 6
 IsSized spans next_unit.Packet buffer given = FitsBuffer spans buffer × (given < 2 ^ 63)
 IsSized spans next_unit.End buffer given = Unit {0}
 
--- the section in front of a block of such a file
+-- the section to which the next block belongs, if a section was read
 abbrev pub section_before : FileState → List Described → Option Section
 section_before state.Unknown interfaces = None
 section_before (state.Pcap head) interfaces = None
 section_before (state.Pcapng order first) interfaces =
     Some (record { order = order; interfaces = interfaces })
 
--- these bytes begin a block: a section header if nothing was read, and any block after a
--- section
+-- a block may begin with these bytes: before anything is read, only a section header; in pcapng,
+-- any block; in pcap, none
 abbrev pub BeginsBlock : FileState → List ℕ → Type 0
 BeginsBlock state.Unknown front = is_section front ≡ true
 BeginsBlock (state.Pcap head) front = ⊥
 BeginsBlock (state.Pcapng order first) front = Unit {0}
 
--- The result of reading a unit whose first bytes had come: for the device, the buffer, the place of
--- a packet in it, and what is known of the file. A fault doesn't change what is known.
+-- The result of reading a unit whose first bytes had come: the new device, the new buffer, the
+-- place of a packet in it, and the new state of the file, which a fault doesn't change.
 pub record ReadsUnit {I A : Type 0} (device : Ghosts I) (old : UnitReader I A) (front : List ℕ)
     (r : Result NextUnit Fault) (new : UnitReader I A) : Type 0 where
   pub moves : Moves device old.input new.input (length front) (unit_size new.spans) most_in_unit r
@@ -230,8 +230,8 @@ pub record ReadsUnit {I A : Type 0} (device : Ghosts I) (old : UnitReader I A) (
       → NoUnitCame (declared_by old.file old.table) (front ++ device.unread old.input)
       (device.unread new.input) fault)
   pub kept : OnErr r ((new.file ≡ old.file) × (new.table ≡ old.table))
-  -- the buffer has room for the unit, except the file header of pcap, and never less than before;
-  -- it has no more than a unit may need, if it had no more before
+  -- the buffer never gets shorter, and holds any unit except the file header of pcap; it isn't
+  -- longer than the longest unit, unless it was before
   pub grown : length old.buffer.items ≤ length new.buffer.items
   pub bounded : length old.buffer.items ≤ most_in_unit → length new.buffer.items ≤ most_in_unit
   pub fits : IfOk r

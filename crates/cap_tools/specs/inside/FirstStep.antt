@@ -1,7 +1,7 @@
 -- A job before its first step, and the result of a listing.
 use Rattle.std.specs.Prelude.{◌≡◌, ◌⊎◌, ℕ, ◌+◌, ◌<◌, Bool, List, [], length, None, Some}
 use Rattle.flt_bpf.specs.declared.insn.Insn.{Insn}
-use Rattle.cap_filter.specs.declared.refusal.Refusal.{Refusal}
+use Rattle.cap_filter.specs.declared.filter.Refusal.{Refusal}
 use Rattle.cap_filter.specs.Refusals.{refusal_status}
 use Rattle.cap_octet.specs.Views.{OutputView, output_view}
 use Rattle.cap_process.specs.Reports.{name_at}

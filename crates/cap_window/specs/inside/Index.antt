@@ -1,5 +1,5 @@
--- How the index of the window finds an equal mark: by a tree for each hash, with the newest
--- mark on top.
+-- How the index of the window finds an equal mark: each hash has a tree of marks, with the newest
+-- one on top.
 use Rattle.std.specs.Prelude.{◌≡◌, ℕ, ◌+◌, ◌-◌, ◌/◌, ◌%◌, ◌^◌, ◌<◌, ◌≤◌, ◌==◌, ◌&&◌, Bool, true, false, not, nat_lt, if◌then◌else◌, List, [], length, slice_index, take, bit_and, IsTrue}
 use Rattle.std.specs.Int.{w32, from_le_bytes}
 use Rattle.std.specs.List.{slice_index_or}
@@ -7,8 +7,8 @@ use Rattle.cap_window.specs.Marks.{is_same_mark}
 use Rattle.cap_window.specs.declared.links.Links.{Links}
 use Rattle.cap_window.specs.declared.mark.Mark.{Mark}
 
--- the bit of a mark at a depth: in its digest, from its last byte to its first, and then of its
--- length; in each byte and in the length from the lowest bit on
+-- the bit of a mark at a depth: from 0 to 127 a bit of its digest, whose last byte comes first, and
+-- from 128 on a bit of its length; the lowest bit comes first in each byte and in the length
 unfoldable pub mark_bit : Mark → ℕ → Bool
 mark_bit m depth =
     if nat_lt depth 128 then slice_index m.digest (15 - depth / 8) / 2 ^ (depth % 8) % 2 == 1
@@ -24,7 +24,7 @@ abbrev pub marks_with_bit : (Mark → Bool) → ℕ → Bool → Mark → Bool
 marks_with_bit class depth true m = class m && mark_bit m depth
 marks_with_bit class depth false m = class m && not (mark_bit m depth)
 
--- the marks that are wanted, without those that are equal to a top
+-- the wanted marks, except those equal to the top
 abbrev pub but : (Mark → Bool) → Mark → Mark → Bool
 but wanted top m = wanted m && not (is_same_mark m top)
 
@@ -32,7 +32,7 @@ but wanted top m = wanted m && not (is_same_mark m top)
 abbrev pub every : Mark → Bool
 every m = true
 
--- the mark at a place, and its links; any at a place past the end
+-- the mark at a place; past the end, one without a meaning
 abbrev pub mark_at : List Mark → ℕ → Mark
 mark_at marks i = slice_index_or marks i (record { length = 0; digest = [] })
 
@@ -40,16 +40,16 @@ mark_at marks i = slice_index_or marks i (record { length = 0; digest = [] })
 abbrev pub links_at : List Links → ℕ → Links
 links_at links i = slice_index_or links i (record { zeros = 0; ones = 0 })
 
--- at no place from `low` up to `limit` is a mark of the class that is wanted
+-- no mark of the class at a place from `low` to before `limit` is wanted
 abbrev pub HasNoMark : List Mark → (class wanted : Mark → Bool) → (low limit : ℕ) → Type 0
 HasNoMark marks class wanted low limit =
     (j : ℕ) → low ≤ j → j < limit → IsTrue (class (mark_at marks j))
     → IsTrue (wanted (mark_at marks j)) → ⊥
 
--- A tree has the marks below `limit` that belong to a class and are wanted. Its top is d places
--- below `limit` and belongs to the class: none of them is newer, but it may be one that isn't
--- wanted. The others hang below it by one bit of theirs; those equal to the top are left out. There
--- are none where d is above `limit`.
+-- A tree of the wanted marks of a class at places below `limit`. Its top is the mark of the class
+-- at place `limit - d`; no wanted one is newer, but the top itself needn't be wanted. The others
+-- are in two trees below it, one for each value of their bit at `depth`; those equal to the top are
+-- omitted. If d is above `limit`, the tree is empty.
 pub data IsMarkTree (marks : List Mark) (links : List Links) : (class wanted : Mark → Bool)
     → (depth limit d : ℕ) → Type 0 where
   Empty : (class wanted : Mark → Bool) (depth limit d : ℕ) → limit < d
@@ -63,8 +63,7 @@ pub data IsMarkTree (marks : List Mark) (links : List Links) : (class wanted : M
       (depth + 1) top (link_by_bit (links_at links top) bit))
       → IsMarkTree marks links class wanted depth limit d
 
--- below a mark hang those of the class that come before it and are wanted, except those equal to
--- it
+-- the two trees below a mark have the earlier wanted marks of the class, except those equal to it
 abbrev pub IsOnTop : List Mark → List Links → (class wanted : Mark → Bool) → (depth place : ℕ)
     → Type 0
 IsOnTop marks links class wanted depth place =
@@ -72,21 +71,20 @@ IsOnTop marks links class wanted depth place =
     → IsMarkTree marks links (marks_with_bit class depth bit) (but wanted (mark_at marks place))
     (depth + 1) place (link_by_bit (links_at links place) bit)
 
--- a mark of a class, and the tree of those of its class that come before it, except those equal to
--- it
+-- a mark of a class, and the tree of the earlier marks of this class, except those equal to it
 pub record IsHung (marks : List Mark) (links : List Links) (class : Mark → Bool)
     (place d : ℕ) : Type 0 where
   pub belongs : IsTrue (class (mark_at marks place))
   pub tree : IsMarkTree marks links class (but every (mark_at marks place)) 0 place d
 
--- the mark at this place was put on top of all of its class before it, and the links of marks that
--- aren't of the class didn't change
+-- the mark at this place was put on top of all earlier marks of its class; the links of marks of
+-- other classes didn't change
 pub record IsPutOnTop (marks : List Mark) (old new : List Links) (class : Mark → Bool)
     (place : ℕ) : Type 0 where
   pub below : IsOnTop marks new class every 0 place
   pub others : (j : ℕ) → (IsTrue (class (mark_at marks j)) → ⊥) → links_at new j ≡ links_at old j
 
--- the hash of a mark, from 0 to the mask: which head leads to its tree
+-- the hash of a mark, from 0 to the mask: the index of the head that leads to its tree
 abbrev pub hash_of : ℕ → Mark → ℕ
 hash_of mask m = bit_and (from_le_bytes w32 (take 4 m.digest)) mask
 
@@ -104,7 +102,7 @@ pub record IsIndex (mask : ℕ) (marks : List Mark) (links : List Links) (heads 
       → IsMarkTree marks links (has_hash mask h) every 0 (length marks)
       (newest + 1 - slice_index heads h)
 
--- what holds of the fields of a window
+-- the invariant of the fields of a window
 pub record IsSoundIndex (mask : ℕ) (marks : List Mark) (capacity : ℕ) (links : List Links)
     (link_capacity : ℕ) (heads : List ℕ) (newest : ℕ) : Type 0 where
   pub index : IsIndex mask marks links heads newest

@@ -13,7 +13,7 @@ use Rattle.flt_ast.specs.declared.qualifiers.CompleteQualifiers.{CompleteQualifi
 use Rattle.flt_ast.specs.declared.value.Value.{Value}
 use Rattle.flt_ast.specs.declared.value.Value.TheVariants as value
 use Rattle.flt_ast.specs.declared.value.NetMask.TheVariants as mask
-use Rattle.flt_ast.specs.declared.net.Ip4Net.{Ip4Net}
+use Rattle.flt_ast.specs.declared.value.Ip4Net.{Ip4Net}
 use Rattle.flt_ast.specs.Nets.{first_bits, ip4_net}
 use Rattle.flt_ast.specs.Tree.{TruthTree, qualified, compared, denied, joined}
 use Rattle.cap_octet.specs.declared.link.Link.{Link}

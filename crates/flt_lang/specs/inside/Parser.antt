@@ -15,8 +15,8 @@ use Rattle.flt_ast.specs.declared.node.Node.{Node}
 use Rattle.flt_ast.specs.declared.node.Node.TheVariants as node
 use Rattle.flt_lang.specs.declared.frame.Frame.{Frame}
 use Rattle.flt_lang.specs.declared.frame.Frame.TheVariants as frame
-use Rattle.flt_lang.specs.declared.protocols.ProtocolRole.{ProtocolRole}
-use Rattle.flt_lang.specs.declared.protocols.ProtocolRole.TheVariants as role
+use Rattle.flt_lang.specs.declared.primitive.ProtocolRole.{ProtocolRole}
+use Rattle.flt_lang.specs.declared.primitive.ProtocolRole.TheVariants as role
 use Rattle.flt_lang.specs.declared.frame.Operand.{Operand}
 use Rattle.flt_lang.specs.declared.frame.Operand.TheVariants as operand
 use Rattle.flt_lang.specs.declared.frame.Sort.{Sort}

@@ -1,9 +1,4 @@
-use Rattle.std.proofs.Common.{◌≡◌, ◌++◌, ◌∷◌, [], All, List, sym, subst}
-use Rattle.std.proofs.lemmas.List.{take_more}
-use Rattle.flt_bpf.specs.Content.{Content}
-use Rattle.cap_octet.specs.declared.link.Link.{Link}
-use Rattle.cap_octet.specs.declared.link.Link.TheVariants.{Ether}
-use Rattle.cap_filter.specs.Programs.{AreMade}
+use Rattle.cap_filter.proofs.Common.{◌≡◌, ◌++◌, ◌∷◌, [], All, List, sym, subst, take_more, Content, Link, Ether, AreMade}
 use Rattle.cap_filter.proofs.Filters.{fresh-put, made-put}
 use Rattle.cap_filter.proofs.compiled.make_programs.Goals as goal
 

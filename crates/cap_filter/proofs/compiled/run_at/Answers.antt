@@ -1,9 +1,4 @@
-use Rattle.std.proofs.Common.{◌≡◌, subst}
-use Rattle.std.proofs.lemmas.List.{get_or_default}
-use Rattle.cap_octet.specs.Packet.{captured}
-use Rattle.flt_bpf.specs.Content.{Content}
-use Rattle.flt_bpf.specs.Machine.{Answered}
-use Rattle.cap_filter.specs.Programs.{met_on}
+use Rattle.cap_filter.proofs.Common.{◌≡◌, subst, get_or_default, captured, Content, Answered, met_on}
 use Rattle.cap_filter.proofs.Filters.{set-ran}
 use Rattle.cap_filter.proofs.compiled.run_at.Goals as goal
 

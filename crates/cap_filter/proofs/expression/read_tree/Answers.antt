@@ -1,6 +1,4 @@
-use Rattle.std.proofs.Common.{List, Ok, sym, subst}
-use Rattle.flt_words.specs.declared.token.Token.{Token}
-use Rattle.flt_words.specs.Tokens.{Tokens}
+use Rattle.cap_filter.proofs.Common.{List, Ok, sym, subst, Token, Tokens}
 use Rattle.cap_filter.proofs.Expressions.{lexed-reason, parsed-reads, parsed-refused}
 use Rattle.cap_filter.proofs.expression.read_tree.Goals as goal
 

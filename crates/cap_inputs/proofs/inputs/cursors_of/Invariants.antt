@@ -1,7 +1,5 @@
-use Rattle.std.proofs.Common.{◌≡◌, ◌++◌, map}
+use Rattle.cap_inputs.proofs.Common.{◌≡◌, ◌++◌, map, fresh_view, fresh_input}
 use Rattle.std.specs.Vec.Iter.{into_iter_items}
-use Rattle.cap_inputs.specs.Fresh.{fresh_view}
-use Rattle.cap_octet.specs.Views.{fresh_input}
 use Rattle.cap_inputs.proofs.inputs.cursors_of.Given as goal
 
 abbrev pub invariant-loop-input : goal.invariant-loop-input

@@ -1,8 +1,4 @@
-use Rattle.std.proofs.Common.{◌≡◌, ◌+◌, ◌≤◌, ℕ, Bool, Ok, List, ◌++◌, take, sym, ap, ◌∙◌, arith, subst, rules}
-use Rattle.std.proofs.lemmas.List.{take-take}
-use Rattle.cap_octet.specs.Device.{Passes}
-use Rattle.cap_octet.specs.Checks.{checked, first_failing}
-use Rattle.cap_pcap.specs.Record.{field_checks, record_header_in}
+use Rattle.cap_io.proofs.Common.{◌≡◌, ◌+◌, ◌≤◌, ℕ, Bool, Ok, List, ◌++◌, take, sym, ap, ◌∙◌, arith, subst, rules, take-take, Passes, checked, first_failing, field_checks, record_header_in}
 use Rattle.cap_io.proofs.Hands.{taken-first}
 use Rattle.cap_io.proofs.pcap.take_record.Goals as goal
 

@@ -1,6 +1,4 @@
-use Rattle.std.proofs.Common.{rules, ◌≡◌, ℕ, List, [], ◌++◌, ◌∙◌}
-use Rattle.std.proofs.lemmas.List.{append-nil}
-use Rattle.cap_io.specs.Text.{file_start}
+use Rattle.cap_io.proofs.Common.{rules, ◌≡◌, ℕ, List, [], ◌++◌, ◌∙◌, append-nil, file_start}
 use Rattle.cap_io.proofs.Parts.{appends-as, is-pcap, pcap-file_header}
 use Rattle.cap_io.proofs.writing.begin_file.Goals as goal
 

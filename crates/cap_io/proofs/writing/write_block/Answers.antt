@@ -1,7 +1,4 @@
-use Rattle.std.proofs.Common.{Ok, Err}
-use Rattle.std.proofs.lemmas.Result.{err_from_is_err_and}
-use Rattle.cap_octet.specs.Packet.{captured}
-use Rattle.cap_io.specs.inside.Sink.{Appends, description_text}
+use Rattle.cap_io.proofs.Common.{Ok, Err, err_from_is_err_and, captured, Appends, description_text}
 use Rattle.cap_io.proofs.Parts.{appends-exactly, appends-nothing, appends-stopped, appends-then}
 use Rattle.cap_io.proofs.writing.write_block.Goals.{then-interface+in_ok-map_err, else-interface}
 use Rattle.cap_io.proofs.writing.write_block.Goals as goal

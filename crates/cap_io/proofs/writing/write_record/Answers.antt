@@ -1,9 +1,5 @@
-use Rattle.std.proofs.Common.{◌≡◌, ℕ, List, [], ◌++◌, ap, ◌∙◌}
-use Rattle.std.proofs.lemmas.List.{append-nil}
-use Rattle.std.proofs.lemmas.Result.{err_from_is_err_and}
-use Rattle.cap_octet.specs.Packet.{captured}
+use Rattle.cap_io.proofs.Common.{◌≡◌, ℕ, List, [], ◌++◌, ap, ◌∙◌, append-nil, err_from_is_err_and, captured, record_text}
 use Rattle.cap_pcap.specs.Encoding.{resolution_of}
-use Rattle.cap_io.specs.Text.{record_text}
 use Rattle.cap_io.proofs.Parts.{appends-as, appends-stopped, appends-then}
 use Rattle.cap_io.proofs.writing.write_record.Goals as goal
 

@@ -1,7 +1,4 @@
-use Rattle.std.proofs.Common.{arith, rules, refl, ◌≡◌, ◌∙◌, pos, FitsSigned, w16, w64, of_z, to_z}
-use Rattle.std.proofs.lemmas.Int.{to_z-of_z}
-use Rattle.jiff_core.specs.Date.{epoch_day}
-use Rattle.jiff_core.proofs.SignedLemmas.{signed_arith}
+use Rattle.cap_octet.proofs.Common.{arith, rules, refl, ◌≡◌, ◌∙◌, pos, FitsSigned, w16, w64, of_z, to_z, to_z-of_z, epoch_day, signed_arith}
 use Rattle.cap_octet.proofs.Days.{counted_date}
 use Rattle.cap_octet.proofs.calendar.calendar_day.Goals as goal
 

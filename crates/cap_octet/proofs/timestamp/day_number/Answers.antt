@@ -1,7 +1,4 @@
-use Rattle.std.proofs.Common.{◌≡◌, ◌≤◌, ◌∙◌, sym, ap, arith, pos, to_z, w16, ℕ, Some}
-use Rattle.std.proofs.lemmas.Int.{to_z_pos}
-use Rattle.jiff_core.specs.Calendar.{IsCivilDate, days_in_month}
-use Rattle.jiff_core.proofs.SignedLemmas.{signed_arith}
+use Rattle.cap_octet.proofs.Common.{◌≡◌, ◌≤◌, ◌∙◌, sym, ap, arith, pos, to_z, w16, ℕ, Some, to_z_pos, IsCivilDate, days_in_month, signed_arith}
 use Rattle.cap_octet.proofs.Days.{days_since, day_there}
 use Rattle.cap_octet.proofs.timestamp.day_number.Goals as goal
 

@@ -1,7 +1,4 @@
-use Rattle.std.proofs.Common.{◌∙◌, sym, ap, subst}
-use Rattle.cap_octet.specs.declared.fault.Fault.{Fault}
-use Rattle.cap_pcapng.specs.Block.{Parts, parts_of}
-use Rattle.cap_pcapng.specs.Effect.{IsBlockFault, LieAsSaid}
+use Rattle.cap_pcapng.proofs.Common.{◌∙◌, sym, ap, subst, Fault, Parts, parts_of, IsBlockFault, LieAsSaid}
 use Rattle.cap_pcapng.proofs.Entered.{enhanced_enters, enhanced_room, refused_by_itself, simple_enters}
 use Rattle.cap_pcapng.proofs.effect.block_effect.Goals as goal
 

@@ -1,6 +1,4 @@
-use Rattle.std.proofs.Common.{◌≡◌, ◌++◌, ◌-◌, ℕ, List, ap, arith, drop, IfErr, IfOk, take, Option, None, Some, subst}
-use Rattle.cap_pcapng.specs.Block.{body_checks, body_in, option_checks, parts_in_body}
-use Rattle.cap_octet.specs.declared.fault.Fault.{Fault}
+use Rattle.cap_pcapng.proofs.Common.{◌≡◌, ◌++◌, ◌-◌, ℕ, List, ap, arith, drop, IfErr, IfOk, take, Option, None, Some, subst, body_checks, body_in, option_checks, parts_in_body, Fault}
 use Rattle.cap_pcapng.specs.declared.blocks.Block.{Block}
 use Rattle.cap_pcapng.proofs.Judged.{judged-fault, judged-passes}
 use Rattle.cap_pcapng.proofs.WholeBlocks.{block_fault-body}

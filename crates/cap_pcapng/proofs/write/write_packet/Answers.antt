@@ -1,6 +1,4 @@
-use Rattle.std.proofs.Common.{◌+◌, List, ℕ, sym, subst, ◌∙◌, arith}
-use Rattle.cap_octet.specs.Writer.{WritesExactly}
-use Rattle.cap_octet.specs.Packet.{Captured, captured}
+use Rattle.cap_pcapng.proofs.Common.{◌+◌, List, ℕ, sym, subst, ◌∙◌, arith, WritesExactly, Captured, captured}
 use Rattle.cap_pcapng.proofs.WrittenBlocks.{packet_joined, plain_joined, comment_after}
 use Rattle.cap_pcapng.proofs.write.write_packet.Goals as goal
 

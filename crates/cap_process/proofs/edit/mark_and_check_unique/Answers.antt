@@ -1,9 +1,4 @@
-use Rattle.std.proofs.Common.{Option, None, not, Ok, subst, sym}
-use Rattle.cap_octet.specs.Packet.{Captured, captured}
-use Rattle.cap_window.specs.View.{WindowView}
-use Rattle.cap_process.specs.Verdict.{unique}
-use Rattle.cap_process.specs.Selector.{marks_in, state_of}
-use Rattle.cap_process.specs.inside.Selector.{IsWindowFor, ReturnsVerdict}
+use Rattle.cap_process.proofs.Common.{Option, None, not, Ok, subst, sym, Captured, captured, WindowView, unique, marks_in, state_of, IsWindowFor, ReturnsVerdict}
 use Rattle.cap_process.proofs.EditRules.{unique-keeps}
 use Rattle.cap_process.proofs.edit.mark_and_check_unique.Goals as goal
 

@@ -1,6 +1,4 @@
-use Rattle.std.proofs.Common.{refl}
-use Rattle.std.proofs.lemmas.List.{append_assoc}
-use Rattle.cap_io.proofs.Parts.{appends-as}
+use Rattle.cap_process.proofs.Common.{refl, append_assoc, appends-as}
 use Rattle.cap_process.proofs.report.write_times.Goals as goal
 
 pub returns-clause-exact : goal.returns-clause-exact

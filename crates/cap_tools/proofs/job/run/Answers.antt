@@ -1,13 +1,5 @@
-use Rattle.std.proofs.Common.{◌≡◌, [], map, refl, sym, ◌∙◌, ap, subst, string_bytes, arith}
-use Rattle.std.proofs.lemmas.List.{append-nil}
-use Rattle.cap_process.specs.Messages.{IsTold, no_memory_message}
-use Rattle.cap_octet.specs.Views.{OutputView, fresh_input, fresh_output, output_view}
-use Rattle.cap_command.specs.Call.{Call, call_of}
+use Rattle.cap_tools.proofs.Common.{◌≡◌, [], map, refl, sym, ◌∙◌, ap, subst, string_bytes, arith, append-nil, IsTold, no_memory_message, OutputView, fresh_input, fresh_output, output_view, Call, call_of, JobView, room_by, ends, fault_outcome, of_nothing, assignment}
 use Rattle.cap_tools.specs.declared.job.Turn.TheVariants as turn
-use Rattle.cap_tools.specs.Jobs.{JobView}
-use Rattle.cap_tools.specs.Packets.{room_by}
-use Rattle.cap_tools.specs.Run.{ends, fault_outcome, of_nothing}
-use Rattle.cap_tools.specs.Start.{assignment}
 use Rattle.cap_tools.proofs.Calls.{call-runs, first-room}
 use Rattle.cap_tools.proofs.CommandRuns.{fresh, gives, under-more, under-done}
 use Rattle.cap_tools.proofs.CommandStarts.{command-begun}

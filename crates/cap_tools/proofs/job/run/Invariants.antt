@@ -1,7 +1,4 @@
-use Rattle.std.proofs.Common.{◌≡◌, ℕ, List, IsTrue, None}
-use Rattle.cap_inputs.specs.Inputs.{InputPast}
-use Rattle.cap_tools.specs.Commands.{DecidedBy, job_left}
-use Rattle.cap_tools.specs.Packets.{room_by}
+use Rattle.cap_tools.proofs.Common.{◌≡◌, ℕ, List, IsTrue, None, InputPast, DecidedBy, job_left, room_by}
 use Rattle.cap_tools.proofs.CommandRuns.{Under}
 use Rattle.cap_tools.proofs.job.run.Given as goal
 

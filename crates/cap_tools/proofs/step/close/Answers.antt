@@ -1,10 +1,5 @@
-use Rattle.std.proofs.Common.{◌≡◌, ℕ, List, Option, true, Ok, Err, refl, sym, ◌∙◌, ap₂, subst, None, Some}
+use Rattle.cap_tools.proofs.Common.{◌≡◌, ℕ, List, Option, true, Ok, Err, refl, sym, ◌∙◌, ap₂, subst, None, Some, is_in_turn, Reports, Tally, file_report, is_count, TakesTally, policy_state}
 use Rattle.cap_tools.specs.declared.step.JobEnd.TheVariants as end
-use Rattle.cap_inputs.specs.inside.Inputs.{is_in_turn}
-use Rattle.cap_process.specs.inside.Output.{Reports}
-use Rattle.cap_process.specs.Reports.{Tally, file_report}
-use Rattle.cap_process.specs.Selector.{is_count}
-use Rattle.cap_process.specs.inside.Selector.{TakesTally, policy_state}
 use Rattle.cap_tools.proofs.Fetches.{closes-by, counted, uncounted, unreported}
 use Rattle.cap_process.proofs.Selectors.{closes-policy}
 use Rattle.cap_tools.proofs.Places.{get-input}

@@ -1,9 +1,4 @@
-use Rattle.std.proofs.Common.{[], ◌≡◌, ◌==◌, ◌∙◌, ℕ, zero, suc, true, false, ◌-◌, ◌<◌, sym, ap, refl, arith, rules, length, not, Some, None, Option, MutBor}
-use Rattle.std.proofs.lemmas.List.{length-set}
-use Rattle.std.proofs.lemmas.Option.{get_or_from_slice_get, slice_get-get_or}
-use Rattle.std.specs.Option.{IsSome, option_copied, option_copied_mut}
-use Rattle.cap_window.specs.declared.links.Links.{Links}
-use Rattle.cap_window.specs.inside.Index.{mark_bit, links_at, mark_at}
+use Rattle.cap_window.proofs.Common.{[], ◌≡◌, ◌==◌, ◌∙◌, ℕ, zero, suc, true, false, ◌-◌, ◌<◌, sym, ap, refl, arith, rules, length, not, Some, None, Option, MutBor, length-set, get_or_from_slice_get, slice_get-get_or, IsSome, option_copied, option_copied_mut, Links, mark_bit, links_at, mark_at}
 use Rattle.cap_window.proofs.Marks.{links_are_there, mark_is_there}
 use Rattle.cap_window.proofs.Trees.{after_links, placing_first, placing_end, placing_equal, placing_next, step_at}
 use Rattle.cap_window.proofs.links.place_newest.Goals as goal

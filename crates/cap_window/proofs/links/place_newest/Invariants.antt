@@ -1,7 +1,5 @@
 -- The mark at `place` takes the place of one `step` places before it.
-use Rattle.std.proofs.Common.{◌≡◌, ◌+◌, ◌-◌, ◌<◌, Bool, length}
-use Rattle.cap_window.specs.declared.mark.Mark.{Mark}
-use Rattle.cap_window.specs.inside.Index.{IsHung}
+use Rattle.cap_window.proofs.Common.{◌≡◌, ◌+◌, ◌-◌, ◌<◌, Bool, length, Mark, IsHung}
 use Rattle.cap_window.proofs.Trees.{IsPlacing}
 use Rattle.cap_window.proofs.links.place_newest.Given as goal
 

@@ -1,6 +1,4 @@
-use Rattle.std.proofs.Common.{◌∙◌, ◌∷◌, [], ap, refl, map, Some}
-use Rattle.std.proofs.lemmas.Bool.{and_from, eq-eqb}
-use Rattle.capkit.specs.Range.{range_of}
+use Rattle.capkit.proofs.Common.{◌∙◌, ◌∷◌, [], ap, refl, map, Some, and_from, eq-eqb, range_of}
 use Rattle.capkit.proofs.edit_line.edit_line.Goals as goal
 
 pub returns-clause-line : goal.returns-clause-line

@@ -1,7 +1,4 @@
-use Rattle.std.proofs.Common.{◌∙◌, ap}
-use Rattle.std.specs.Prelude.{unwrap_or}
-use Rattle.std.proofs.lemmas.Bool.{and_from}
-use Rattle.capkit_args.specs.Arguments.{most_32}
+use Rattle.capkit.proofs.Common.{◌∙◌, ap, unwrap_or, and_from, most_32}
 use Rattle.capkit.proofs.OptionValues.{one_or_more, proper_window}
 use Rattle.capkit.proofs.edit_line.edit_of.Goals as goal
 

@@ -1,8 +1,4 @@
-use Rattle.std.proofs.Common.{arith, ◌∙◌, ap, sym, inl, inr, map, refl}
-use Rattle.std.proofs.lemmas.Grind.{common_steps}
-use Rattle.std.proofs.lemmas.List.{take_all}
-use Rattle.std.proofs.lemmas.Result.{err_from_is_err_and}
-use Rattle.capkit.specs.Range.{range_of}
+use Rattle.capkit.proofs.Common.{arith, ◌∙◌, ap, sym, inl, inr, map, refl, common_steps, take_all, err_from_is_err_and, range_of}
 use Rattle.capkit.proofs.RangeWords.{bad_range, no_range_fault, proper_ranges, too_many}
 use Rattle.capkit.proofs.edit_line.ranges_in.Goals as goal
 

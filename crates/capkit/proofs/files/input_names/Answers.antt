@@ -1,7 +1,4 @@
-use Rattle.std.proofs.Common.{◌∙◌, ap, sym, inl, inr, arith, map, refl}
-use Rattle.std.proofs.lemmas.Grind.{common_steps}
-use Rattle.std.proofs.lemmas.Result.{err_from_is_err_and}
-use Rattle.std.specs.Prelude.{option_map}
+use Rattle.capkit.proofs.Common.{◌∙◌, ap, sym, inl, inr, arith, map, refl, common_steps, err_from_is_err_and, option_map}
 use Rattle.capkit.proofs.FileNames.{faultless, text_of, used_twice}
 use Rattle.capkit.proofs.files.input_names.Goals as goal
 

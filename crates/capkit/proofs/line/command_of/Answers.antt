@@ -1,9 +1,4 @@
-use Rattle.std.proofs.Common.{◌≡◌, sym, map, string_bytes, subst, List, String}
-use Rattle.std.specs.Global.{Global}
-use Rattle.clap.specs.Words.{found_of, rows_of, subcommand_rows_of}
-use Rattle.clap.specs.declared.parser.matches.ArgMatches.{ArgMatches}
-use Rattle.capkit_args.specs.Arguments.{TakesWords}
-use Rattle.capkit.specs.Line.{Asks}
+use Rattle.capkit.proofs.Common.{◌≡◌, sym, map, string_bytes, subst, List, String, Global, found_of, rows_of, subcommand_rows_of, ArgMatches, TakesWords, Asks}
 use Rattle.capkit.proofs.Enters.{always_enters, asks_of}
 use Rattle.capkit.proofs.Saying.{says_fault, says_line}
 use Rattle.capkit.proofs.line.command_of.Goals as goal

@@ -1,6 +1,4 @@
-use Rattle.std.proofs.Common.{◌∙◌}
-use Rattle.std.specs.Str.{bytes_eq}
-use Rattle.clap.proofs.WalkLemmas.{list_any-map}
+use Rattle.capkit.proofs.Common.{◌∙◌, bytes_eq, list_any-map}
 use Rattle.capkit.proofs.names.is_among.Goals as goal
 
 pub returns : goal.returns

@@ -1,8 +1,4 @@
-use Rattle.std.proofs.Common.{◌∙◌, ap, false, codes}
-use Rattle.std.specs.Option.{option_map_or}
-use Rattle.std.specs.Str.{bytes_eq}
-use Rattle.clap.specs.Words.{found_of, one_text}
-use Rattle.clap.proofs.WalkLemmas.{one_text-rows}
+use Rattle.capkit.proofs.Common.{◌∙◌, ap, false, codes, option_map_or, bytes_eq, found_of, one_text, one_text-rows}
 use Rattle.capkit.proofs.Getters.{flag_read}
 use Rattle.capkit.proofs.values.flag.Goals as goal
 

@@ -1,9 +1,4 @@
-use Rattle.std.proofs.Common.{◌∙◌, ap}
-use Rattle.std.specs.Option.{option_and_then}
-use Rattle.std.specs.Str.Parse.{ExplainsUnsignedError, HasUnsignedDigitsIfOk, ParsesUnsigned}
-use Rattle.clap.specs.Words.{found_of, one_text}
-use Rattle.clap.proofs.WalkLemmas.{one_text-rows}
-use Rattle.capkit.specs.Line.{number_between}
+use Rattle.capkit.proofs.Common.{◌∙◌, ap, option_and_then, ExplainsUnsignedError, HasUnsignedDigitsIfOk, ParsesUnsigned, found_of, one_text, one_text-rows, number_between}
 use Rattle.capkit.proofs.OptionValues.{number_read}
 use Rattle.capkit.proofs.values.number.Goals as goal
 

@@ -1,6 +1,4 @@
-use Rattle.std.proofs.Common.{◌∙◌, ap, true}
-use Rattle.std.specs.Option.{option_map_or}
-use Rattle.cap_command.specs.Command.{is_time}
+use Rattle.capkit.proofs.Common.{◌∙◌, ap, true, option_map_or, is_time}
 use Rattle.capkit.proofs.OptionValues.{proper_time}
 use Rattle.capkit.proofs.values.time.Goals as goal
 

@@ -1,9 +1,4 @@
-use Rattle.std.proofs.Common.{◌≡◌, ◌∙◌, ap, map}
-use Rattle.std.proofs.lemmas.Result.{IfOk-weaker}
-use Rattle.clap.specs.Simple.{app_of_fields}
-use Rattle.clap.specs.Words.{App, app_of, new_app}
-use Rattle.capkit_args.specs.Arguments.{with_rules}
-use Rattle.capkit_args.specs.inside.Arguments.{rule_by}
+use Rattle.capkit_args.proofs.Common.{◌≡◌, ◌∙◌, ap, map, IfOk-weaker, app_of_fields, App, app_of, new_app, with_rules, rule_by}
 use Rattle.capkit_args.proofs.arguments.command_of_row.Goals as goal
 
 pub returns-clause-shape : goal.returns-clause-shape

@@ -1,7 +1,4 @@
-use Rattle.std.proofs.Common.{◌∙◌, ap, map}
-use Rattle.clap.specs.Words.{App, with_subcommand}
-use Rattle.capkit_args.specs.Arguments.{with_shapes}
-use Rattle.capkit_args.specs.inside.Arguments.{shape_by}
+use Rattle.capkit_args.proofs.Common.{◌∙◌, ap, map, App, with_subcommand, with_shapes, shape_by}
 use Rattle.capkit_args.proofs.Folds.{no_more, one_more}
 use Rattle.capkit_args.proofs.arguments.line_with_commands.Goals as goal
 

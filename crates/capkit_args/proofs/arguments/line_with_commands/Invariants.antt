@@ -1,7 +1,4 @@
-use Rattle.std.proofs.Common.{◌≡◌, drop, map}
-use Rattle.clap.specs.Words.{app_of}
-use Rattle.capkit_args.specs.Arguments.{line_without_commands, with_shapes}
-use Rattle.capkit_args.specs.inside.Arguments.{shape_by}
+use Rattle.capkit_args.proofs.Common.{◌≡◌, drop, map, app_of, line_without_commands, with_shapes, shape_by}
 use Rattle.capkit_args.proofs.arguments.line_with_commands.Given as goal
 
 -- with the subcommands that are left, the command is what all of them make of the bare line

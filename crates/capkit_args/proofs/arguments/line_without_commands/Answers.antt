@@ -1,8 +1,4 @@
-use Rattle.std.proofs.Common.{◌≡◌, ◌∙◌, ap, codes, true}
-use Rattle.std.proofs.lemmas.Result.{IfOk-weaker}
-use Rattle.clap.specs.Simple.{app_of_fields}
-use Rattle.clap.specs.Words.{App, app_of, new_app}
-use Rattle.capkit_args.specs.Arguments.{line_without_commands}
+use Rattle.capkit_args.proofs.Common.{◌≡◌, ◌∙◌, ap, codes, true, IfOk-weaker, app_of_fields, App, app_of, new_app, line_without_commands}
 use Rattle.capkit_args.proofs.arguments.line_without_commands.Goals as goal
 
 abbrev versioned : App → App

@@ -1,6 +1,4 @@
-use Rattle.std.proofs.Common.{◌∙◌}
-use Rattle.clap.specs.Words.{with_rule}
-use Rattle.capkit_args.specs.inside.Arguments.{rule_by}
+use Rattle.capkit_args.proofs.Common.{◌∙◌, with_rule, rule_by}
 use Rattle.capkit_args.proofs.Folds.{no_more, one_more}
 use Rattle.capkit_args.proofs.LocalOptions.{stays}
 use Rattle.capkit_args.proofs.arguments.with_arguments.Goals as goal

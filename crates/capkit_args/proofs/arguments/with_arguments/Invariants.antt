@@ -1,8 +1,5 @@
-use Rattle.std.proofs.Common.{◌≡◌, drop, map}
-use Rattle.clap.specs.Words.{app_of}
+use Rattle.capkit_args.proofs.Common.{◌≡◌, drop, map, app_of, with_rules, rule_by}
 use Rattle.clap.specs.declared.builder.command.Command.TheViews.{out-Command as fields_of}
-use Rattle.capkit_args.specs.Arguments.{with_rules}
-use Rattle.capkit_args.specs.inside.Arguments.{rule_by}
 use Rattle.capkit_args.proofs.arguments.with_arguments.Given as goal
 
 -- with the arguments that are left, the command is what all of them make of it

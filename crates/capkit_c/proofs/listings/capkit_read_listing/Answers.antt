@@ -1,7 +1,5 @@
 -- What was read is told by 0 and its count, and a failure by its number.
-use Rattle.std.proofs.Common.{length, refl, subst}
-use Rattle.capkit_c.specs.Listings.{is_read, no_listing, no_memory, no_room}
-use Rattle.capkit_c.specs.inside.Listings.{IsFailure}
+use Rattle.capkit_c.proofs.Common.{length, refl, subst, is_read, no_listing, no_memory, no_room, IsFailure}
 use Rattle.capkit_c.proofs.listings.capkit_read_listing.Goals as goal
 
 pub returns-in-Ok : goal.returns-in-Ok

@@ -1,7 +1,5 @@
 -- What was written is told by 0 and its length, and a broken rule by its number.
-use Rattle.std.proofs.Common.{refl, subst}
-use Rattle.capkit_c.specs.Listings.{breaks}
-use Rattle.capkit_c.specs.inside.Listings.{IsUnlisted}
+use Rattle.capkit_c.proofs.Common.{refl, subst, breaks, IsUnlisted}
 use Rattle.capkit_c.proofs.listings.capkit_write_listing.Goals as goal
 
 pub returns-in-Err-Invalid : goal.returns-in-Err-Invalid

@@ -1,7 +1,5 @@
 -- The piece up to the first line feed is the first line.
-use Rattle.std.proofs.Common.{◌∙◌, ap, ◌∷◌}
-use Rattle.flt_bpf.specs.inside.Reading.{pieces_after}
-use Rattle.flt_bpf.specs.Listing.{LINE_FEED}
+use Rattle.flt_bpf.proofs.Common.{◌∙◌, ap, ◌∷◌, pieces_after, LINE_FEED}
 use Rattle.flt_bpf.proofs.LineByLine.{line_more}
 use Rattle.flt_bpf.proofs.reading.first_line.Goals as goal
 

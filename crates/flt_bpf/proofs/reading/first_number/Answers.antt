@@ -1,7 +1,5 @@
 -- The piece up to the first blank is the first number.
-use Rattle.std.proofs.Common.{◌∙◌, ap, sym, ◌∷◌}
-use Rattle.flt_bpf.specs.inside.Reading.{pieces_after}
-use Rattle.flt_bpf.specs.Listing.{BLANK}
+use Rattle.flt_bpf.proofs.Common.{◌∙◌, ap, sym, ◌∷◌, pieces_after, BLANK}
 use Rattle.flt_bpf.proofs.Lines.{number_first}
 use Rattle.flt_bpf.proofs.reading.first_number.Goals as goal
 

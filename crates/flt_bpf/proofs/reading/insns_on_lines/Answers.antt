@@ -1,7 +1,5 @@
 -- The instructions so far, and then those of the other lines, are those of all.
-use Rattle.std.proofs.Common.{◌-◌, ◌+◌, ◌∙◌, ap, sym, arith, rules}
-use Rattle.flt_bpf.specs.Listing.{lines_of}
-use Rattle.flt_bpf.specs.inside.Reading.{read_insns}
+use Rattle.flt_bpf.proofs.Common.{◌-◌, ◌+◌, ◌∙◌, ap, sym, arith, rules, lines_of, read_insns}
 use Rattle.flt_bpf.proofs.LineByLine.{onto_all, read_more, read_wrong, read_missing, read_beyond}
 use Rattle.flt_bpf.proofs.reading.insns_on_lines.Goals as goal
 

@@ -1,7 +1,5 @@
 -- The instructions so far, and then those of the other lines, are those of all.
-use Rattle.std.proofs.Common.{◌≡◌, ◌+◌, ◌-◌}
-use Rattle.flt_bpf.specs.Listing.{lines_of}
-use Rattle.flt_bpf.specs.inside.Reading.{read_insns}
+use Rattle.flt_bpf.proofs.Common.{◌≡◌, ◌+◌, ◌-◌, lines_of, read_insns}
 use Rattle.flt_bpf.proofs.LineByLine.{onto_all}
 use Rattle.flt_bpf.proofs.reading.insns_on_lines.Given as goal
 

@@ -1,7 +1,5 @@
 -- A line with a blank is not one number.
-use Rattle.std.proofs.Common.{◌∙◌, ap, sym, ◌∷◌}
-use Rattle.flt_bpf.specs.inside.Reading.{pieces_after}
-use Rattle.flt_bpf.specs.Listing.{BLANK}
+use Rattle.flt_bpf.proofs.Common.{◌∙◌, ap, sym, ◌∷◌, pieces_after, BLANK}
 use Rattle.flt_bpf.proofs.Lines.{blank_not_only}
 use Rattle.flt_bpf.proofs.reading.only_number.Goals as goal
 

@@ -1,9 +1,5 @@
 -- The numbers of a line have room, and stand one before the other.
-use Rattle.std.proofs.Common.{ℕ, List, ◌∷◌, ◌++◌, ◌∙◌, ap, arith}
-use Rattle.std.specs.Prelude.{decimal}
-use Rattle.std.proofs.lemmas.Fmt.{length-decimal-le}
-use Rattle.std.proofs.lemmas.List.{drop_all}
-use Rattle.flt_bpf.specs.Listing.{LINE_FEED}
+use Rattle.flt_bpf.proofs.Common.{ℕ, List, ◌∷◌, ◌++◌, ◌∙◌, ap, arith, decimal, length-decimal-le, drop_all, LINE_FEED}
 use Rattle.flt_bpf.proofs.Assembling.{line_assembled}
 use Rattle.flt_bpf.proofs.writing.put_insn_line.Goals as goal
 

@@ -1,7 +1,5 @@
 -- Line by line the listing is written, and where the output fails a front of it was.
-use Rattle.std.proofs.Common.{length, ◌∙◌, arith, rules}
-use Rattle.std.proofs.lemmas.Grind.{common_steps}
-use Rattle.std.proofs.lemmas.Fmt.{length-decimal-le}
+use Rattle.flt_bpf.proofs.Common.{length, ◌∙◌, arith, rules, common_steps, length-decimal-le}
 use Rattle.flt_bpf.proofs.Assembling.{line_bytes, stopped_front, stopped_told, more_told, more_size}
 use Rattle.flt_bpf.proofs.writing.write_insns.Goals as goal
 

@@ -1,8 +1,6 @@
 -- The text so far, and what the tokens left give.
-use Rattle.std.proofs.Common.{◌≡◌, ◌++◌, drop}
+use Rattle.flt_explain.proofs.Common.{◌≡◌, ◌++◌, drop, Other, tokens_text}
 use Rattle.std.specs.String.{string_bytes}
-use Rattle.flt_explain.specs.declared.spelling.Following.TheVariants.{Other}
-use Rattle.flt_explain.specs.Texts.{tokens_text}
 use Rattle.flt_explain.proofs.spelling.push_tokens.Given as goal
 
 abbrev pub invariant-loop-i : goal.invariant-loop-i

@@ -1,8 +1,5 @@
 -- The tests of the accessors so far are in front.
-use Rattle.std.proofs.Common.{◌≡◌, take}
-use Rattle.std.specs.Prelude.{reverse}
-use Rattle.flt_emit.specs.inside.Code.{block}
-use Rattle.flt_gen.specs.inside.ProgramCode.{emit_accessor_tests}
+use Rattle.flt_gen.proofs.Common.{◌≡◌, take, reverse, block, emit_accessor_tests}
 use Rattle.flt_gen.proofs.number.emit_accessor_tests.Given as goal
 
 abbrev pub invariant-loop-protocol : goal.invariant-loop-protocol

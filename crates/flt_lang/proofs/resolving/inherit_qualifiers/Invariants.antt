@@ -1,7 +1,5 @@
 -- The front has its qualifiers, and the rest gets those that follow from the latest.
-use Rattle.std.proofs.Common.{◌≡◌, ◌++◌, length, take, drop}
-use Rattle.flt_ast.specs.Filled.{only_host}
-use Rattle.flt_ast.specs.inside.Filled.{inherited_nodes}
+use Rattle.flt_lang.proofs.Common.{◌≡◌, ◌++◌, length, take, drop, only_host, inherited_nodes}
 use Rattle.flt_lang.proofs.resolving.inherit_qualifiers.Given as goal
 
 abbrev pub invariant-loop-i : goal.invariant-loop-i

@@ -1,9 +1,5 @@
 -- The nodes that are left are those of the filled tree.
-use Rattle.std.proofs.Common.{◌≡◌, ◌∙◌, sym, ap, subst, None}
-use Rattle.flt_ast.specs.Nodes.{tree_of}
-use Rattle.flt_ast.specs.Filled.{fill_expression}
-use Rattle.flt_ast.specs.Resolved.{fill_fault, IsResolved}
-use Rattle.flt_ast.specs.inside.Resolved.{nodes_fault}
+use Rattle.flt_lang.proofs.Common.{◌≡◌, ◌∙◌, sym, ap, subst, None, tree_of, fill_expression, fill_fault, IsResolved, nodes_fault}
 use Rattle.flt_lang.proofs.Filling.{filled_whole, nodes_are_tree, tree_is}
 use Rattle.flt_lang.proofs.FilledFaults.{found_fault, filled_resolved}
 use Rattle.flt_lang.proofs.resolving.resolve.Given as given

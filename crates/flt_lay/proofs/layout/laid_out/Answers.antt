@@ -1,13 +1,7 @@
 -- What is proved of the layout holds of the instructions, which are the layout.
-use Rattle.std.proofs.Common.{◌≡◌, ◌*◌, ◌+◌, ◌≤◌, List, length, count_by, sym, ap, ◌∙◌, subst}
-use Rattle.flt_bpf.specs.declared.insn.Insn.{Insn}
-use Rattle.flt_bpf.specs.Answer.{answer_of}
-use Rattle.flt_bpf.specs.Check.{IsValidUnlessLong}
+use Rattle.flt_lay.proofs.Common.{◌≡◌, ◌*◌, ◌+◌, ◌≤◌, List, length, count_by, sym, ap, ◌∙◌, subst, Insn, answer_of, IsValidUnlessLong, is_branch, JumpsAreNeeded, IsShort, start, PlacedCode, placed_code, laid_out}
 use Rattle.flt_bpf.specs.Instructions.{operation_of}
-use Rattle.flt_bpf.specs.Layout.{is_branch, JumpsAreNeeded, IsShort}
-use Rattle.flt_bpf.specs.Machine.{start}
 use Rattle.flt_bpf.proofs.Suffix.{valid_if_short}
-use Rattle.flt_lay.specs.inside.Layout.{PlacedCode, placed_code, laid_out}
 use Rattle.flt_lay.proofs.Same.{same_answers}
 use Rattle.flt_lay.proofs.Needed.{laid_needed}
 use Rattle.flt_lay.proofs.Counted.{at_least, at_most, short_stays}

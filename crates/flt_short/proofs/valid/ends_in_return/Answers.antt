@@ -1,10 +1,6 @@
 -- The last instruction decides.
-use Rattle.std.proofs.Common.{◌-◌, length, refl, ◌∙◌, sym, ap, arith}
-use Rattle.std.proofs.lemmas.Option.{slice_get_read}
-use Rattle.flt_bpf.specs.declared.insn.Insn.{Insn}
-use Rattle.flt_bpf.specs.Check.{is_return}
+use Rattle.flt_short.proofs.Common.{◌-◌, length, refl, ◌∙◌, sym, ap, arith, slice_get_read, Insn, is_return, last_returns}
 use Rattle.flt_bpf.specs.Instructions.{operation_of}
-use Rattle.flt_bpf.proofs.Checking.{last_returns}
 use Rattle.flt_short.proofs.valid.ends_in_return.Goals as goal
 
 pub returns : goal.returns

@@ -1,9 +1,5 @@
 -- Each round writes the step that the run is before, and goes on to the next one.
-use Rattle.std.proofs.Common.{◌+◌, ◌∙◌, ap, arith, rules, subst, sym}
-use Rattle.std.proofs.lemmas.Option.{slice_get-get_or}
-use Rattle.flt_bpf.specs.inside.Flow.{reach_next}
-use Rattle.flt_bpf.proofs.Checking.{parts}
-use Rattle.flt_bpf.proofs.Steps.{goes_inside, sound_at}
+use Rattle.flt_trace.proofs.Common.{◌+◌, ◌∙◌, ap, arith, rules, subst, sym, slice_get-get_or, reach_next, parts, goes_inside, sound_at}
 use Rattle.flt_trace.proofs.Tracing.{Standing, standing_first, standing_last, standing_next, written_more, written_none}
 use Rattle.flt_trace.proofs.walk.trace.Goals as goal
 

@@ -1,11 +1,8 @@
 -- Each turn reads the next part.
-use Rattle.std.proofs.Common.{◌≡◌, ◌<◌, ◌==◌, length, get_or, List, ℕ, length-append, map, arith, sym, ap, ◌∙◌, rules, of_calls}
+use Rattle.flt_words.proofs.Common.{◌≡◌, ◌<◌, ◌==◌, length, get_or, List, ℕ, length-append, map, arith, sym, ap, ◌∙◌, rules, of_calls, length-map, Bor, IsGroup}
 use Rattle.std.proofs.lemmas.Iterator.Consumers.{YieldsList-end, YieldsList-turn}
-use Rattle.std.proofs.lemmas.List.{length-map}
 use Rattle.std.proofs.lemmas.Iterator.Splits.{YieldsList-from_slice_split}
-use Rattle.std.specs.Borrow.{Bor}
 use Rattle.std.specs.Slice.Iter.{split_callee}
-use Rattle.flt_words.specs.Addresses.{IsGroup}
 use Rattle.flt_words.proofs.Digits.{some_unless_test}
 use Rattle.flt_words.proofs.Reading.{all_read, bad_part, each_pushed, now_pushed, parts_of, step_fits, step_small, step_value, too_many}
 use Rattle.flt_words.proofs.address.parse_groups.Goals as goal

@@ -1,9 +1,5 @@
 -- The parts so far are groups, and the number is theirs.
-use Rattle.std.proofs.Common.{◌≡◌, ◌≤◌, ◌<◌, ◌^◌, length, map}
-use Rattle.std.specs.Int.Digits.{number_from_digits}
-use Rattle.std.specs.List.{AllByRecursion}
-use Rattle.flt_words.specs.Addresses.{IsGroup, group_values}
-use Rattle.flt_words.specs.inside.Addresses.{base_of}
+use Rattle.flt_words.proofs.Common.{◌≡◌, ◌≤◌, ◌<◌, ◌^◌, length, map, number_from_digits, AllByRecursion, IsGroup, group_values, base_of}
 use Rattle.flt_words.proofs.address.parse_groups.Given as goal
 
 abbrev pub invariant-loop-digits : goal.invariant-loop-digits

@@ -1,8 +1,5 @@
 -- The address is cut at its first two colons.
-use Rattle.std.proofs.Common.{◌+◌, drop, take}
-use Rattle.std.proofs.lemmas.List.{take_rest}
-use Rattle.flt_words.specs.Addresses.{AreIp6Ends, IsIp6, IsWholeIp6}
-use Rattle.flt_words.specs.Addresses.IsIp6.{whole}
+use Rattle.flt_words.proofs.Common.{◌+◌, drop, take, take_rest, AreIp6Ends, IsIp6, IsWholeIp6, whole}
 use Rattle.flt_words.proofs.DoubleColons.{ends_from_ip6, ip6_from_ends, match_along, whole_from_ip6}
 use Rattle.flt_words.proofs.address.parse_ip6.Goals as goal
 

@@ -1,8 +1,5 @@
 -- A word where one begins, and else a symbol.
-use Rattle.std.proofs.Common.{sym, ◌∙◌}
-use Rattle.std.proofs.lemmas.Result.{err_from_is_err_and}
-use Rattle.flt_words.specs.Tokens.IsRefused.{bad_piece, no_piece}
-use Rattle.flt_words.specs.Tokens.PieceMeans.{symbol_meaning, word_meaning}
+use Rattle.flt_words.proofs.Common.{sym, ◌∙◌, err_from_is_err_and, bad_piece, no_piece, symbol_meaning, word_meaning}
 use Rattle.flt_words.proofs.Pieces.{longest_is_word}
 use Rattle.flt_words.proofs.lexer.first_token.Goals as goal
 

@@ -1,9 +1,5 @@
 -- The loop's steps.
-use Rattle.std.proofs.Common.{◌≡◌, ◌+◌, ◌==◌, arith, sym, ◌∙◌, subst, length-drop, Err}
-use Rattle.std.proofs.lemmas.Result.{err_from_is_err_and}
-use Rattle.std.proofs.lemmas.Grind.{common_steps}
-use Rattle.flt_words.specs.Tokens.{IsRefused, IsToken, Tokens}
-use Rattle.flt_words.specs.Tokens.Tokens.{short, too_long}
+use Rattle.flt_words.proofs.Common.{◌≡◌, ◌+◌, ◌==◌, arith, sym, ◌∙◌, subst, length-drop, Err, err_from_is_err_and, common_steps, IsRefused, IsToken, Tokens, short, too_long}
 use Rattle.flt_words.proofs.BracketCounts.{closes_none, closings, openings, opens_none, token_has}
 use Rattle.flt_words.proofs.Lexing.{blank_keeps_closed, blank_keeps_opened, counted_few, counted_step, cut_blank, cut_end, cut_refused, cut_token, inside_at}
 use Rattle.flt_words.proofs.Pieces.{longest_some}

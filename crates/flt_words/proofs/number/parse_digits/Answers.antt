@@ -1,7 +1,5 @@
 -- What the tests told, as the digits' number.
-use Rattle.std.proofs.Common.{◌≡◌, ◌<◌, length, arith, sym, ◌∙◌, ◌==◌, false, true}
-use Rattle.std.specs.Str.Parse.{digits_value}
-use Rattle.cap_octet.specs.Digits.{are_digits}
+use Rattle.flt_words.proofs.Common.{◌≡◌, ◌<◌, length, arith, sym, ◌∙◌, ◌==◌, false, true, digits_value, are_digits}
 use Rattle.flt_words.proofs.Digits.{does_not_fit, fits, some_from_test, some_unless_test, writes_from_test, writes_pass}
 use Rattle.flt_words.proofs.number.parse_digits.Goals as goal
 use Rattle.flt_words.proofs.number.parse_digits.Goals.{then-is_empty-via-then-is_empty, then-is_empty-via-else-is_empty+then-not-are_digits}

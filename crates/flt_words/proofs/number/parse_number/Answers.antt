@@ -1,9 +1,5 @@
 -- The tests on the word's front.
-use Rattle.std.proofs.Common.{◌≡◌, ◌≢◌, ◌⊎◌, ◌<◌, ◌≤◌, inl, inr, length, get_or, arith}
-use Rattle.std.proofs.lemmas.Bool.Decides.{nat_tests}
-use Rattle.std.proofs.lemmas.List.{take_rest}
-use Rattle.flt_words.specs.Numbers.{is_word_sized}
-use Rattle.flt_words.specs.Numbers.IsNumber.{decimal}
+use Rattle.flt_words.proofs.Common.{◌≡◌, ◌≢◌, ◌⊎◌, ◌<◌, ◌≤◌, inl, inr, length, get_or, arith, nat_tests, take_rest, is_word_sized, decimal}
 use Rattle.flt_words.proofs.Answering.{answers_along}
 use Rattle.flt_words.proofs.Radices.{hexadecimal_by_front, octal_by_front, only_decimal}
 use Rattle.flt_words.proofs.number.parse_number.Goals as goal

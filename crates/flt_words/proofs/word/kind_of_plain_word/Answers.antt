@@ -1,8 +1,6 @@
 -- A word without a sign.
-use Rattle.std.proofs.Common.{sym, ◌∙◌, refl, rules}
+use Rattle.flt_words.proofs.Common.{sym, ◌∙◌, refl, rules, IsNumber, is_word_sized, keyword, number}
 use Rattle.flt_words.specs.declared.token.TokenKind.TheVariants as token
-use Rattle.flt_words.specs.Numbers.{IsNumber, is_word_sized}
-use Rattle.flt_words.specs.Words.Spells.{keyword, number}
 use Rattle.flt_words.proofs.Answering.{answers_mapped}
 use Rattle.flt_words.proofs.Tables.{keyword_is_plain}
 use Rattle.flt_words.proofs.WordKinds.{no_sign, only_plain}

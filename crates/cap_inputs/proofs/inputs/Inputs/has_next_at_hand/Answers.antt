@@ -1,9 +1,5 @@
-use Rattle.std.proofs.Common.{◌≡◌, ◌∙◌, ◌<◌, ◌≤◌, ℕ, true, List, length, get_or, nat_lt, sym, ap, arith, subst, Option}
-use Rattle.std.proofs.lemmas.Bool.Decides.{nat_tests}
-use Rattle.std.proofs.lemmas.Option.{slice_get-get_or}
-use Rattle.std.specs.List.{slice_get}
+use Rattle.cap_inputs.proofs.Common.{◌≡◌, ◌∙◌, ◌<◌, ◌≤◌, ℕ, true, List, length, get_or, nat_lt, sym, ap, arith, subst, Option, nat_tests, slice_get-get_or, slice_get, InputView, InputsView}
 use Rattle.std.specs.Option.{IfSome}
-use Rattle.cap_inputs.specs.Inputs.{InputView, InputsView}
 use Rattle.cap_inputs.proofs.inputs.Inputs.has_next_at_hand.Goals as goal
 
 abbrev HasMore : Option InputView → Type 0

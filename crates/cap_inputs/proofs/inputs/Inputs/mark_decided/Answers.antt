@@ -1,12 +1,5 @@
-use Rattle.std.proofs.Common.{◌<◌, ◌∙◌, length, ap, sym, subst}
-use Rattle.std.specs.List.{slice_set}
-use Rattle.cap_inputs.specs.declared.inputs.Schedule.{Schedule}
+use Rattle.cap_inputs.proofs.Common.{◌<◌, ◌∙◌, length, ap, sym, subst, slice_set, Schedule, ordering_of, HoldsQueue, IsNextAt, IsScheduled, PacketOrder, InputsView, InputView, MarksDecided, input_after_decided, with_cursor, IsNext}
 use Rattle.cap_inputs.specs.declared.inputs.Next.TheVariants as next
-use Rattle.cap_inputs.specs.Cursor.{ordering_of}
-use Rattle.cap_inputs.specs.inside.Cursor.{HoldsQueue, IsNextAt, IsScheduled}
-use Rattle.cap_io.specs.Sequence.{PacketOrder}
-use Rattle.cap_inputs.specs.Inputs.{InputsView, InputView, MarksDecided, input_after_decided, with_cursor}
-use Rattle.cap_inputs.specs.inside.Inputs.{IsNext}
 use Rattle.cap_inputs.proofs.Cursors.{following-order, get-among}
 use Rattle.cap_inputs.proofs.Leasts.{settled-in}
 use Rattle.cap_inputs.proofs.Placed.{decide-at, decided-waits, placed-decided}

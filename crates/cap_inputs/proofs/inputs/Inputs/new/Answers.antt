@@ -1,9 +1,4 @@
-use Rattle.std.proofs.Common.{◌≡◌, ◌≤◌, IsTrue, List, [], length, ap, ◌∙◌, refl, arith}
-use Rattle.cap_inputs.specs.Inputs.{InputView}
-use Rattle.cap_inputs.specs.inside.Cursor.{first_schedule}
-use Rattle.cap_inputs.specs.Fresh.{fresh_view}
-use Rattle.cap_io.specs.Sequence.{order_of}
-use Rattle.cap_octet.specs.Views.{fresh_input}
+use Rattle.cap_inputs.proofs.Common.{◌≡◌, ◌≤◌, IsTrue, List, [], length, ap, ◌∙◌, refl, arith, InputView, first_schedule, fresh_view, order_of, fresh_input}
 use Rattle.cap_inputs.proofs.Fresh.{first-inputs}
 use Rattle.cap_inputs.proofs.Leasts.{holds-first}
 use Rattle.cap_inputs.proofs.Placed.{placed-first}

@@ -1,8 +1,4 @@
-use Rattle.std.proofs.Common.{List, sym, subst}
-use Rattle.cap_inputs.specs.declared.inputs.Schedule.{Schedule}
-use Rattle.cap_inputs.specs.inside.Cursor.{IsAtCursor, IsNextAt, IsNextOfMerge}
-use Rattle.cap_inputs.specs.Inputs.{InputView, InputsView}
-use Rattle.cap_inputs.specs.inside.Inputs.{IsNext}
+use Rattle.cap_inputs.proofs.Common.{List, sym, subst, Schedule, IsAtCursor, IsNextAt, IsNextOfMerge, InputView, InputsView, IsNext}
 use Rattle.cap_inputs.proofs.Placed.{next-is}
 use Rattle.cap_inputs.proofs.inputs.Inputs.next.Goals as goal
 

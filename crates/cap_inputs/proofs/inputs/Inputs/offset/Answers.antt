@@ -1,8 +1,4 @@
-use Rattle.std.proofs.Common.{◌≡◌, ◌∙◌, ◌<◌, ◌≤◌, ℕ, true, false, List, length, get_or, nat_lt, sym, ap, arith}
-use Rattle.std.proofs.lemmas.Bool.Decides.{nat_tests}
-use Rattle.std.proofs.lemmas.Option.{slice_get-get_or, slice_get_past}
-use Rattle.cap_inputs.specs.Inputs.{InputView, InputsView, offset_at}
-use Rattle.cap_inputs.specs.inside.Inputs.{offset_of}
+use Rattle.cap_inputs.proofs.Common.{◌≡◌, ◌∙◌, ◌<◌, ◌≤◌, ℕ, true, false, List, length, get_or, nat_lt, sym, ap, arith, nat_tests, slice_get-get_or, slice_get_past, InputView, InputsView, offset_at, offset_of}
 use Rattle.cap_inputs.proofs.inputs.Inputs.offset.Goals as goal
 
 inside : (i n : ℕ) → true ≡ nat_lt i n → i < n

@@ -1,12 +1,5 @@
-use Rattle.std.proofs.Common.{◌<◌, ◌&&◌, ℕ, ap, sym, ◌∙◌, subst, length}
-use Rattle.std.specs.List.{slice_set}
-use Rattle.cap_inputs.specs.declared.inputs.Schedule.{Schedule}
+use Rattle.cap_inputs.proofs.Common.{◌<◌, ◌&&◌, ℕ, ap, sym, ◌∙◌, subst, length, slice_set, Schedule, ordering_of, EntersQueue, HoldsQueue, IsNextAt, IsScheduled, is_merge, PacketOrder, InputsView, ReadsInput, ReadSteps, InputView, is_packet_found, IsNext}
 use Rattle.cap_inputs.specs.declared.inputs.Next.TheVariants as next
-use Rattle.cap_inputs.specs.Cursor.{ordering_of}
-use Rattle.cap_inputs.specs.inside.Cursor.{EntersQueue, HoldsQueue, IsNextAt, IsScheduled, is_merge}
-use Rattle.cap_io.specs.Sequence.{PacketOrder}
-use Rattle.cap_inputs.specs.Inputs.{InputsView, ReadsInput, ReadSteps, InputView, is_packet_found}
-use Rattle.cap_inputs.specs.inside.Inputs.{IsNext}
 use Rattle.cap_inputs.proofs.Cursors.{get-among, fetches-by, read_input-steps-by, schedule-order}
 use Rattle.cap_inputs.proofs.Leasts.{queue-read, room-for}
 use Rattle.cap_inputs.proofs.Placed.{placed-read, read-at}

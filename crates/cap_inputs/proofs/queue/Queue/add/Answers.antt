@@ -1,7 +1,4 @@
-use Rattle.std.specs.BinaryHeap.{heap_items}
-use Rattle.std.specs.declared.cmp.Reverse.{Reverse}
-use Rattle.std.proofs.lemmas.List.Sorted.{IsPermutation-map}
-use Rattle.cap_inputs.specs.declared.queue.Waiting.{Waiting}
+use Rattle.cap_inputs.proofs.Common.{heap_items, Reverse, IsPermutation-map, Waiting}
 use Rattle.cap_inputs.proofs.Queues.{once_added, bare}
 use Rattle.cap_inputs.proofs.queue.Queue.add.Goals as goal
 

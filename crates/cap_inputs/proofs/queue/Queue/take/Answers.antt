@@ -1,8 +1,4 @@
-use Rattle.std.proofs.Common.{refl}
-use Rattle.std.specs.BinaryHeap.{heap_items}
-use Rattle.std.specs.declared.cmp.Reverse.{Reverse}
-use Rattle.std.proofs.lemmas.List.Sorted.{IsPermutation-map}
-use Rattle.cap_inputs.specs.declared.queue.Waiting.{Waiting}
+use Rattle.cap_inputs.proofs.Common.{refl, heap_items, Reverse, IsPermutation-map, Waiting}
 use Rattle.cap_inputs.proofs.Queues.{taken_first}
 use Rattle.cap_inputs.proofs.queue.Queue.take.Goals as goal
 

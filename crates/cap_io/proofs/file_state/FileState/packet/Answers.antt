@@ -1,6 +1,4 @@
-use Rattle.std.proofs.lemmas.Grind.{common_steps}
-use Rattle.std.proofs.Common.{◌∙◌, refl, take, arith}
-use Rattle.cap_pcapng.specs.Interface.{description_of}
+use Rattle.cap_io.proofs.Common.{common_steps, ◌∙◌, refl, take, arith, description_of}
 use Rattle.cap_pcapng.proofs.Entered.{known_interface}
 use Rattle.cap_io.proofs.Passing.{part-lent, pcap-lent, pcapng-lent}
 use Rattle.cap_io.proofs.file_state.FileState.packet.Goals as goal

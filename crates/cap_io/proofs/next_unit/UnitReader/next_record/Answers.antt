@@ -1,6 +1,4 @@
-use Rattle.std.proofs.Common.{rules, ◌≡◌, ◌+◌, length, take, refl, arith}
-use Rattle.std.proofs.lemmas.List.{take_at}
-use Rattle.std.proofs.lemmas.Result.{err_from_is_err_and}
+use Rattle.cap_io.proofs.Common.{rules, ◌≡◌, ◌+◌, length, take, refl, arith, take_at, err_from_is_err_and}
 use Rattle.cap_io.proofs.Came.{error_is, fields_came, fields_refused, fields-has_memory, no_room, data_missing, record_came, record-takes}
 use Rattle.cap_io.proofs.next_unit.UnitReader.next_record.Goals as goal
 

@@ -1,11 +1,4 @@
-use Rattle.std.proofs.Common.{rules, ◌≡◌, length, take, ap, arith, refl, sym, ◌∙◌}
-use Rattle.std.proofs.lemmas.List.{take_at}
-use Rattle.std.proofs.lemmas.Result.{err_from_is_err_and}
-use Rattle.cap_pcapng.specs.Frame.{frame_in}
-use Rattle.cap_pcapng.specs.Effect.{section_of}
-use Rattle.cap_io.specs.Capture.{PcapngFile, first_link_after}
-use Rattle.cap_io.specs.Reading.{declared_by}
-use Rattle.cap_io.specs.inside.Reading.{known_first_link, section_before}
+use Rattle.cap_io.proofs.Common.{rules, ◌≡◌, length, take, ap, arith, refl, sym, ◌∙◌, take_at, err_from_is_err_and, frame_in, section_of, PcapngFile, first_link_after, declared_by, known_first_link, section_before}
 use Rattle.cap_io.proofs.BlocksCame.{adds-describes, block-exceeds, block_came, entry_refused, frame-has_memory, frame_refused, front_says, no_room_for_block, rest_of_block, whole_came}
 use Rattle.cap_io.proofs.Came.{error_is}
 use Rattle.cap_io.proofs.CapturesCame.{block-takes, first-again, has-section, interface-takes, interfaces-held, interfaces-kept, order-held, packet-block, passed-block, refused-block, section-fits, small-following}

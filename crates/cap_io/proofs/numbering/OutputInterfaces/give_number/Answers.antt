@@ -1,11 +1,4 @@
-use Rattle.std.proofs.Common.{◌≡◌, map, not, refl, sym, ap, ◌∙◌, rules, Some}
-use Rattle.std.specs.Option.{option_map}
-use Rattle.std.proofs.lemmas.Option.{slice_get-map}
-use Rattle.cap_octet.specs.Packet.{captured}
-use Rattle.cap_io.specs.Numbering.{interface_in}
-use Rattle.cap_io.specs.inside.Numbering.{HasNumber}
-use Rattle.cap_io.specs.Text.{interface_of}
-use Rattle.cap_io.specs.declared.numbering.InterfaceNumber.{InterfaceNumber}
+use Rattle.cap_io.proofs.Common.{◌≡◌, map, not, refl, sym, ap, ◌∙◌, rules, Some, option_map, slice_get-map, captured, interface_in, HasNumber, interface_of, InterfaceNumber}
 use Rattle.cap_io.proofs.Interfaces.{same_interface}
 use Rattle.cap_io.proofs.Keys.{among-keys, number-keys, insert-keys}
 use Rattle.cap_io.proofs.Places.{few-following, first-following, place-of-last}

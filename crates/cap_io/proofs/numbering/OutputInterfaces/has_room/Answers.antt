@@ -1,9 +1,5 @@
-use Rattle.std.proofs.Common.{◌≡◌, ◌<◌, List, ◌++◌, length, map, nat_lt, nat_le, sym, ap, subst, ◌∙◌, arith}
-use Rattle.std.proofs.lemmas.List.{length-map}
+use Rattle.cap_io.proofs.Common.{◌≡◌, ◌<◌, List, ◌++◌, length, map, nat_lt, nat_le, sym, ap, subst, ◌∙◌, arith, length-map, captured, Interface, interface_of, most_output_interfaces, new_among, is_among, interface_in}
 use Rattle.std.proofs.lemmas.Bool.{lt-ltb}
-use Rattle.cap_octet.specs.Packet.{captured}
-use Rattle.cap_io.specs.Text.{Interface, interface_of, most_output_interfaces, new_among, is_among}
-use Rattle.cap_io.specs.Numbering.{interface_in}
 use Rattle.cap_io.proofs.Keys.{among-keys, room-full, room-below}
 use Rattle.cap_io.proofs.numbering.OutputInterfaces.has_room.Goals as goal
 

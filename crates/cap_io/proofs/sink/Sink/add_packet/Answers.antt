@@ -1,8 +1,4 @@
-use Rattle.std.proofs.Common.{◌≡◌, Ok}
-use Rattle.cap_octet.specs.Checks.{checked}
-use Rattle.cap_octet.specs.Device.{AppendsOrStops}
-use Rattle.cap_octet.specs.Packet.{captured}
-use Rattle.cap_io.specs.Sink.{added_in, refusal_in}
+use Rattle.cap_io.proofs.Common.{◌≡◌, Ok, checked, AppendsOrStops, captured, added_in, refusal_in}
 use Rattle.cap_io.proofs.Parts.{adds-failed, record-adds, block-adds}
 use Rattle.cap_io.proofs.sink.Sink.add_packet.Goals.{in-Pcap, in-Pcapng+in_ok-interface-in-Pcapng}
 use Rattle.cap_io.proofs.sink.Sink.add_packet.Goals as goal

@@ -1,8 +1,4 @@
-use Rattle.std.proofs.Common.{ℕ, List, Ok, Err, refl, sym, ap, subst, ◌∙◌}
-use Rattle.cap_octet.specs.Packet.{captured}
-use Rattle.cap_io.specs.declared.sink.SinkState.TheVariants.{Broken}
-use Rattle.cap_io.specs.Text.{FitFile}
-use Rattle.cap_io.specs.Sink.{SinkView, WritesPacket, refusal_in, added_in}
+use Rattle.cap_io.proofs.Common.{ℕ, List, Ok, Err, refl, sym, ap, subst, ◌∙◌, captured, Broken, FitFile, SinkView, WritesPacket, refusal_in, added_in}
 use Rattle.cap_io.proofs.Texts.{adds-broken, puts-tell, put-writes-tell}
 use Rattle.cap_io.proofs.sink.Sink.put.Goals as goal
 

@@ -1,7 +1,4 @@
-use Rattle.std.proofs.Common.{◌+◌, ◌∙◌, Err, arith, length, refl, ap, ap₂}
-use Rattle.std.proofs.lemmas.Result.{err_from_is_err_and}
-use Rattle.cap_io.specs.Reading.{declared_by}
-use Rattle.cap_io.specs.Source.{SourceView, block_at, packet_at, view_of}
+use Rattle.cap_io.proofs.Common.{◌+◌, ◌∙◌, Err, arith, length, refl, ap, ap₂, err_from_is_err_and, declared_by, SourceView, block_at, packet_at, view_of}
 use Rattle.cap_io.specs.declared.source.Stage.TheVariants as stage
 use Rattle.cap_io.proofs.Passing.{FindsEnd-next, FindsPacket-next, IsBroken-next, SkipsUnits-next, stage_between}
 use Rattle.cap_io.proofs.source.Source.read_unit.Goals as goal

@@ -1,6 +1,4 @@
-use Rattle.std.proofs.Common.{◌≡◌, ◌+◌, ◌-◌, ◌^◌, ◌≤◌, IsTrue}
-use Rattle.cap_io.specs.Source.{SkipsUnits, end_offset}
-use Rattle.cap_io.specs.inside.Source.{IsBetween}
+use Rattle.cap_io.proofs.Common.{◌≡◌, ◌+◌, ◌-◌, ◌^◌, ◌≤◌, IsTrue, SkipsUnits, end_offset, IsBetween}
 use Rattle.cap_io.proofs.source.Source.skip_to_packet.Given as goal
 
 abbrev pub invariant-loop : goal.invariant-loop

@@ -1,12 +1,4 @@
-use Rattle.std.proofs.lemmas.Grind.{common_steps}
-use Rattle.std.proofs.Common.{rules, ◌≡◌, ◌+◌, ◌++◌, ℕ, List, length, take, drop, refl, sym, ap, ◌∙◌, subst, arith}
-use Rattle.std.proofs.lemmas.List.{take_at}
-use Rattle.cap_io.specs.Capture.{Declared}
-use Rattle.cap_io.specs.Reading.{declared_by, packet_in_unit}
-use Rattle.cap_io.specs.inside.Reading.{record_spans}
-use Rattle.cap_io.specs.Source.{Reading, SourceView}
-use Rattle.cap_io.specs.inside.Source.{TakesNext}
-use Rattle.cap_io.specs.declared.file_state.FileState.{FileState}
+use Rattle.cap_io.proofs.Common.{common_steps, rules, ◌≡◌, ◌+◌, ◌++◌, ℕ, List, length, take, drop, refl, sym, ap, ◌∙◌, subst, arith, take_at, Declared, declared_by, packet_in_unit, record_spans, Reading, SourceView, TakesNext, FileState}
 use Rattle.cap_io.proofs.Hands.{takes-next}
 use Rattle.cap_io.proofs.source.Source.take_next.Goals as goal
 

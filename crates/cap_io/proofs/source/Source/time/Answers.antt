@@ -1,7 +1,4 @@
-use Rattle.std.proofs.Common.{ap, take, ◌∙◌}
-use Rattle.std.specs.Option.{option_map}
-use Rattle.cap_io.specs.Reading.{declared_by}
-use Rattle.cap_io.specs.Source.{SourceView}
+use Rattle.cap_io.proofs.Common.{ap, take, ◌∙◌, option_map, declared_by, SourceView}
 use Rattle.cap_io.proofs.Passing.{time-held}
 use Rattle.cap_io.proofs.source.Source.time.Goals as goal
 

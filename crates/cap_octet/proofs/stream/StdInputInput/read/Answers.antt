@@ -1,6 +1,4 @@
-use Rattle.std.proofs.Common.{rules, ◌==◌, ◌≡◌, ◌∙◌, Ok, length, take, arith, ap, sym, inr, ℕ}
-use Rattle.std.proofs.lemmas.List.{take-take}
-use Rattle.std.specs.Io.Buffered.{reader_buffer, reader_capacity, reader_inner}
+use Rattle.cap_octet.proofs.Common.{rules, ◌==◌, ◌≡◌, ◌∙◌, Ok, length, take, arith, ap, sym, inr, ℕ, take-take, reader_buffer, reader_capacity, reader_inner}
 use Rattle.cap_octet.proofs.Reading.{held-consumed}
 use Rattle.cap_octet.proofs.stream.StdInputInput.read.Goals as goal
 

@@ -1,7 +1,4 @@
-use Rattle.std.proofs.Common.{◌≡◌, [], ◌∷◌, ◌∙◌, ap, sym, rules, IsErr, unwrap_or}
-use Rattle.cap_pcapng.specs.Comment.{comment_code}
-use Rattle.cap_pcapng.specs.InterfaceOptions.{first_value, fitting_options}
-use Rattle.cap_pcapng.specs.OptionList.{item_of, options_left}
+use Rattle.cap_pcapng.proofs.Common.{◌≡◌, [], ◌∷◌, ◌∙◌, ap, sym, rules, IsErr, unwrap_or, comment_code, first_value, fitting_options, item_of, options_left}
 use Rattle.cap_pcapng.proofs.OptionLists.{misfit-fitting_options}
 use Rattle.cap_pcapng.proofs.options.Options.comment.Goals as goal
 use Rattle.cap_pcapng.proofs.options.Options.comment.Goals.{in_default, in_default-2}

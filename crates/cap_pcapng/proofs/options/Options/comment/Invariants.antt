@@ -1,7 +1,4 @@
-use Rattle.std.proofs.Common.{◌≡◌, length}
-use Rattle.cap_pcapng.specs.InterfaceOptions.{first_value, fitting_options}
-use Rattle.cap_pcapng.specs.Comment.{comment_code}
-use Rattle.cap_pcapng.specs.OptionList.{options_left}
+use Rattle.cap_pcapng.proofs.Common.{◌≡◌, length, first_value, fitting_options, comment_code, options_left}
 use Rattle.cap_pcapng.proofs.options.Options.comment.Given as goal
 
 abbrev pub invariant-loop-option : goal.invariant-loop-option

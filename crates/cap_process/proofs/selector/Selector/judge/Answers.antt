@@ -1,12 +1,7 @@
-use Rattle.std.proofs.Common.{◌≡◌, ℕ, ◌+◌, ◌<◌, ◌≤◌, Bool, true, false, Option, Ok, refl, ap, sym, ◌∙◌, subst, arith}
-use Rattle.cap_octet.specs.Packet.{Captured, captured}
-use Rattle.cap_octet.specs.declared.fault.Fault.TheVariants.{TooManyPackets}
+use Rattle.cap_process.proofs.Common.{◌≡◌, ℕ, ◌+◌, ◌<◌, ◌≤◌, Bool, true, false, Option, Ok, refl, ap, sym, ◌∙◌, subst, arith, Captured, captured, TooManyPackets, Judgement, SelectorState, is_last, judge_by, refuses, judge, SelectorView, most_spent, policy_of, programs_in, spent_by_verdict, window_of, is_count, marks_in, state_of, GrowsByOne, HasFewMarks, ReturnsVerdict, IsVerdict, count_limit, verdict_if, verdict_of}
 use Rattle.cap_process.specs.declared.selector.Verdict.TheVariants as code
 use Rattle.cap_filter.specs.Programs.{spent_in}
 use Rattle.cap_process.specs.inside.Reports.{FitsTally}
-use Rattle.cap_process.specs.Verdict.{Judgement, SelectorState, is_last, judge_by, refuses, judge}
-use Rattle.cap_process.specs.Selector.{SelectorView, most_spent, policy_of, programs_in, spent_by_verdict, window_of, is_count, marks_in, state_of}
-use Rattle.cap_process.specs.inside.Selector.{GrowsByOne, HasFewMarks, ReturnsVerdict, IsVerdict, count_limit, verdict_if, verdict_of}
 use Rattle.cap_process.proofs.Selectors.{counted-spends, judged-spends, refused-spends, upper_bound, too-many, tells-count, tells-none, tells-passed, window-few}
 use Rattle.cap_process.proofs.selector.Selector.judge.Goals as goal
 use Rattle.cap_process.proofs.selector.Selector.judge.Goals.{then-passed-number, else-passed-number}

@@ -1,20 +1,6 @@
-use Rattle.std.proofs.Common.{◌≡◌, ◌+◌, Ok, Err, IsTrue, List, ℕ, subst, sym, ◌∙◌, ap, arith, refl, Option, Some}
-use Rattle.cap_octet.specs.Views.{OutputView}
-use Rattle.cap_tools.specs.declared.step.JobEnd.{JobEnd}
+use Rattle.cap_tools.proofs.Common.{◌≡◌, ◌+◌, Ok, Err, IsTrue, List, ℕ, subst, sym, ◌∙◌, ap, arith, refl, Option, Some, OutputView, JobEnd, InputsView, InputView, InputPast, input_after_decided, with_cursor, next-is-of, Policy, SelectorView, policy_state, JobState, PacketsDecided, EndLeaves, StepLeaves, end_after, end_of_failed_write, Preparing, preparing_of, option_map, state_at, JobView, decides_one, leaves_one, IsStep}
 use Rattle.cap_inputs.specs.declared.inputs.Next.TheVariants as next
-use Rattle.cap_inputs.specs.Inputs.{InputsView, InputView, InputPast, input_after_decided, with_cursor}
 use Rattle.cap_inputs.specs.inside.Inputs as input_spec
-use Rattle.cap_inputs.proofs.Nexts.{next-is-of}
-use Rattle.cap_process.specs.Verdict.{Policy}
-use Rattle.cap_process.specs.Selector.{SelectorView}
-use Rattle.cap_process.specs.inside.Selector.{policy_state}
-use Rattle.cap_tools.specs.Packets.{JobState, PacketsDecided, EndLeaves, StepLeaves}
-use Rattle.cap_tools.specs.inside.Packets.{end_after, end_of_failed_write}
-use Rattle.cap_tools.specs.Start.{Preparing, preparing_of}
-use Rattle.std.specs.Option.{option_map}
-use Rattle.cap_tools.specs.Jobs.{state_at, JobView}
-use Rattle.cap_tools.specs.Bounds.{decides_one, leaves_one}
-use Rattle.cap_tools.specs.inside.Step.{IsStep}
 use Rattle.cap_tools.proofs.Answers.{answer-leaves}
 use Rattle.cap_tools.proofs.Fetches.{among-same}
 use Rattle.cap_tools.proofs.Held.{held}

@@ -1,10 +1,4 @@
-use Rattle.std.proofs.Common.{◌≡◌, ℕ, ◌+◌, List, Some, ap, ap₂, subst, Option}
-use Rattle.cap_process.specs.Messages.{IsTold}
-use Rattle.cap_tools.specs.Messages.{MessagesView}
-use Rattle.cap_tools.specs.Start.{Preparing, preparing_of}
-use Rattle.std.specs.Option.{option_map}
-use Rattle.cap_tools.specs.Jobs.{JobView, end_message}
-use Rattle.cap_tools.specs.inside.Step.{ending}
+use Rattle.cap_tools.proofs.Common.{◌≡◌, ℕ, ◌+◌, List, Some, ap, ap₂, subst, Option, IsTold, MessagesView, Preparing, preparing_of, option_map, JobView, end_message, ending}
 use Rattle.cap_tools.proofs.job.Job.end.Goals as goal
 
 pub returns-clause-ended : goal.returns-clause-ended

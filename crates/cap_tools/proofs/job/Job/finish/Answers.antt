@@ -1,18 +1,7 @@
-use Rattle.std.proofs.Common.{Result, Option, IsTrue, List, ℕ, refl, subst, sym, Some}
-use Rattle.cap_octet.specs.declared.device.DeviceFault.{DeviceFault}
-use Rattle.cap_octet.specs.Views.{OutputView}
+use Rattle.cap_tools.proofs.Common.{Result, Option, IsTrue, List, ℕ, refl, subst, sym, Some, DeviceFault, OutputView, JobEnd, EndsOutput, InputPast, JobState, PacketsDecided, EndLeaves, Preparing, preparing_of, option_map, state_at, JobView, reads_nothing, IsStep}
 use Rattle.cap_inputs.specs.declared.inputs.Next.TheVariants as next
-use Rattle.cap_tools.specs.declared.step.JobEnd.{JobEnd}
 use Rattle.cap_tools.specs.declared.step.JobEnd.TheVariants as end
-use Rattle.cap_process.specs.inside.Output.{EndsOutput}
-use Rattle.cap_inputs.specs.Inputs.{InputPast}
 use Rattle.cap_inputs.specs.inside.Inputs as input_spec
-use Rattle.cap_tools.specs.Packets.{JobState, PacketsDecided, EndLeaves}
-use Rattle.cap_tools.specs.Start.{Preparing, preparing_of}
-use Rattle.std.specs.Option.{option_map}
-use Rattle.cap_tools.specs.Jobs.{state_at, JobView}
-use Rattle.cap_tools.specs.Bounds.{reads_nothing}
-use Rattle.cap_tools.specs.inside.Step.{IsStep}
 use Rattle.cap_tools.proofs.Finishes.{finish-leaves, FinishLeaves}
 use Rattle.cap_tools.proofs.Weights.{is-light}
 use Rattle.cap_tools.proofs.job.Job.finish.Goals as goal

@@ -1,7 +1,4 @@
-use Rattle.std.proofs.Common.{arith, subst, sym}
-use Rattle.std.proofs.lemmas.Grind.{common_steps}
-use Rattle.cap_process.specs.Selector.{SelectorView}
-use Rattle.cap_process.specs.inside.Selector.{HasFewMarks}
+use Rattle.cap_tools.proofs.Common.{arith, subst, sym, common_steps, SelectorView, HasFewMarks}
 use Rattle.cap_tools.proofs.Weights.{is-light}
 use Rattle.cap_tools.proofs.job.Job.install_filter.Goals as goal
 

@@ -1,13 +1,5 @@
-use Rattle.std.proofs.Common.{◌≡◌, true, refl, subst, sym, Option, arith}
-use Rattle.std.proofs.lemmas.Grind.{common_steps}
-use Rattle.cap_octet.specs.Views.{OutputView}
+use Rattle.cap_tools.proofs.Common.{◌≡◌, true, refl, subst, sym, Option, arith, common_steps, OutputView, Preparing, preparing_of, option_map, state_at, JobView, IsLight, is_text, EndsList}
 use Rattle.cap_tools.specs.declared.job.Turn.TheVariants as turn
-use Rattle.cap_tools.specs.Start.{Preparing, preparing_of}
-use Rattle.std.specs.Option.{option_map}
-use Rattle.cap_tools.specs.Jobs.{state_at, JobView}
-use Rattle.cap_tools.specs.Bounds.{IsLight}
-use Rattle.cap_process.specs.inside.Output.{is_text}
-use Rattle.cap_tools.specs.inside.FirstStep.{EndsList}
 use Rattle.cap_tools.proofs.CommandStarts.{listed-err, listed-ok}
 use Rattle.cap_tools.proofs.Weights.{is-light}
 use Rattle.cap_tools.proofs.job.Job.list.Goals as goal

@@ -1,24 +1,4 @@
-use Rattle.cap_command.specs.Command.{most_inputs}
-use Rattle.std.proofs.Common.{◌≡◌, ◌≤◌, List, map, length, string_bytes, sym, ap, subst, ◌∙◌, arith}
-use Rattle.std.specs.List.{All}
-use Rattle.std.specs.Option.{option_map}
-use Rattle.flt_bpf.specs.Content.{Content}
-use Rattle.cap_tools.specs.Bounds.{IsSmall, most_turns}
-use Rattle.cap_tools.specs.inside.Bounds.{steps_owed_in_all}
-use Rattle.cap_process.specs.Output.{HasFewOutputInterfaces, Target}
-use Rattle.cap_process.specs.Reports.{nothing_counted}
-use Rattle.cap_inputs.specs.Inputs.{InputsView}
-use Rattle.cap_inputs.specs.inside.Inputs.{steps_left}
-use Rattle.cap_process.specs.Selector.{HavePrograms, SelectorView, policy_of}
-use Rattle.cap_process.specs.inside.Selector.{state_with, HasFewMarks}
-use Rattle.cap_io.specs.Sequence.{PacketOrder, order_of}
-use Rattle.cap_tools.specs.Start.{Assignment, preparing_of}
-use Rattle.cap_command.specs.Call.{Call, call_of}
-use Rattle.cap_tools.specs.Jobs.{JobView}
-use Rattle.cap_octet.specs.Views.{fresh_input, fresh_output}
-use Rattle.cap_inputs.specs.Fresh.{fresh_inputs, nothing_done}
-use Rattle.cap_tools.specs.Commands.{DecidedBy}
-use Rattle.cap_tools.specs.inside.Commands.{IsReadyIf}
+use Rattle.cap_tools.proofs.Common.{most_inputs, ◌≡◌, ◌≤◌, List, map, length, string_bytes, sym, ap, subst, ◌∙◌, arith, All, option_map, Content, IsSmall, most_turns, steps_owed_in_all, HasFewOutputInterfaces, Target, nothing_counted, InputsView, steps_left, HavePrograms, SelectorView, policy_of, state_with, HasFewMarks, PacketOrder, order_of, Assignment, preparing_of, Call, call_of, JobView, fresh_input, fresh_output, fresh_inputs, nothing_done, DecidedBy, IsReadyIf}
 use Rattle.cap_tools.proofs.CommandStarts.{few-inputs, first-decided, first-made, first-ready}
 use Rattle.cap_tools.proofs.Starts.{first-few, first-left, same-count}
 use Rattle.cap_tools.proofs.Weights.{few-first, small-first}

@@ -1,20 +1,7 @@
-use Rattle.std.proofs.Common.{◌≡◌, ◌∙◌, ◌&&◌, Bool, true, false, Result, Ok, Some, refl, sym, ap, arith, subst, Option, None}
-use Rattle.cap_octet.specs.declared.fault.Fault.{Fault}
-use Rattle.cap_octet.specs.Views.{OutputView}
+use Rattle.cap_tools.proofs.Common.{◌≡◌, ◌∙◌, ◌&&◌, Bool, true, false, Result, Ok, Some, refl, sym, ap, arith, subst, Option, None, Fault, OutputView, InputsView, is_clean_end, next-is-of, Policy, SelectorView, policy_state, JobState, StepLeaves, asks_report, Preparing, preparing_of, option_map, state_at, JobView, reads_on, is_fault, IsStep}
 use Rattle.cap_inputs.specs.declared.inputs.Next.TheVariants as next
 use Rattle.cap_tools.specs.declared.step.JobEnd.TheVariants as end
-use Rattle.cap_inputs.specs.Inputs.{InputsView, is_clean_end}
 use Rattle.cap_inputs.specs.inside.Inputs as input_spec
-use Rattle.cap_inputs.proofs.Nexts.{next-is-of}
-use Rattle.cap_process.specs.Verdict.{Policy}
-use Rattle.cap_process.specs.Selector.{SelectorView}
-use Rattle.cap_process.specs.inside.Selector.{policy_state}
-use Rattle.cap_tools.specs.Packets.{JobState, StepLeaves, asks_report}
-use Rattle.cap_tools.specs.Start.{Preparing, preparing_of}
-use Rattle.std.specs.Option.{option_map}
-use Rattle.cap_tools.specs.Jobs.{state_at, JobView}
-use Rattle.cap_tools.specs.Bounds.{reads_on, is_fault}
-use Rattle.cap_tools.specs.inside.Step.{IsStep}
 use Rattle.cap_tools.proofs.Preparing.{ready-none}
 use Rattle.cap_tools.proofs.Programs.{have-kept}
 use Rattle.cap_tools.proofs.Fetches.{Follows, FetchLeaves, read_input-leaves}

@@ -1,12 +1,5 @@
-use Rattle.std.proofs.Common.{Option, Some, refl, subst, sym}
-use Rattle.std.specs.Option.{option_map}
-use Rattle.cap_octet.specs.Views.{OutputView}
+use Rattle.cap_tools.proofs.Common.{Option, Some, refl, subst, sym, option_map, OutputView, reads_nothing, JobView, state_at, JobState, Preparing, preparing_of, IsStep}
 use Rattle.cap_tools.specs.declared.step.JobEnd.TheVariants as end
-use Rattle.cap_tools.specs.Bounds.{reads_nothing}
-use Rattle.cap_tools.specs.Jobs.{JobView, state_at}
-use Rattle.cap_tools.specs.Packets.{JobState}
-use Rattle.cap_tools.specs.Start.{Preparing, preparing_of}
-use Rattle.cap_tools.specs.inside.Step.{IsStep}
 use Rattle.cap_tools.proofs.Weights.{is-light}
 use Rattle.cap_tools.proofs.job.Job.read_next.Goals as goal
 

@@ -1,10 +1,4 @@
-use Rattle.std.proofs.Common.{◌≡◌, ◌∙◌, ℕ, ◌+◌, List, Option, None, Some, refl, ap, ap₂, arith, subst}
-use Rattle.std.proofs.lemmas.Grind.{common_steps}
-use Rattle.std.specs.Option.{option_map}
-use Rattle.cap_filter.specs.Refusals.{refusal_status}
-use Rattle.cap_tools.specs.Start.{Preparing, preparing_of}
-use Rattle.cap_tools.specs.Jobs.{JobView, state_at}
-use Rattle.cap_tools.specs.FirstStep.{RefusesStart}
+use Rattle.cap_tools.proofs.Common.{◌≡◌, ◌∙◌, ℕ, ◌+◌, List, Option, None, Some, refl, ap, ap₂, arith, subst, common_steps, option_map, refusal_status, Preparing, preparing_of, JobView, state_at, RefusesStart}
 use Rattle.cap_tools.proofs.Weights.{is-light}
 use Rattle.cap_tools.proofs.job.Job.refuse.Goals as goal
 

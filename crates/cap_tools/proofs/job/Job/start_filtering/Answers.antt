@@ -1,8 +1,4 @@
-use Rattle.std.proofs.Common.{refl, sym, ap, subst, ◌∙◌}
-use Rattle.cap_filter.specs.Filters.{programs_of, rule_of}
-use Rattle.cap_filter.specs.Programs.{spent_in}
-use Rattle.cap_tools.specs.Jobs.{JobView}
-use Rattle.cap_tools.specs.Commands.{PreparesOnly}
+use Rattle.cap_tools.proofs.Common.{refl, sym, ap, subst, ◌∙◌, programs_of, rule_of, spent_in, JobView, PreparesOnly}
 use Rattle.cap_tools.proofs.Preparing.{new-unspent}
 use Rattle.cap_tools.proofs.job.Job.start_filtering.Goals as goal
 

@@ -1,9 +1,4 @@
-use Rattle.std.proofs.Common.{◌≡◌, Option, None, Some, string_bytes, sym, ◌∙◌, ap, subst}
-use Rattle.std.specs.Option.{option_map}
-use Rattle.cap_tools.specs.Start.{Preparing, ReadsFilter, Compiles, asked_by, preparing_of}
-use Rattle.cap_tools.specs.Jobs.{JobView, state_at, turn_goes_on}
-use Rattle.cap_tools.specs.Commands.{PreparesBy, StepKeeps, StepReadsBy}
-use Rattle.cap_tools.specs.inside.Commands.{IsReadyIf, with_preparing}
+use Rattle.cap_tools.proofs.Common.{◌≡◌, Option, None, Some, string_bytes, sym, ◌∙◌, ap, subst, option_map, Preparing, ReadsFilter, Compiles, asked_by, preparing_of, JobView, state_at, turn_goes_on, PreparesBy, StepKeeps, StepReadsBy, IsReadyIf, with_preparing}
 use Rattle.cap_tools.proofs.CommandStarts.{compile-gives, filter-gives, first-reads}
 use Rattle.cap_tools.proofs.Preparing.{none-before, none-taken}
 use Rattle.cap_tools.proofs.job.Job.step.Goals as goal

@@ -1,12 +1,6 @@
 -- Where an answer is `grind` alone, the search that the check tries before it takes most of the
 -- time.
-use Rattle.std.proofs.Common.{◌≡◌, ◌+◌, ℕ, List, true, false, subst, sym, Some, arith}
-use Rattle.std.proofs.lemmas.Grind.{common_steps}
-use Rattle.cap_inputs.specs.Inputs.{InputPast}
-use Rattle.cap_tools.specs.Packets.{GoesOn}
-use Rattle.cap_process.specs.Selector.{HavePrograms}
-use Rattle.cap_tools.specs.Bounds.{IsLight, StepReads}
-use Rattle.cap_tools.specs.Jobs.{state_at, JobView, Decided, end_status}
+use Rattle.cap_tools.proofs.Common.{◌≡◌, ◌+◌, ℕ, List, true, false, subst, sym, Some, arith, common_steps, InputPast, GoesOn, HavePrograms, IsLight, StepReads, state_at, JobView, Decided, end_status}
 use Rattle.cap_tools.proofs.Ends.{step-ends}
 use Rattle.cap_tools.proofs.Kept.{reads-kept}
 use Rattle.cap_tools.proofs.Weights.{is-light}

@@ -1,8 +1,4 @@
-use Rattle.std.proofs.Common.{subst}
-use Rattle.cap_process.specs.Messages.{refusal_message}
-use Rattle.cap_process.specs.Messages.{IsTold}
-use Rattle.cap_octet.specs.Views.{output_view}
-use Rattle.cap_tools.specs.Messages.{MessagesView}
+use Rattle.cap_tools.proofs.Common.{subst, refusal_message, IsTold, output_view, MessagesView}
 use Rattle.cap_tools.proofs.messages.Messages.refuse.Goals as goal
 
 pub returns-clause-exact : goal.returns-clause-exact

@@ -1,43 +1,10 @@
 -- A growth that is admitted is the inner allocator's; the refused one has no memory. Assumes
 -- `Logic`.
-use Rattle.std.proofs.Common.{◌≡◌, ℕ, Bool, ◌+◌, ◌^◌, ◌<◌, true, false, List, [], ◌∷◌, Ok, Err, refl, w64, Bor}
+use Rattle.cap_trial.proofs.Common.{◌≡◌, ℕ, Bool, ◌+◌, ◌^◌, ◌<◌, true, false, List, [], ◌∷◌, Ok, Err, refl, w64, Bor, proved, Al, α, seen, token, Answer, answer_val, Answer-typed, Answer-Ok, Answer-err, takes_key, Takes, at_takes, Answered, Takes-goes, Takes-gives, answers, Ura, Ty, Args, Fn, a_type, dnil, dcons, Val, vbool, vint, vptr, inst_fn, SProp, ent, id⊢, Lft, Share, ftrue, fsep, froom, flft, Memory, size, align, capped, up, Routine, WpFn, Tables, Logic, ◌⊑◌, ⊑_trans, Fun, fact, tables, fm_of, ‵, raw, ◌⊛◌, some, later, given, learn, ◌$◌, ◌∵◌, !, Sq, qed, move, keep, use0, use1, use2, split, join, pick, fsplit, fjoin, suffices, await, prop, at_ret, done, stop, fld, addr, lit, no_more, and_then, first, branches, skips, exec, returns, returns_within, enter, alloc_all, pass_all, free_all, look_at, get, through, sets, lands_as, env, usize, RefOf, yes, unhide, bounded, param, hidden_shr, uint_vals, uint_Tells, owns, block_ptr, shr_vals, Slot, plain, types_at, heard, nothing, calls_at, Ended, Clauses, Triple, Stays, stay_dropped, walk_of, ends_at, Goes-dropped}
 use Rattle.std.proofs.VecSteps.Shapes.{after}
-use Rattle.std.proofs.raw_atomic.Walks.{proved}
-use Rattle.std.proofs.alloc.Calls.{Al, α, seen, token, Answer, answer_val, Answer-typed, Answer-Ok, Answer-err, takes_key, Takes, at_takes, Answered, Takes-goes, Takes-gives, answers}
-use seplogic.Ra.Ura.{Ura}
-use mir.Syntax.{Ty, Args, Fn, a_type, dnil, dcons}
-use mir.Val.{Val, vbool, vint, vptr}
-use mir.MapTy.{inst_fn}
-use base.Logic.{SProp, ent, id⊢}
-use base.Fml.{Lft, Share, ftrue, fsep, froom, flft}
-use prog.Memory.{Memory, size, align, capped, up}
-use prog.Routine.{Routine}
-use prog.Wp.{WpFn, Tables}
-use types.Logic.{Logic}
-use contract.BorrowLft.{◌⊑◌, ⊑_trans}
-use contract.Monad.{Fun, fact}
-use contract.Running.{tables, tables_of}
-use sound.WpLaws.{fm_of}
-use types.Kit.{‵, raw, ◌⊛◌, some, later, given, learn, ◌$◌, ◌∵◌, !, Sq, qed, move, keep, use0, use1, use2, split, join, pick, fsplit, fjoin, suffices, await, prop, at_ret, done}
-use types.Run.{stop, fld, addr, lit, no_more, and_then, first, branches, skips, exec, returns, returns_within, enter}
+use contract.Running.{tables_of}
 use types.Part.{agg}
-use types.ByLocal.{alloc_all, pass_all, free_all, look_at, get, through, sets, lands_as, env}
-use denote.Builtin.{usize, RefOf}
-use denote.Exit.{yes}
-use denote.Opens.{unhide}
-use denote.Param.{bounded, param}
-use denote.Memory.{hidden_shr}
-use denote.Plain.{uint_vals, uint_Tells}
-use denote.RattleType.{owns}
-use denote.RawPtr.{block_ptr}
-use denote.Ref.{shr_vals}
-use denote.Signature.{Slot, plain, types_at}
-use denote.Steps.{heard, nothing}
-use denote.Triple.Call.{calls_at}
-use denote.Triple.Clauses.{Ended, Clauses}
-use denote.Triple.Statement.{Triple}
 use denote.Triple.Table.{cited}
-use denote.Triple.Walked.{Stays, stay_dropped, walk_of, ends_at, Goes-dropped}
 use Rattle.cap_trial.specs.contracts.allocator.Plan as P
 use Rattle.cap_trial.specs.contracts.allocator.Trial as T
 use Rattle.cap_trial.specs.contracts.allocator.TrialAllocator.allocate as F

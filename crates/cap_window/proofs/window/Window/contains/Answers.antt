@@ -1,9 +1,4 @@
-use Rattle.std.proofs.lemmas.Grind.{common_steps}
-use Rattle.std.proofs.Common.{[], arith, refl, ◌≡◌, ◌∙◌, ap, sym, get_or, ◌-◌, ◌<◌, ◌≤◌, length}
-use Rattle.std.proofs.lemmas.List.{get_or_default}
-use Rattle.std.proofs.lemmas.Option.{get_or_from_slice_get, slice_get-get_or}
-use Rattle.std.specs.Option.{option_copied}
-use Rattle.cap_window.specs.inside.Index.{hash_of, links_at, mark_at}
+use Rattle.cap_window.proofs.Common.{common_steps, [], arith, refl, ◌≡◌, ◌∙◌, ap, sym, get_or, ◌-◌, ◌<◌, ◌≤◌, length, get_or_default, get_or_from_slice_get, slice_get-get_or, option_copied, hash_of, links_at, mark_at}
 use Rattle.cap_window.proofs.Marks.{links_are_there, mark_is_there}
 use Rattle.cap_window.proofs.Searching.{searched_first, searched_next, searched_step, searched_all}
 use Rattle.cap_window.proofs.window.Window.contains.Goals as goal

@@ -1,8 +1,4 @@
-use Rattle.std.proofs.lemmas.Grind.{common_steps}
-use Rattle.std.proofs.Common.{arith, refl, ◌≡◌, ◌∙◌, get_or, set, ◌+◌, ◌-◌, ◌<◌, ◌≤◌, length, take, drop, ◌++◌, List, ℕ, ap}
-use Rattle.std.proofs.lemmas.List.{get_or_default, take-append-le, take_all}
-use Rattle.cap_window.specs.inside.Index.{has_hash, hash_of}
-use Rattle.cap_window.specs.declared.links.Links.{Links}
+use Rattle.cap_window.proofs.Common.{common_steps, arith, refl, ◌≡◌, ◌∙◌, get_or, set, ◌+◌, ◌-◌, ◌<◌, ◌≤◌, length, take, drop, ◌++◌, List, ℕ, ap, get_or_default, take-append-le, take_all, has_hash, hash_of, Links}
 use Rattle.cap_window.proofs.Indexes.{IsLowered, sound_hung, sound_push}
 use Rattle.cap_window.proofs.window.Window.push.Goals as goal
 

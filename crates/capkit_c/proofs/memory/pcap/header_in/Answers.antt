@@ -1,7 +1,5 @@
 -- The first 24 bytes say what the text says.
-use Rattle.std.proofs.Common.{◌∙◌, ap}
-use Rattle.cap_octet.specs.Checks.{checked}
-use Rattle.cap_pcap.specs.Header.{header_fault, header_in}
+use Rattle.capkit_c.proofs.Common.{◌∙◌, ap, checked, header_fault, header_in}
 use Rattle.capkit_c.proofs.Savefiles.{head_taken}
 use Rattle.capkit_c.proofs.memory.pcap.header_in.Goals as goal
 

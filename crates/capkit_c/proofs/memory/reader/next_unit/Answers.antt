@@ -1,7 +1,5 @@
 -- What is left is what reading the unit leaves.
-use Rattle.std.proofs.Common.{length, refl, subst}
-use Rattle.capkit_c.specs.Layout.{first_interfaces}
-use Rattle.capkit_c.specs.inside.Units.{IsNoUnit}
+use Rattle.capkit_c.proofs.Common.{length, refl, subst, first_interfaces, IsNoUnit}
 use Rattle.capkit_c.proofs.Leaves.{ended, found_packet, full, passed, refused}
 use Rattle.capkit_c.proofs.memory.reader.next_unit.Goals as goal
 

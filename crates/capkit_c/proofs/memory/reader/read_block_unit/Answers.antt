@@ -1,7 +1,5 @@
 -- The block is the unit that the text begins with.
-use Rattle.std.proofs.Common.{Option, ℕ, length, sym, subst}
-use Rattle.capkit_c.specs.Layout.{first_interfaces}
-use Rattle.capkit_c.specs.inside.Units.{BeginsWithUnit}
+use Rattle.capkit_c.proofs.Common.{Option, ℕ, length, sym, subst, first_interfaces, BeginsWithUnit}
 use Rattle.cap_io.specs.declared.file_state.FileState.TheVariants as form
 use Rattle.capkit_c.proofs.Fronts.{block_unit, no_unit}
 use Rattle.capkit_c.proofs.memory.reader.read_block_unit.Goals as goal

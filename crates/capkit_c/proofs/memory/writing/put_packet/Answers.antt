@@ -1,7 +1,5 @@
 -- The parts, joined, are the block.
-use Rattle.std.proofs.Common.{◌+◌, refl, sym, ◌∙◌, arith}
-use Rattle.cap_octet.specs.Packet.{Captured, captured}
-use Rattle.cap_pcapng.proofs.WrittenBlocks.{packet_joined, plain_joined, comment_after}
+use Rattle.capkit_c.proofs.Common.{◌+◌, refl, sym, ◌∙◌, arith, Captured, captured, packet_joined, plain_joined, comment_after}
 use Rattle.capkit_c.proofs.Writes.{unrefused}
 use Rattle.capkit_c.proofs.memory.writing.put_packet.Goals as goal
 

@@ -1,12 +1,6 @@
 -- Every check passes, and the parts are the record.
-use Rattle.std.proofs.Common.{◌≡◌, ◌++◌, [], ◌∷◌, ◌^◌, List, ℕ, true, refl, ap, ap₂, sym, ◌∙◌, rules}
-use Rattle.std.specs.Prelude.{nat_lt}
-use Rattle.std.proofs.lemmas.List.{append-nil}
-use Rattle.cap_octet.specs.Checks.{first_failing}
-use Rattle.cap_octet.specs.declared.fault.Fault.TheVariants.{TimeOutOfRange}
-use Rattle.cap_octet.proofs.Checks.{checked_ok, met_front}
+use Rattle.capkit_c.proofs.Common.{◌≡◌, ◌++◌, [], ◌∷◌, ◌^◌, List, ℕ, true, refl, ap, ap₂, sym, ◌∙◌, rules, nat_lt, append-nil, first_failing, TimeOutOfRange, checked_ok, met_front, written_packet}
 use Rattle.cap_pcap.specs.Encoding.{record_fit_checks, record_header}
-use Rattle.capkit_c.specs.Buffers.{written_packet}
 use Rattle.capkit_c.proofs.Writes.{unrefused}
 use Rattle.capkit_c.proofs.memory.writing.write_record.Goals as goal
 

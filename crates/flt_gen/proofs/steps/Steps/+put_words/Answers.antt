@@ -1,10 +1,5 @@
 -- A test in front of others that are needed.
-use Rattle.std.proofs.Common.{List, ◌∙◌, sym, subst}
-use Rattle.std.proofs.lemmas.List.{take_rest}
-use Rattle.flt_emit.specs.declared.elementary.Elementary.{Elementary}
-use Rattle.flt_emit.specs.Formula.{all_of}
-use Rattle.flt_gen.specs.inside.Emitted.{needed_tests}
-use Rattle.flt_gen.specs.inside.Steps.{IsPut}
+use Rattle.flt_gen.proofs.Common.{List, ◌∙◌, sym, subst, take_rest, Elementary, all_of, needed_tests, IsPut}
 use Rattle.flt_gen.proofs.StepsEmitted.{words_put}
 use Rattle.flt_gen.proofs.steps.Steps.+put_words.Goals as goal
 

@@ -1,9 +1,5 @@
 -- The steps of the group are emitted.
-use Rattle.std.proofs.Common.{◌≡◌, subst}
-use Rattle.std.specs.Prelude.{OnOk}
-use Rattle.flt_gen.specs.inside.Group.{Group, no_group, numbers_of, group_formula}
-use Rattle.flt_gen.specs.inside.Steps.{Steps, IsPut, no_steps}
-use Rattle.flt_gen.specs.inside.Walk.{Walk, finish_formula}
+use Rattle.flt_gen.proofs.Common.{◌≡◌, subst, OnOk, Group, no_group, numbers_of, group_formula, Steps, IsPut, no_steps, Walk, finish_formula}
 use Rattle.flt_gen.proofs.StepsEmitted.{steps_emitted}
 use Rattle.flt_gen.proofs.walk.Walk.emit_group.Goals as goal
 

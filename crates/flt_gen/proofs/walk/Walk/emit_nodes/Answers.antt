@@ -1,11 +1,5 @@
 -- Each node leaves the same walk to do.
-use Rattle.std.proofs.Common.{◌≡◌, ◌-◌, ◌<◌, ◌≤◌, Some, None, zero, suc, ℕ, List, ◌∙◌, refl, sym, ap, length, take, get_or, arith}
-use Rattle.std.specs.Prelude.{if◌then◌else◌, reverse}
-use Rattle.cap_octet.specs.declared.link.Link.{Link}
-use Rattle.flt_words.specs.declared.token.Protocol.TheVariants.{Ether}
-use Rattle.flt_ast.specs.declared.node.Node.{Node}
-use Rattle.flt_ast.specs.declared.node.Node.TheVariants.{Check}
-use Rattle.flt_gen.specs.inside.Walk.{Walk, emit_node, emit_both_nodes, emit_nodes}
+use Rattle.flt_gen.proofs.Common.{◌≡◌, ◌-◌, ◌<◌, ◌≤◌, Some, None, zero, suc, ℕ, List, ◌∙◌, refl, sym, ap, length, take, get_or, arith, if◌then◌else◌, reverse, Link, Ether, Node, Check, Walk, emit_node, emit_both_nodes, emit_nodes}
 use Rattle.flt_gen.proofs.Turned.{last_is, last_both, last_node}
 use Rattle.flt_gen.proofs.walk.Walk.emit_nodes.Goals as goal
 

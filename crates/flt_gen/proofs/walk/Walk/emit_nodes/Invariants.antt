@@ -1,7 +1,5 @@
 -- What is left to do leads to the same walk.
-use Rattle.std.proofs.Common.{◌≡◌, ◌≤◌, length, take}
-use Rattle.std.specs.Prelude.{reverse}
-use Rattle.flt_gen.specs.inside.Walk.{emit_nodes}
+use Rattle.flt_gen.proofs.Common.{◌≡◌, ◌≤◌, length, take, reverse, emit_nodes}
 use Rattle.flt_gen.proofs.walk.Walk.emit_nodes.Given as goal
 
 abbrev pub invariant-nodes : goal.invariant-nodes

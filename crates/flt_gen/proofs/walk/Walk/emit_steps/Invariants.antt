@@ -1,8 +1,5 @@
 -- What is left to do leads to the same walk.
-use Rattle.std.proofs.Common.{◌≡◌, length}
-use Rattle.cap_octet.specs.declared.link.Link.{Link}
-use Rattle.flt_gen.specs.inside.Steps.{meaning}
-use Rattle.flt_gen.specs.inside.Walk.{emit_parts}
+use Rattle.flt_gen.proofs.Common.{◌≡◌, length, Link, meaning, emit_parts}
 use Rattle.flt_gen.proofs.walk.Walk.emit_steps.Given as goal
 
 abbrev pub invariant-loop-step : goal.invariant-loop-step

@@ -1,11 +1,5 @@
 -- The steps of a primitive are emitted.
-use Rattle.std.proofs.Common.{◌≡◌, sym, subst}
-use Rattle.std.specs.Prelude.{OnOk}
-use Rattle.flt_ast.specs.declared.node.Node.{Node}
-use Rattle.flt_emit.specs.Formula.{no_numbers}
-use Rattle.flt_gen.specs.Primitives.{check_formula, cast_formula}
-use Rattle.flt_gen.specs.inside.Steps.{Steps, IsPut, no_steps}
-use Rattle.flt_gen.specs.inside.Walk.{emit_truth_node}
+use Rattle.flt_gen.proofs.Common.{◌≡◌, sym, subst, OnOk, Node, no_numbers, check_formula, cast_formula, Steps, IsPut, no_steps, emit_truth_node}
 use Rattle.flt_gen.proofs.StepsEmitted.{steps_emitted}
 use Rattle.flt_gen.proofs.walk.Walk.emit_truth_node.Goals as goal
 

@@ -1,11 +1,5 @@
 -- The steps of a value that joins no group are emitted.
-use Rattle.std.proofs.Common.{◌≡◌, Some, None, Option, ◌∙◌, sym, ap, subst}
-use Rattle.std.specs.Prelude.{OnOk, if◌then◌else◌}
-use Rattle.flt_emit.specs.Formula.{no_numbers}
-use Rattle.flt_gen.specs.inside.Emitted.{qualified_needed}
-use Rattle.flt_gen.specs.inside.Group.{Group, larger_group}
-use Rattle.flt_gen.specs.inside.Steps.{Steps, IsPut, no_steps}
-use Rattle.flt_gen.specs.inside.Walk.{Walk, emit_value, finish_formula, flush_group}
+use Rattle.flt_gen.proofs.Common.{◌≡◌, Some, None, Option, ◌∙◌, sym, ap, subst, OnOk, if◌then◌else◌, no_numbers, qualified_needed, Group, larger_group, Steps, IsPut, no_steps, Walk, emit_value, finish_formula, flush_group}
 use Rattle.flt_gen.proofs.StepsEmitted.{steps_emitted}
 use Rattle.flt_gen.proofs.walk.Walk.emit_value.Goals as goal
 

@@ -1,7 +1,5 @@
 -- What is left of the tokens is read as the whole of them is.
-use Rattle.std.proofs.Common.{◌≡◌, ◌-◌, ◌≤◌, length, drop}
-use Rattle.flt_lang.specs.Grammar.{kinds_of}
-use Rattle.flt_lang.specs.inside.Parser.{run, nodes_of_tokens}
+use Rattle.flt_lang.proofs.Common.{◌≡◌, ◌-◌, ◌≤◌, length, drop, kinds_of, run, nodes_of_tokens}
 use Rattle.flt_lang.proofs.reader.Reader.read.Given as goal
 
 abbrev pub invariant-loop-at : goal.invariant-loop-at

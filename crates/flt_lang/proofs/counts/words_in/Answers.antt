@@ -1,11 +1,9 @@
 -- The greatest height is one more than the words.
-use Rattle.std.proofs.Common.{◌≡◌, ◌+◌, ap, ◌∙◌, arith, fold}
-use Rattle.flt_ast.specs.Counts.{words_of}
-use Rattle.flt_ast.specs.inside.Heights.{climb}
+use Rattle.flt_lang.proofs.Common.{◌≡◌, ◌+◌, ap, ◌∙◌, arith, fold, words_of, climb}
 use Rattle.flt_lang.proofs.Counting.{climb_whole}
-use Rattle.flt_lang.proofs.sums.words_in.Given as given
-use Rattle.flt_lang.proofs.sums.words_in.Goals as goal
-use Rattle.flt_lang.proofs.sums.words_in.Goals.{After-most_waiting}
+use Rattle.flt_lang.proofs.counts.words_in.Given as given
+use Rattle.flt_lang.proofs.counts.words_in.Goals as goal
+use Rattle.flt_lang.proofs.counts.words_in.Goals.{After-most_waiting}
 
 highest_is : (g : given.Over) (c : After-most_waiting g) → c.most_waiting.result ≡ 1 + words_of c.args.expr.now
 highest_is g c =

@@ -1,7 +1,7 @@
 -- The sum so far, and that it fits.
 use Rattle.std.proofs.Common.{◌≡◌, ◌*◌, ◌≤◌, sum_by, take}
 use Rattle.flt_ast.specs.Counts.{node_size}
-use Rattle.flt_lang.proofs.sums.sum_of_arithmetic_nodes.Given as goal
+use Rattle.flt_lang.proofs.counts.sum_of_arithmetic_nodes.Given as goal
 
 abbrev pub invariant-loop-node : goal.invariant-loop-node
 invariant-loop-node l = record {
