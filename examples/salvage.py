@@ -3,34 +3,33 @@
 
 usage: salvage.py [-F FORMAT] [-n ROW] IN OUT        (- is standard input or output)
 
-1. What capkit reads is right: a file that it reads to its end is written as `capkit edit` does, and
-   in another one nothing is guessed before the first fault.
-2. After a fault the first chain wins: a row of records (or blocks) with consistent lengths. It is
-   believed if it is longer than what a packet carries (64 KiB, and 32 records), or if it has ROW
-   records (3) or more and leads to the end of the file or to a file header with a chain. Another
-   one of ROW records, which a lost packet may have carried, is at most a second earlier than the
-   last packet and a day later; blocks before any packet need no time. Of chains that meet, the one
-   with most records before wins. One whose fractions are captured lengths is 4 bytes off: no chain.
+What capkit reads is right: a file that it reads to its end is written as `capkit edit` does, and in
+another one nothing is guessed before the first fault. After a fault the first chain wins: a row of
+records (or blocks) with consistent lengths. It is believed if it is longer than what a packet
+carries (64 KiB, and 32 records or 2 MiB), or if it has ROW records (3) or more and leads to the end
+of the file or to a file header with a chain. Another one of ROW records, which a lost packet may
+have carried, is at most a second earlier than the last packet and a day later; blocks before any
+packet need no time. Of chains that meet, the one with most records before wins. One whose fractions
+are captured lengths is 4 bytes off: no chain.
 
 Put right in place, and reported, are: a fraction of a second or more (0, if a record follows), a
 damaged length (if the other one leads to the chain), a time out of range (0), the version and the
 upper half of the link type field of a pcap file, options of an interface that capkit refuses, and
 text mode (if each line feed comes after a carriage return, and capkit reads further without those).
 
-Rule 1 is bent to keep packets from being made up. Of the last eight records before a fault, those
-in the way of the chain are dropped, and up to half of the eight if their lengths are impossible. A
-record without bytes needs an original length. Reading stops if it has slid four bytes off a chain.
+To keep packets from being made up, of the last eight records before a fault those in the way of the
+chain are dropped, and up to half of the eight if their lengths are impossible. A record without
+bytes needs an original length. Reading stops if it has slid 4 bytes off a chain, or 1 byte: lengths
+are 256 times too long, the time is far, and that of the record 1 byte off is not.
 
 Packets may still be made up: if damage stands right before a packet that carries a capture of the
 last second, if a section header is lost with its interfaces, and in a file that only looks like a
-capture. Interfaces after damage are left out with their packets: their numbers aren't known. How
-much is tried is bounded: after that, a chain is only looked for in 256 of each 4,096 bytes, only
-of the same kind as before, and not further than 1 MiB.
+capture. Interfaces after damage are left out with their packets: their numbers aren't known. After
+a bounded number of tries a chain is only looked for in 256 of each 4,096 bytes.
 
-IN isn't changed; it is copied only if it is a pipe or in text mode. OUT gets its name at the end.
-Standard error has a line for each of the first 20 places, and one with sums. A place is what was
-put right at once, or all that is left out in a row, with the first reason. The status is 0 if IN
-was in order, 1 if not or nothing was written, 2 if the command line is wrong. Needs Python 3.10.
+IN isn't changed, and copied only if it is a pipe or in text mode. OUT gets its name at the end. The
+first 20 places of damage and sums go to standard error. The status is 0 if IN was in order, 1 if
+not or nothing was written, 2 if the command line is wrong. Needs Python 3.10.
 """
 import argparse
 import collections
@@ -54,7 +53,7 @@ SECTIONS = {struct.pack(it + "IHH", ORDER_MAGIC, 1, minor): it for it in "<>" fo
 HEADER = re.compile(b"|".join(map(re.escape, [*FORMS, SECTION_TYPE])))
 LONGEST, LONGEST_BLOCK, MOST_INTERFACES, ETHERNET = 262_144, 1_048_576, 256, 1
 HELD, AHEAD, ZONE = 8 << 20, 3 << 20, 1 << 20  # of the file, held and looked through at once
-INSIDE, UNITS = 65_552, 32  # what no packet's inside exceeds, and the units of a chain that does
+INSIDE, UNITS, FAR = 65_552, 32, 2 << 20  # what no packet's inside exceeds; a chain that does
 SHORT, NO_OFFSET = {"<": b"\x14\0\0\0", ">": b"\0\0\0\x14"}, bytes(8)  # of an interface
 PATIENCE, BYTES_A_STEP = 600_000, 64  # steps that may be tried at first, and one for so many bytes
 DOUBTED, NOTES, NEAR, EARLIER, NO_TIME = 8, 20, 86_400, 1, float("nan")
@@ -86,8 +85,7 @@ class Source:
         return self.tried < PATIENCE + at // BYTES_A_STEP
 
     def places(self, pattern, back, slow, begin, end):
-        """Places between two, so many bytes before a pattern; some of them if too much was tried.
-        Bytes at which the search is slow count as tried."""
+        """Places between two, so many bytes before a pattern; some if too much was tried."""
         data, base = self.load(begin, ZONE + AHEAD)
         at, stop, base = begin - base + back, end - base + back, base - back
         while at < stop:
@@ -108,7 +106,6 @@ class Output:
         self.most = 2**63 if form == "pcapng" else 2**32 * 10**9
         self.final = self.piece = self.header = None
         self.kept, self.packets, self.places, self.left_out = (0, 0), 0, 0, 0
-        self.place = 0, 0, None  # the last one, which isn't noted yet
 
     def begin(self, header):
         """Another capture begins, of pcap if it has a header, but for one with the same header."""
@@ -151,17 +148,12 @@ class Output:
             raise ChildProcessError("capkit doesn't write its packets")
 
     def note(self, at, text, size=0):
-        """Notes a place, when the next one begins; bytes that are left out in a row are one."""
-        begin, end, last = self.place
+        """Notes a place of damage, and how many bytes are left out there."""
+        self.places += 1
         self.left_out += size
-        if size and begin < end == at:
-            self.place = begin, at + size, last
-            return
-        self.place = at, at + size, text
-        self.places += last is not None
-        if last is not None and self.places <= NOTES:
-            last = f"{end - begin} bytes left out{last}" if begin < end else last
-            print(f"{self.source.name}: offset {begin}: {last}", file=sys.stderr)
+        if self.places <= NOTES:
+            text = f"{size} bytes left out{text}" if size else text
+            print(f"{self.source.name}: offset {at}: {text}", file=sys.stderr)
 
 
 class Reader:
@@ -176,14 +168,6 @@ class Reader:
     def head(self, at):
         return self.unpack(self.source.get(at, 16).ljust(16, b"\0"))
 
-    def read(self, at):
-        """Reads units as capkit does, up to a fault, and returns its place."""
-        before = None
-        self.last.clear()
-        while at != before:
-            before, at = at, self.read_held(at, *self.source.load(at))
-        return at
-
     def is_near(self, at):
         return -EARLIER <= self.when(at) - self.source.time <= NEAR
 
@@ -191,9 +175,7 @@ class Reader:
         """Where the units in a row from a place on begin, and the last one ends, if believed."""
         source, bounds, end, step = self.source, [start], start, self.step
         held = source.load(start)
-        while end and end <= source.size and (end - start <= INSIDE or len(bounds) <= UNITS):
-            if end - start > ZONE:
-                held = source.load(end) if source.may_try(start) else (b"", 0)
+        while end and end <= source.size and end - start <= (INSIDE, FAR)[len(bounds) <= UNITS]:
             end = step(end, *held)
             bounds += [end] if end and end <= source.size else []
         source.tried += len(bounds)
@@ -259,7 +241,7 @@ class Records(Reader):
         """Where a record ends; past the end of the file if it is cut; None if it is none."""
         if at + 16 > self.source.size:
             return self.source.size + 1
-        _, _, captured, original = self.unpack(data, at - base) if data else (0, 0, 0, 0)
+        _, _, captured, original = self.unpack(data, at - base)
         return at + 16 + captured if 0 < captured <= original <= LONGEST else None
 
     def chain(self, start, is_headed=False):
@@ -270,61 +252,52 @@ class Records(Reader):
         return None if is_odd or sum(it[1] == it[2] for it in heads) > 1 else bounds
 
     def read_held(self, at, data, base):
-        """Reads records in the bytes held, up to a fault; those at their end may be left."""
-        out, units, unpack, append = self.out, self.units, self.unpack, self.last.append
-        place = begin = done = at - base
-        size, changed, packets = self.source.size - base, None, 0
-        stop = size - 16 if len(data) > size else len(data) - 2 * LONGEST
+        """Reads some of the records held, up to a fault."""
+        out, append, units, unpack = self.out, self.last.append, self.units, self.unpack
+        size, made, packets = self.source.size - base, bytearray(), 0
+        place = done = at - base
+        stop = min(place + ZONE, size - 16 if len(data) > size else len(data) - 2 * LONGEST)
         while place <= stop:
-            seconds, part, captured, original = head = unpack(data, place)
-            end = place + 16 + captured
-            if part >= units or part == captured or not 0 < captured <= LONGEST or end > size:
-                if self.is_fault(data, head, end, size):
+            _, part, captured, original = unpack(data, place)
+            end, is_pair = place + 16 + captured, captured & 255 and captured <= original <= LONGEST
+            if part >= units or part == captured or not is_pair or end > size:
+                after = unpack(data, end) if is_pair and part >= units and end <= stop else bytes(4)
+                if not 0 < after[2] <= after[3] <= LONGEST and self.is_fault(data, base, place):
                     break
-                if part >= units:
-                    changed = changed or bytearray(data)
-                    place = done = self.mend(changed, base, place, end, stop)
-                    continue
-            append(base + place)
+            if part < units:
+                append(base + place)
+            else:
+                made += data[done : place + 4] + b"\0\0\0\0"
+                done = place + 8
+                out.note(base + place, "a fraction of a second or more, written as 0")
             packets += 1
             place = end
-        if changed:
-            out.put(memoryview(changed)[begin:done])
+        if made:
+            out.put(made)
+            self.is_odd = True
+            while self.last and self.last[0] < base + done:
+                self.last.popleft()
         out.keep(base + done, base + place)
         out.packets += packets
         return base + place
 
-    def mend(self, data, base, place, end, stop):
-        """Puts fractions right, of a record and of those right after it; returns their end."""
-        unpack, units, odds, stop = self.unpack, self.units, [place], min(stop, place + INSIDE)
-        place = end
-        while place <= stop:
-            _, part, captured, original = unpack(data, place)
-            if part < units or not 0 < captured <= original <= LONGEST:
-                break
-            odds.append(place)
-            place += 16 + captured
-        if len(odds) > 1 and not (place <= stop and 0 < captured <= original <= LONGEST):
-            place = odds.pop()
-        for odd in odds:
-            data[odd + 4 : odd + 8] = b"\0\0\0\0"
-        self.out.note(base + odds[0], f"{len(odds)} fractions of a second or more, written as 0")
-        self.out.packets += len(odds)
-        self.last.clear()
-        self.is_odd = True
-        return place
-
-    def is_fault(self, data, head, end, size):
-        """Whether this is no record (of any fraction), or reading is off by 4 bytes."""
-        seconds, part, captured, original = head
-        is_odd, is_pair = part >= self.units, 0 < captured <= original <= LONGEST
-        if captured > LONGEST or end > size or not captured | original or is_odd and not is_pair:
+    def is_fault(self, data, base, place):
+        """Whether this is no record (of any fraction), or reading is off by 4 bytes, or by 1."""
+        seconds, part, captured, original = self.unpack(data, place)
+        at, is_pair = base + place, 0 < captured <= original <= LONGEST
+        end = at + 16 + captured
+        if captured > LONGEST or end > self.source.size or not captured | original:
             return True
-        if not is_odd and (seconds >= self.units or part != captured or not captured):
-            return False
-        end -= 0 if is_odd else 4
-        is_pair = end + 16 > size or 0 < (head := self.unpack(data, end))[2] <= head[3] <= LONGEST
-        return is_odd != is_pair
+        if is_pair and not captured & 255:
+            real = at + (1 if self.order == "<" else -1)
+            if self.last:
+                self.source.time = self.when(self.last[-1])
+            if not self.is_near(at) and self.is_near(real) and self.step(real, data, base):
+                return True
+        if part >= self.units:
+            return not (is_pair and self.step(end, data, base))
+        is_off = 0 < captured == part and seconds < self.units
+        return is_off and self.step(end - 4, data, base)
 
     def settle(self, at, place):
         """Drops records in the way of a chain, or puts one right; returns the end of those kept."""
@@ -353,8 +326,7 @@ class Blocks(Reader):
     is_sure = True
     LIKELY = {"<": (re.compile(rb"\0\0\0(?<=[\1-\3\6]\0\0\0)"), 1, b"\0"),
               ">": (re.compile(rb"\0\0\0[\1-\3\6]"), 0, b"\0")}
-    # Of the interfaces of the section what limits their times, and their blocks; the snap length of
-    # the first one; whether one may be missing before the next; what is written so far.
+    # Of a section's interfaces the time limits, blocks and first snap length, and if one is lost.
     faces, described, snap, is_torn = [], b"", 0, False
 
     def begin(self, at):
@@ -379,7 +351,7 @@ class Blocks(Reader):
         size, place = self.source.size, at - base
         if at + 12 > size:
             return size + 1
-        kind, length = self.sizes(data, place) if data else (0, 0)
+        kind, length = self.sizes(data, place)
         end = place + length
         if not LEAST.get(kind, 12) <= length <= LONGEST_BLOCK or length & 3:
             return None
@@ -555,7 +527,9 @@ def salvage(source, out):
             if reader:
                 out.note(place, "another capture begins")
         reader = seen[type(other), other.order] = other
-        fault = reader.read(at)
+        fault = reader.last.clear()
+        while at != fault:
+            fault, at = at, reader.read_held(at, *source.load(at))
         if fault == source.size:
             break
         begin, passes = reader.doubted(fault)
@@ -565,18 +539,16 @@ def salvage(source, out):
         place, other, at = find(source, out, readers, begin, passes)
         if (end := reader.settle(fault, place)) < place:
             out.note(end, "", place - end)
-    out.note(0, None)
 
 
 def copied(held, is_text=False):
     """A copy of a file, which has no name; of one in text mode without what that has added."""
-    copy, rest = tempfile.TemporaryFile(buffering=0), b""
+    copy = tempfile.TemporaryFile(buffering=0)
     while part := held.read(ZONE):
-        part = rest + part
-        rest = part[-1:] if is_text and part.endswith(b"\r") else b""
-        part = part[: len(part) - len(rest)]
+        if is_text and part.endswith(b"\r") and len(part) > 1:
+            held.seek(-1, os.SEEK_CUR)
+            part = part[:-1]
         copy.write(part.replace(b"\r\n", b"\n") if is_text else part)
-    copy.write(rest)
     return copy
 
 
