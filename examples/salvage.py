@@ -292,7 +292,8 @@ class Records(Reader):
             real = at + (1 if self.order == "<" else -1)
             if self.last:
                 self.source.time = self.when(self.last[-1])
-            if not self.is_near(at) and self.is_near(real) and self.step(real, data, base):
+            is_off = not self.is_near(at) and self.is_near(real)
+            if is_off and self.step(real, *self.source.load(real)):
                 return True
         if part >= self.units:
             return not (is_pair and self.step(end, data, base))
