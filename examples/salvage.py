@@ -3,35 +3,37 @@
 
 usage: salvage.py [-F FORMAT] [-n ROW] IN OUT        (- is standard input or output)
 
-1. What capkit reads is right: a file that it reads to its end is written as `capkit edit` does, and
-   in another one nothing is guessed before the first fault.
-2. After a fault the first chain wins: a row of records (or blocks) with consistent lengths. It is
-   believed if it is longer than what a packet carries (64 KiB, and 32 records), or if it has ROW
-   records (3) or more and leads to the end of the file or to a file header with a chain. Another
-   one of ROW records, which a lost packet may have carried, is at most a second earlier than the
-   last packet and a day later; blocks before any packet need no time. Of chains that meet, the one
-   with most records before wins. One whose fractions are captured lengths is 4 bytes off: no chain.
+What capkit reads is right: a file that it reads to its end is written as `capkit edit` does, and in
+another one nothing is guessed before the first fault. After a fault the first chain wins: a row of
+records (or blocks) with consistent lengths. It is believed if it is longer than what a packet
+carries (64 KiB, and 32 records or 2 MiB), or if it has ROW records (3) or more and leads to the end
+of the file or to a file header with a chain. Another one of ROW records, which a lost packet may
+have carried, is at most a second earlier than the last packet and a day later; blocks before any
+packet need no time. Of chains that meet, the one with most records before wins. One whose fractions
+are captured lengths is 4 bytes off: no chain.
 
 Put right in place, and reported, are: a fraction of a second or more (0, if a record follows), a
 damaged length (if the other one leads to the chain), a time out of range (0), the version and the
 upper half of the link type field of a pcap file, options of an interface that capkit refuses, and
 text mode (if each line feed comes after a carriage return, and capkit reads further without those).
 
-Rule 1 is bent to keep packets from being made up. Of the last eight records before a fault, those
-in the way of the chain are dropped, and up to half of the eight if their lengths are impossible. A
-record without bytes needs an original length. Reading stops if it has slid four bytes off a chain.
+To keep packets from being made up, of the last eight records before a fault those in the way of the
+chain are dropped, and up to half of the eight if their lengths are impossible. A record without
+bytes needs an original length. Reading stops if it has slid 4 bytes off a chain, or 1 byte: lengths
+are 256 times too long, the time is far, and that of the record 1 byte off is not.
 
 Packets may still be made up: if damage stands right before a packet that carries a capture of the
 last second, if a section header is lost with its interfaces, and in a file that only looks like a
-capture. Interfaces after damage are left out with their packets: their numbers aren't known. How
-much is tried is bounded: if most places look like records, only each 4,096th byte is looked at.
+capture. Interfaces after damage are left out with their packets: their numbers aren't known. After
+a bounded number of tries a chain is only looked for in 256 of each 4,096 bytes.
 
-IN isn't changed; it is copied only if it is a pipe or in text mode. OUT gets its name at the end.
-Standard error has a line for each of the first 20 places, and one with sums. The status is 0 if IN
-was in order, 1 if not or nothing was written, 2 if the command line is wrong. Needs Python 3.10.
+IN isn't changed, and copied only if it is a pipe or in text mode. OUT gets its name at the end. The
+first 20 places of damage and sums go to standard error. The status is 0 if IN was in order, 1 if
+not or nothing was written, 2 if the command line is wrong. Needs Python 3.10.
 """
 import argparse
 import collections
+import functools
 import itertools
 import os
 import re
@@ -51,8 +53,9 @@ SECTIONS = {struct.pack(it + "IHH", ORDER_MAGIC, 1, minor): it for it in "<>" fo
 HEADER = re.compile(b"|".join(map(re.escape, [*FORMS, SECTION_TYPE])))
 LONGEST, LONGEST_BLOCK, MOST_INTERFACES, ETHERNET = 262_144, 1_048_576, 256, 1
 HELD, AHEAD, ZONE = 8 << 20, 3 << 20, 1 << 20  # of the file, held and looked through at once
-INSIDE, UNITS = 65_552, 32  # what no packet's inside exceeds, and the units of a chain that does
-PATIENCE, BYTES_A_STEP = 300_000, 64  # steps that may be tried at first, and one for so many bytes
+INSIDE, UNITS, FAR = 65_552, 32, 2 << 20  # what no packet's inside exceeds; a chain that does
+SHORT, NO_OFFSET = {"<": b"\x14\0\0\0", ">": b"\0\0\0\x14"}, bytes(8)  # of an interface
+PATIENCE, BYTES_A_STEP = 600_000, 64  # steps that may be tried at first, and one for so many bytes
 DOUBTED, NOTES, NEAR, EARLIER, NO_TIME = 8, 20, 86_400, 1, float("nan")
 
 
@@ -70,6 +73,8 @@ class Source:
         if not self.base <= at or at + ahead > end < self.size:
             self.data = b""
             self.data, self.base = self.get(at, HELD), at
+            self.data += bytes(8) if at + HELD >= self.size else b""
+            self.tried += 2000
         return self.data, self.base
 
     def get(self, at, size):
@@ -78,6 +83,19 @@ class Source:
     def may_try(self, at):
         """Whether more may be tried at a place: this bounds the time that a file takes."""
         return self.tried < PATIENCE + at // BYTES_A_STEP
+
+    def places(self, pattern, back, slow, begin, end):
+        """Places between two, so many bytes before a pattern; some if too much was tried."""
+        data, base = self.load(begin, ZONE + AHEAD)
+        at, stop, base = begin - base + back, end - base + back, base - back
+        while at < stop:
+            is_free = self.may_try(at + base)
+            found = pattern.search(data, at, (stop if is_free else min(at + 256, stop)) + 5)
+            after = found.start() if found else stop
+            self.tried += 2 + data.count(slow, at, after if is_free else at + 256) // 16
+            if after < stop:
+                yield after + base
+            at = after + 1 if is_free else at + 4096
 
 
 class Output:
@@ -129,15 +147,13 @@ class Output:
         if process and process.communicate() and process.returncode:
             raise ChildProcessError("capkit doesn't write its packets")
 
-    def note(self, at, text):
+    def note(self, at, text, size=0):
+        """Notes a place of damage, and how many bytes are left out there."""
         self.places += 1
+        self.left_out += size
         if self.places <= NOTES:
+            text = f"{size} bytes left out{text}" if size else text
             print(f"{self.source.name}: offset {at}: {text}", file=sys.stderr)
-
-    def leave_out(self, begin, end, why=""):
-        if begin < end:
-            self.left_out += end - begin
-            self.note(begin, f"{end - begin} bytes left out{why}")
 
 
 class Reader:
@@ -145,60 +161,44 @@ class Reader:
 
     def __init__(self, source, out, order):
         self.source, self.out, self.order = source, out, order
-        self.last, (self.likely, self.back) = collections.deque(maxlen=DOUBTED), self.LIKELY[order]
-        self.sizes, self.unpack = (struct.Struct(order + it).unpack_from for it in ("II", "IIII"))
+        self.last, self.likely = collections.deque(maxlen=DOUBTED), self.LIKELY[order]
+        shapes = (struct.Struct(order + it).unpack_from for it in ("HH", "II", "III", "IIII"))
+        self.option, self.sizes, self.ends, self.unpack = shapes
 
-    def head(self, at, form="IIII"):
-        data, base = self.source.load(at, 32)
-        return struct.unpack_from(self.order + form, data, at - base)
-
-    def read(self, at):
-        """Reads units as capkit does, up to a fault, and returns its place."""
-        before = None
-        self.last.clear()
-        while at != before:
-            before, at = at, self.read_held(at, *self.source.load(at))
-        return at
+    def head(self, at):
+        return self.unpack(self.source.get(at, 16).ljust(16, b"\0"))
 
     def is_near(self, at):
         return -EARLIER <= self.when(at) - self.source.time <= NEAR
 
     def chain(self, start, is_headed=False):
         """Where the units in a row from a place on begin, and the last one ends, if believed."""
-        source, bounds, end = self.source, [start], start
-        while end and end <= source.size and (end - start <= INSIDE or len(bounds) <= UNITS):
-            end = self.step(end)
+        source, bounds, end, step = self.source, [start], start, self.step
+        held = source.load(start)
+        while end and end <= source.size and end - start <= (INSIDE, FAR)[len(bounds) <= UNITS]:
+            end = step(end, *held)
             bounds += [end] if end and end <= source.size else []
         source.tried += len(bounds)
         if end and end <= source.size:
             return bounds
         is_next = len(bounds) > 1 and capture_at(source, self.out, bounds[-1])
         is_end = bounds[-1] == source.size or is_headed and end
-        if len(bounds) > self.source.row and not (is_next or is_end):
+        if len(bounds) > source.row and not (is_next or is_end):
             is_end = self.is_near(start) or self.is_sure and source.time is NO_TIME
         return bounds if is_next or is_end and len(bounds) > source.row else None
 
-    def places(self, begin, end):
-        """Where units could begin between two places; not all of them if they are too many."""
-        data, base = self.source.load(begin, ZONE + AHEAD)
-        at, stop = begin - base + self.back, end - base + self.back + 5
-        while found := self.likely.search(data, at, stop):
-            place = found.start() - self.back + base
-            yield place
-            self.source.tried += 2
-            at = found.start() + (1 if self.source.may_try(place) else 4096)
-
     def first(self, begin, end, passes):
         """The first chain between two places, or the one that it meets with most units before."""
-        for place in self.places(begin, end):
+        for place in self.source.places(*self.likely, begin, end):
             best = self.chain(place)
             if not best or place < passes and (place in self.last or best[-1] <= passes):
                 continue
-            for other in self.places(place + 1, min(place + 4096, best[-1])):
+            known = set(best)
+            for other in self.source.places(*self.likely, place + 1, min(place + 4096, best[-1])):
                 bounds = self.chain(other) or []
-                meets = min(set(bounds).intersection(best), default=None)
+                meets = min(known.intersection(bounds), default=None)
                 if meets and bounds.index(meets) > best.index(meets):
-                    best = bounds
+                    best, known = bounds, set(bounds)
             return self.without_carried(best)
         return None
 
@@ -211,7 +211,7 @@ class Reader:
 
     def doubted(self, at):
         """Where a chain may begin, and what it goes over: a fault or a damaged record before it."""
-        last = list(itertools.takewhile(self.step, self.last))
+        last = list(itertools.takewhile(lambda it: self.step(it, *self.source.load(it)), self.last))
         begin = self.last[0] + 1 if self.last else at
         if last:
             self.source.time, at = self.when(last[-1]), [*self.last, at][len(last)]
@@ -222,8 +222,8 @@ class Records(Reader):
     """The records of pcap."""
     is_sure, units, link, is_odd = False, None, ETHERNET, False
     # The lengths' high bytes, the captured one not being 0; and how far in a record they are.
-    LIKELY = {"<": (re.compile(rb"(?s)\0(?<!\0{4})(?<=[\0-\4].)..[\0-\4]\0"), 11),
-              ">": (re.compile(rb"(?s)\0[\0-\4](?!\0\0)..\0[\0-\4]"), 8)}
+    LIKELY = {"<": (re.compile(rb"(?s)\0(?<!\0{4})(?<=[\0-\4].)..[\0-\4]\0"), 11, b"\0"),
+              ">": (re.compile(rb"(?s)\0[\0-\4](?!\0\0)..\0[\0-\4]"), 8, b"\0")}
 
     def begin(self, at):
         """The file header of what is written."""
@@ -237,11 +237,11 @@ class Records(Reader):
     def when(self, at):
         return self.head(at)[0]
 
-    def step(self, at):
+    def step(self, at, data, base):
         """Where a record ends; past the end of the file if it is cut; None if it is none."""
         if at + 16 > self.source.size:
             return self.source.size + 1
-        captured, original = self.head(at + 8, "II")
+        _, _, captured, original = self.unpack(data, at - base)
         return at + 16 + captured if 0 < captured <= original <= LONGEST else None
 
     def chain(self, start, is_headed=False):
@@ -252,52 +252,57 @@ class Records(Reader):
         return None if is_odd or sum(it[1] == it[2] for it in heads) > 1 else bounds
 
     def read_held(self, at, data, base):
-        """Reads records in the bytes held, up to a fault; those at their end may be left."""
-        out, last, units, unpack = self.out, self.last, self.units, self.unpack
-        place = begin = done = at - base
-        size, changed = self.source.size - base, None
-        stop = len(data) - (16 if len(data) == size else 2 * LONGEST)
+        """Reads some of the records held, up to a fault."""
+        out, append, units, unpack = self.out, self.last.append, self.units, self.unpack
+        size, made, packets = self.source.size - base, bytearray(), 0
+        place = done = at - base
+        stop = min(place + ZONE, size - 16 if len(data) > size else len(data) - 2 * LONGEST)
         while place <= stop:
             _, part, captured, original = unpack(data, place)
-            end, is_odd = place + 16 + captured, part >= units
-            if is_odd or part == captured or end > size or not 0 < captured <= LONGEST:
-                is_pair = is_odd and end <= stop and 0 < captured <= original <= LONGEST
-                if is_pair:
-                    _, _, captured, original = unpack(data, end)
-                    is_pair = 0 < captured <= original <= LONGEST
-                if not is_pair and self.is_fault(base + place):
+            end, is_pair = place + 16 + captured, captured & 255 and captured <= original <= LONGEST
+            if part >= units or part == captured or not is_pair or end > size:
+                after = unpack(data, end) if is_pair and part >= units and end <= stop else bytes(4)
+                if not 0 < after[2] <= after[3] <= LONGEST and self.is_fault(data, base, place):
                     break
-            last.append(base + place)
-            if is_odd:
-                last.clear()
-                if out.places < NOTES:
-                    out.note(base + place, f"a fraction of {part}, written as 0")
-                else:
-                    out.places += 1
-                changed = changed or bytearray(data)
-                changed[place + 4 : place + 8] = b"\0\0\0\0"
-                self.is_odd, done = True, end
-            out.packets += 1
+            if part < units:
+                append(base + place)
+            else:
+                made += data[done : place + 4] + b"\0\0\0\0"
+                done = place + 8
+                out.note(base + place, "a fraction of a second or more, written as 0")
+            packets += 1
             place = end
-        if changed:
-            out.put(memoryview(changed)[begin:done])
+        if made:
+            out.put(made)
+            self.is_odd = True
+            while self.last and self.last[0] < base + done:
+                self.last.popleft()
         out.keep(base + done, base + place)
+        out.packets += packets
         return base + place
 
-    def is_fault(self, at):
-        """Whether no record (of any fraction) begins at a place, or reading is off by 4 bytes."""
-        seconds, part, captured, original = self.head(at)
-        if captured > LONGEST or at + 16 + captured > self.source.size or not captured | original:
+    def is_fault(self, data, base, place):
+        """Whether this is no record (of any fraction), or reading is off by 4 bytes, or by 1."""
+        seconds, part, captured, original = self.unpack(data, place)
+        at, is_pair = base + place, 0 < captured <= original <= LONGEST
+        end = at + 16 + captured
+        if captured > LONGEST or end > self.source.size or not captured | original:
             return True
-        is_odd = part >= self.units
-        is_off = part == captured and seconds < self.units and at >= 4
-        end = self.step(at - 4 * is_off) if is_odd or is_off else None
-        is_pair = end and (end == self.source.size or self.step(end))
-        return not is_pair if is_odd else is_pair
+        if is_pair and not captured & 255:
+            real = at + (1 if self.order == "<" else -1)
+            if self.last:
+                self.source.time = self.when(self.last[-1])
+            is_off = not self.is_near(at) and self.is_near(real)
+            if is_off and self.step(real, *self.source.load(real)):
+                return True
+        if part >= self.units:
+            return not (is_pair and self.step(end, data, base))
+        is_off = 0 < captured == part and seconds < self.units
+        return is_off and self.step(end - 4, data, base)
 
     def settle(self, at, place):
         """Drops records in the way of a chain, or puts one right; returns the end of those kept."""
-        last, odd = self.last, [it for it in self.last if not self.step(it)]
+        last, odd = self.last, [it for it in self.last if not self.step(it, *self.source.load(it))]
         odd = odd if 2 * len(odd) <= len(last) else []
         while last and (last[-1] in odd or last[-1] + 16 + self.head(last[-1])[2] > place):
             at = last.pop()
@@ -320,51 +325,54 @@ class Records(Reader):
 class Blocks(Reader):
     """The blocks of pcapng."""
     is_sure = True
-    LIKELY = {"<": (re.compile(rb"[\1-\3\6]\0\0\0"), 0), ">": (re.compile(rb"\0\0\0[\1-\3\6]"), 0)}
-    # Of each interface of the section the least and greatest ticks, and the ticks of a second;
-    # their blocks; whether one may be missing before the next.
-    faces, described, is_torn = (), b"", False
+    LIKELY = {"<": (re.compile(rb"\0\0\0(?<=[\1-\3\6]\0\0\0)"), 1, b"\0"),
+              ">": (re.compile(rb"\0\0\0[\1-\3\6]"), 0, b"\0")}
+    # Of a section's interfaces the time limits, blocks and first snap length, and if one is lost.
+    faces, described, snap, is_torn = [], b"", 0, False
 
     def begin(self, at):
         """A section header, if there is none."""
         self.out.begin(b"")
         if self.source.get(at, 4) != SECTION_TYPE:
             self.out.note(at, "no section header")
+            if len(self.described) > ZONE:
+                self.faces, self.described, self.is_torn = [], b"", True
             header = (SECTION, 28, ORDER_MAGIC, 1, 0, -1, 28)
             self.out.put(struct.pack(self.order + "IIIHHqI", *header) + self.described)
 
     def when(self, at):
         """The time of a packet; no number if it isn't known."""
-        header = self.source.get(at, 24).ljust(24, b"\0")
-        (kind, _), (face, high, low, _) = self.sizes(header), self.unpack(header, 8)
-        is_known = kind == ENHANCED and face < len(self.faces)
-        return (high << 32 | low) / self.faces[face][2] if is_known else NO_TIME
+        kind, _, face, high = self.head(at)
+        if kind != ENHANCED or face >= len(self.faces):
+            return NO_TIME
+        return (high << 32 | self.head(at + 16)[0]) / limits(*self.faces[face])[2]
 
-    def step(self, at):
+    def step(self, at, data, base):
         """Where a block ends; past the end of the file if it is cut; None if it is none."""
-        if at + 12 > self.source.size:
-            return self.source.size + 1
-        kind, length = self.head(at, "II")
-        if not LEAST.get(kind, 12) <= length <= LONGEST_BLOCK or length % 4:
+        size, place = self.source.size, at - base
+        if at + 12 > size:
+            return size + 1
+        kind, length = self.sizes(data, place)
+        end = place + length
+        if not LEAST.get(kind, 12) <= length <= LONGEST_BLOCK or length & 3:
             return None
-        if at + length > self.source.size:
+        if at + length > size:
             return at + length if kind <= 10 else None
-        is_right = self.head(at + length - 4, "I")[0] == length
+        is_right = data[place + 4 : place + 8] == data[end - 4 : end]
         if kind == ENHANCED:
-            is_right &= 32 + self.head(at + 20, "I")[0] <= length
+            is_right &= 32 + self.sizes(data, place + 16)[1] <= length
         elif kind == SECTION:
-            is_right &= self.source.get(at + 8, 8) in SECTIONS
+            is_right &= SECTIONS.get(data[place + 8 : place + 16]) == self.order
         return at + length if is_right else None
 
     def read_held(self, at, data, base):
         """Reads blocks in the bytes held, up to one that is none or isn't held as a whole."""
-        out, sizes, stop = self.out, self.sizes, len(data)
-        place = begin = at - base
-        while place + 12 <= stop:
-            kind, length = sizes(data, place)
-            end = place + length
-            is_block = LEAST.get(kind, 12) <= length <= LONGEST_BLOCK and end <= stop
-            if not is_block or length & 3 or data[place + 4 : place + 8] != data[end - 4 : end]:
+        out, ends, made = self.out, self.ends, bytearray()
+        place = done = at - base
+        kind, length = self.sizes(data, place)
+        while length and (end := place + length) + 8 <= len(data):
+            again, after, more = ends(data, end - 4)
+            if again != length or length & 3 or not LEAST.get(kind, 12) <= length <= LONGEST_BLOCK:
                 break
             if kind in LEAST:
                 block = data[place:end]
@@ -372,70 +380,71 @@ class Blocks(Reader):
                 if right is None:
                     break
                 if right is not block:
-                    out.keep(base + begin, base + place)
-                    self.put(base + place, base + end, right, why)
-                    begin = end
-            place = end
-        out.keep(base + begin, base + place)
+                    made += right if done == place else data[done:place] + right
+                    done = end
+                    out.note(base + place, why, 0 if right else length)
+            place, kind, length = end, after, more
+        if made:
+            out.put(made)
+        out.keep(base + done, base + place)
         return base + place
-
-    def put(self, at, end, right, why):
-        """Writes a block that was put right, or leaves it out if capkit refuses it."""
-        if not right:
-            return self.out.leave_out(at, end, f" ({why})")
-        self.out.note(at, why)
-        self.out.put(right)
 
     def right(self, kind, block):
         """A block as it is or put right, empty if capkit refuses it, None if it is none; and why"""
-        if kind == ENHANCED:
-            return self.enhanced(block)
-        if kind == INTERFACE:
-            return self.interface(block)
-        if kind == SECTION and block[8:16] not in SECTIONS:
-            return None, ""
+        if kind == ENHANCED or kind == INTERFACE:
+            return self.enhanced(block) if kind == ENHANCED else self.interface(block)
+        size = len(block) - 16
         if kind == SECTION:
-            self.faces, self.described, self.is_torn = (), b"", False
-        elif kind == OBSOLETE or kind == SIMPLE and not self.faces:
-            return b"", "an obsolete packet block, or a simple one of no interface"
+            if SECTIONS.get(block[8:16]) != self.order:
+                return None, ""
+            self.faces, self.described, self.is_torn = [], b"", False
+        elif not self.faces or kind == OBSOLETE or self.snap > size < self.sizes(block, 8)[0]:
+            return b"", " (an obsolete packet block, or a simple one, cut or of no interface)"
         self.out.packets += kind == SIMPLE
         return block, ""
 
     def interface(self, block):
         """An interface, without its options if capkit doesn't read them; none after damage."""
         if self.is_torn or len(self.faces) == MOST_INTERFACES:
-            self.faces, self.described, self.is_torn = (), b"", True
-            return b"", "an interface whose number isn't known"
-        found, code, place, end, why = {}, 1, 16, len(block) - 4, ""
-        while code and place + 4 <= end:
-            code, length = struct.unpack_from(self.order + "HH", block, place)
-            found.setdefault(code, block[place + 4 : place + 4 + length])
-            place += 4 + length + -length % 4
-        unit, offset = found.get(9, b"\6"), found.get(14, bytes(8))
-        is_time = len(unit) == 1 and (unit[0] <= 12 or 128 <= unit[0] <= 160) and len(offset) == 8
-        if not is_time or place > end or len(found.get(2, b"")) > 255:
-            size, unit, offset = struct.pack(self.order + "I", 20), b"\6", bytes(8)
-            block, why = block[:4] + size + block[8:16] + size, "an interface, without its options"
-        second = 10 ** unit[0] if unit[0] < 128 else 2 ** (unit[0] - 128)
-        offset = struct.unpack(self.order + "q", offset)[0]
-        greatest = -(-(self.out.most - offset * 10**9) * second // 10**9) - 1
-        self.faces += ((max(0, -offset * second), greatest, second),)
-        self.described += block
+            self.faces, self.described, self.is_torn = [], b"", True
+            return b"", " (an interface whose number isn't known)"
+        if not self.faces:
+            self.described, self.snap = bytearray(), self.sizes(block, 8)[1] or 2**32
+        unit, offset = self.times(block) if len(block) > 20 else (b"\6", NO_OFFSET)
+        why = "" if unit else "an interface, without its options"
+        if not unit:
+            size, unit = SHORT[self.order], b"\6"
+            block = block[:4] + size + block[8:16] + size
+        self.faces.append((self.order, self.out.most, unit, offset))
+        self.described += block if len(self.described) <= ZONE else b""
         return block, why
+
+    def times(self, block):
+        """The unit and offset of an interface's times; no unit if capkit refuses its options."""
+        option, found, code, place, end = self.option, {}, 1, 16, len(block) - 4
+        while place < end and code:
+            code, length = option(block, place)
+            if code in (2, 9, 14) and code not in found:
+                found[code] = block[place + 4 : place + 4 + length]
+            place += 4 + (length + 3 & -4)
+        unit, offset = found.get(9, b"\6"), found.get(14, NO_OFFSET)
+        is_unit = len(unit) == 1 and (unit[0] <= 12 or 128 <= unit[0] <= 160)
+        is_right = is_unit and len(offset) == 8 and place <= end and len(found.get(2, b"")) <= 255
+        return (unit, offset) if is_right else (b"", NO_OFFSET)
 
     def enhanced(self, block):
         """A packet, with the least time if its own is out of range."""
         face, high, low, captured = self.unpack(block, 8)
         if 32 + captured > len(block):
-            return None, "a captured length that doesn't fit"
+            return None, ""
         if face >= len(self.faces):
-            return b"", "a packet whose interface isn't known"
-        (least, greatest, second), ticks = self.faces[face], high << 32 | low
+            return b"", " (a packet whose interface isn't known)"
+        least, greatest, second, time = limits(*self.faces[face])
+        ticks = high << 32 | low
         self.source.time = ticks / second
         self.out.packets += 1
         if least <= ticks <= greatest:
             return block, ""
-        time = struct.pack(self.order + "II", least >> 32, least % 2**32)
         return block[:12] + time + block[20:], "a time out of range, written as 0"
 
     def settle(self, at, place):
@@ -446,11 +455,23 @@ class Blocks(Reader):
             kind = self.sizes(block)[0]
             is_known = kind <= 10 and LEAST.get(kind, 12) <= size or block[8:16] in SECTIONS
             if is_known and length in (block[4:8], block[-4:]):
-                right, why = self.right(kind, block[:4] + length + block[8:-4] + length)
-                self.put(at, place, right, why or "a block with a damaged length, put right")
+                block = block[:4] + length + block[8:-4] + length
+                right, why = self.right(kind, block) if kind in LEAST else (block, "")
+                why = why or "a block with a damaged length, put right" if right else why
+                self.out.note(at, why, 0 if right else size)
+                self.out.put(right or b"")
                 return place
         self.is_torn = True
         return at
+
+
+@functools.lru_cache(MOST_INTERFACES)
+def limits(order, most, unit, offset):
+    """Of an interface the least and greatest ticks, those of a second, and the least as written."""
+    (unit,), (offset,) = unit, struct.unpack(order + "q", offset)
+    second = 10**unit if unit < 128 else 2 ** (unit - 128)
+    least, greatest = max(0, -offset * second), -(-(most - offset * 10**9) * second // 10**9) - 1
+    return least, greatest, second, struct.pack(order + "II", least >> 32, least % 2**32)
 
 
 def capture_at(source, out, at):
@@ -474,17 +495,16 @@ def capture_at(source, out, at):
 def find(source, out, readers, begin, passes):
     """The next chain, or the header before one: its place, its reader, and where that reads."""
     while begin < source.size:
-        if not source.get(begin, INSIDE).strip(b"\0"):
-            begin += INSIDE - 16
+        if source.get(begin, 64) == bytes(64):
+            zeros = source.get(begin, INSIDE)
+            begin += len(zeros) - len(zeros.lstrip(b"\0")) - 16
             continue
-        end = begin + ZONE
+        end = begin + (ZONE if source.may_try(begin) else 4096)
         chains = [(bounds[0], it) for it in readers if (bounds := it.first(begin, end, passes))]
         place, reader = min(chains, key=lambda it: it[0], default=(end, None))
-        data, base = source.load(begin, ZONE + AHEAD)
-        for found in HEADER.finditer(data, begin - base, place - base + 3):
-            at = found.start() + base
-            if at and source.may_try(at) and (capture := capture_at(source, out, at)):
-                source.tried += 10
+        for at in source.places(HEADER, 0, b"\xa1", begin, place):
+            source.tried += 8
+            if at and (capture := capture_at(source, out, at)):
                 bounds = capture[0].chain(capture[1], True)
                 if bounds and bounds[-1] > passes:
                     return at, *capture
@@ -499,7 +519,8 @@ def salvage(source, out):
     guessed = [kind(source, out, order) for kind in (Records, Blocks) for order in "<>"]
     capture = capture_at(source, out, 0)
     place, other, at = (0, *capture) if capture else find(source, out, guessed, 0, 0)
-    out.leave_out(0, place)
+    if place:
+        out.note(0, "", place)
     seen, reader = {}, None
     while other:
         if other is not reader:
@@ -507,22 +528,27 @@ def salvage(source, out):
             if reader:
                 out.note(place, "another capture begins")
         reader = seen[type(other), other.order] = other
-        fault = reader.read(at)
+        fault = reader.last.clear()
+        while at != fault:
+            fault, at = at, reader.read_held(at, *source.load(at))
         if fault == source.size:
             break
         begin, passes = reader.doubted(fault)
-        source.tried += 40
-        begin = max(begin, place + 1) if source.may_try(fault) else fault + 4096
-        place, other, at = find(source, out, list(seen.values()), begin, passes)
-        out.leave_out(reader.settle(fault, place), place)
+        readers, begin, source.tried = list(seen.values()), max(begin, place + 1), source.tried + 40
+        if not source.may_try(fault):
+            readers, begin = [reader], fault + 4096
+        place, other, at = find(source, out, readers, begin, passes)
+        if (end := reader.settle(fault, place)) < place:
+            out.note(end, "", place - end)
 
 
 def copied(held, is_text=False):
     """A copy of a file, which has no name; of one in text mode without what that has added."""
     copy = tempfile.TemporaryFile(buffering=0)
     while part := held.read(ZONE):
-        while is_text and part.endswith(b"\r") and (more := held.read(1)):
-            part += more
+        if is_text and part.endswith(b"\r") and len(part) > 1:
+            held.seek(-1, os.SEEK_CUR)
+            part = part[:-1]
         copy.write(part.replace(b"\r\n", b"\n") if is_text else part)
     return copy
 
