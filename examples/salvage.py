@@ -20,7 +20,8 @@ text mode (if each line feed comes after a carriage return, and capkit reads fur
 To keep packets from being made up, of the last eight records before a fault those in the way of the
 chain are dropped, and up to half of the eight if their lengths are impossible. A record without
 bytes needs an original length. Reading stops if it has slid 4 bytes off a chain, or 1 byte: lengths
-are 256 times too long, the time is far, and that of the record 1 byte off is not.
+are 256 times too long, the time is a day or more from those of the last eight records, and that of
+the record 1 byte off is not.
 
 Packets may still be made up: if damage stands right before a packet that carries a capture of the
 last second, if a section header is lost with its interfaces, and in a file that only looks like a
@@ -290,10 +291,9 @@ class Records(Reader):
             return True
         if is_pair and not captured & 255:
             real = at + (1 if self.order == "<" else -1)
-            if self.last:
-                self.source.time = self.when(self.last[-1])
-            is_off = not self.is_near(at) and self.is_near(real)
-            if is_off and self.step(real, *self.source.load(real)):
+            times = [*map(self.when, self.last)] or [self.source.time]
+            is_near = lambda it: any(abs(self.when(it) - time) <= NEAR for time in times)
+            if not is_near(at) and is_near(real) and self.step(real, *self.source.load(real)):
                 return True
         if part >= self.units:
             return not (is_pair and self.step(end, data, base))
