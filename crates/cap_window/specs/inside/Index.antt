@@ -1,7 +1,10 @@
 -- The index of the window, by which an equal mark is found: a binary tree of marks for each hash.
--- The newest mark is on top, and each bit of a mark chooses one of two trees below. The
--- *class* of a tree has all marks whose hash and bits lead to it. The *wanted* ones are equal to no
--- mark above the tree, so only these have to be in it.
+-- The newest mark is on top, and each bit of a mark chooses one of two trees below. Marks have
+-- numbers from 1 on. For each hash, `heads` has the number of the last mark that had it, even if
+-- that has left the window; 0 if there was none or `renumber` forgot it. A link is the number of
+-- places from a mark back to the top of a tree below it. If it leads beyond the oldest mark, the
+-- tree is empty. The *class* of a tree has all marks whose hash and bits lead to it. The *wanted*
+-- ones differ from every mark above the tree: an equal one is found there first.
 use Rattle.std.specs.Prelude.{◌≡◌, ℕ, ◌+◌, ◌-◌, ◌/◌, ◌%◌, ◌^◌, ◌<◌, ◌≤◌, ◌==◌, ◌&&◌, Bool, true, false, not, nat_lt, if◌then◌else◌, List, [], length, slice_index, take, bit_and, IsTrue}
 use Rattle.std.specs.Int.{w32, from_le_bytes}
 use Rattle.std.specs.List.{slice_index_or}
@@ -30,7 +33,7 @@ marks_with_bit class depth false m = class m && not (mark_bit m depth)
 abbrev pub but : (Mark → Bool) → Mark → Mark → Bool
 but wanted top m = wanted m && not (is_same_mark m top)
 
--- all marks are wanted, as at the top of a tree
+-- all marks are wanted, as in the whole tree of a hash
 abbrev pub every : Mark → Bool
 every m = true
 
@@ -42,16 +45,16 @@ mark_at marks i = slice_index_or marks i (record { length = 0; digest = [] })
 abbrev pub links_at : List Links → ℕ → Links
 links_at links i = slice_index_or links i (record { zeros = 0; ones = 0 })
 
--- no mark of the class at a place from `low` to before `limit` is wanted
+-- no wanted mark of the class is at a place from `low` to before `limit`
 abbrev pub HasNoMark : List Mark → (class wanted : Mark → Bool) → (low limit : ℕ) → Type 0
 HasNoMark marks class wanted low limit =
     (j : ℕ) → low ≤ j → j < limit → IsTrue (class (mark_at marks j))
     → IsTrue (wanted (mark_at marks j)) → ⊥
 
--- A tree of the marks of a class at places below `limit`. The mark at place `limit - d` is on top;
--- it may be one that isn't wanted, but each wanted mark is older. Below it there are two trees, of
--- the older wanted marks whose bit at `depth` is 0 and 1, without those equal to the top. If d is
--- above `limit`, the tree is empty.
+-- A tree in which every wanted mark of a class at a place below `limit` is found, or a newer one
+-- equal to it. It may also have marks that aren't wanted. Its top is the mark at place `limit - d`,
+-- which is of the class: none of these wanted marks is newer. Below it there are two trees, one for
+-- each value of the bit at `depth`. If d is above `limit`, the tree is empty.
 pub data IsMarkTree (marks : List Mark) (links : List Links) : (class wanted : Mark → Bool)
     → (depth limit d : ℕ) → Type 0 where
   Empty : (class wanted : Mark → Bool) (depth limit d : ℕ) → limit < d
@@ -65,8 +68,8 @@ pub data IsMarkTree (marks : List Mark) (links : List Links) : (class wanted : M
       (depth + 1) top (link_by_bit (links_at links top) bit))
       → IsMarkTree marks links class wanted depth limit d
 
--- the two trees below the mark at a place have the older wanted marks of the class, without those
--- equal to it
+-- in the two trees below the mark at a place, every older wanted mark of the class that differs
+-- from it is found, or a newer equal one
 abbrev pub IsOnTop : List Mark → List Links → (class wanted : Mark → Bool) → (depth place : ℕ)
     → Type 0
 IsOnTop marks links class wanted depth place =
@@ -74,14 +77,16 @@ IsOnTop marks links class wanted depth place =
     → IsMarkTree marks links (marks_with_bit class depth bit) (but wanted (mark_at marks place))
     (depth + 1) place (link_by_bit (links_at links place) bit)
 
--- a mark of a class, and the tree of the earlier marks of this class, except those equal to it
+-- The mark at a place belongs to the class. In the tree at the link `d` from there, every older
+-- mark of the class that differs from it is found, or a newer equal one. Marks equal to this one
+-- may be missing.
 pub record IsHung (marks : List Mark) (links : List Links) (class : Mark → Bool)
     (place d : ℕ) : Type 0 where
   pub belongs : IsTrue (class (mark_at marks place))
   pub tree : IsMarkTree marks links class (but every (mark_at marks place)) 0 place d
 
--- the mark at this place was put on top of all earlier marks of its class; the links of marks of
--- other classes didn't change
+-- the mark at this place was put on top of all earlier marks of its class; the links of marks
+-- outside the class didn't change
 pub record IsPutOnTop (marks : List Mark) (old new : List Links) (class : Mark → Bool)
     (place : ℕ) : Type 0 where
   pub below : IsOnTop marks new class every 0 place
@@ -95,7 +100,8 @@ hash_of mask m = bit_and (from_le_bytes w32 (take 4 m.digest)) mask
 abbrev pub has_hash : ℕ → ℕ → Mark → Bool
 has_hash mask h m = hash_of mask m == h
 
--- each head leads to the top of the tree of its hash
+-- Each head leads to the tree of its hash, whose top is the newest mark of this hash, if the window
+-- has one. `newest` is the number of the newest mark of all.
 pub record IsIndex (mask : ℕ) (marks : List Mark) (links : List Links) (heads : List ℕ)
     (newest : ℕ) : Type 0 where
   pub long : length links ≡ length marks
@@ -105,7 +111,8 @@ pub record IsIndex (mask : ℕ) (marks : List Mark) (links : List Links) (heads 
       → IsMarkTree marks links (has_hash mask h) every 0 (length marks)
       (newest + 1 - slice_index heads h)
 
--- the invariant of the fields of a window
+-- The invariant of a window: `IsIndex` holds, marks and links have the same capacity, `heads` has
+-- an entry for each hash, and the number of the next mark still fits 32 bits.
 pub record IsSoundIndex (mask : ℕ) (marks : List Mark) (capacity : ℕ) (links : List Links)
     (link_capacity : ℕ) (heads : List ℕ) (newest : ℕ) : Type 0 where
   pub index : IsIndex mask marks links heads newest
