@@ -70,7 +70,7 @@ impl<I: Input, A: Allocator> UnitReader<I, A> {
     }
 
     /// Reads the next unit, or finds the clean end. A unit with a packet is then at the start of
-    /// the buffer. A fault doesn't change what is known of the file unchanged.
+    /// the buffer. A fault doesn't change the table or the state of the file.
     pub(crate) fn next_unit(&mut self) -> Result<NextUnit, Fault>
         requires { IsConsistent self.old.file self.old.table }
         ensures { ReadsUnit I.Input self.old [] result self.new }

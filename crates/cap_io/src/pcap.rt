@@ -22,9 +22,9 @@ const RECORD_HEADER_LENGTH: usize = 16;
 /// The place where a record has its captured length.
 const CAPTURED_LENGTH_OFFSET: usize = 8;
 
-/// Reads the file header of pcap, whose first four bytes came already: `NotACaptureFile` where
-/// these aren't a magic number, before more is read; else `Truncated` or `ReadFailed` if it
-/// doesn't all come, or the first check that it fails.
+/// Reads the file header of pcap, whose first four bytes came already. If these aren't a magic
+/// number, the error is `NotACaptureFile`, and no more is read. Otherwise it is `Truncated` or
+/// `ReadFailed` if the header doesn't all come, or the first check that the header fails.
 pub(crate) fn read_header<I: Input>(input: &mut I, first: &[u8; 4]) -> Result<Head, Fault>
     requires { is_section first.now ≡ false }
     ensures moves { Moves I.Input input.old input.new 4 (λ _. 24) 24 result }

@@ -1,5 +1,6 @@
--- The reading of one unit (a file header, a record or a block): which bytes were read or are
--- missing, and the result.
+-- The effect of a call that reads one unit (a file header, a record or a block): on the device, the
+-- buffer and the state of the file. A clause after `IsTrue device.tells` is stated only if
+-- contracts know the bytes of the device.
 use Rattle.std.specs.Prelude.{◌≡◌, ℕ, ◌+◌, ◌^◌, ◌<◌, ◌≤◌, ◌⊎◌, Bool, true, false, List, [], ◌∷◌, ◌++◌, length, take, drop, Option, None, Some, Result, Ok, Err, IfOk, IfErr, is_some, IsTrue, OnOk, OnErr}
 use Rattle.std.specs.List.{slice_get}
 use Rattle.cap_octet.specs.Packet.{Captured}
@@ -26,30 +27,34 @@ use Rattle.cap_io.specs.Capture.{Declared, Nothing, PcapFile, PcapngFile, IsUnit
 use Rattle.cap_io.specs.Reading.{most_in_unit, read_failures, IsTaken, TakesMemory, held_length, IsReason, declared_by, packet_in_unit}
 
 -- How a call that reads a unit changes the counts of its device. Before the call, the first `front`
--- bytes of the unit had been read. If the call succeeds, `count` bytes have been read in all; if it
--- fails, at most `most`. The result is a failed read exactly if the device failed in this call.
+-- bytes of the unit had been read. If the call succeeds, `count` bytes of the unit have been read,
+-- including those; if it fails, at most `most`. The device fails at most once in a call, and the
+-- result is `ReadFailed` if and only if it does.
 pub record Moves {I X : Type 0} (device : Ghosts I) (old new : I) (front : ℕ) (count : X → ℕ)
     (most : ℕ) (r : Result X Fault) : Type 0 where
   pub counted : IfOk r (λ x. device.given new + front ≡ device.given old + count x)
   pub grown : device.given old ≤ device.given new
+  -- if the call read bytes, the device has given fewer than 2^63 in all
   pub bounded : IfOk r (λ x. front < count x → device.given new < 2 ^ 63)
   pub at_most : IfErr r (λ _. device.given new + front ≤ device.given old + most)
   pub failed : device.failures new ≡ device.failures old + read_failures r
   pub sure : device.sure new ≡ device.sure old
-  -- a device that failed had given all bytes that it was sure to give
+  -- a device that has ever failed had given at least as many bytes as it was sure to give
   pub enough : 0 < device.failures new → HasGiven (device.sure new) (device.given new)
-  -- what was given is no longer unread
+  -- the number of unread bytes decreased by the number of bytes given
   pub told : IsTrue device.tells
       → device.given new + length (device.unread new)
       ≡ device.given old + length (device.unread old)
 
--- no unit was read: the fault says why, and some bytes were taken before it
+-- A fault was returned instead of a unit: that of the first check that fails, `ReadFailed` or
+-- `NoMemory`. A prefix of the bytes was taken, perhaps none; with `NoMemory`, perhaps all
+-- of the unit.
 pub record NoUnitCame (declared : Declared) (unread unread' : List ℕ) (fault : Fault) : Type 0 where
   pub why : IsReason declared unread fault
   pub taken : IsTaken declared unread unread' fault
 
--- The first `from` bytes of a buffer of `size` bytes had been read, and the others couldn't all be
--- read: the input has too few, or the device failed.
+-- The first `from` of `size` bytes had been read. The others couldn't all be read: too few are
+-- unread (`Truncated`), or the device failed (`ReadFailed`). `count` of them were taken, not all.
 pub record RestMissing (from size : ℕ) (unread unread' : List ℕ) (fault : Fault) : Type 0 where
   pub why : ((fault ≡ Truncated) × (from + length unread < size)) ⊎ (fault ≡ ReadFailed)
   pub count : ℕ
@@ -62,8 +67,8 @@ abbrev pub FrontCame : List ℕ → List ℕ → Bool → List ℕ → Type 0
 FrontCame unread front true unread' = unread ≡ front ++ unread'
 FrontCame unread front false unread' = (unread ≡ []) × (unread' ≡ [])
 
--- The first `size` bytes of a unit couldn't all be read: the input has one byte or more, but fewer
--- than `size`; or the device failed.
+-- The first `size` bytes of a unit couldn't all be read: one byte or more is unread, but fewer than
+-- `size` (`Truncated`), or the device failed (`ReadFailed`).
 pub record FrontMissing (size : ℕ) (unread unread' : List ℕ) (fault : Fault) : Type 0 where
   pub some : 0 < length unread ⊎ (fault ≡ ReadFailed)
   pub missing : RestMissing 0 size unread unread' fault
@@ -80,14 +85,15 @@ known_order state.Unknown = None
 known_order (state.Pcap head) = None
 known_order (state.Pcapng order first) = Some order
 
--- the first link type that the units so far declare, if one does
+-- the first link type that the units so far declare; None if none does
 abbrev pub known_first_link : FileState → Option ℕ
 known_first_link state.Unknown = None
 known_first_link (state.Pcap head) = Some head.link
 known_first_link (state.Pcapng order first) = first
 
--- Before anything is read there is no interface. A section has at most the interfaces that are
--- allowed; once it has one, the first link type of the file is known.
+-- Before the first unit there is no interface. In pcap there is no condition. In pcapng, the
+-- section has at most 256 interfaces, with names of at most 255 bytes; if it has one, the first
+-- link type of the file is known.
 abbrev pub IsConsistent : FileState → List Described → Type 0
 IsConsistent state.Unknown interfaces = interfaces ≡ []
 IsConsistent (state.Pcap head) interfaces = Unit {0}
@@ -95,7 +101,9 @@ IsConsistent (state.Pcapng order first) interfaces =
     (first_link_after first (record { order = order; interfaces = interfaces }) ≡ first)
     × FitSection interfaces
 
--- a packet's unit is at the start of the buffer, and its data and options are inside the unit
+-- The spans of a packet fit a buffer. Its data and its options end inside its unit. The unit has at
+-- least one byte and at most `most_in_unit`, and the buffer is at least as long. The time is below
+-- 2^63.
 pub record FitsBuffer (spans : PacketSpans) (buffer : List ℕ) : Type 0 where
   pub bytes : spans.bytes.start + spans.bytes.length ≤ spans.size
   pub options : spans.options.start + spans.options.length ≤ spans.size
@@ -104,20 +112,22 @@ pub record FitsBuffer (spans : PacketSpans) (buffer : List ℕ) : Type 0 where
   pub small : spans.size ≤ most_in_unit
   pub time : spans.time < 2 ^ 63
 
--- a packet's interface is known
+-- The interface of a packet is declared. In pcap this is always true, and before the first unit
+-- never; in pcapng it is true if the section has an interface of this number.
 abbrev pub HasInterface : Declared → PacketSpans → Type 0
 HasInterface Nothing spans = ⊥
 HasInterface (PcapFile head) spans = Unit {0}
 HasInterface (PcapngFile first section) spans =
     is_some (slice_get section.interfaces spans.interface) ≡ true
 
--- if a unit has a packet, its interface is known
+-- if a packet was read, its interface is declared
 abbrev pub HasInterfaceIfAny : Declared → PacketSpans → NextUnit → Type 0
 HasInterfaceIfAny declared spans (next_unit.Other size) = Unit {0}
 HasInterfaceIfAny declared spans next_unit.Packet = HasInterface declared spans
 HasInterfaceIfAny declared spans next_unit.End = Unit {0}
 
--- the place of the packet in a record, which has no options
+-- the spans of the packet in a record with this header: its data follow the 16 bytes of the header,
+-- and its options are empty
 abbrev pub record_spans : RecordHead → PacketSpans
 record_spans found = record {
   size = 16 + found.captured;
@@ -128,8 +138,8 @@ record_spans found = record {
   orig = found.orig;
 }
 
--- A record that fails no check was taken from the bytes that the device had at hand, and copied to
--- the start of the buffer.
+-- The device gave a whole record, which fails no check, and didn't fail in this call. The record is
+-- at the start of the buffer, and `found` is its header.
 pub record RecordTaken {I : Type 0} (device : Ghosts I) (head : Head) (old : I) (buffer : List ℕ)
     (found : RecordHead) (new : I) : Type 0 where
   pub says : checked (first_failing (field_checks head (take 16 buffer)))
@@ -145,14 +155,14 @@ pub record RecordTaken {I : Type 0} (device : Ghosts I) (head : Head) (old : I) 
   pub splits : IsTrue device.tells
       → device.unread old ≡ take (16 + found.captured) buffer ++ device.unread new
 
--- the device gave no bytes
+-- the device gave no bytes, and didn't fail in this call
 pub record NothingTaken {I : Type 0} (device : Ghosts I) (old new : I) : Type 0 where
   pub counted : device.given new ≡ device.given old
   pub failed : device.failures new ≡ device.failures old
   pub sure : device.sure new ≡ device.sure old
   pub rest : IsTrue device.tells → device.unread new ≡ device.unread old
 
--- a unit without a packet was read
+-- a unit of `size` bytes without a packet was read
 pub record UnitPassed (declared : Declared) (unread : List ℕ) (size : ℕ) (declared' : Declared)
     (unread' : List ℕ) : Type 0 where
   pub bytes : List ℕ
@@ -160,7 +170,8 @@ pub record UnitPassed (declared : Declared) (unread : List ℕ) (size : ℕ) (de
   pub sized : length bytes ≡ size
   pub splits : unread ≡ bytes ++ unread'
 
--- a unit with a packet was read, and is at the start of the buffer
+-- A unit with one packet was read. It is at the start of the buffer, the packet is at these spans,
+-- and the declarations didn't change.
 pub record PacketCame (declared : Declared) (unread buffer : List ℕ) (spans : PacketSpans)
     (declared' : Declared) (unread' : List ℕ) : Type 0 where
   pub packet : Captured
@@ -169,7 +180,7 @@ pub record PacketCame (declared : Declared) (unread buffer : List ℕ) (spans : 
   pub same : declared' ≡ declared
   pub splits : unread ≡ take spans.size buffer ++ unread'
 
--- nothing is left at a place where a unit could begin: the clean end
+-- the clean end: a unit was read before, and no bytes are unread
 pub record EndCame (declared : Declared) (unread : List ℕ) (declared' : Declared)
     (unread' : List ℕ) : Type 0 where
   pub ends : front_of declared [] ≡ NoUnit None
@@ -194,28 +205,31 @@ unit_size spans (next_unit.Other size) = size
 unit_size spans next_unit.Packet = spans.size
 unit_size spans next_unit.End = 0
 
--- the bounds of the unit that was read, for all devices
+-- Bounds that hold even if contracts don't know the bytes of the device. A unit without a packet
+-- has at least one byte; the spans of a packet fit the buffer. After either, the device has given
+-- fewer than 2^63 bytes in all. At the end nothing is stated.
 abbrev pub IsSized : PacketSpans → NextUnit → List ℕ → ℕ → Type 0
 IsSized spans (next_unit.Other size) buffer given = (0 < size) × (given < 2 ^ 63)
 IsSized spans next_unit.Packet buffer given = FitsBuffer spans buffer × (given < 2 ^ 63)
 IsSized spans next_unit.End buffer given = Unit {0}
 
--- the section to which the next block belongs, if a section was read
+-- the current section, before the next block is read; None in pcap and before the first unit
 abbrev pub section_before : FileState → List Described → Option Section
 section_before state.Unknown interfaces = None
 section_before (state.Pcap head) interfaces = None
 section_before (state.Pcapng order first) interfaces =
     Some (record { order = order; interfaces = interfaces })
 
--- a block may begin with these bytes: before anything is read, only a section header; in pcapng,
--- any block; in pcap, none
+-- Whether these bytes may begin a block: in pcapng always, in pcap never; before the first unit, if
+-- they begin with the type of a section header.
 abbrev pub BeginsBlock : FileState → List ℕ → Type 0
 BeginsBlock state.Unknown front = is_section front ≡ true
 BeginsBlock (state.Pcap head) front = ⊥
 BeginsBlock (state.Pcapng order first) front = Unit {0}
 
--- The result of reading a unit whose first bytes had been read: the new device, the new buffer, the
--- place of a packet in it, and the new state of the file, which a fault doesn't change.
+-- The effect of a call that reads a unit of which `front` was read before (often nothing): on the
+-- device, the buffer, the spans of the packet, the table and the state of the file. A fault changes
+-- neither the table nor the state of the file.
 pub record ReadsUnit {I A : Type 0} (device : Ghosts I) (old : UnitReader I A) (front : List ℕ)
     (r : Result NextUnit Fault) (new : UnitReader I A) : Type 0 where
   pub moves : Moves device old.input new.input (length front) (unit_size new.spans) most_in_unit r
@@ -231,14 +245,15 @@ pub record ReadsUnit {I A : Type 0} (device : Ghosts I) (old : UnitReader I A) (
       → NoUnitCame (declared_by old.file old.table) (front ++ device.unread old.input)
       (device.unread new.input) fault)
   pub kept : OnErr r ((new.file ≡ old.file) × (new.table ≡ old.table))
-  -- the buffer never gets shorter, and holds any unit except the file header of pcap; it isn't
-  -- longer than the longest unit, unless it was before
+  -- The buffer never gets shorter. It isn't longer than `most_in_unit`, unless it was before. If a
+  -- unit was read, the buffer has room for it; the file header of pcap needs none.
   pub grown : length old.buffer.items ≤ length new.buffer.items
   pub bounded : length old.buffer.items ≤ most_in_unit → length new.buffer.items ≤ most_in_unit
   pub fits : IfOk r
       (λ came. held_length (declared_by old.file old.table) (declared_by new.file new.table)
       (unit_size new.spans came) ≤ length new.buffer.items)
-  -- memory runs out only for a unit that takes some
+  -- `NoMemory` is returned only if the unit describes an interface, or if its header states a
+  -- length that is greater than that of the buffer
   pub memory : r ≡ Err NoMemory → IsTrue device.tells
       → TakesMemory (length new.buffer.items) (declared_by old.file old.table)
       (front ++ device.unread old.input)
