@@ -163,18 +163,14 @@ made link e walked folded tree wide filled few w f n c =
     same = c ∙ program_is link d walked (ap reverse w ∙ f ∙ ap (fold with_folded []) n ∙ nodes_folded e)
 
 -- threaded and shortened
-once_more : (link : Link) (e : Expression) (code threaded short : List Insn) → bound_of e ≤ 32768 → Threads threaded code → Shortens short threaded → IsMadeOf code e link → IsMadeOf short e link
-once_more link e code threaded short within t r m =
-    let is = threaded_code threaded code e link t m.is in
+pub made_short : (link : Link) (e : Expression) (walked folded tree : List Node) (wide moved short : List Insn) → some_primitive is_unfilled e ≡ false → words_of e ≤ 16 → bound_of e ≤ 32768 → walked ≡ folded → reverse folded ≡ fold with_folded [] tree → tree ≡ expr_nodes e → wide ≡ insns_of (emit_nodes link start_walk (reverse walked)) → Threads moved wide → Shortens short moved → IsMadeOf short e link
+made_short link e walked folded tree wide moved short filled few within w f n c t r =
+    let plain = made link e walked folded tree wide filled few w f n c in
+    let is = threaded_code moved wide e link t plain.is in
     record {
-      is = shortened_code short threaded e link r is;
-      valid = valid_unless_long short (r.valid (valid_if_short threaded (t.sound m.valid) (omega (arith, is.bounded))));
+      is = shortened_code short moved e link r is;
+      valid = valid_unless_long short (r.valid (valid_if_short moved (t.sound plain.valid) (omega (arith, is.bounded))));
     }
-
--- and once more
-pub made_short : (link : Link) (e : Expression) (walked folded tree : List Node) (wide moved once again short : List Insn) → some_primitive is_unfilled e ≡ false → words_of e ≤ 16 → bound_of e ≤ 32768 → walked ≡ folded → reverse folded ≡ fold with_folded [] tree → tree ≡ expr_nodes e → wide ≡ insns_of (emit_nodes link start_walk (reverse walked)) → Threads moved wide → Shortens once moved → Threads again once → Shortens short again → IsMadeOf short e link
-made_short link e walked folded tree wide moved once again short filled few within w f n c t r t' r' =
-    once_more link e once again short within t' r' (once_more link e wide moved once within t r (made link e walked folded tree wide filled few w f n c))
 
 -- what is laid out of it keeps every promise
 pub laid_program : (new code : List Insn) (e : Expression) (link : Link) → ((p : List ℕ) (n : ℕ) → answer_of new p n 0 start ≡ answer_of code p n 0 start) → length new ≤ length code + 2 * branches code → IsMadeOf code e link → IsProgramOf new e link

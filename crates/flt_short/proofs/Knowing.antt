@@ -1,5 +1,5 @@
 -- What is known holds of the packet and of the registers.
-use Rattle.flt_short.proofs.Common.{◌≡◌, ℕ, zero, suc, ◌+◌, ◌%◌, ◌^◌, List, [], ◌∷◌, Bool, true, false, Option, Some, None, refl, sym, ap, ◌∙◌, subst, arith, ◌⊎◌, inl, inr, ◌==◌, ◌&&◌, not, if◌then◌else◌, map, replicate, slice_set, bit_and, option_map, option_or, nat_tests, State, Operation, LoadAbsolute, LoadIndirect, Load, JumpIf, Accumulator, Length, Constant, Byte, Insn, field, header_length, test_holds, operand_value, Field, Held, Known, nothing_claimed, nothing_known, same_optional, same_field, claims_nothing, allows, entails_some, entails, one_of_two, joined_claim, joined_with_any, joined_fact, joined_held, common_header, joined_by, joined, outcome_by_claim, decided, the_two, two_numbers_of, with_fact, captures, any_captures, holds_field, is_captured, claim_after, known_by, known_by_test, and_parts, or_cases}
+use Rattle.flt_short.proofs.Common.{◌≡◌, ℕ, zero, suc, ◌+◌, ◌%◌, ◌^◌, List, [], ◌∷◌, Bool, true, false, Option, Some, None, refl, sym, ap, ◌∙◌, subst, arith, ◌⊎◌, inl, inr, ◌==◌, ◌&&◌, not, if◌then◌else◌, map, replicate, slice_set, bit_and, option_map, option_or, nat_tests, State, Operation, LoadAbsolute, LoadIndirect, Load, JumpIf, Accumulator, Length, Constant, Byte, Insn, field, header_length, test_holds, operand_value, Field, Held, Known, nothing_claimed, nothing_known, same_optional, same_field, claims_nothing, allows, entails_some, entails, one_of_two, joined_claim, joined_with_any, joined_fact, joined_held, common_header, joined_by, joined, outcome_by_claim, decided, other_by_claim, other_number, with_fact, captures, any_captures, holds_field, is_captured, claim_after, known_by, known_by_test, and_parts, or_cases}
 use Rattle.flt_bpf.specs.declared.operation.Test.{Test}
 use Rattle.flt_bpf.specs.declared.operation.Test.TheVariants.{Equal}
 use Rattle.flt_bpf.specs.declared.operation.Operand.{Operand}
@@ -150,7 +150,7 @@ module _ (p : List ℕ) (len : ℕ) where
   of_value : (x : Fact) (f : Field) (v : ℕ) → same_field x.field f ≡ true → value_of p len f ≡ Some v → Says x → allows x.claim v ≡ true
   of_value x f v same is h = subst (λ o. is_said x.claim o ≡ true) (same_value p len x.field f same ∙ is) h
 
-  first_right : (o later : Option Bool) (b : Bool) (P : Type 0) → (o ≡ Some b → P) → (later ≡ Some b → P) → option_or o later ≡ Some b → P
+  first_right : {A : Type 0} (o later : Option A) (b : A) (P : Type 0) → (o ≡ Some b → P) → (later ≡ Some b → P) → option_or o later ≡ Some b → P
   first_right (Some c) later b P f g e = f e
   first_right None later b P f g e = g e
 
@@ -161,29 +161,25 @@ module _ (p : List ℕ) (len : ℕ) where
       (λ same. first_right (outcome_by_claim x.claim n) (decided xs f n) b ((v == n) ≡ b) (says_right x.claim n v b (of_value x f v same is h.0)) (decided_right xs f v n b h.1 is))
       (λ _. decided_right xs f v n b h.1 is)
 
-  -- a field is one of two numbers
-  record IsEither (f : Field) (a b : ℕ) : Type 0 where
-    pub number : ℕ
-    pub is : value_of p len f ≡ Some number
-    pub either : (number ≡ a) ⊎ (number ≡ b)
+  -- of two numbers it is the other one
+  clash : (v n a : ℕ) → (n == a) ≡ true → v ≡ a → (v == n) ≡ false → ⊥
+  clash v n a e i other = let same = numbers n a e in let yes = same_number v n (i ∙ sym same) in (let both : true ≡ false = sym yes ∙ other in cc)
 
-  said_two : (o : Option ℕ) (a b : ℕ) → is_said (IsOneOf a b) o ≡ true → (v : ℕ) × ((o ≡ Some v) × ((v ≡ a) ⊎ (v ≡ b)))
-  said_two None a b h = cc
-  said_two (Some v) a b h = (v, (refl, elim (or_cases (v == a) (v == b) h) [ inl i ↦ inl (numbers v a i) | inr i ↦ inr (numbers v b i) ]))
+  other_said : (c : Claim) (n m v : ℕ) → allows c v ≡ true → (v == n) ≡ false → other_by_claim c n ≡ Some m → v ≡ m
+  other_said (IsOneOf a b) n m v h other =
+      by_test (λ o. o ≡ Some m → v ≡ m) (n == a) _ _
+      (λ e. λ g. elim (or_cases (v == a) (v == b) h) [ inl i ↦ absurd (clash v n a e (numbers v a i) other) | inr i ↦ (let same : b ≡ m = cc in numbers v b i ∙ same) ])
+      (λ _. by_test (λ o. o ≡ Some m → v ≡ m) (n == b) _ _
+      (λ e. λ g. elim (or_cases (v == a) (v == b) h) [ inl i ↦ (let same : a ≡ m = cc in numbers v a i ∙ same) | inr i ↦ absurd (clash v n b e (numbers v b i) other) ])
+      (λ _. λ g. cc))
+  other_said _ n m v h other = λ g. cc
 
-  the_two_right : (c : Claim) (f : Field) (later : Option (ℕ × ℕ)) (two : ℕ × ℕ) → is_said c (value_of p len f) ≡ true → (later ≡ Some two → IsEither f two.0 two.1) → the_two c later ≡ Some two → IsEither f two.0 two.1
-  the_two_right (IsOneOf a b) f later two h g e =
-      let q = said_two (value_of p len f) a b h in
-      let pair : (a, b) ≡ two = cc in
-      subst (λ (t : ℕ × ℕ). IsEither f t.0 t.1) pair (record { number = q.0; is = q.1.0; either = q.1.1 })
-  the_two_right _ f later two h g e = g e
-
-  one_of_right : (xs : List Fact) (f : Field) (two : ℕ × ℕ) → AllSay xs → two_numbers_of xs f ≡ Some two → IsEither f two.0 two.1
-  one_of_right [] f two h = λ e. cc
-  one_of_right (x ∷ xs) f two h =
-      by_test (λ z. z ≡ Some two → IsEither f two.0 two.1) (same_field x.field f) _ _
-      (λ same. the_two_right x.claim f (two_numbers_of xs f) two (subst (λ o. is_said x.claim o ≡ true) (same_value p len x.field f same) h.0) (one_of_right xs f two h.1))
-      (λ _. one_of_right xs f two h.1)
+  other_right : (xs : List Fact) (f : Field) (v n m : ℕ) → AllSay xs → value_of p len f ≡ Some v → (v == n) ≡ false → other_number xs f n ≡ Some m → v ≡ m
+  other_right [] f v n m h is other = λ e. cc
+  other_right (x ∷ xs) f v n m h is other =
+      by_test (λ z. z ≡ Some m → v ≡ m) (same_field x.field f) _ _
+      (λ same. first_right (other_by_claim x.claim n) (other_number xs f n) m (v ≡ m) (other_said x.claim n m v (of_value x f v same is h.0) other) (other_right xs f v n m h.1 is other))
+      (λ _. other_right xs f v n m h.1 is other)
 
   -- what is captured
   said_some : (c : Claim) (o : Option ℕ) → not (claims_nothing c) ≡ true → is_said c o ≡ true → (v : ℕ) × (o ≡ Some v)
@@ -278,28 +274,14 @@ module _ (p : List ℕ) (len : ℕ) where
   captured_there k code at s y e = elim (or_cases (holds_field k.held code at) (any_captures k.facts code at) e) [ inl i ↦ field_there k.held code at s y.a i | inr i ↦ any_there k.facts code at y.facts i ]
 
   -- what the outcome of a test says
-  clash : (v n a : ℕ) → (n == a) ≡ true → v ≡ a → (v == n) ≡ false → ⊥
-  clash v n a e i other = let same = numbers n a e in let yes = same_number v n (i ∙ sym same) in (let both : true ≡ false = sym yes ∙ other in cc)
-
-  two_said : (v n a b : ℕ) → (v ≡ a) ⊎ (v ≡ b) → (v == n) ≡ false → allows (if n == a then Is b else (if n == b then Is a else IsNot n)) v ≡ true
-  two_said v n a b either other =
-      by_test (λ c. allows c v ≡ true) (n == a) _ _
-      (λ e. elim either [ inl i ↦ absurd (clash v n a e i other) | inr i ↦ same_number v b i ])
-      (λ _. by_test (λ c. allows c v ≡ true) (n == b) _ _
-      (λ e. elim either [ inl i ↦ same_number v a i | inr i ↦ absurd (clash v n b e i other) ])
-      (λ _. ap not other))
-
-  claimed : (outcome : Bool) (v n : ℕ) (f : Field) (o : Option (ℕ × ℕ)) → value_of p len f ≡ Some v → ((two : ℕ × ℕ) → o ≡ Some two → IsEither f two.0 two.1) → (v == n) ≡ outcome → is_said (claim_after outcome n o) (Some v) ≡ true
-  claimed true v n f o is g e = e
-  claimed false v n f None is g e = ap not e
-  claimed false v n f (Some two) is g e =
-      let q = g two refl in
-      let same : q.number ≡ v = cc in
-      two_said v n two.0 two.1 (subst (λ m. (m ≡ two.0) ⊎ (m ≡ two.1)) same q.either) e
+  claimed : (outcome : Bool) (v n : ℕ) (o : Option ℕ) → ((v == n) ≡ false → (m : ℕ) → o ≡ Some m → v ≡ m) → (v == n) ≡ outcome → allows (claim_after outcome n o) v ≡ true
+  claimed true v n o g e = e
+  claimed false v n None g e = ap not e
+  claimed false v n (Some m) g e = same_number v m (g e m refl)
 
   pub tested_field : (k : Known) (f : Field) (v n : ℕ) (outcome : Bool) (s : State) → Holds k s → value_of p len f ≡ Some v → (v == n) ≡ outcome → Holds (known_by k f n outcome) s
   tested_field k f v n outcome s y is e =
-      fact_holds k f _ s y (subst (λ o. is_said (claim_after outcome n (two_numbers_of k.facts f)) o ≡ true) (sym is) (claimed outcome v n f (two_numbers_of k.facts f) is (λ two. λ g. one_of_right k.facts f two y.facts g) e))
+      fact_holds k f _ s y (subst (λ o. is_said (claim_after outcome n (other_number k.facts f n)) o ≡ true) (sym is) (claimed outcome v n (other_number k.facts f n) (λ other m g. other_right k.facts f v n m y.facts is other g) e))
 
   tested_by : (t : Test) (o : Operand) (h : Held) (k : Known) (i : Insn) (outcome : Bool) (s : State) → HeldHolds h s → Holds k s → test_holds t s.accumulator (operand_value o i.k s.index) ≡ outcome → Holds (known_by_test (Some (JumpIf t o)) h k i.k outcome) s
   tested_by Equal Constant (held.Field f) k i outcome s x y e = tested_field k f s.accumulator i.k outcome s y x e

@@ -1,6 +1,8 @@
 -- A run may go on where a walk ends in place of where it began.
-use Rattle.flt_short.proofs.Common.{◌≡◌, ℕ, zero, suc, ◌+◌, ◌%◌, ◌^◌, ◌<◌, List, [], ◌∷◌, length, Bool, true, false, Option, Some, None, refl, sym, ap, ◌∙◌, subst, arith, inl, inr, ◌==◌, nat_lt, ◌&&◌, ◌||◌, if◌then◌else◌, slice_get, bit_and, is_none, option_map, option_map_or, option_and_then, option_and_then_some, nat_tests, Insn, State, Operation, LoadAbsolute, LoadIndirect, Load, LoadHeaderLength, Compute, JumpIf, ReturnConstant, CopyToAccumulator, Accumulator, Index, Immediate, Memory, Length, Constant, Byte, answer_of, answer_after, Field, Held, Known, same_field, same_optional, decided, known_by, is_captured, field_of, masked_field, masked_by, field_at, other_field, spot_at, holds_load, past_insn, ignores_accumulator, is_free_by, is_free, can_stop, walk_on, FUEL, walk_from, number_at, target_by, target, threaded_offset, and_parts, or_cases}
+use Rattle.flt_short.proofs.Common.{◌≡◌, ℕ, zero, suc, ◌+◌, ◌%◌, ◌^◌, ◌<◌, List, [], ◌∷◌, length, Bool, true, false, Option, Some, None, refl, sym, ap, ◌∙◌, subst, arith, inl, inr, ◌==◌, nat_lt, ◌&&◌, ◌||◌, if◌then◌else◌, slice_get, bit_and, is_none, option_map, option_map_or, option_and_then, option_and_then_some, nat_tests, Insn, State, Operation, LoadAbsolute, LoadIndirect, Load, LoadHeaderLength, Compute, JumpIf, ReturnConstant, CopyToAccumulator, Accumulator, Index, Immediate, Memory, Length, Constant, Byte, answer_of, answer_after, operand_value, test_holds, Field, Held, Known, same_field, same_optional, decided, is_captured, field_of, masked_field, masked_by, field_at, other_field, spot_at, holds_load, past_insn, ignores_accumulator, is_free_by, is_free, can_stop, walk_on, FUEL, walk_from, best_after, target_by, target, threaded_offset, and_parts, or_cases}
+use Rattle.flt_bpf.specs.declared.operation.Test.{Test}
 use Rattle.flt_bpf.specs.declared.operation.Test.TheVariants as test
+use Rattle.flt_bpf.specs.declared.operation.Operand.{Operand}
 use Rattle.flt_bpf.specs.declared.operation.AluOperation.TheVariants as arithmetic
 use Rattle.flt_bpf.specs.Instructions.{operation_of}
 use Rattle.flt_bpf.specs.Machine.{Next, Goes, step as does_step, does_if_known, into, field, header_length}
@@ -9,7 +11,7 @@ use Rattle.flt_short.specs.declared.thread.Spot.{Spot}
 use Rattle.flt_short.specs.declared.thread.Reached.{Reached}
 use Rattle.flt_short.specs.inside.Threads.{walk}
 use Rattle.flt_short.proofs.Basics.{by_test, known_step, into_both, word_both}
-use Rattle.flt_short.proofs.Knowing.{loaded, masked, value_at, value_of, loaded_at, numbers, same_masks, same_value, HeldHolds, IndexHolds, Holds, captured_there, decided_right, tested_field}
+use Rattle.flt_short.proofs.Knowing.{loaded, masked, value_at, value_of, loaded_at, numbers, same_masks, same_value, HeldHolds, IndexHolds, Holds, captured_there, decided_right}
 
 module _ (p : List ℕ) (n : ℕ) where
   -- the answer from a place on, by the instruction there
@@ -255,18 +257,30 @@ module _ (p : List ℕ) (n : ℕ) where
     walked_inside k from l = walk_inside FUEL k (record { spot = spot_at from None; best = from }) l
 
     -- where both outcomes of a test lead to one place
+    best_after_inside : (k : Known) (from skipped : ℕ) → from < length c → best_after k c (walk_from k c from) skipped < length c
+    best_after_inside k from skipped l =
+        let end = walk_from k c from in
+        next_inside (walk FUEL k c) end (Some (spot_at (end.spot.place + 1 + skipped) end.spot.other)) (walked_inside k from l) (λ q m. walk_inside FUEL k q m)
+
     target_inside : (k : Known) (from : ℕ) → from < length c → target k c from < length c
-    target_inside k from l = by (field_at k.held (walk_from k c from).spot.other) (number_at c (walk_from k c from).spot.place)
+    target_inside k from l = at_end (slice_get c end.spot.place)
       where
-        by : (o : Option Field) (m : Option ℕ) → target_by o m k c from (walk_from k c from).best < length c
-        by (Some f) (Some v) =
-            by_test (λ m. m < length c) (nat_lt (walk_from k c from).best (walk_from (known_by k f v true) c from).best && (walk_from (known_by k f v true) c from).best == (walk_from (known_by k f v false) c from).best) _ _
-            (λ _. walked_inside (known_by k f v true) from l)
+        end : Reached
+        end = walk_from k c from
+
+        by : (op : Option Operation) (i : Insn) → target_by op k c end i < length c
+        by (Some (JumpIf t o)) i =
+            by_test (λ m. m < length c) (nat_lt end.best (best_after k c end i.jt) && best_after k c end i.jt == best_after k c end i.jf) _ _
+            (λ _. best_after_inside k from i.jt l)
             (λ _. walked_inside k from l)
-        by _ _ = walked_inside k from l
+        by _ i = walked_inside k from l
+
+        at_end : (g : Option Insn) → option_map_or (λ i. target_by (operation_of i.code) k c end i) g end.best < length c
+        at_end None = walked_inside k from l
+        at_end (Some i) = by (operation_of i.code) i
 
     target_same : (k : Known) (from : ℕ) (s : State) → Holds p n k s → answer_of c p n (target k c from) s ≡ answer_of c p n from s
-    target_same k from s h = by (field_at k.held end.spot.other) refl (number_at c end.spot.place)
+    target_same k from s h = at_end (slice_get c end.spot.place) refl
       where
         end : Reached
         end = walk_from k c from
@@ -274,22 +288,34 @@ module _ (p : List ℕ) (n : ℕ) where
         right : Walks s from end.spot × (answer_of c p n end.best s ≡ answer_of c p n from s)
         right = walked_right k s h from
 
-        by : (o : Option Field) → field_at k.held end.spot.other ≡ o → (m : Option ℕ) → answer_of c p n (target_by o m k c from end.best) s ≡ answer_of c p n from s
-        by (Some f) q (Some v) =
-            let first = walk_from (known_by k f v true) c from in
-            let second = walk_from (known_by k f v false) c from in
-            let a = right.0.a in
-            let is = field_is k.held end.spot.other f s a h.a right.0.is q in
-            let by_outcome : (b : Bool) → (a == v) ≡ b → answer_of c p n (walk_from (known_by k f v b) c from).best s ≡ answer_of c p n from s = λ b e. (walked_right (known_by k f v b) s (tested_field p n k f a v b s h is e) from).1 in
-            by_test (λ m. answer_of c p n m s ≡ answer_of c p n from s) (nat_lt end.best first.best && first.best == second.best) _ _
-            (λ t. let one = numbers first.best second.best (and_parts (nat_lt end.best first.best) (first.best == second.best) t).1 in
-            either_way (a == v) (by_outcome (a == v) refl) one)
+        -- past a test the walk is as right, by its outcome
+        past : (i : Insn) (t : Test) (o : Operand) (far : ℕ) → slice_get c end.spot.place ≡ Some i → operation_of i.code ≡ Some (JumpIf t o) → does_if_known (Some (JumpIf t o)) i p n (with_a s right.0.a) ≡ Goes far (with_a s right.0.a) → IsSame k s h from (best_after k c end far)
+        past i t o far g e does =
+            let next = spot_at (end.spot.place + 1 + far) end.spot.other in
+            let walks = moves k s h from end.spot i (Some (JumpIf t o)) right.0 far right.0.a next g e does right.0.is refl in
+            (walk_right k s h from FUEL (record { spot = next; best = if can_stop c next then next.place else end.best }) (walks, best_same k s h from next end.best walks right.1)).1
+
+        either_way : (b : Bool) (first second : ℕ) → first ≡ second → IsSame k s h from (if b then first else second) → IsSame k s h from first
+        either_way true first second e is = is
+        either_way false first second e is = subst (IsSame k s h from) (sym e) is
+
+        by : (op : Option Operation) (i : Insn) → slice_get c end.spot.place ≡ Some i → operation_of i.code ≡ op → IsSame k s h from (target_by op k c end i)
+        by (Some (JumpIf t o)) i g e =
+            let first = best_after k c end i.jt in
+            let second = best_after k c end i.jf in
+            let outcome = test_holds t right.0.a (operand_value o i.k s.index) in
+            by_test (IsSame k s h from) (nat_lt end.best first && first == second) _ _
+            (λ same. either_way outcome first second (numbers first second (and_parts (nat_lt end.best first) (first == second) same).1) (one outcome refl))
             (λ _. right.1)
           where
-            either_way : (b : Bool) → answer_of c p n (walk_from (known_by k f v b) c from).best s ≡ answer_of c p n from s → (walk_from (known_by k f v true) c from).best ≡ (walk_from (known_by k f v false) c from).best → answer_of c p n (walk_from (known_by k f v true) c from).best s ≡ answer_of c p n from s
-            either_way true e one = e
-            either_way false e one = ap (λ m. answer_of c p n m s) one ∙ e
-        by _ q _ = right.1
+            one : (b : Bool) → test_holds t right.0.a (operand_value o i.k s.index) ≡ b → IsSame k s h from (if b then best_after k c end i.jt else best_after k c end i.jf)
+            one true q = past i t o i.jt g e (ap (λ z. Goes (if z then i.jt else i.jf) (with_a s right.0.a)) q)
+            one false q = past i t o i.jf g e (ap (λ z. Goes (if z then i.jt else i.jf) (with_a s right.0.a)) q)
+        by _ i g e = right.1
+
+        at_end : (o : Option Insn) → slice_get c end.spot.place ≡ o → IsSame k s h from (option_map_or (λ i. target_by (operation_of i.code) k c end i) o end.best)
+        at_end None g = right.1
+        at_end (Some i) g = by (operation_of i.code) i g refl
 
     pub moved_same : (k : Known) (from : ℕ) (s : State) → Holds p n k s → answer_of c p n (threaded_offset k c from) s ≡ answer_of c p n from s
     moved_same k from s h =

@@ -11,7 +11,8 @@ ghost use Rattle.flt_short.specs.inside.Facts.{same_optional, same_field, claims
 ghost use Rattle.flt_short.specs.inside.Facts.{denies, entails, joined_claim, nothing_claimed};
 ghost use Rattle.flt_short.specs.inside.Facts.{joined_with_any, joined_fact, joined_held, joined};
 ghost use Rattle.flt_short.specs.inside.Facts.{common_header, outcome_by_claim, decided, gives_way};
-ghost use Rattle.flt_short.specs.inside.Facts.{two_numbers_of, place_for, with_fact, captures};
+ghost use Rattle.flt_short.specs.inside.Facts.{other_by_claim, other_number, place_for, with_fact};
+ghost use Rattle.flt_short.specs.inside.Facts.{captures};
 ghost use Rattle.flt_short.specs.inside.Facts.{any_captures, holds_field, is_captured, field_of};
 ghost use Rattle.flt_short.specs.inside.Facts.{masked_field, masked_held, held_without_index};
 ghost use Rattle.flt_short.specs.inside.Facts.{held_after, index_after, known_after, claim_after};
@@ -320,19 +321,38 @@ pub fn decided(facts: &[Fact], field: &Field, number: u32) -> Option<bool>
     }
 }
 
-/// The two numbers of which a field is one, if a fact claims that.
-fn two_numbers_of(facts: &[Fact], field: &Field) -> Option<(u32, u32)>
-    ensures { result ≡ two_numbers_of facts.now field.now }
+/// The other one of two numbers, if the claim is that a number is one of them, and this is one.
+fn other_by_claim(claim: Claim, number: u32) -> Option<u32>
+    ensures { result ≡ other_by_claim claim number }
+{
+    match claim {
+        Claim::IsOneOf(one, other) => {
+            if number == one {
+                Some(other)
+            } else if number == other {
+                Some(one)
+            } else {
+                None
+            }
+        }
+        _ => None,
+    }
+}
+
+/// The number that a field is if it isn't this one, by the first fact that says so; `None` if no
+/// fact does.
+fn other_number(facts: &[Fact], field: &Field, number: u32) -> Option<u32>
+    ensures { result ≡ other_number facts.now field.now number }
 {
     match facts {
         [] => None,
         [first, others @ ..] => {
             if !same_field(first.field, *field) {
-                return two_numbers_of(others, field);
+                return other_number(others, field, number);
             }
-            match first.claim {
-                Claim::IsOneOf(one, other) => Some((one, other)),
-                _ => two_numbers_of(others, field),
+            match other_by_claim(first.claim, number) {
+                Some(other) => Some(other),
+                None => other_number(others, field, number),
             }
         }
     }
@@ -505,27 +525,19 @@ pub fn pass_insn(known: &mut Known, insn: Wide)
 /// The claim about a field after the test whether it is a number had this outcome. If the field is
 /// known to be one of two numbers, and isn't this one, it is the other one.
 fn claim_by_outcome(facts: &[Fact], field: &Field, number: u32, outcome: bool) -> Claim
-    ensures { result ≡ claim_after outcome number (two_numbers_of facts.now field.now) }
+    ensures { result ≡ claim_after outcome number (other_number facts.now field.now number) }
 {
     if outcome {
         return Claim::Is(number);
     }
-    match two_numbers_of(facts, field) {
-        Some((one, other)) => {
-            if number == one {
-                Claim::Is(other)
-            } else if number == other {
-                Claim::Is(one)
-            } else {
-                Claim::IsNot(number)
-            }
-        }
+    match other_number(facts, field, number) {
+        Some(other) => Claim::Is(other),
         None => Claim::IsNot(number),
     }
 }
 
 /// Adds to the state the fact that the test whether a field is a number had this outcome.
-pub fn learn_number(known: &mut Known, field: Field, number: u32, outcome: bool)
+fn learn_number(known: &mut Known, field: Field, number: u32, outcome: bool)
     ensures { known.new ≡ known_by known.old field number outcome }
 {
     let claim = claim_by_outcome(&known.facts, &field, number, outcome);

@@ -1,7 +1,7 @@
 //! Makes code shorter and faster: moves the targets of tests as far on as what is known at the test
 //! decides, and replaces several instructions by fewer that do the same.
 //!
-//! `flt_gen` calls [`threaded`], then [`shortened`], and both once more.
+//! `flt_gen` calls [`threaded`], then [`shortened`].
 //!
 //! - `thread` moves the targets. `facts` has what is known of a packet and of A and X, and
 //!   `arrivals` has it for each place that runs reach.

@@ -19,7 +19,7 @@ use crate::alike::{
     Landing, adds_header, direct_code, goes_on_or_rejects, is_indirect, is_masked_test,
     is_rejection, is_sure, puts_number_into_index, replaces,
 };
-use flt_bpf::operation::{Operand, Operation, Register, Source, Test, decode};
+use flt_bpf::operation::{AluOperation, Operand, Operation, Register, Source, Test, decode};
 use flt_bpf::{Wide, reads_accumulator, reads_index, sets_accumulator, sets_index};
 use std::alloc::{AllocError, Allocator};
 
@@ -294,39 +294,40 @@ impl Shortening<'_> {
         Some((*length, Wide { k, ..*load }))
     }
 
-    /// Whether the instruction of the old code at an index puts a number into A. `is_joined_by`
-    /// checks this first, because it is quick.
-    fn is_number_at(&self, at: usize) -> bool {
-        let code = Operation::Load(Register::Accumulator, Source::Immediate).code();
-        match self.insns.get(at) {
-            Some(insn) => insn.code == code,
-            None => false,
-        }
-    }
-
     /// Whether the instruction `before` ones before `at` puts a number into A, and is joined with
     /// the next two (`direct_load_at`) or four (`header_load_at`) instructions, so with the one at
     /// `at`.
     fn is_joined_by(&self, at: usize, before: usize) -> bool {
         let number = at.saturating_sub(before);
         at >= before
-            && self.is_number_at(number)
             && (before <= 2 && self.direct_load_at(number).is_some()
                 || self.header_load_at(number).is_some())
     }
 
-    /// Whether an earlier instruction of the old code is joined with the one at `at`, which then
-    /// isn't emitted and lands nowhere. If a run jumps to that one, the new code isn't taken.
-    fn is_joined(&self, at: usize) -> bool {
-        if at >= 1 && self.bits_test_at(at - 1).is_some() {
-            return true;
-        }
+    /// Whether one of the four instructions before `at` puts a number into A, and is joined with
+    /// the one at `at`.
+    fn is_joined_by_number(&self, at: usize) -> bool {
         for before in 1..5 {
             if self.is_joined_by(at, before) {
                 return true;
             }
         }
         false
+    }
+
+    /// Whether an earlier instruction of the old code is joined with this one at `at`, which then
+    /// isn't emitted and lands nowhere. If a run jumps to that one, the new code isn't taken.
+    fn is_joined(&self, at: usize, insn: Wide) -> bool {
+        match decode(insn.code) {
+            Some(Operation::JumpIf(_, _)) => at >= 1 && self.bits_test_at(at - 1).is_some(),
+            Some(
+                Operation::LoadHeaderLength
+                | Operation::Compute(AluOperation::Add, Operand::IndexRegister)
+                | Operation::CopyToIndex
+                | Operation::LoadIndirect(_),
+            ) => self.is_joined_by_number(at),
+            _ => false,
+        }
     }
 
     /// Whether the offsets of the instruction right in front of a place of the new code lead to the
@@ -528,36 +529,56 @@ impl Shortening<'_> {
         }
     }
 
-    /// Emits an instruction of the old code, joined with those after it if that is shorter.
-    fn emit(&mut self, at: usize) {
-        if let Some(test) = self.bits_test_at(at) {
-            self.emit_test(at, test, index_after(at, 0));
-        } else if let Some(load) = self.direct_load_at(at) {
+    /// Emits a mask of A, joined with the test after it if that is shorter.
+    fn emit_mask(&mut self, at: usize, insn: Wide) {
+        match self.bits_test_at(at) {
+            Some(test) => self.emit_test(at, test, index_after(at, 0)),
+            None => self.emit_alone(at, insn),
+        }
+    }
+
+    /// Emits the instruction that puts a number into A, joined with the load at X after it if that
+    /// is shorter.
+    fn emit_number(&mut self, at: usize, insn: Wide) {
+        if let Some(load) = self.direct_load_at(at) {
             self.emit_plain(at, load, index_after(at, 2));
         } else if let Some((length, load)) = self.header_load_at(at) {
             self.emit_plain(at, load, index_after(at, 4));
             // The length is put before the load, whose landing `at` has until now.
             self.emit_plain(at, length, at);
-        } else if let Some(insn) = self.insn_at(at) {
+        } else {
             self.emit_alone(at, insn);
         }
     }
 
-    /// Reads the instruction of the old code at `at`, and emits it if a run reaches it, unless an
+    /// Emits an instruction of the old code, joined with those after it if that is shorter.
+    fn emit(&mut self, at: usize, insn: Wide) {
+        match decode(insn.code) {
+            Some(Operation::Compute(AluOperation::And, Operand::Constant)) => {
+                self.emit_mask(at, insn);
+            }
+            Some(Operation::Load(Register::Accumulator, Source::Immediate)) => {
+                self.emit_number(at, insn);
+            }
+            _ => self.emit_alone(at, insn),
+        }
+    }
+
+    /// Reads this instruction of the old code, at `at`, and emits it if a run reaches it, unless an
     /// earlier one is joined with it.
-    fn read_insn(&mut self, at: usize) {
+    fn read_insn(&mut self, at: usize, insn: Wide) {
         let is_reached = self.landing_at(at).place > 0;
         self.land(at, NOWHERE);
-        if is_reached && !self.is_joined(at) {
-            self.emit(at);
+        if is_reached && !self.is_joined(at, insn) {
+            self.emit(at, insn);
         }
     }
 
     /// Reads the whole old code. Returns the number of instructions of the new one.
     fn read_all(&mut self) -> usize {
         self.mark_all_reached();
-        for at in (0..self.insns.len()).rev() {
-            self.read_insn(at);
+        for (at, insn) in self.insns.iter().enumerate().rev() {
+            self.read_insn(at, *insn);
         }
         self.len
     }

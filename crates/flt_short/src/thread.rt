@@ -11,18 +11,17 @@ ghost use Rattle.std.specs.Prelude.{IfOk, ◌≡◌, ◌<◌, ◌^◌, nat_lt, i
 ghost use Rattle.flt_bpf.specs.Instructions.{operation_of};
 ghost use Rattle.flt_short.specs.Threads.{Threads};
 ghost use Rattle.flt_short.specs.inside.Arrivals.{at_start};
-ghost use Rattle.flt_short.specs.inside.Facts.{known_by};
 ghost use Rattle.flt_short.specs.inside.Threads.{field_at, other_field, past_test, past_mask};
 ghost use Rattle.flt_short.specs.inside.Threads.{holds_load, past_insn, is_free};
 ghost use Rattle.flt_short.specs.inside.Threads.{ignores_accumulator, ignores_accumulator_at, walk};
-ghost use Rattle.flt_short.specs.inside.Threads.{can_stop, walk_from, number_at, target, flow};
+ghost use Rattle.flt_short.specs.inside.Threads.{can_stop, walk_from, best_after, target_by, target, flow};
 ghost use Rattle.flt_short.specs.inside.Threads.{threaded_offset, threaded_test, threaded_insn};
 ghost use Rattle.flt_short.specs.inside.Threads.{with_ways, with_arrivals};
 
 use crate::arrivals::{FEW, arrive, at_start, few_at_start, known_at};
 use crate::facts::{
-    Field, Held, Known, decided, field_of, is_captured, learn, learn_number, masked_field,
-    pass_insn, same_field, same_optional,
+    Field, Held, Known, decided, field_of, is_captured, learn, masked_field, pass_insn, same_field,
+    same_optional,
 };
 use flt_bpf::Wide;
 use flt_bpf::operation::{AluOperation, Operand, Operation, Register, Source, Test, decode};
@@ -262,57 +261,51 @@ fn walk_from(known: &Known, code: &[Wide], from: usize) -> Reached
     reached
 }
 
-/// The number that the instruction at a place compares with A; `None` unless the instruction tests
-/// whether A is a number.
-fn number_at(code: &[Wide], place: usize) -> Option<u32>
-    ensures { result ≡ number_at code.now place }
+/// How far the walk gets if it goes on past the test at its end, which then skips so many
+/// instructions: the last place at which a run with this outcome may continue.
+fn best_after(known: &Known, code: &[Wide], end: &Reached, skipped: u32) -> usize
+    requires { end.now.spot.place < 2 ^ 63 }
+    ensures { result ≡ best_after known.now code.now end.now skipped }
 {
-    match code.get(place) {
-        None => None,
-        Some(insn) => match decode(insn.code) {
-            Some(Operation::JumpIf(Test::Equal, Operand::Constant)) => Some(insn.k),
-            _ => None,
-        },
-    }
+    let spot = Spot {
+        place: end.spot.place + 1 + skipped as usize,
+        other: end.spot.other,
+    };
+    let best = place_or_best(code, spot, end.best);
+    let mut reached = Reached { spot, best };
+    walk(FUEL, known, code, &mut reached);
+    reached.best
 }
 
-/// The last place at which a run may continue instead of at `from`, if the test whether a field is
-/// a number has this outcome.
-fn target_after(
-    known: &Known,
-    field: Field,
-    number: u32,
-    outcome: bool,
-    code: &[Wide],
-    from: usize,
-) -> usize
-    ensures { result ≡ (walk_from (known_by known.now field number outcome) code.now from).best }
+/// The last place at which a run may continue instead of at the start of a walk that ended before
+/// this instruction: the best of the walk. If the instruction is a test, the walk goes on after both
+/// outcomes: if both lead to the same later place, that is the result.
+fn target_past(known: &Known, code: &[Wide], end: &Reached, insn: Wide) -> usize
+    requires { end.now.spot.place < 2 ^ 63 }
+    ensures { result ≡ target_by (operation_of insn.code) known.now code.now end.now insn }
 {
-    let mut known = *known;
-    learn_number(&mut known, field, number, outcome);
-    walk_from(&known, code, from).best
-}
-
-/// The last place at which a run may continue instead of at `from`. If the walk ends at a test
-/// whether a field is a number, the walk is repeated with each outcome of the test: if both lead to
-/// the same later place, that is the result. Places are indices of the code after the test.
-fn target(known: &Known, code: &[Wide], from: usize) -> usize
-    ensures { result ≡ target known.now code.now from }
-{
-    let end = walk_from(known, code, from);
-    match (
-        field_at(known.held, end.spot.other),
-        number_at(code, end.spot.place),
-    ) {
-        (Some(field), Some(number)) => {
-            let first = target_after(known, field, number, true, code, from);
-            if end.best < first && first == target_after(known, field, number, false, code, from) {
+    match decode(insn.code) {
+        Some(Operation::JumpIf(_, _)) => {
+            let first = best_after(known, code, end, insn.yes);
+            if end.best < first && first == best_after(known, code, end, insn.no) {
                 first
             } else {
                 end.best
             }
         }
         _ => end.best,
+    }
+}
+
+/// The last place at which a run may continue instead of at `from`. Places are indices of the code
+/// after the test whose target is `from`.
+fn target(known: &Known, code: &[Wide], from: usize) -> usize
+    ensures { result ≡ target known.now code.now from }
+{
+    let end = walk_from(known, code, from);
+    match code.get(end.spot.place) {
+        None => end.best,
+        Some(insn) => target_past(known, code, &end, *insn),
     }
 }
 

@@ -137,16 +137,17 @@ decided (x ∷ xs) f n =
     if same_field x.field f then option_or (outcome_by_claim x.claim n) (decided xs f n)
     else decided xs f n
 
--- the two numbers that a claim names, or else those found later
-abbrev pub the_two : Claim → Option (ℕ × ℕ) → Option (ℕ × ℕ)
-the_two (IsOneOf a b) later = Some (a, b)
-the_two _ later = later
+-- the other one of two numbers, if a claim is that a number is one of them, and n is one
+abbrev pub other_by_claim : Claim → ℕ → Option ℕ
+other_by_claim (IsOneOf a b) n = if n == a then Some b else (if n == b then Some a else None)
+other_by_claim _ n = None
 
--- the two numbers of which a field is one, if a fact claims that
-abbrev pub two_numbers_of : List Fact → Field → Option (ℕ × ℕ)
-two_numbers_of [] f = None
-two_numbers_of (x ∷ xs) f =
-    if same_field x.field f then the_two x.claim (two_numbers_of xs f) else two_numbers_of xs f
+-- the number that a field is if it isn't n, by the first fact that says so
+abbrev pub other_number : List Fact → Field → ℕ → Option ℕ
+other_number [] f n = None
+other_number (x ∷ xs) f n =
+    if same_field x.field f then option_or (other_by_claim x.claim n) (other_number xs f n)
+    else other_number xs f n
 
 -- a new fact y may take the place of x without loss: x claims nothing, or nothing that doesn't
 -- follow from y
@@ -235,17 +236,16 @@ known_after op k i = record {
   facts = k.facts;
 }
 
--- what may be claimed of a number by the outcome of the test whether it is n; `two` are the numbers
--- of which it was known to be one, if it was
-abbrev pub claim_after : Bool → ℕ → Option (ℕ × ℕ) → Claim
-claim_after true n two = Is n
+-- what may be claimed of a number by the outcome of the test whether it is n; `other` is the number
+-- that it is known to be if it isn't n
+abbrev pub claim_after : Bool → ℕ → Option ℕ → Claim
+claim_after true n other = Is n
 claim_after false n None = IsNot n
-claim_after false n (Some two) =
-    if n == two.0 then Is two.1 else (if n == two.1 then Is two.0 else IsNot n)
+claim_after false n (Some m) = Is m
 
 -- what is known once the test whether a field is a number had an outcome
 abbrev pub known_by : Known → Field → ℕ → Bool → Known
-known_by k f n outcome = with_fact k f (claim_after outcome n (two_numbers_of k.facts f))
+known_by k f n outcome = with_fact k f (claim_after outcome n (other_number k.facts f n))
 
 -- what is known once a test with the number n had an outcome, if A held h and k was known: more
 -- only after a test for equality of a field

@@ -17,7 +17,7 @@ use Rattle.flt_short.specs.declared.facts.Held.TheVariants as held
 use Rattle.flt_short.specs.declared.facts.Known.{Known}
 use Rattle.flt_short.specs.declared.thread.Spot.{Spot}
 use Rattle.flt_short.specs.declared.thread.Reached.{Reached}
-use Rattle.flt_short.specs.inside.Facts.{same_field, same_optional, decided, is_captured, field_of, masked_field, known_after, known_by, known_by_test}
+use Rattle.flt_short.specs.inside.Facts.{same_field, same_optional, decided, is_captured, field_of, masked_field, known_after, known_by_test}
 use Rattle.flt_short.specs.inside.Arrivals.{known_at, arrived}
 
 -- the field that A would hold at the place of a walk, if any: the other one of the spot, if there
@@ -119,33 +119,29 @@ FUEL = 128
 abbrev pub walk_from : Known → List Insn → ℕ → Reached
 walk_from k c from = walk FUEL k c (record { spot = spot_at from None; best = from })
 
--- the number with which an instruction compares A, if it tests whether A is a number
-abbrev pub number_by : Option Operation → Insn → Option ℕ
-number_by (Some (JumpIf Equal Constant)) i = Some i.k
-number_by _ i = None
+-- the place that a walk reaches if it goes on past the test at its end, which then skips so many
+-- instructions
+abbrev pub best_after : Known → List Insn → Reached → ℕ → ℕ
+best_after k c end skipped =
+    (walk_on (walk FUEL k c) c end (Some (spot_at (end.spot.place + 1 + skipped) end.spot.other))).best
 
--- the number with which the instruction at a place compares A, if it tests whether A is a number
-abbrev pub number_at : List Insn → ℕ → Option ℕ
-number_at c place = option_and_then (λ i. number_by (operation_of i.code) i) (slice_get c place)
-
--- the place that the walks by both outcomes of a test reach, if both reach the same, further on
--- than the place `best`, or else that one
+-- the place that is reached after both outcomes of a test, if it is the same and further on than
+-- the place `best`, or else that one
 abbrev pub agreed : ℕ → ℕ → ℕ → ℕ
 agreed first second best = if nat_lt best first && first == second then first else best
 
--- the place where a run may go on instead of the place `from`: at `best`, or, if the walk ended at
--- a test whether this field is this number, if the walks by both outcomes agree
-abbrev pub target_by : Option Field → Option ℕ → Known → List Insn → ℕ → ℕ → ℕ
-target_by (Some f) (Some n) k c from best =
-    agreed (walk_from (known_by k f n true) c from).best
-    (walk_from (known_by k f n false) c from).best best
-target_by _ _ k c from best = best
+-- the place where a run may go on in place of where a walk began, which ended at this instruction:
+-- the best of the walk, or, if the instruction is a test, one that both of its outcomes lead to
+abbrev pub target_by : Option Operation → Known → List Insn → Reached → Insn → ℕ
+target_by (Some (JumpIf test operand)) k c end i =
+    agreed (best_after k c end i.jt) (best_after k c end i.jf) end.best
+target_by _ k c end i = end.best
 
 -- the last place where a run may go on instead of the place `from`
 abbrev pub target : Known → List Insn → ℕ → ℕ
 target k c from =
     let end = walk_from k c from in
-    target_by (field_at k.held end.spot.other) (number_at c end.spot.place) k c from end.best
+    option_map_or (λ i. target_by (operation_of i.code) k c end i) (slice_get c end.spot.place) end.best
 
 -- how many instructions a test skips once its target is as far on as what is known decides, in
 -- place of `skipped`; as many as before if that is 2^32 or more
