@@ -10,7 +10,7 @@ use Rattle.std.specs.List.{find, position, position_or_len}
 use Rattle.cap_octet.specs.declared.fault.Fault.TheVariants.{LinkTypeNotFiltered}
 use Rattle.flt_bpf.specs.declared.insn.Insn.{Insn}
 use Rattle.flt_gen.specs.Correct.{IsProgramOf}
-use Rattle.flt_emit.specs.Elementary.{MatchResult, Yes, No, Rejected}
+use Rattle.flt_gen.specs.Elementary.{MatchResult, Yes, No, Rejected}
 use Rattle.flt_gen.specs.Reading.{holds}
 use Rattle.cap_filter.specs.Decisions.{ReturnsDecision}
 

@@ -9,7 +9,7 @@ use Rattle.flt_bpf.specs.Refusal as listing
 use Rattle.flt_bpf.specs.Valid.{IsValid, BreaksFirst}
 use Rattle.flt_ast.specs.Tree.{Expression, empty, truth}
 use Rattle.cap_octet.specs.declared.link.Link.{Link}
-use Rattle.flt_emit.specs.Elementary.{MatchResult, Yes, No, Rejected}
+use Rattle.flt_gen.specs.Elementary.{MatchResult, Yes, No, Rejected}
 use Rattle.flt_gen.specs.Reading.{holds}
 use Rattle.cap_filter.specs.declared.filter.Refusal.{Refusal}
 use Rattle.cap_filter.specs.declared.filter.Refusal.TheVariants as refusal

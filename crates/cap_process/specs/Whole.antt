@@ -13,7 +13,7 @@ use Rattle.cap_io.specs.RoundTrip.{Carries}
 use Rattle.cap_command.specs.declared.command.Shift.TheVariants as shift
 use Rattle.cap_print.specs.declared.print.Options.{Options}
 use Rattle.flt_ast.specs.Tree.{TruthTree, denied, truth}
-use Rattle.flt_emit.specs.Elementary.{MatchResult, Rejected}
+use Rattle.flt_gen.specs.Elementary.{MatchResult, Rejected}
 use Rattle.flt_gen.specs.Reading.{holds}
 use Rattle.cap_filter.specs.Decisions.{Decision, Refuse}
 use Rattle.cap_filter.specs.FilterRules.{Rule, by_reading, rule_decides}

@@ -5,7 +5,7 @@ use Rattle.cap_filter.specs.Decisions.{Decision}
 use Rattle.cap_filter.specs.FilterRules as rule_spec
 use Rattle.flt_bpf.specs.Machine as bpf
 use Rattle.flt_bpf.specs.Machine.{machine, Answered}
-use Rattle.flt_emit.specs.Elementary.{MatchResult, Yes, No, Rejected}
+use Rattle.flt_gen.specs.Elementary.{MatchResult, Yes, No, Rejected}
 use Rattle.flt_gen.specs.Reading.{holds}
 use Rattle.cap_process.specs.declared.selector.Verdict as code
 use Rattle.cap_process.specs.declared.selector.Verdict.TheVariants as code_verdict

@@ -40,18 +40,18 @@ pub use Rattle.flt_bpf.specs.declared.operation.Width.{Width}
 pub use Rattle.flt_bpf.specs.Check.{fault_if_known, operation_fault, unless, ends_in_return, IsValidUnlessLong, IsFaultless}
 pub use Rattle.flt_bpf.specs.Layout.{is_branch, JUMP, HasNoJump, IsShort, JumpsAreNeeded}
 pub use Rattle.flt_bpf.proofs.Suffix.{answer_drop, valid_if_short, faultless_drop, ends_drop, machine_answers}
-pub use Rattle.flt_emit.specs.Numbers.{accessor_tests, width_of, base, number, result_of, accessors}
-pub use Rattle.flt_emit.specs.inside.Code.{Block, block, emit_all, low_of, plain, constant, computation, takes_constant, constant_operand, branch_insn, emit_branch, emit_comparison, emit_field, emit_mask, emit_accessor, emit_number, at_top, emit_interval, emit_chain, are_few, MOST_HALVINGS, emit_elementary, emit_formula, alu_operation, emit_base, emit_transport, emit_operands, emit_test, emit_relation, emit_among, emit_right}
-pub use Rattle.flt_emit.specs.declared.elementary.Interval.{Interval}
-pub use Rattle.flt_emit.specs.Formula.{Formula, Single, Compare, Both, Either, Except, Among, is_in, is_within, no_interval, all_of, sides, Numbers, no_numbers, any_sides, both, either, negation, reads, relation_reads, guarded_formula, checked_formula}
-pub use Rattle.flt_emit.specs.declared.elementary.FrameKind.{FrameKind}
-pub use Rattle.flt_emit.specs.declared.elementary.Elementary.{Elementary}
-pub use Rattle.flt_emit.specs.declared.elementary.MaskedField.{MaskedField}
-pub use Rattle.flt_emit.specs.declared.elementary.Sides.{Sides}
-pub use Rattle.flt_emit.specs.Elementary.{Yes, No, reading_of, with, under_mask, elementary_reads, type_test, MatchResult, compares, kind_test, Rejected, is_at, field_at, field_reads}
-pub use Rattle.flt_emit.specs.declared.elementary.Elementary.TheVariants.{Outcome, Field}
-pub use Rattle.flt_emit.specs.declared.elementary.Offset.{Offset}
-pub use Rattle.flt_emit.specs.declared.elementary.Offset.TheVariants.{Fixed, AfterHeader}
+pub use Rattle.flt_gen.specs.Numbers.{accessor_tests, width_of, base, number, result_of, accessors}
+pub use Rattle.flt_gen.specs.inside.Code.{Block, block, emit_all, low_of, plain, constant, computation, takes_constant, constant_operand, branch_insn, emit_branch, emit_comparison, emit_field, emit_mask, emit_accessor, emit_number, at_top, emit_interval, emit_chain, are_few, MOST_HALVINGS, emit_elementary, emit_formula, alu_operation, emit_base, emit_transport, emit_operands, emit_test, emit_relation, emit_among, emit_right}
+pub use Rattle.flt_gen.specs.declared.elementary.Interval.{Interval}
+pub use Rattle.flt_gen.specs.Formula.{Formula, Single, Compare, Both, Either, Except, Among, is_in, is_within, no_interval, all_of, sides, Numbers, no_numbers, any_sides, both, either, negation, reads, relation_reads, guarded_formula, checked_formula}
+pub use Rattle.flt_gen.specs.declared.elementary.FrameKind.{FrameKind}
+pub use Rattle.flt_gen.specs.declared.elementary.Elementary.{Elementary}
+pub use Rattle.flt_gen.specs.declared.elementary.MaskedField.{MaskedField}
+pub use Rattle.flt_gen.specs.declared.elementary.Sides.{Sides}
+pub use Rattle.flt_gen.specs.Elementary.{Yes, No, reading_of, with, under_mask, elementary_reads, type_test, MatchResult, compares, kind_test, Rejected, is_at, field_at, field_reads}
+pub use Rattle.flt_gen.specs.declared.elementary.Elementary.TheVariants.{Outcome, Field}
+pub use Rattle.flt_gen.specs.declared.elementary.Offset.{Offset}
+pub use Rattle.flt_gen.specs.declared.elementary.Offset.TheVariants.{Fixed, AfterHeader}
 pub use Rattle.flt_gen.specs.inside.ProgramCode.{emit_accessor_tests, expression_code, program_code, returns_code}
 pub use Rattle.flt_gen.specs.inside.Counts.{first_ends, tests, nodes, words}
 pub use Rattle.flt_gen.specs.inside.Intervals.{insert_ascending, is_gap, extended, joined_from, joined_all, sought}

@@ -6,7 +6,7 @@ use Rattle.flt_words.specs.declared.token.Cast.TheVariants.{Broadcast, Multicast
 use Rattle.flt_ast.specs.declared.qualifiers.Direction.TheVariants as direction
 use Rattle.flt_ast.specs.declared.value.Value.TheVariants as value
 use Rattle.flt_ast.specs.Counts as count
-use Rattle.flt_emit.specs.declared.elementary.FrameKind.TheVariants as kind
+use Rattle.flt_gen.specs.declared.elementary.FrameKind.TheVariants as kind
 use Rattle.flt_gen.specs.declared.address.Hosts.{Hosts}
 use Rattle.flt_gen.specs.declared.address.Hosts.TheVariants as hosts
 use Rattle.flt_gen.specs.declared.address.NetTest.{NetTest}

@@ -1,6 +1,6 @@
 -- A frame is of one kind at most.
 use Rattle.flt_gen.proofs.Common.{◌≡◌, ℕ, List, Bool, true, false, Option, Some, None, refl, ap, ◌∙◌, arith, ◌==◌, nat_tests, HalfWord, Byte, field, Elementary, Yes, No, reading_of, with, under_mask, elementary_reads, type_test}
-use Rattle.flt_emit.specs.declared.elementary.FrameKind.TheVariants.{Ip, Ip6, Arp, Rarp}
+use Rattle.flt_gen.specs.declared.elementary.FrameKind.TheVariants.{Ip, Ip6, Arp, Rarp}
 
 pub is_yes : (b : Bool) → reading_of (Some b) ≡ Yes → b ≡ true
 is_yes true e = refl

@@ -8,7 +8,7 @@ use Rattle.flt_bpf.specs.declared.operation.Test.TheVariants as test
 use Rattle.flt_bpf.specs.Check.{fault_of}
 use Rattle.flt_bpf.specs.Instructions.{operation_of}
 use Rattle.flt_words.specs.declared.token.Operator.TheVariants.{ShiftLeft, ShiftRight, Divide, Remainder}
-use Rattle.flt_emit.specs.inside.Code.{emit_search}
+use Rattle.flt_gen.specs.inside.Code.{emit_search}
 use Rattle.flt_gen.proofs.Ascending.{if_case}
 use Rattle.flt_gen.proofs.Codes.{code_is}
 use Rattle.flt_gen.proofs.Numbers.{operand_is}

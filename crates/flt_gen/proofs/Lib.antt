@@ -1,4 +1,6 @@
 pub mod Common
+pub mod Backwards
+pub mod Search
 pub mod Codes
 pub mod Tails
 pub mod Ascending

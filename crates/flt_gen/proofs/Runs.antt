@@ -2,8 +2,8 @@
 use Rattle.flt_gen.proofs.Common.{◌≡◌, ℕ, zero, suc, ◌+◌, ◌-◌, ◌/◌, ◌%◌, ◌^◌, ◌<◌, ◌≤◌, List, [], ◌∷◌, length, take, drop, Bool, true, false, Option, Some, None, refl, sym, ap, ◌∙◌, subst, arith, nat_le, nat_lt, ◌==◌, not, ◌&&◌, ◌||◌, if◌then◌else◌, bit_and, option_map, nat_tests, Insn, State, Width, Byte, Test, Operand, Constant, IndexRegister, LoadAbsolute, LoadIndirect, LoadHeaderLength, Compute, JumpIf, Accumulator, Index, answer_of, answer_after, field, test_holds, operand_value, into, header_length, Comparison, Equal, NotEqual, Less, AtMost, Greater, AtLeast, number_words, NumberTree, Link, Offset, Fixed, AfterHeader, Interval, MaskedField, Elementary, Outcome, Field, MatchResult, Yes, No, Rejected, reading_of, with, compares, field_at, under_mask, field_reads, elementary_reads, number, plain, constant, branch_insn, emit_elementary, emit_branch, emit_comparison, emit_field, emit_mask, emit_test, emit_relation, Block, at_top, emit_interval, emit_chain, are_few, low_of, MOST_HALVINGS, emit_among, emit_formula, words}
 use Rattle.flt_bpf.specs.declared.operation.Test.TheVariants as test
 use Rattle.flt_bpf.specs.declared.operation.AluOperation.TheVariants as arithmetic
-use Rattle.flt_emit.specs.Formula.{Formula, Single, Compare, Both, Either, Except, Among, is_in, is_within, among_reads, relation_reads, both, either, negation as exchanged, reads}
-use Rattle.flt_emit.specs.inside.Code.{emit_search}
+use Rattle.flt_gen.specs.Formula.{Formula, Single, Compare, Both, Either, Except, Among, is_in, is_within, among_reads, relation_reads, both, either, negation as exchanged, reads}
+use Rattle.flt_gen.specs.inside.Code.{emit_search}
 use Rattle.flt_gen.proofs.Ascending.{if_case, Apart, Searchable, Searches, searchable_apart, apart_take, apart_drop, lower_half, first_taken, upper_half}
 use Rattle.flt_gen.proofs.Codes.{run, run_plain}
 use Rattle.flt_gen.proofs.Grows.{are_many}

@@ -1,7 +1,7 @@
 -- Code that grew in front still stands at its end.
 use Rattle.flt_gen.proofs.Common.{◌≡◌, ℕ, zero, suc, ◌+◌, ◌-◌, ◌/◌, ◌≤◌, List, [], ◌∷◌, length, take, drop, Bool, true, false, Option, Some, None, refl, ap, ◌∙◌, arith, ◌==◌, Insn, Width, Test, Operand, Constant, IndexRegister, Comparison, Equal, Protocol, Tcp, Udp, Icmp, NumberTree, load, negated, applied, Link, Offset, Fixed, AfterHeader, Interval, Elementary, Outcome, Field, width_of, Formula, Single, Compare, Both, Either, Except, Among, plain, emit_branch, emit_comparison, emit_field, emit_mask, emit_accessor, constant, constant_operand, emit_right, emit_number, emit_relation, Block, emit_interval, emit_chain, are_few, low_of, MOST_HALVINGS, emit_elementary, emit_formula, Store, Accumulator}
 use Rattle.flt_bpf.specs.declared.operation.Test.TheVariants as test
-use Rattle.flt_emit.specs.inside.Code.{emit_search}
+use Rattle.flt_gen.specs.inside.Code.{emit_search}
 use Rattle.flt_gen.proofs.Ascending.{if_case}
 
 -- a longer code is the same from the places of the shorter

@@ -4,7 +4,7 @@ use Rattle.flt_words.specs.declared.token.Protocol.TheVariants.{Arp, Rarp}
 use Rattle.flt_ast.specs.declared.qualifiers.Direction.TheVariants as direction
 use Rattle.flt_ast.specs.declared.value.Value.TheVariants as value
 use Rattle.flt_ast.specs.declared.value.NetMask.TheVariants as mask
-use Rattle.flt_emit.specs.declared.elementary.FrameKind.TheVariants as kind
+use Rattle.flt_gen.specs.declared.elementary.FrameKind.TheVariants as kind
 use Rattle.flt_gen.specs.declared.port.Ports.{Ports}
 use Rattle.flt_gen.proofs.Ascending.{Ordered, within_joined}
 use Rattle.flt_gen.proofs.Exclusive.{ip_no_ip6, ip_no_arp, ip_no_rarp, arp_no_rarp}

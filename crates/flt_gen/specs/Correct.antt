@@ -5,7 +5,7 @@ use Rattle.flt_bpf.specs.Machine.{machine, Answered}
 use Rattle.flt_ast.specs.Tree.{Expression}
 use Rattle.flt_ast.specs.Counts.{bound_of}
 use Rattle.cap_octet.specs.declared.link.Link.{Link}
-use Rattle.flt_emit.specs.Elementary.{Yes}
+use Rattle.flt_gen.specs.Elementary.{Yes}
 use Rattle.flt_gen.specs.Reading.{holds}
 
 -- a run on the captured bytes p of a packet of original length n reaches an answer, which is other

@@ -6,13 +6,13 @@ use Rattle.cap_octet.specs.NetworkHeader.{network_header}
 use Rattle.cap_octet.specs.declared.network.NetworkHeader.TheVariants.{Known, Short}
 use Rattle.cap_octet.specs.declared.network.NetworkKind.{NetworkKind}
 use Rattle.cap_octet.specs.declared.network.NetworkKind.TheVariants as network
-use Rattle.flt_emit.specs.declared.elementary.Elementary.{Elementary}
-use Rattle.flt_emit.specs.declared.elementary.FrameKind.{FrameKind}
-use Rattle.flt_emit.specs.declared.elementary.FrameKind.TheVariants as frame
+use Rattle.flt_gen.specs.declared.elementary.Elementary.{Elementary}
+use Rattle.flt_gen.specs.declared.elementary.FrameKind.{FrameKind}
+use Rattle.flt_gen.specs.declared.elementary.FrameKind.TheVariants as frame
 use Rattle.cap_octet.specs.declared.link.Link.{Link}
-use Rattle.flt_emit.specs.Elementary.{Yes, Rejected, elementary_reads, kind_test}
+use Rattle.flt_gen.specs.Elementary.{Yes, Rejected, elementary_reads, kind_test}
 use Rattle.cap_octet.specs.Link.{link_type, type_offset}
-use Rattle.flt_emit.specs.declared.elementary.Elementary.TheVariants.{Outcome, Field}
+use Rattle.flt_gen.specs.declared.elementary.Elementary.TheVariants.{Outcome, Field}
 use Rattle.flt_gen.specs.Primitives.{ip6_tests}
 
 -- the bits of a word that a test looks at

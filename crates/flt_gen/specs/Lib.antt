@@ -1,3 +1,6 @@
+pub mod Elementary
+pub mod Numbers
+pub mod Formula
 pub mod Primitives
 pub mod Reading
 pub mod Counts

@@ -21,23 +21,23 @@ use Rattle.flt_ast.specs.declared.value.Ip4Net.{Ip4Net}
 use Rattle.flt_ast.specs.Nets.{first_bits, ip4_net}
 use Rattle.flt_ast.specs.Tree.{literal, len}
 use Rattle.cap_octet.specs.declared.link.Link.{Link}
-use Rattle.flt_emit.specs.declared.elementary.FrameKind.{FrameKind}
-use Rattle.flt_emit.specs.declared.elementary.FrameKind.TheVariants.{Ethernet, Ip, Ip6, Arp, Rarp}
-use Rattle.flt_emit.specs.declared.elementary.Offset.{Offset}
-use Rattle.flt_emit.specs.declared.elementary.Offset.TheVariants.{Fixed, AfterHeader}
-use Rattle.flt_emit.specs.declared.elementary.Elementary.{Elementary}
-use Rattle.flt_emit.specs.declared.elementary.Elementary.TheVariants.{Outcome}
+use Rattle.flt_gen.specs.declared.elementary.FrameKind.{FrameKind}
+use Rattle.flt_gen.specs.declared.elementary.FrameKind.TheVariants.{Ethernet, Ip, Ip6, Arp, Rarp}
+use Rattle.flt_gen.specs.declared.elementary.Offset.{Offset}
+use Rattle.flt_gen.specs.declared.elementary.Offset.TheVariants.{Fixed, AfterHeader}
+use Rattle.flt_gen.specs.declared.elementary.Elementary.{Elementary}
+use Rattle.flt_gen.specs.declared.elementary.Elementary.TheVariants.{Outcome}
 use Rattle.flt_gen.specs.declared.port.Ports.{Ports}
-use Rattle.flt_emit.specs.declared.elementary.Sides.{Sides}
+use Rattle.flt_gen.specs.declared.elementary.Sides.{Sides}
 use Rattle.flt_gen.specs.declared.address.NetTest.{NetTest}
 use Rattle.flt_gen.specs.declared.address.Hosts.{Hosts}
 use Rattle.flt_gen.specs.declared.address.Hosts.TheVariants as hosts
 use Rattle.flt_gen.specs.declared.port.PortTest.{PortTest}
 use Rattle.flt_gen.specs.declared.port.Transport.{Transport}
 use Rattle.flt_gen.specs.declared.port.Ports.TheVariants.{One, Between, Several}
-use Rattle.flt_emit.specs.Elementary.{with, is_at, compares_at, compares_under, has_type, kind_test, first_fragment, has_ip_proto, has_ip6_proto}
+use Rattle.flt_gen.specs.Elementary.{with, is_at, compares_at, compares_under, has_type, kind_test, first_fragment, has_ip_proto, has_ip6_proto}
 use Rattle.cap_octet.specs.Link.{network_offset}
-use Rattle.flt_emit.specs.Formula.{Formula, Single, Compare, Both, Either, all_of, sides, Numbers, no_numbers, any_sides}
+use Rattle.flt_gen.specs.Formula.{Formula, Single, Compare, Both, Either, all_of, sides, Numbers, no_numbers, any_sides}
 
 -- a test, and then a formula
 abbrev pub after : Elementary → Formula → Formula

@@ -1,4 +1,6 @@
 -- Helpers for functions and proofs of this crate and of other crates: no promise rests on them.
+pub mod Code
+pub mod Emits
 pub mod Counts
 pub mod Emitted
 pub mod Folding

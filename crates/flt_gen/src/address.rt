@@ -5,7 +5,7 @@
 ghost use Rattle.std.specs.Prelude.{◌≡◌, ◌+◌, ◌≤◌, OnOk};
 ghost use Rattle.cap_octet.specs.Link.{longest_header};
 ghost use Rattle.flt_ast.specs.Nets.{first_bits};
-ghost use Rattle.flt_emit.specs.Formula.{all_of};
+ghost use Rattle.flt_gen.specs.Formula.{all_of};
 ghost use Rattle.flt_gen.specs.Primitives.{partial_mask, net_test, address_test, address_places};
 ghost use Rattle.flt_gen.specs.Primitives.{hosts_of_kind, hosts_formula, ip6_test, ip6_tests};
 ghost use Rattle.flt_gen.specs.inside.Emitted.{is_idle, last_test, needed_tests, needed_sides};
@@ -15,7 +15,7 @@ use crate::steps::Steps;
 use cap_octet::Link;
 use flt_ast::Direction;
 use flt_bpf::operation::Width;
-use flt_emit::{Elementary, FieldTest, FrameKind, Offset, Sides, kind_test, network_offset};
+use crate::elementary::{Elementary, FieldTest, FrameKind, Offset, Sides, kind_test, network_offset};
 use flt_words::{Comparison, Join, Protocol, Side};
 use std::alloc::{AllocError, Allocator};
 

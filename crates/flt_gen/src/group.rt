@@ -16,7 +16,7 @@ use crate::stack::Stack;
 use crate::steps::Steps;
 use cap_octet::Link;
 use flt_ast::{CompleteQualifiers, Direction, NetMask, Value};
-use flt_emit::{Elementary, Interval};
+use crate::elementary::{Elementary, Interval};
 use flt_words::{Join, Protocol, Side, ValueType};
 use std::alloc::{AllocError, Allocator};
 use std::marker::Model;

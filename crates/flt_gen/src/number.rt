@@ -8,17 +8,18 @@
 //! first.
 
 ghost use Rattle.std.specs.Prelude.{◌≡◌, OnOk, reverse};
-ghost use Rattle.flt_emit.specs.inside.Code.{emit_base, emit_transport, emit_accessor};
-ghost use Rattle.flt_emit.specs.inside.Code.{alu_operation, computation, takes_constant};
-ghost use Rattle.flt_emit.specs.inside.Code.{emit_operands, emit_all};
+ghost use Rattle.flt_gen.specs.inside.Code.{emit_base, emit_transport, emit_accessor};
+ghost use Rattle.flt_gen.specs.inside.Code.{alu_operation, computation, takes_constant};
+ghost use Rattle.flt_gen.specs.inside.Code.{emit_operands, emit_all};
 ghost use Rattle.flt_gen.specs.inside.ProgramCode.{emit_accessor_tests};
-ghost use Rattle.flt_emit.specs.Numbers.{accessor_tests, width_of};
-ghost use Rattle.flt_emit.specs.inside.Emits.{Emits};
+ghost use Rattle.flt_gen.specs.Numbers.{accessor_tests, width_of};
+ghost use Rattle.flt_gen.specs.inside.Emits.{Emits};
 
 use cap_octet::Link;
 use cap_octet::assigned::{IPPROTO_ICMP, IPPROTO_TCP, IPPROTO_UDP};
 use flt_bpf::operation::{AluOperation, Operand, Operation, Register, Source, Width};
-use flt_emit::{Code, FrameKind, Targets, first_fragment, has_ip_proto, kind_test, network_offset};
+use crate::code::{Code, Targets};
+use crate::elementary::{FrameKind, first_fragment, has_ip_proto, kind_test, network_offset};
 use flt_words::{Operator, Protocol};
 use std::alloc::{AllocError, Allocator};
 

@@ -12,10 +12,7 @@ use cap_octet::Link;
 use cap_octet::assigned::{IPPROTO_TCP, IPPROTO_UDP};
 use flt_ast::Direction;
 use flt_bpf::operation::Width;
-use flt_emit::{
-    Elementary, FrameKind, Offset, Sides, compares_at, first_fragment, has_ip_proto, has_ip6_proto,
-    kind_test, network_offset,
-};
+use crate::elementary::{Elementary, FrameKind, Offset, Sides, compares_at, first_fragment, has_ip_proto, has_ip6_proto, kind_test, network_offset};
 use flt_words::{Comparison, Join, Protocol};
 use std::alloc::{AllocError, Allocator};
 

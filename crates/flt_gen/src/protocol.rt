@@ -10,10 +10,7 @@ use cap_octet::Link;
 use cap_octet::assigned::{IPPROTO_ICMP, IPPROTO_ICMPV6, IPPROTO_TCP, IPPROTO_UDP};
 use flt_ast::Direction;
 use flt_bpf::operation::Width;
-use flt_emit::{
-    Elementary, FieldTest, FrameKind, Offset, compares_at, has_ip_proto, has_ip6_proto, has_type,
-    is_at, kind_test, network_offset,
-};
+use crate::elementary::{Elementary, FieldTest, FrameKind, Offset, compares_at, has_ip_proto, has_ip6_proto, has_type, is_at, kind_test, network_offset};
 use flt_words::{Cast, Comparison, Join, Protocol, Side};
 use std::alloc::{AllocError, Allocator};
 

@@ -14,7 +14,7 @@ use crate::port::{PortTest, Ports};
 use crate::steps::Steps;
 use cap_octet::Link;
 use flt_ast::{CompleteQualifiers, Direction, Value};
-use flt_emit::Elementary;
+use crate::elementary::Elementary;
 use flt_words::{Protocol, ValueType};
 use std::alloc::{AllocError, Allocator};
 

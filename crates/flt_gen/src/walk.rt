@@ -21,7 +21,7 @@
 //!   `accessors` are emitted in front (`finish_relation`).
 
 ghost use Rattle.std.specs.Prelude.{◌≡◌, true, Some, None, if◌then◌else◌, OnOk, IfOk, reverse};
-ghost use Rattle.flt_emit.specs.inside.Code.{block};
+ghost use Rattle.flt_gen.specs.inside.Code.{block};
 ghost use Rattle.cap_octet.specs.declared.link.Link.{Link};
 ghost use Rattle.flt_gen.specs.Primitives.{sized_formula};
 ghost use Rattle.flt_gen.specs.inside.Group.{no_group, larger_group, group_formula};
@@ -44,7 +44,7 @@ use cap_octet::Link;
 use flt_ast::{CompleteQualifiers, Node, Value};
 use flt_bpf::Wide;
 use flt_bpf::operation::{Operand, Operation, Register, Source};
-use flt_emit::{Code, Targets};
+use crate::code::{Code, Targets};
 use flt_words::{Comparison, Join, Operator, Protocol, Size};
 use std::alloc::{AllocError, Allocator};
 use std::marker::Model;

@@ -1,8 +1,8 @@
 -- How many words of memory, nodes of arithmetic and tests a formula has.
 use Rattle.std.specs.Prelude.{ℕ, ◌+◌, ◌==◌, max, if◌then◌else◌, List, [], ◌∷◌, length}
 use Rattle.flt_ast.specs.Counts.{number_words, number_size}
-use Rattle.flt_emit.specs.declared.elementary.Interval.{Interval}
-use Rattle.flt_emit.specs.Formula.{Formula, Single, Compare, Both, Either, Except, Among}
+use Rattle.flt_gen.specs.declared.elementary.Interval.{Interval}
+use Rattle.flt_gen.specs.Formula.{Formula, Single, Compare, Both, Either, Except, Among}
 
 -- how many words of memory the code of a formula needs at most
 abbrev pub words : Formula → ℕ

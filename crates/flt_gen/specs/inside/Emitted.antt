@@ -12,12 +12,12 @@ use Rattle.flt_ast.specs.declared.value.Value.{Value}
 use Rattle.flt_ast.specs.declared.value.Value.TheVariants as value
 use Rattle.flt_ast.specs.Tree.{NumberTree, literal, len, named, load, negated, applied}
 use Rattle.cap_octet.specs.declared.link.Link.{Link}
-use Rattle.flt_emit.specs.declared.elementary.FrameKind.TheVariants as kind
-use Rattle.flt_emit.specs.declared.elementary.Elementary.{Elementary}
-use Rattle.flt_emit.specs.declared.elementary.Elementary.TheVariants.{Outcome, Field}
-use Rattle.flt_emit.specs.Elementary.{kind_test}
+use Rattle.flt_gen.specs.declared.elementary.FrameKind.TheVariants as kind
+use Rattle.flt_gen.specs.declared.elementary.Elementary.{Elementary}
+use Rattle.flt_gen.specs.declared.elementary.Elementary.TheVariants.{Outcome, Field}
+use Rattle.flt_gen.specs.Elementary.{kind_test}
 use Rattle.cap_octet.specs.Link.{network_offset}
-use Rattle.flt_emit.specs.Formula.{Formula, Compare, checked_formula, sides}
+use Rattle.flt_gen.specs.Formula.{Formula, Compare, checked_formula, sides}
 use Rattle.flt_gen.specs.Primitives.{after, ip6_tests, net_value_formula, value_formula}
 
 -- ---- the tests of a protocol's accessors stand once in front of a comparison

@@ -6,9 +6,9 @@ use Rattle.flt_words.specs.declared.token.Join.TheVariants.{And, Or}
 use Rattle.flt_ast.specs.declared.node.Node.{Node}
 use Rattle.flt_ast.specs.declared.node.Node.TheVariants as node
 use Rattle.flt_ast.specs.Tree.{NumberTree, literal, load, negated, applied, TruthTree, compared, denied, joined, Expression, empty, truth}
-use Rattle.flt_emit.specs.Elementary.{with}
-use Rattle.flt_emit.specs.Numbers.{result_of}
-use Rattle.flt_emit.specs.inside.Code.{constant}
+use Rattle.flt_gen.specs.Elementary.{with}
+use Rattle.flt_gen.specs.Numbers.{result_of}
+use Rattle.flt_gen.specs.inside.Code.{constant}
 
 -- the negative of a number, modulo 2^32, or none if there is no number
 abbrev pub negated_constant : Option ℕ → Option ℕ

@@ -17,13 +17,13 @@ use Rattle.flt_ast.specs.declared.value.Ip4Net.{Ip4Net}
 use Rattle.flt_ast.specs.Nets.{first_bits, ip4_net}
 use Rattle.flt_ast.specs.Tree.{TruthTree, qualified, compared, denied, joined}
 use Rattle.cap_octet.specs.declared.link.Link.{Link}
-use Rattle.flt_emit.specs.declared.elementary.Interval.{Interval}
+use Rattle.flt_gen.specs.declared.elementary.Interval.{Interval}
 use Rattle.flt_gen.specs.declared.group.Member.{Member}
 use Rattle.flt_gen.specs.declared.group.Entry.{Entry}
 use Rattle.flt_gen.specs.declared.port.Ports.TheVariants.{Several}
 use Rattle.flt_gen.specs.declared.address.Hosts.TheVariants as hosts
-use Rattle.flt_emit.specs.declared.elementary.Elementary.TheVariants.{Outcome}
-use Rattle.flt_emit.specs.Formula.{Formula, Single, Both, Either, Except, Numbers, no_interval}
+use Rattle.flt_gen.specs.declared.elementary.Elementary.TheVariants.{Outcome}
+use Rattle.flt_gen.specs.Formula.{Formula, Single, Both, Either, Except, Numbers, no_interval}
 use Rattle.flt_gen.specs.Primitives.{partial_mask, hosts_formula, port_test, port_formula}
 use Rattle.flt_gen.specs.inside.Emitted.{relation_formula, qualified_needed}
 use Rattle.flt_gen.specs.inside.Intervals.{insert_ascending, sought}

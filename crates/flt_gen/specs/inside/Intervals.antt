@@ -1,7 +1,7 @@
 -- Intervals that ascend by their beginnings.
 use Rattle.std.specs.Prelude.{ℕ, ◌-◌, nat_lt, max, Bool, if◌then◌else◌, List, [], ◌∷◌}
-use Rattle.flt_emit.specs.declared.elementary.Interval.{Interval}
-use Rattle.flt_emit.specs.Formula.{Numbers}
+use Rattle.flt_gen.specs.declared.elementary.Interval.{Interval}
+use Rattle.flt_gen.specs.Formula.{Numbers}
 
 -- an interval is put among others that ascend
 abbrev pub insert_ascending : Interval → List Interval → List Interval

@@ -4,8 +4,8 @@ use Rattle.flt_bpf.specs.declared.insn.Insn.{Insn}
 use Rattle.flt_words.specs.declared.token.Protocol.{Protocol}
 use Rattle.flt_ast.specs.Tree.{Expression, empty, truth}
 use Rattle.cap_octet.specs.declared.link.Link.{Link}
-use Rattle.flt_emit.specs.Numbers.{accessor_tests}
-use Rattle.flt_emit.specs.inside.Code.{plain, Block, emit_formula, emit_all}
+use Rattle.flt_gen.specs.Numbers.{accessor_tests}
+use Rattle.flt_gen.specs.inside.Code.{plain, Block, emit_formula, emit_all}
 use Rattle.flt_gen.specs.inside.Group.{no_group, grouped_formula}
 use Rattle.flt_bpf.specs.declared.operation.Operation.TheVariants.{ReturnConstant}
 

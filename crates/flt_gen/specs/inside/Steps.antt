@@ -3,7 +3,7 @@
 use Rattle.std.specs.Prelude.{◌≡◌, List, [], ◌∷◌}
 use Rattle.flt_words.specs.declared.token.Join.{Join}
 use Rattle.flt_words.specs.declared.token.Join.TheVariants.{And, Or}
-use Rattle.flt_emit.specs.Formula.{Formula, Single, Both, Either, Among, Numbers}
+use Rattle.flt_gen.specs.Formula.{Formula, Single, Both, Either, Among, Numbers}
 use Rattle.flt_gen.specs.declared.steps.Step.{Step}
 use Rattle.flt_gen.specs.declared.steps.Step.TheVariants.{Check, AmongFirst, AmongAll, AmongOthers, Joined}
 

@@ -9,13 +9,13 @@ use Rattle.flt_words.specs.declared.token.Comparison.{Comparison}
 use Rattle.flt_words.specs.declared.token.Comparison.TheVariants.{Equal, NotEqual, Less, AtMost, Greater, AtLeast}
 use Rattle.cap_octet.specs.declared.link.Link.{Link}
 use Rattle.cap_octet.specs.declared.link.Link.TheVariants.{Ether}
-use Rattle.flt_emit.specs.declared.elementary.FrameKind.{FrameKind}
-use Rattle.flt_emit.specs.declared.elementary.FrameKind.TheVariants.{Ethernet, Ip, Ip6, Arp, Rarp}
-use Rattle.flt_emit.specs.declared.elementary.Offset.{Offset}
-use Rattle.flt_emit.specs.declared.elementary.Offset.TheVariants.{Fixed, AfterHeader}
-use Rattle.flt_emit.specs.declared.elementary.FieldTest.{FieldTest}
-use Rattle.flt_emit.specs.declared.elementary.Elementary.{Elementary}
-use Rattle.flt_emit.specs.declared.elementary.Elementary.TheVariants.{Outcome, Field}
+use Rattle.flt_gen.specs.declared.elementary.FrameKind.{FrameKind}
+use Rattle.flt_gen.specs.declared.elementary.FrameKind.TheVariants.{Ethernet, Ip, Ip6, Arp, Rarp}
+use Rattle.flt_gen.specs.declared.elementary.Offset.{Offset}
+use Rattle.flt_gen.specs.declared.elementary.Offset.TheVariants.{Fixed, AfterHeader}
+use Rattle.flt_gen.specs.declared.elementary.FieldTest.{FieldTest}
+use Rattle.flt_gen.specs.declared.elementary.Elementary.{Elementary}
+use Rattle.flt_gen.specs.declared.elementary.Elementary.TheVariants.{Outcome, Field}
 
 -- the result of a match on a packet: a rejection is neither yes nor no
 pub data MatchResult : Type 0 where

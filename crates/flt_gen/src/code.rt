@@ -1,7 +1,7 @@
 //! The code so far, which grows from its end to its beginning.
 
 ghost use Rattle.std.specs.Prelude.{◌≡◌, ◌-◌, [], ◌∷◌, length, drop, OnOk, IfOk};
-ghost use Rattle.flt_emit.specs.inside.Code.{plain, emit_branch};
+ghost use Rattle.flt_gen.specs.inside.Code.{plain, emit_branch};
 
 use flt_bpf::Wide;
 use flt_bpf::operation::{Operand, Operation, Test};

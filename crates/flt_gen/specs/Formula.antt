@@ -9,14 +9,14 @@ use Rattle.flt_ast.specs.declared.qualifiers.Direction.{Direction}
 use Rattle.flt_ast.specs.declared.qualifiers.Direction.TheVariants as direction
 use Rattle.flt_ast.specs.Tree.{NumberTree}
 use Rattle.cap_octet.specs.declared.link.Link.{Link}
-use Rattle.flt_emit.specs.declared.elementary.Elementary.{Elementary}
-use Rattle.flt_emit.specs.declared.elementary.Interval.{Interval}
-use Rattle.flt_emit.specs.declared.elementary.MaskedField.{MaskedField}
-use Rattle.flt_emit.specs.declared.elementary.Offset.{Offset}
-use Rattle.flt_emit.specs.declared.elementary.Sides.{Sides}
-use Rattle.flt_emit.specs.declared.elementary.Elementary.TheVariants.{Outcome}
-use Rattle.flt_emit.specs.Elementary.{MatchResult, Yes, No, Rejected, reading_of, with, compares, field_at, under_mask, elementary_reads}
-use Rattle.flt_emit.specs.Numbers.{number, accessor_tests}
+use Rattle.flt_gen.specs.declared.elementary.Elementary.{Elementary}
+use Rattle.flt_gen.specs.declared.elementary.Interval.{Interval}
+use Rattle.flt_gen.specs.declared.elementary.MaskedField.{MaskedField}
+use Rattle.flt_gen.specs.declared.elementary.Offset.{Offset}
+use Rattle.flt_gen.specs.declared.elementary.Sides.{Sides}
+use Rattle.flt_gen.specs.declared.elementary.Elementary.TheVariants.{Outcome}
+use Rattle.flt_gen.specs.Elementary.{MatchResult, Yes, No, Rejected, reading_of, with, compares, field_at, under_mask, elementary_reads}
+use Rattle.flt_gen.specs.Numbers.{number, accessor_tests}
 
 -- a test, a comparison of two numbers, two formulas that both hold or either of which does, one
 -- that doesn't hold, or whether a field is in some intervals

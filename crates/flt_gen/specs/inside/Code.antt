@@ -14,17 +14,17 @@ use Rattle.flt_words.specs.declared.token.Protocol.{Protocol}
 use Rattle.flt_words.specs.declared.token.Protocol.TheVariants.{Ether, Tcp, Udp, Icmp}
 use Rattle.flt_ast.specs.Tree.{NumberTree, literal, len, named, load, negated, applied}
 use Rattle.cap_octet.specs.declared.link.Link.{Link}
-use Rattle.flt_emit.specs.declared.elementary.Offset.{Offset}
-use Rattle.flt_emit.specs.declared.elementary.Offset.TheVariants.{Fixed, AfterHeader}
-use Rattle.flt_emit.specs.declared.elementary.FieldTest.{FieldTest}
-use Rattle.flt_emit.specs.declared.elementary.Elementary.{Elementary}
-use Rattle.flt_emit.specs.declared.elementary.Interval.{Interval}
-use Rattle.flt_emit.specs.declared.elementary.MaskedField.{MaskedField}
-use Rattle.flt_emit.specs.declared.elementary.Elementary.TheVariants.{Outcome, Field}
-use Rattle.flt_emit.specs.Elementary.{with}
+use Rattle.flt_gen.specs.declared.elementary.Offset.{Offset}
+use Rattle.flt_gen.specs.declared.elementary.Offset.TheVariants.{Fixed, AfterHeader}
+use Rattle.flt_gen.specs.declared.elementary.FieldTest.{FieldTest}
+use Rattle.flt_gen.specs.declared.elementary.Elementary.{Elementary}
+use Rattle.flt_gen.specs.declared.elementary.Interval.{Interval}
+use Rattle.flt_gen.specs.declared.elementary.MaskedField.{MaskedField}
+use Rattle.flt_gen.specs.declared.elementary.Elementary.TheVariants.{Outcome, Field}
+use Rattle.flt_gen.specs.Elementary.{with}
 use Rattle.cap_octet.specs.Link.{network_offset}
-use Rattle.flt_emit.specs.Numbers.{width_of}
-use Rattle.flt_emit.specs.Formula.{Formula, Single, Compare, Both, Either, Except, Among}
+use Rattle.flt_gen.specs.Numbers.{width_of}
+use Rattle.flt_gen.specs.Formula.{Formula, Single, Compare, Both, Either, Except, Among}
 use Rattle.flt_bpf.specs.declared.operation.Operation.{Operation}
 use Rattle.flt_bpf.specs.declared.operation.Operation.TheVariants.{LoadAbsolute, LoadIndirect, Load, LoadHeaderLength, Store, Compute, Negate, JumpIf, CopyToIndex}
 use Rattle.flt_bpf.specs.declared.operation.Register.TheVariants.{Accumulator}

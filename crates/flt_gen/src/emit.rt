@@ -1,9 +1,9 @@
 //! Emits the code of elementary tests.
 
 ghost use Rattle.std.specs.Prelude.{◌≡◌, length, OnOk};
-ghost use Rattle.flt_emit.specs.inside.Code.{emit_field, emit_mask, emit_comparison};
-ghost use Rattle.flt_emit.specs.inside.Code.{emit_elementary, emit_all};
-ghost use Rattle.flt_emit.specs.inside.Emits.{Emits};
+ghost use Rattle.flt_gen.specs.inside.Code.{emit_field, emit_mask, emit_comparison};
+ghost use Rattle.flt_gen.specs.inside.Code.{emit_elementary, emit_all};
+ghost use Rattle.flt_gen.specs.inside.Emits.{Emits};
 
 use crate::code::{Code, Targets};
 use crate::elementary::{Elementary, Offset};

@@ -10,9 +10,9 @@ use Rattle.flt_words.specs.declared.token.Protocol.{Protocol}
 use Rattle.flt_words.specs.declared.token.Protocol.TheVariants.{Ether, Ip, Ip6, Arp, Rarp, Tcp, Udp, Icmp, Icmp6}
 use Rattle.flt_ast.specs.Tree.{NumberTree, literal, len, named, load, negated, applied}
 use Rattle.cap_octet.specs.declared.link.Link.{Link}
-use Rattle.flt_emit.specs.declared.elementary.FrameKind.TheVariants as kind
-use Rattle.flt_emit.specs.declared.elementary.Elementary.{Elementary}
-use Rattle.flt_emit.specs.Elementary.{with, header_at, kind_test, has_ip_proto, first_fragment}
+use Rattle.flt_gen.specs.declared.elementary.FrameKind.TheVariants as kind
+use Rattle.flt_gen.specs.declared.elementary.Elementary.{Elementary}
+use Rattle.flt_gen.specs.Elementary.{with, header_at, kind_test, has_ip_proto, first_fragment}
 use Rattle.cap_octet.specs.Link.{network_offset}
 
 -- the width of a field of 1, 2 or 4 bytes; any other size is taken for 4

@@ -1,8 +1,8 @@
 -- What is left of the reversed instructions, turned round, is the code from the entry on.
 use Rattle.std.proofs.Common.{◌-◌, ◌∙◌, ap, drop, length}
 use Rattle.std.specs.Prelude.{reverse}
-use Rattle.flt_emit.proofs.Backwards.{reverse_taken}
-use Rattle.flt_emit.proofs.code.Code.into_insns.Goals as goal
+use Rattle.flt_gen.proofs.Backwards.{reverse_taken}
+use Rattle.flt_gen.proofs.code.Code.into_insns.Goals as goal
 
 pub returns : goal.returns
 returns g c =

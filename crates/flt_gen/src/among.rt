@@ -1,9 +1,9 @@
 //! Emits the code that checks whether a field is in one of some intervals.
 
 ghost use Rattle.std.specs.Prelude.{◌≡◌};
-ghost use Rattle.flt_emit.specs.inside.Code.{are_few, low_of, emit_interval, emit_chain};
-ghost use Rattle.flt_emit.specs.inside.Code.{emit_search, emit_among};
-ghost use Rattle.flt_emit.specs.inside.Emits.{Emits};
+ghost use Rattle.flt_gen.specs.inside.Code.{are_few, low_of, emit_interval, emit_chain};
+ghost use Rattle.flt_gen.specs.inside.Code.{emit_search, emit_among};
+ghost use Rattle.flt_gen.specs.inside.Emits.{Emits};
 
 use crate::code::{Code, Targets};
 use crate::elementary::{Interval, MaskedField};

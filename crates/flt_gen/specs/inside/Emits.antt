@@ -2,7 +2,7 @@
 use Rattle.std.specs.Prelude.{◌≡◌, ℕ, List, Result, IfOk}
 use Rattle.std.specs.declared.alloc.AllocError.{AllocError}
 use Rattle.flt_bpf.specs.declared.insn.Insn.{Insn}
-use Rattle.flt_emit.specs.inside.Code.{Block, block}
+use Rattle.flt_gen.specs.inside.Code.{Block, block}
 
 -- if the call succeeds, the code is that of the block, whose entry the call returns;
 -- nothing is said of a call that fails

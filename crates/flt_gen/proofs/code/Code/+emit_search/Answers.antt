@@ -2,12 +2,12 @@
 use Rattle.std.proofs.Common.{◌≡◌, ◌-◌, ◌/◌, ◌<◌, ◌∙◌, ◌⊎◌, inl, inr, true, ap, sym, subst, length, take, drop, arith}
 use Rattle.std.specs.Prelude.{List}
 use Rattle.std.proofs.lemmas.List.{take_rest}
-use Rattle.flt_emit.specs.declared.elementary.Interval.{Interval}
-use Rattle.flt_emit.specs.inside.Code.{block, Block, at_top, are_few, low_of, emit_halves, emit_search}
-use Rattle.flt_emit.specs.inside.Emits.{Emits}
-use Rattle.flt_emit.proofs.Search.{halved, search_chain, search_put}
-use Rattle.flt_emit.proofs.code.Code.+emit_search.Goals.{then-halvings-eq0-via-then-halvings-eq0, then-halvings-eq0-via-else-halvings-eq0+then-are_few}
-use Rattle.flt_emit.proofs.code.Code.+emit_search.Goals as goal
+use Rattle.flt_gen.specs.declared.elementary.Interval.{Interval}
+use Rattle.flt_gen.specs.inside.Code.{block, Block, at_top, are_few, low_of, emit_halves, emit_search}
+use Rattle.flt_gen.specs.inside.Emits.{Emits}
+use Rattle.flt_gen.proofs.Search.{halved, search_chain, search_put}
+use Rattle.flt_gen.proofs.code.Code.+emit_search.Goals.{then-halvings-eq0-via-then-halvings-eq0, then-halvings-eq0-via-else-halvings-eq0+then-are_few}
+use Rattle.flt_gen.proofs.code.Code.+emit_search.Goals as goal
 
 pub returns : goal.returns
 returns g t c =

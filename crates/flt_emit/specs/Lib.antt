@@ -1,4 +1,0 @@
-pub mod Elementary
-pub mod Numbers
-pub mod Formula
-pub mod inside
