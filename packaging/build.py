@@ -22,9 +22,9 @@ OUT, KIT = ROOT / "out", pathlib.Path(shutil.which("rt") or "").resolve().parent
 RATTLE, RLIBS, TOOLCHAIN = KIT / "bin/rattle", KIT / "rlibs", KIT / "toolchain"
 LOGIC = ["--antt-project", KIT / "rattle/logic/antt-project.json", "--logic-built", KIT / "logic_built"]
 LINK = [KIT / "bin/rattle-link", "--target", "x86_64-unknown-linux-gnu", "--toolchain", TOOLCHAIN]
-# What a job takes of memory. A byte of code costs as much to check as CODE bytes of definitions and proofs; from LARGE of
-# these on a crate has two jobs, since each loads anew what the crate stands on.
-MEMORY, CODE, LARGE = 2_000_000_000, 13, 150_000
+# What a job takes of memory. A byte of code costs as much to check as CODE bytes of definitions and proofs. A crate has one
+# job more for each LARGE of these at most, and no more than MOST_JOBS, since each loads anew what the crate stands on.
+MEMORY, CODE, LARGE, MOST_JOBS = 2_000_000_000, 13, 100_000, 3
 
 join = lambda words: shlex.join(map(str, words))
 say = lambda text: print(f"capkit: {text}", file=sys.stderr, flush=True)
@@ -46,7 +46,7 @@ class Crate:
         self.size = self.chain = sum(it.stat().st_size * (CODE if it.suffix == ".rt" else 1) for it in files)
         texts = [(it, it.read_bytes()) for it in sorted(files)]
         made_of = [RATTLE, RATTLE.stat().st_mtime_ns, self.is_kept, named, [it.sum for it in self.needs], texts]
-        self.sum, self.jobs = hashlib.sha256(repr(made_of).encode()).hexdigest(), 1 + (self.size > LARGE)
+        self.sum, self.jobs = hashlib.sha256(repr(made_of).encode()).hexdigest(), 1
 
     def command(self):
         """What proves the crate, and builds its library or the program. Other runs of rt wait for its folder."""
@@ -97,6 +97,15 @@ def crates_below(top):
     return found
 
 
+def jobs_for(crate, waiting, running, room):
+    """As many jobs as keep the longest chain from being what all else waits for, if there is room; without room none."""
+    free = room - sum(it.jobs for it in running)
+    # What each processor has left to do: of what runs, half on average.
+    share = (sum(it.size for it in waiting) + sum(it.size for it in running) / 2) / max(room - 1, 1)
+    most = min(free, MOST_JOBS, 1 + crate.size // LARGE)
+    return max(min(most, int(1.2 * crate.chain / max(share, 1))), min(free, 1), not running)
+
+
 def prove(crates, lock):
     """Proves all crates, by one job more than there are processors, as far as there is memory."""
     free = 1024 * int(re.search(r"MemAvailable:\s+(\d+)", pathlib.Path("/proc/meminfo").read_text())[1])
@@ -105,7 +114,8 @@ def prove(crates, lock):
     try:
         while waiting or running:
             for crate in [it for it in waiting if set(it.needs) <= set(proved)]:
-                if not running or sum(it.jobs for it in running) + crate.jobs <= room:
+                crate.jobs = jobs_for(crate, waiting, running, room)
+                if crate.jobs:
                     crate.begin(lock)
                     waiting.remove(crate)
                     running.append(crate)

@@ -20,7 +20,7 @@ ROOT = pathlib.Path(__file__).resolve().parent.parent
 PAGES = ["*.md", "docs/**/*.md", "library/*.md", "library/*/*.md", "samples/*.md", "teach/*.md", "packaging/pages/*"]
 CODE = ["library/include/*.h", "crates/*/src/**/*.rt", "crates/*/specs/**/*.antt"]
 # The crates whose texts a user of the program reads.
-PROGRAM = {"capkit", "capkit_args", "cap_command"}
+PROGRAM = {"capkit", "cap_command"}
 COMMENTS = {".rt": re.compile(r"(?:^|\s)//[/!]?\s(.*)"), ".antt": re.compile(r"(?:^|\s)--\s(.*)")}
 # Code between backticks, which may go on in the next line.
 QUOTED = re.compile(r"`(?:[^`\n]|\n(?!\n))*`")

@@ -45,8 +45,7 @@ COMMANDS = {"edit": [], "print": PREPARED, "merge": [], "infos": [], "compile": 
 STEPS = {"flt_bpf::execute", "flt_bpf::advance"}
 # Crates whose public functions are for other crates here.
 BETWEEN = {
-    "capkit_args", "cap_inputs", "cap_process", "flt_emit", "flt_lay", "flt_short",
-    "flt_ast",
+    "cap_inputs", "cap_process", "flt_lay", "flt_short", "flt_ast",
 }
 # What the pages promise of these.
 PROMISED = {

@@ -8,8 +8,8 @@ use Rattle.clap.specs.Simple.{App, Shape, argument_words, built, entered, label_
 use Rattle.clap.specs.Walk.{Held, Names, Row, Text, answers_to, finished, nothing_held, settled, stop_after, walk, walk_from}
 use Rattle.clap.specs.declared.parser.matches.ArgMatches.TheViews.{out-ArgMatches, out-SubCommand}
 use Rattle.clap.specs.declared.parser.matches.SubCommand.{SubCommand}
-use Rattle.capkit_args.specs.inside.Arguments.{subcommand_of_name}
-use Rattle.capkit_args.specs.declared.arguments.Subcommand.TheVariants as sub
+use Rattle.capkit.specs.inside.Arguments.{subcommand_of_name}
+use Rattle.capkit.specs.declared.arguments.Subcommand.TheVariants as sub
 
 -- where no step of several fails, the last one doesn't
 last_none : (a b : Kinds) → or_else a b ≡ [] → b ≡ []

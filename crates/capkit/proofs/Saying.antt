@@ -1,8 +1,8 @@
 -- What a line says of the words.
-use Rattle.capkit.proofs.Common.{◌≡◌, inl, inr, refl, List, Some, None, Result, Ok, Err, IfOk, IfErr, OnOk, Bool, true, false, length, codes, [], ◌∷◌, if◌then◌else◌, is_none, nat_lt, list_any, Row, Text, first_of, most_inputs, most_ranges, Asks, IsUsageOf, IsLineOf, SaysFault, SaysLine, fault_in, files_in, has_bad_time, has_exclusion, has_two_shifts, or_else, read_names, text_in, texts_in, uses_name_twice, range_of, Subcommand, Line, Usage, BadRange, BadTime, Memory, NameUsedTwice, OptionsExclude, Refused, TooManyValues}
+use Rattle.capkit.proofs.Common.{◌≡◌, inl, inr, refl, List, Some, None, Result, Ok, Err, IfOk, IfErr, OnOk, Bool, true, false, length, [], ◌∷◌, if◌then◌else◌, is_none, nat_lt, list_any, Row, Text, first_of, most_inputs, most_ranges, Asks, IsUsageOf, IsLineOf, SaysFault, SaysLine, fault_in, files_in, has_bad_time, has_exclusion, has_two_shifts, or_else, read_names, text_in, texts_in, uses_name_twice, range_of, Subcommand, Line, Usage, BadRange, BadTime, Memory, NameUsedTwice, OptionsExclude, Refused, TooManyValues}
 use Rattle.clap.specs.declared.error.Error.{Error}
-use Rattle.capkit_args.specs.declared.ids.TheConstants as ids
-use Rattle.capkit_args.specs.declared.arguments.Subcommand.TheVariants as sub
+use Rattle.capkit.specs.declared.ids.TheConstants as ids
+use Rattle.capkit.specs.declared.arguments.Subcommand.TheVariants as sub
 
 pub says_line : (words : List Text) (asked : Subcommand) (matches : List Row) (r : Result Line Usage) → Asks words asked matches → IfOk r (IsLineOf asked matches)
     → OnOk r (fault_in asked matches ≡ None) → IfOk r (SaysLine words)

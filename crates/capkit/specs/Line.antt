@@ -25,12 +25,12 @@ use Rattle.clap.specs.ValueTests.{is_unsigned_in}
 use Rattle.clap.specs.Words.{Row, Text, all_of, first_of, one_of}
 use Rattle.cap_octet.specs.declared.link.Link.{Link}
 use Rattle.cap_octet.specs.declared.link.Link.TheVariants.{Ether}
-use Rattle.capkit_args.specs.Arguments.{RefusesWords, TakesWords, most_32, most_64, name_of}
-use Rattle.capkit_args.specs.declared.ids.TheConstants as ids
+use Rattle.capkit.specs.Arguments.{RefusesWords, TakesWords, most_32, most_64, name_of}
+use Rattle.capkit.specs.declared.ids.TheConstants as ids
 use Rattle.capkit.specs.Names.{uses_name_twice}
 use Rattle.capkit.specs.Range.{range_of}
-use Rattle.capkit_args.specs.declared.arguments.Subcommand.{Subcommand}
-use Rattle.capkit_args.specs.declared.arguments.Subcommand.TheVariants as sub
+use Rattle.capkit.specs.declared.arguments.Subcommand.{Subcommand}
+use Rattle.capkit.specs.declared.arguments.Subcommand.TheVariants as sub
 use Rattle.capkit.specs.declared.line.Line.{Line}
 use Rattle.capkit.specs.declared.usage.Usage.{Usage}
 use Rattle.capkit.specs.declared.usage.Usage.TheVariants.{BadRange, BadTime, Memory, NameUsedTwice, OptionsExclude, Refused, TooManyValues}

@@ -4,12 +4,12 @@ ghost use Rattle.clap.specs.Words.{found_of, rows_of};
 ghost use Rattle.capkit.specs.Line.{is_ready, IsCompileOf};
 ghost use Rattle.capkit.specs.declared.usage.Usage.TheVariants.{Memory};
 
+use crate::ids;
 use crate::line::Line;
 use crate::print_line::expression_text;
 use crate::usage::Usage;
 use crate::values::link;
 use cap_command::{Command, Compile};
-use capkit_args::ids;
 use clap::ArgMatches;
 use std::alloc::Global;
 

@@ -8,13 +8,13 @@ ghost use Rattle.capkit.specs.Line.{HasOptions, IsEditOf, IsUsageOf};
 ghost use Rattle.capkit.specs.Range.{range_of};
 
 use crate::files::copies_of_texts;
+use crate::ids;
 use crate::line::Line;
 use crate::names::uses_name_twice;
 use crate::range::range_in;
 use crate::usage::Usage;
 use crate::values::{duration, flag, format, number_u32, optional_text, text, texts, time};
 use cap_command::{Command, Edit, LEAST_WINDOW, MOST_RANGES, MOST_WINDOW, Shift};
-use capkit_args::ids;
 use clap::ArgMatches;
 use std::alloc::Global;
 
@@ -65,7 +65,7 @@ fn has_bad_time(matches: &ArgMatches<'_>) -> bool
 }
 
 /// Whether times must be shifted both later and earlier, which exclude each other. clap isn't
-/// told, since its line has no rule of one argument on another (`line_is_simple` of capkit_args).
+/// told, since its line has no rule of one argument on another (`line_is_simple` of `laws`).
 fn has_two_shifts(matches: &ArgMatches<'_>) -> bool
     ensures { result ≡ has_two_shifts (rows_of (found_of matches.now)) }
 {

@@ -5,11 +5,11 @@ ghost use Rattle.clap.specs.Words.{found_of, rows_of};
 ghost use Rattle.cap_command.specs.Command.{is_input_count};
 ghost use Rattle.capkit.specs.Line.{files_fault, files_in, IsUsageOf};
 
+use crate::ids;
 use crate::names::uses_name_twice;
 use crate::usage::Usage;
 use crate::values::{text, texts};
 use cap_command::MOST_INPUTS;
-use capkit_args::ids;
 use clap::ArgMatches;
 use std::alloc::{AllocError, Global};
 

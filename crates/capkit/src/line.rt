@@ -4,6 +4,7 @@ ghost use Rattle.clap.specs.Words.{found_of, rows_of};
 ghost use Rattle.capkit.specs.Line.{fault_in, is_ready, with_code, IsUsageOf, IsLineOf};
 ghost use Rattle.capkit.specs.Line.{SaysLine, SaysFault};
 
+use crate::arguments::{Subcommand, matches_of, subcommand_of_name};
 use crate::compile_line::compile_line;
 use crate::edit_line::edit_line;
 use crate::infos_line::infos_line;
@@ -11,7 +12,6 @@ use crate::merge_line::merge_line;
 use crate::print_line::print_line;
 use crate::usage::Usage;
 use cap_command::{Command, Print};
-use capkit_args::arguments::{Subcommand, matches_of, subcommand_of_name};
 use clap::ArgMatches;
 use std::alloc::Global;
 

@@ -4,11 +4,11 @@ ghost use Rattle.clap.specs.Words.{found_of, rows_of};
 ghost use Rattle.capkit.specs.Line.{is_ready, merge_fault, IsUsageOf, IsMergeOf};
 
 use crate::files::input_names;
+use crate::ids;
 use crate::line::Line;
 use crate::usage::Usage;
 use crate::values::{flag, format, text};
 use cap_command::{Command, Merge};
-use capkit_args::ids;
 use clap::ArgMatches;
 use std::alloc::Global;
 

@@ -7,19 +7,19 @@ ghost use Rattle.cap_command.specs.Command.{is_at_least_one};
 ghost use Rattle.clap.specs.Words.{found_of, rows_of};
 ghost use Rattle.capkit.specs.Line.{expression_in, flag_in, has_exclusion, has_idle_format};
 ghost use Rattle.capkit.specs.Line.{has_two_filters, has_two_outputs, is_ready};
-ghost use Rattle.capkit_args.specs.Arguments.{most_64};
-ghost use Rattle.capkit_args.specs.declared.ids.TheConstants.{BYTES, COUNT, LINK_HEADER};
+ghost use Rattle.capkit.specs.Arguments.{most_64};
+ghost use Rattle.capkit.specs.declared.ids.TheConstants.{BYTES, COUNT, LINK_HEADER};
 ghost use Rattle.capkit.specs.Line.{argument_number, print_fault, write_in, IsUsageOf, IsPrintOf};
 ghost use Rattle.capkit.specs.Names.{uses_name_twice};
 
 use crate::files::copies_of_texts;
+use crate::ids;
 use crate::line::Line;
 use crate::names::uses_name_twice;
 use crate::usage::Usage;
 use crate::values::{flag, format, number, optional_text, text, texts};
 use cap_command::{Command, Print};
 use cap_octet::Format;
-use capkit_args::ids;
 use clap::ArgMatches;
 use std::alloc::{AllocError, Global};
 

@@ -1,4 +1,4 @@
-//! The values that clap's matches have of an argument, by its id (`ids.rt` of `capkit_args`): its
+//! The values that clap's matches have of an argument, by its id (`ids`): its
 //! flag, its texts, or what its text names.
 ghost use Rattle.std.specs.Prelude.{◌≡◌, ◌≤◌, ◌&&◌, IfSome, Some, None, map, nat_le, option_map};
 ghost use Rattle.std.specs.Prelude.{true, if◌then◌else◌};

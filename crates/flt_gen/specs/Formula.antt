@@ -1,5 +1,5 @@
 -- Tests joined by and, or and not, and how they are read.
-use Rattle.std.specs.Prelude.{ℕ, ◌&&◌, ◌||◌, nat_le, Bool, true, false, List, [], ◌∷◌, Option, Some, None}
+use Rattle.std.specs.Prelude.{ℕ, ◌&&◌, ◌||◌, nat_le, Bool, true, false, List, [], ◌∷◌, Option, Some}
 use Rattle.flt_bpf.specs.declared.operation.Width.{Width}
 use Rattle.flt_words.specs.declared.token.Comparison.{Comparison}
 use Rattle.flt_words.specs.declared.token.Protocol.{Protocol}

@@ -11,11 +11,13 @@ ghost use Rattle.flt_gen.specs.Primitives.{hosts_of_kind, hosts_formula, ip6_tes
 ghost use Rattle.flt_gen.specs.inside.Emitted.{is_idle, last_test, needed_tests, needed_sides};
 ghost use Rattle.flt_gen.specs.inside.Emitted.{ip6_needed};
 
+use crate::elementary::{
+    Elementary, FieldTest, FrameKind, Offset, Sides, kind_test, network_offset,
+};
 use crate::steps::Steps;
 use cap_octet::Link;
 use flt_ast::Direction;
 use flt_bpf::operation::Width;
-use crate::elementary::{Elementary, FieldTest, FrameKind, Offset, Sides, kind_test, network_offset};
 use flt_words::{Comparison, Join, Protocol, Side};
 use std::alloc::{AllocError, Allocator};
 

@@ -11,12 +11,12 @@ ghost use Rattle.flt_gen.specs.inside.Group.{numbers_of};
 ghost use Rattle.flt_gen.specs.inside.Steps.{IsPut, no_steps};
 
 use crate::address::{Hosts, partial_mask, prefix_mask};
+use crate::elementary::{Elementary, Interval};
 use crate::port::{PortTest, Ports};
 use crate::stack::Stack;
 use crate::steps::Steps;
 use cap_octet::Link;
 use flt_ast::{CompleteQualifiers, Direction, NetMask, Value};
-use crate::elementary::{Elementary, Interval};
 use flt_words::{Join, Protocol, Side, ValueType};
 use std::alloc::{AllocError, Allocator};
 use std::marker::Model;

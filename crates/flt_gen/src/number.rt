@@ -15,11 +15,11 @@ ghost use Rattle.flt_gen.specs.inside.ProgramCode.{emit_accessor_tests};
 ghost use Rattle.flt_gen.specs.Numbers.{accessor_tests, width_of};
 ghost use Rattle.flt_gen.specs.inside.Emits.{Emits};
 
+use crate::code::{Code, Targets};
+use crate::elementary::{FrameKind, first_fragment, has_ip_proto, kind_test, network_offset};
 use cap_octet::Link;
 use cap_octet::assigned::{IPPROTO_ICMP, IPPROTO_TCP, IPPROTO_UDP};
 use flt_bpf::operation::{AluOperation, Operand, Operation, Register, Source, Width};
-use crate::code::{Code, Targets};
-use crate::elementary::{FrameKind, first_fragment, has_ip_proto, kind_test, network_offset};
 use flt_words::{Operator, Protocol};
 use std::alloc::{AllocError, Allocator};
 

@@ -7,12 +7,15 @@ ghost use Rattle.flt_gen.specs.Primitives.{port_test, port_is, port_between, por
 ghost use Rattle.flt_gen.specs.Primitives.{ports_after, transport_ports, ip_transport};
 ghost use Rattle.flt_gen.specs.Primitives.{ip6_transport, port_formula};
 
+use crate::elementary::{
+    Elementary, FrameKind, Offset, Sides, compares_at, first_fragment, has_ip_proto, has_ip6_proto,
+    kind_test, network_offset,
+};
 use crate::steps::Steps;
 use cap_octet::Link;
 use cap_octet::assigned::{IPPROTO_TCP, IPPROTO_UDP};
 use flt_ast::Direction;
 use flt_bpf::operation::Width;
-use crate::elementary::{Elementary, FrameKind, Offset, Sides, compares_at, first_fragment, has_ip_proto, has_ip6_proto, kind_test, network_offset};
 use flt_words::{Comparison, Join, Protocol};
 use std::alloc::{AllocError, Allocator};
 

@@ -5,12 +5,15 @@ ghost use Rattle.flt_gen.specs.Primitives.{ip_proto, ip6_proto, any_proto, check
 ghost use Rattle.flt_gen.specs.Primitives.{proto_formula, ether_host, mac_tests};
 ghost use Rattle.flt_gen.specs.Primitives.{is_group_address, cast_formula};
 
+use crate::elementary::{
+    Elementary, FieldTest, FrameKind, Offset, compares_at, has_ip_proto, has_ip6_proto, has_type,
+    is_at, kind_test, network_offset,
+};
 use crate::steps::Steps;
 use cap_octet::Link;
 use cap_octet::assigned::{IPPROTO_ICMP, IPPROTO_ICMPV6, IPPROTO_TCP, IPPROTO_UDP};
 use flt_ast::Direction;
 use flt_bpf::operation::Width;
-use crate::elementary::{Elementary, FieldTest, FrameKind, Offset, compares_at, has_ip_proto, has_ip6_proto, has_type, is_at, kind_test, network_offset};
 use flt_words::{Cast, Comparison, Join, Protocol, Side};
 use std::alloc::{AllocError, Allocator};
 

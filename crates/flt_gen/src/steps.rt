@@ -13,9 +13,9 @@ ghost use Rattle.std.specs.Prelude.{◌≡◌, [], OnOk, MatchOption};
 ghost use Rattle.flt_gen.specs.Formula.{Single, all_of, sides, no_numbers, any_sides};
 ghost use Rattle.flt_gen.specs.inside.Intervals.{is_gap, joined_all, sought};
 
+use crate::elementary::{Elementary, Interval, MaskedField, Sides};
 use crate::stack::Stack;
 use flt_ast::Direction;
-use crate::elementary::{Elementary, Interval, MaskedField, Sides};
 use flt_words::{Join, Side};
 use std::alloc::{AllocError, Allocator};
 use std::marker::Model;

@@ -10,11 +10,11 @@ ghost use Rattle.flt_gen.specs.Primitives.{host_formula};
 ghost use Rattle.flt_gen.specs.inside.Emitted.{net_needed, qualified_needed};
 
 use crate::address::{Hosts, NetTest, partial_mask};
+use crate::elementary::Elementary;
 use crate::port::{PortTest, Ports};
 use crate::steps::Steps;
 use cap_octet::Link;
 use flt_ast::{CompleteQualifiers, Direction, Value};
-use crate::elementary::Elementary;
 use flt_words::{Protocol, ValueType};
 use std::alloc::{AllocError, Allocator};
 

@@ -6,8 +6,8 @@
 ghost use Rattle.std.specs.Prelude.{◌≡◌, OnOk};
 ghost use Rattle.flt_gen.specs.inside.Emitted.{equals, without_protocol, with_accessor};
 
-use crate::stack::Stack;
 use crate::code::Targets;
+use crate::stack::Stack;
 use flt_words::{Join, Protocol};
 use std::alloc::{AllocError, Allocator};
 

@@ -33,6 +33,7 @@ ghost use Rattle.flt_gen.specs.inside.Walk.{begin_right, flush_group, finish_for
 ghost use Rattle.flt_gen.specs.inside.Walk.{finish_truth, is_number_node, emit_leaf};
 ghost use Rattle.flt_gen.specs.inside.Walk.{begin_operands, finish_number, finish_relation};
 
+use crate::code::{Code, Targets};
 use crate::group::Group;
 use crate::number::{
     computation, emit_accessor, emit_accessor_tests, emit_operands, takes_constant, width_of,
@@ -44,7 +45,6 @@ use cap_octet::Link;
 use flt_ast::{CompleteQualifiers, Node, Value};
 use flt_bpf::Wide;
 use flt_bpf::operation::{Operand, Operation, Register, Source};
-use crate::code::{Code, Targets};
 use flt_words::{Comparison, Join, Operator, Protocol, Size};
 use std::alloc::{AllocError, Allocator};
 use std::marker::Model;

@@ -261,8 +261,8 @@ fn walk_from(known: &Known, code: &[Wide], from: usize) -> Reached
     reached
 }
 
-/// How far the walk gets if it goes on past the test at its end, which then skips so many
-/// instructions: the last place at which a run with this outcome may continue.
+/// The last place at which a run may continue instead of at the start of a walk that ended before a
+/// test, if the outcome of the test skips this number of instructions.
 fn best_after(known: &Known, code: &[Wide], end: &Reached, skipped: u32) -> usize
     requires { end.now.spot.place < 2 ^ 63 }
     ensures { result ≡ best_after known.now code.now end.now skipped }

@@ -1,5 +1,5 @@
 -- Intervals that ascend by their beginnings.
-use Rattle.std.specs.Prelude.{ℕ, ◌-◌, nat_lt, max, Bool, if◌then◌else◌, List, [], ◌∷◌}
+use Rattle.std.specs.Prelude.{◌-◌, nat_lt, max, Bool, if◌then◌else◌, List, [], ◌∷◌}
 use Rattle.flt_gen.specs.declared.elementary.Interval.{Interval}
 use Rattle.flt_gen.specs.Formula.{Numbers}
 

@@ -119,8 +119,8 @@ FUEL = 128
 abbrev pub walk_from : Known → List Insn → ℕ → Reached
 walk_from k c from = walk FUEL k c (record { spot = spot_at from None; best = from })
 
--- the place that a walk reaches if it goes on past the test at its end, which then skips so many
--- instructions
+-- the best place of a walk that goes on past the test before which it ended, as after an outcome
+-- that skips this number of instructions
 abbrev pub best_after : Known → List Insn → Reached → ℕ → ℕ
 best_after k c end skipped =
     (walk_on (walk FUEL k c) c end (Some (spot_at (end.spot.place + 1 + skipped) end.spot.other))).best
@@ -130,8 +130,8 @@ best_after k c end skipped =
 abbrev pub agreed : ℕ → ℕ → ℕ → ℕ
 agreed first second best = if nat_lt best first && first == second then first else best
 
--- the place where a run may go on in place of where a walk began, which ended at this instruction:
--- the best of the walk, or, if the instruction is a test, one that both of its outcomes lead to
+-- the place at which a run may go on instead of at the start of a walk that ended before this
+-- instruction: the best of the walk, or, if it is a test, a later one to which both outcomes lead
 abbrev pub target_by : Option Operation → Known → List Insn → Reached → Insn → ℕ
 target_by (Some (JumpIf test operand)) k c end i =
     agreed (best_after k c end i.jt) (best_after k c end i.jf) end.best

@@ -1,5 +1,5 @@
 use Rattle.std.proofs.Common.{refl}
-use Rattle.capkit_args.proofs.laws.line_is_simple.Goals as goal
+use Rattle.capkit.proofs.laws.line_is_simple.Goals as goal
 
 pub returns-clause-simple : goal.returns-clause-simple
 returns-clause-simple c = λ formats links. refl

@@ -9,9 +9,9 @@ use Rattle.clap.specs.declared.error.kind.ErrorKind.TheVariants.{OutOfMemory}
 use Rattle.cap_octet.specs.Format.{all_formats, format_name}
 use Rattle.cap_octet.specs.Link.{all_links, link_name}
 use Rattle.cap_command.specs.Command.{least_window, most_window}
-use Rattle.capkit_args.specs.declared.ids.TheConstants as ids
-use Rattle.capkit_args.specs.declared.arguments.Subcommand.{Subcommand}
-use Rattle.capkit_args.specs.declared.arguments.Subcommand.TheVariants as sub
+use Rattle.capkit.specs.declared.ids.TheConstants as ids
+use Rattle.capkit.specs.declared.arguments.Subcommand.{Subcommand}
+use Rattle.capkit.specs.declared.arguments.Subcommand.TheVariants as sub
 
 -- the greatest number of 32 bits
 abbrev pub most_32 : ℕ

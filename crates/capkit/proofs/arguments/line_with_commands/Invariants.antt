@@ -1,5 +1,5 @@
-use Rattle.capkit_args.proofs.Common.{◌≡◌, drop, map, app_of, line_without_commands, with_shapes, shape_by}
-use Rattle.capkit_args.proofs.arguments.line_with_commands.Given as goal
+use Rattle.capkit.proofs.Common.{◌≡◌, drop, map, app_of, line_without_commands, with_shapes, shape_by}
+use Rattle.capkit.proofs.arguments.line_with_commands.Given as goal
 
 -- with the subcommands that are left, the command is what all of them make of the bare line
 abbrev pub invariant-loop-row : goal.invariant-loop-row

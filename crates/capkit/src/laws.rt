@@ -1,5 +1,5 @@
 //! Laws of the definitions: each is the contract of a function that does nothing.
-ghost use Rattle.capkit_args.specs.Arguments.{LineIsFree, LineIsSimple};
+ghost use Rattle.capkit.specs.Arguments.{LineIsFree, LineIsSimple};
 
 /// The whole line is a command of which clap states what a parse gives: it is simple (no subcommand
 /// has its own, only the last argument by place takes several values, none has a delimiter or needs

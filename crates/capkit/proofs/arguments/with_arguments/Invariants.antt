@@ -1,6 +1,6 @@
-use Rattle.capkit_args.proofs.Common.{◌≡◌, drop, map, app_of, with_rules, rule_by}
+use Rattle.capkit.proofs.Common.{◌≡◌, drop, map, app_of, with_rules, rule_by}
 use Rattle.clap.specs.declared.builder.command.Command.TheViews.{out-Command as fields_of}
-use Rattle.capkit_args.proofs.arguments.with_arguments.Given as goal
+use Rattle.capkit.proofs.arguments.with_arguments.Given as goal
 
 -- with the arguments that are left, the command is what all of them make of it
 abbrev pub invariant-loop-argument : goal.invariant-loop-argument

@@ -1,5 +1,5 @@
-use Rattle.capkit_args.proofs.Common.{◌≡◌, ◌∙◌, ap, map, IfOk-weaker, app_of_fields, App, app_of, new_app, with_rules, rule_by}
-use Rattle.capkit_args.proofs.arguments.command_of_row.Goals as goal
+use Rattle.capkit.proofs.Common.{◌≡◌, ◌∙◌, ap, map, IfOk-weaker, app_of_fields, App, app_of, new_app, with_rules, rule_by}
+use Rattle.capkit.proofs.arguments.command_of_row.Goals as goal
 
 pub returns-clause-shape : goal.returns-clause-shape
 returns-clause-shape c =

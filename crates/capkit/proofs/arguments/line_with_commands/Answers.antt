@@ -1,6 +1,6 @@
-use Rattle.capkit_args.proofs.Common.{◌∙◌, ap, map, App, with_subcommand, with_shapes, shape_by}
-use Rattle.capkit_args.proofs.Folds.{no_more, one_more}
-use Rattle.capkit_args.proofs.arguments.line_with_commands.Goals as goal
+use Rattle.capkit.proofs.Common.{◌∙◌, ap, map, App, with_subcommand, with_shapes, shape_by}
+use Rattle.capkit.proofs.Folds.{no_more, one_more}
+use Rattle.capkit.proofs.arguments.line_with_commands.Goals as goal
 
 pub loop-row-init : goal.loop-row-init
 loop-row-init c = ap (λ (a : App). with_shapes a (map (shape_by c.args.choices) c.args.rows.now)) c.in_ok-command.ensures

@@ -1,5 +1,5 @@
-use Rattle.capkit_args.proofs.Parses.{no_memory, refuses_words, takes_words}
-use Rattle.capkit_args.proofs.arguments.matches_of.Goals as goal
+use Rattle.capkit.proofs.Parses.{no_memory, refuses_words, takes_words}
+use Rattle.capkit.proofs.arguments.matches_of.Goals as goal
 
 pub returns-in-Ok-clause-taken : goal.returns-in-Ok-clause-taken
 returns-in-Ok-clause-taken c =

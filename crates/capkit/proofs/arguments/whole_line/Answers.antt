@@ -3,7 +3,7 @@ use Rattle.std.proofs.lemmas.Result.{IfOk-weaker}
 use Rattle.clap.specs.declared.builder.value_parser.ValueParser.TheVariants.{Names}
 use Rattle.cap_octet.specs.Format.{all_formats}
 use Rattle.cap_octet.specs.Link.{all_links}
-use Rattle.capkit_args.proofs.arguments.whole_line.Goals as goal
+use Rattle.capkit.proofs.arguments.whole_line.Goals as goal
 
 pub returns : goal.returns
 unfolding all_formats all_links

@@ -3,16 +3,16 @@ use Rattle.std.specs.Prelude.{Some, if◌then◌else◌, map}
 use Rattle.std.specs.Str.{bytes_eq}
 use Rattle.clap.specs.Words.{App, Rule, Shape, Text, new_app, new_rule}
 use Rattle.clap.specs.declared.builder.value_parser.ValueParser.TheVariants as parser
-use Rattle.capkit_args.specs.declared.arguments.Choices.{Choices}
-use Rattle.capkit_args.specs.declared.arguments.Subcommand.{Subcommand}
-use Rattle.capkit_args.specs.declared.arguments.Subcommand.TheVariants as sub
-use Rattle.capkit_args.specs.declared.options.Argument.{Argument}
-use Rattle.capkit_args.specs.declared.options.CommandRow.{CommandRow}
-use Rattle.capkit_args.specs.declared.options.Name.{Name}
-use Rattle.capkit_args.specs.declared.options.Name.TheVariants as name
-use Rattle.capkit_args.specs.declared.options.Value.{Value}
-use Rattle.capkit_args.specs.declared.options.Value.TheVariants as value
-use Rattle.capkit_args.specs.Arguments.{flag, with_one_value, with_wide_bounds, with_choices, as_required, many, name_of, with_rules}
+use Rattle.capkit.specs.declared.arguments.Choices.{Choices}
+use Rattle.capkit.specs.declared.arguments.Subcommand.{Subcommand}
+use Rattle.capkit.specs.declared.arguments.Subcommand.TheVariants as sub
+use Rattle.capkit.specs.declared.options.Argument.{Argument}
+use Rattle.capkit.specs.declared.options.CommandRow.{CommandRow}
+use Rattle.capkit.specs.declared.options.Name.{Name}
+use Rattle.capkit.specs.declared.options.Name.TheVariants as name
+use Rattle.capkit.specs.declared.options.Value.{Value}
+use Rattle.capkit.specs.declared.options.Value.TheVariants as value
+use Rattle.capkit.specs.Arguments.{flag, with_one_value, with_wide_bounds, with_choices, as_required, many, name_of, with_rules}
 
 -- an argument with the name of a row
 abbrev pub with_name : Name → Rule → Rule

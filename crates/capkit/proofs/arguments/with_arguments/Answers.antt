@@ -1,7 +1,7 @@
-use Rattle.capkit_args.proofs.Common.{◌∙◌, with_rule, rule_by}
-use Rattle.capkit_args.proofs.Folds.{no_more, one_more}
-use Rattle.capkit_args.proofs.LocalOptions.{stays}
-use Rattle.capkit_args.proofs.arguments.with_arguments.Goals as goal
+use Rattle.capkit.proofs.Common.{◌∙◌, with_rule, rule_by}
+use Rattle.capkit.proofs.Folds.{no_more, one_more}
+use Rattle.capkit.proofs.LocalOptions.{stays}
+use Rattle.capkit.proofs.arguments.with_arguments.Goals as goal
 
 pub loop-argument-preserved : goal.loop-argument-preserved
 loop-argument-preserved c = (

@@ -1,5 +1,5 @@
-use Rattle.capkit_args.proofs.Common.{◌≡◌, ◌∙◌, ap, codes, true, IfOk-weaker, app_of_fields, App, app_of, new_app, line_without_commands}
-use Rattle.capkit_args.proofs.arguments.line_without_commands.Goals as goal
+use Rattle.capkit.proofs.Common.{◌≡◌, ◌∙◌, ap, codes, true, IfOk-weaker, app_of_fields, App, app_of, new_app, line_without_commands}
+use Rattle.capkit.proofs.arguments.line_without_commands.Goals as goal
 
 abbrev versioned : App → App
 versioned a = record a { top = record a.top { has_version = true } }

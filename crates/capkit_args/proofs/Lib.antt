@@ -1,4 +1,0 @@
-pub mod Common
-mod Folds
-mod LocalOptions
-mod Parses
