@@ -14,7 +14,8 @@ ghost use Rattle.flt_short.specs.inside.Arrivals.{at_start};
 ghost use Rattle.flt_short.specs.inside.Threads.{field_at, other_field, past_test, past_mask};
 ghost use Rattle.flt_short.specs.inside.Threads.{holds_load, past_insn, is_free};
 ghost use Rattle.flt_short.specs.inside.Threads.{ignores_accumulator, ignores_accumulator_at, walk};
-ghost use Rattle.flt_short.specs.inside.Threads.{can_stop, walk_from, best_after, target_by, target, flow};
+ghost use Rattle.flt_short.specs.inside.Threads.{can_stop, walk_from, best_after, target_by, target};
+ghost use Rattle.flt_short.specs.inside.Threads.{flow};
 ghost use Rattle.flt_short.specs.inside.Threads.{threaded_offset, threaded_test, threaded_insn};
 ghost use Rattle.flt_short.specs.inside.Threads.{with_ways, with_arrivals};
 
@@ -278,8 +279,8 @@ fn best_after(known: &Known, code: &[Wide], end: &Reached, skipped: u32) -> usiz
 }
 
 /// The last place at which a run may continue instead of at the start of a walk that ended before
-/// this instruction: the best of the walk. If the instruction is a test, the walk goes on after both
-/// outcomes: if both lead to the same later place, that is the result.
+/// this instruction: the best of the walk. If the instruction is a test, the walk goes on after
+/// both outcomes: if both lead to the same later place, that is the result.
 fn target_past(known: &Known, code: &[Wide], end: &Reached, insn: Wide) -> usize
     requires { end.now.spot.place < 2 ^ 63 }
     ensures { result ≡ target_by (operation_of insn.code) known.now code.now end.now insn }
