@@ -8,6 +8,7 @@ use Rattle.flt_bpf.specs.Valid.{IsValid}
 use Rattle.flt_bpf.proofs.Checking.{first_none, parts}
 use Rattle.flt_short.specs.Threads.{Threads}
 use Rattle.flt_short.specs.Alike.{Shortens}
+use Rattle.flt_gen.specs.inside.Round.{IsRound}
 use Rattle.flt_short.proofs.Likeness.{met_of}
 use Rattle.flt_gen.proofs.Folded.{words_no_more, bound_no_more, short_no_more, filled_folded, nodes_folded, holds_folded}
 use Rattle.flt_gen.proofs.Grouping.{kept_none, grouped_stands}
@@ -162,15 +163,19 @@ made link e walked folded tree wide filled few w f n c =
     same : wide ≡ program_code link d
     same = c ∙ program_is link d walked (ap reverse w ∙ f ∙ ap (fold with_folded []) n ∙ nodes_folded e)
 
--- threaded and shortened
-pub made_short : (link : Link) (e : Expression) (walked folded tree : List Node) (wide moved short : List Insn) → some_primitive is_unfilled e ≡ false → words_of e ≤ 16 → bound_of e ≤ 32768 → walked ≡ folded → reverse folded ≡ fold with_folded [] tree → tree ≡ expr_nodes e → wide ≡ insns_of (emit_nodes link start_walk (reverse walked)) → Threads moved wide → Shortens short moved → IsMadeOf short e link
-made_short link e walked folded tree wide moved short filled few within w f n c t r =
-    let plain = made link e walked folded tree wide filled few w f n c in
-    let is = threaded_code moved wide e link t plain.is in
+-- after a round of the optimiser
+once_more : (link : Link) (e : Expression) (code short : List Insn) → bound_of e ≤ 32768 → IsRound short code → IsMadeOf code e link → IsMadeOf short e link
+once_more link e code short within r m =
+    let is = threaded_code r.moved code e link r.threads m.is in
     record {
-      is = shortened_code short moved e link r is;
-      valid = valid_unless_long short (r.valid (valid_if_short moved (t.sound plain.valid) (omega (arith, is.bounded))));
+      is = shortened_code short r.moved e link r.shortens is;
+      valid = valid_unless_long short (r.shortens.valid (valid_if_short r.moved (r.threads.sound m.valid) (omega (arith, is.bounded))));
     }
+
+-- and after two
+pub made_short : (link : Link) (e : Expression) (walked folded tree : List Node) (wide once short : List Insn) → some_primitive is_unfilled e ≡ false → words_of e ≤ 16 → bound_of e ≤ 32768 → walked ≡ folded → reverse folded ≡ fold with_folded [] tree → tree ≡ expr_nodes e → wide ≡ insns_of (emit_nodes link start_walk (reverse walked)) → IsRound once wide → IsRound short once → IsMadeOf short e link
+made_short link e walked folded tree wide once short filled few within w f n c r r' =
+    once_more link e once short within r' (once_more link e wide once within r (made link e walked folded tree wide filled few w f n c))
 
 -- what is laid out of it keeps every promise
 pub laid_program : (new code : List Insn) (e : Expression) (link : Link) → ((p : List ℕ) (n : ℕ) → answer_of new p n 0 start ≡ answer_of code p n 0 start) → length new ≤ length code + 2 * branches code → IsMadeOf code e link → IsProgramOf new e link

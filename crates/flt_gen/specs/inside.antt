@@ -7,5 +7,6 @@ pub mod Folding
 pub mod Intervals
 pub mod Group
 pub mod ProgramCode
+pub mod Round
 pub mod Steps
 pub mod Walk

@@ -5,6 +5,7 @@ ghost use Rattle.std.specs.Prelude.{◌≡◌, ◌≤◌, IfOk, reverse};
 ghost use Rattle.flt_gen.specs.Correct.{IsProgramOf};
 ghost use Rattle.flt_gen.specs.Counts.{short_bound_of};
 ghost use Rattle.flt_bpf.specs.Layout.{JumpsAreNeeded, IsShort};
+ghost use Rattle.flt_gen.specs.inside.Round.{IsRound};
 ghost use Rattle.flt_gen.specs.inside.Walk.{emit_nodes, start_walk, insns_of};
 
 use crate::folding::folded_nodes;
@@ -13,6 +14,7 @@ use crate::walk::Walk;
 use cap_octet::Link;
 use flt_ast::{Checked, Node};
 use flt_bpf::Wide;
+use flt_bpf::operation::Operation;
 use flt_bpf::program::{Program, check};
 use flt_lay::laid_out;
 use flt_short::{shortened, threaded};
@@ -35,6 +37,42 @@ fn wide_code<A: Allocator + Clone>(
     let mut walk = Walk::new(alloc.clone()?)?;
     walk.emit_nodes(link, nodes, &mut Steps::new(alloc)?)?;
     Ok(walk.into_insns())
+}
+
+/// Whether an instruction copies A to X, as accessors do in front of their loads.
+fn has_index_copy(insns: &[Wide]) -> bool {
+    for insn in insns {
+        if insn.code == Operation::CopyToIndex.code() {
+            return true;
+        }
+    }
+    false
+}
+
+/// One round of the optimiser: code is threaded and shortened.
+fn optimised<A: Allocator + Clone>(
+    alloc: A,
+    insns: Vec<Wide, A>,
+) -> Result<Vec<Wide, A>, AllocError>
+    ensures { IfOk result (λ new. IsRound new.items insns.items) }
+{
+    let moved = threaded(alloc.clone()?, insns)?;
+    shortened(alloc, moved)
+}
+
+/// A further round if it is wanted; else the code itself.
+fn optimised_if<A: Allocator + Clone>(
+    alloc: A,
+    insns: Vec<Wide, A>,
+    is_wanted: bool,
+) -> Result<Vec<Wide, A>, AllocError>
+    ensures { IfOk result (λ new. IsRound new.items insns.items) }
+{
+    if is_wanted {
+        optimised(alloc, insns)
+    } else {
+        Ok(insns)
+    }
 }
 
 /// A program that accepts (returns non-zero) exactly the packets that the expression, read on the
@@ -60,8 +98,12 @@ pub fn generate<A: Allocator + Clone, B: Allocator>(
 {
     let nodes = folded_nodes(alloc.clone()?, expr.expr.nodes())?;
     let code = wide_code(alloc.clone()?, &nodes, link)?;
-    let moved = threaded(alloc.clone()?, code)?;
-    let short = shortened(alloc.clone()?, moved)?;
+    // Accessors load at X. The first round makes loads at fixed places of these, and only such loads
+    // can be passed by the second one. `has_index_copy` needs no clause: its mistakes would cost
+    // length or time alone.
+    let has_accessors = has_index_copy(&code);
+    let once = optimised(alloc.clone()?, code)?;
+    let short = optimised_if(alloc.clone()?, once, has_accessors)?;
     if short.len() >= TOO_MANY {
         return Err(AllocError);
     }

@@ -33,13 +33,9 @@ fn code_of(alloc: Global, rows: &[Row]) -> Result<Vec<Wide>, AllocError> {
     Ok(code)
 }
 
-/// The rows of the code that is made of these, as a compilation makes it: threaded and shortened,
-/// twice.
+/// The rows of the code that is made of these, as a compilation makes it: threaded and shortened.
 fn made_of(alloc: Global, rows: &[Row]) -> Result<Vec<Row>, AllocError> {
-    let mut code = code_of(alloc, rows)?;
-    for _ in 0..2 {
-        code = shortened(alloc, threaded(alloc, code)?)?;
-    }
+    let code = shortened(alloc, threaded(alloc, code_of(alloc, rows)?)?)?;
     let mut made = Vec::new(alloc);
     for insn in &code {
         made.push((insn.code, insn.yes, insn.no, insn.k))?;
