@@ -15,4 +15,4 @@ mod value;
 pub use expr::{Checked, Expr};
 pub use node::Node;
 pub use qualifiers::{CompleteQualifiers, Direction, Qualifiers};
-pub use value::{Dotted, Ip4Net, NetMask, Value};
+pub use value::{Dotted, Ip4Net, NetMask, Value, ip4_prefix_mask};

@@ -112,7 +112,7 @@ fn ip4_mask(parts: u8, mask: NetMask) -> u32
 }
 
 /// The mask of the first `len` of 32 bits; all of them if `len` is 32 or more.
-fn ip4_prefix_mask(len: u32) -> u32
+pub fn ip4_prefix_mask(len: u32) -> u32
     ensures { result ≡ first_bits 32 len }
 {
     // No bits are a case of their own: a shift of 32 bits by 32 isn't defined.

@@ -4,7 +4,6 @@
 
 ghost use Rattle.std.specs.Prelude.{◌≡◌, ◌+◌, ◌≤◌, OnOk};
 ghost use Rattle.cap_octet.specs.Link.{longest_header};
-ghost use Rattle.flt_ast.specs.Nets.{first_bits};
 ghost use Rattle.flt_gen.specs.Formula.{all_of};
 ghost use Rattle.flt_gen.specs.Primitives.{partial_mask, net_test, address_test, address_places};
 ghost use Rattle.flt_gen.specs.Primitives.{hosts_of_kind, hosts_formula, ip6_test, ip6_tests};
@@ -16,7 +15,7 @@ use crate::elementary::{
 };
 use crate::steps::Steps;
 use cap_octet::Link;
-use flt_ast::Direction;
+use flt_ast::{Direction, ip4_prefix_mask};
 use flt_bpf::operation::Width;
 use flt_words::{Comparison, Join, Protocol, Side};
 use std::alloc::{AllocError, Allocator};
@@ -89,15 +88,6 @@ fn address_places(link: Link, kind: FrameKind) -> Sides
     }
 }
 
-/// The mask of a word whose first `bits` bits count, or all 32 if there are more.
-pub fn prefix_mask(bits: u32) -> u32
-    ensures { result ≡ first_bits 32 bits }
-{
-    let others = 32u32.saturating_sub(bits);
-    // 2^32 - 1 without the other bits, whose sum is 2^others - 1.
-    (0x1_0000_0000 - 2u64.pow(others)) as u32
-}
-
 /// The test that one of the four words (0 to 3) of the IPv6 address that begins at a place is that
 /// of `address`, as far as the prefix goes; without a prefix all bits count.
 fn ip6_test(prefix: Option<u32>, address: u128, at: u32, word: u32) -> Elementary
@@ -106,7 +96,7 @@ fn ip6_test(prefix: Option<u32>, address: u128, at: u32, word: u32) -> Elementar
 {
     let mask = match prefix {
         None => None,
-        Some(bits) => partial_mask(prefix_mask(bits.saturating_sub(32 * word))),
+        Some(bits) => partial_mask(ip4_prefix_mask(bits.saturating_sub(32 * word))),
     };
     // Word 0 is the highest: 96 bits are below it.
     let part = address / 2u128.pow(96 - 32 * word) % 0x1_0000_0000;

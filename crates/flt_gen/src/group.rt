@@ -10,13 +10,13 @@ ghost use Rattle.flt_gen.specs.inside.Group.{larger_group, is_searched, group_fo
 ghost use Rattle.flt_gen.specs.inside.Group.{numbers_of};
 ghost use Rattle.flt_gen.specs.inside.Steps.{IsPut, no_steps};
 
-use crate::address::{Hosts, partial_mask, prefix_mask};
+use crate::address::{Hosts, partial_mask};
 use crate::elementary::{Elementary, Interval};
 use crate::port::{PortTest, Ports};
 use crate::stack::Stack;
 use crate::steps::Steps;
 use cap_octet::Link;
-use flt_ast::{CompleteQualifiers, Direction, NetMask, Value};
+use flt_ast::{CompleteQualifiers, Direction, NetMask, Value, ip4_prefix_mask};
 use flt_words::{Join, Protocol, Side, ValueType};
 use std::alloc::{AllocError, Allocator};
 use std::marker::Model;
@@ -288,7 +288,7 @@ impl<A: Allocator> Group<A> {
         let (protocol, direction) = (self.qualifiers.protocol, self.qualifiers.direction);
         match self.qualifiers.value_type {
             ValueType::Host | ValueType::Net => {
-                let mask = partial_mask(prefix_mask(self.bits));
+                let mask = partial_mask(ip4_prefix_mask(self.bits));
                 steps.put_hosts(link, protocol, Hosts::Several(direction, mask))
             }
             ValueType::Port | ValueType::PortRange => {

@@ -98,9 +98,8 @@ pub fn generate<A: Allocator + Clone, B: Allocator>(
 {
     let nodes = folded_nodes(alloc.clone()?, expr.expr.nodes())?;
     let code = wide_code(alloc.clone()?, &nodes, link)?;
-    // Accessors load at X. The first round makes loads at fixed places of these, and only such loads
-    // can be passed by the second one. `has_index_copy` needs no clause: its mistakes would cost
-    // length or time alone.
+    // Accessors load at X. The first round makes loads at fixed places of these, which the second
+    // one can pass. `has_index_copy` needs no clause: a mistake would only cost length or time.
     let has_accessors = has_index_copy(&code);
     let once = optimised(alloc.clone()?, code)?;
     let short = optimised_if(alloc.clone()?, once, has_accessors)?;
