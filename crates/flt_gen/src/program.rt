@@ -1,5 +1,5 @@
 //! Compiles an expression in all stages: its nodes are folded, the walk emits plain code, the code
-//! is threaded, shortened and laid out.
+//! is threaded and shortened in one or two rounds, and is laid out.
 
 ghost use Rattle.std.specs.Prelude.{◌≡◌, ◌≤◌, IfOk, reverse};
 ghost use Rattle.flt_gen.specs.Correct.{IsProgramOf};
@@ -20,12 +20,13 @@ use flt_lay::laid_out;
 use flt_short::{shortened, threaded};
 use std::alloc::{AllocError, Allocator};
 
-/// Code of this many instructions (2^30) or more isn't laid out: with its jumps it could have more
-/// than a 32-bit offset reaches.
+/// `laid_out` takes fewer than 2^30 instructions. A checked expression never has as many (its bound
+/// is at most 32,768), so the error for it is never returned.
 const TOO_MANY: usize = 0x4000_0000;
 
-/// The code of the tree with these nodes, before it is shortened and laid out: its tests may skip
-/// any number of instructions. An error is a failed allocation.
+/// The plain code of the tree with these nodes, before it is threaded, shortened and laid out: its
+/// tests may skip any number of instructions. An error is a failed allocation, or an allocator that
+/// cannot be cloned.
 fn wide_code<A: Allocator + Clone>(
     alloc: A,
     nodes: &[Node],
@@ -39,7 +40,7 @@ fn wide_code<A: Allocator + Clone>(
     Ok(walk.into_insns())
 }
 
-/// Whether an instruction copies A to X, as accessors do in front of their loads.
+/// Whether an instruction copies A to X. Accessors and operators with a computed right operand do.
 fn has_index_copy(insns: &[Wide]) -> bool {
     for insn in insns {
         if insn.code == Operation::CopyToIndex.code() {
@@ -49,7 +50,7 @@ fn has_index_copy(insns: &[Wide]) -> bool {
     false
 }
 
-/// One round of the optimiser: code is threaded and shortened.
+/// One round of the optimiser: threads and shortens code.
 fn optimised<A: Allocator + Clone>(
     alloc: A,
     insns: Vec<Wide, A>,
@@ -60,7 +61,7 @@ fn optimised<A: Allocator + Clone>(
     shortened(alloc, moved)
 }
 
-/// A further round if it is wanted; else the code itself.
+/// The code after one more round if that is wanted; else the code itself.
 fn optimised_if<A: Allocator + Clone>(
     alloc: A,
     insns: Vec<Wide, A>,
@@ -80,11 +81,10 @@ fn optimised_if<A: Allocator + Clone>(
 /// them is executed twice in a run.
 ///
 /// It has a jump (`ja`) only if a conditional jump's target is more than 255 instructions past the
-/// one after it, and none if a program without jumps has at most 256 instructions by the
-/// expression's counts.
+/// one after it. It has none, and at most `short_bound_of` instructions, if that number is at most
+/// 256.
 ///
-/// An error is a failed allocation: for a copy of the tree's nodes, for the instructions, or for
-/// the lists of the walk over the tree; or an allocator that cannot be cloned.
+/// An error is a failed allocation, or an allocator that cannot be cloned.
 pub fn generate<A: Allocator + Clone, B: Allocator>(
     alloc: A,
     expr: &Checked<B>,
@@ -98,18 +98,19 @@ pub fn generate<A: Allocator + Clone, B: Allocator>(
 {
     let nodes = folded_nodes(alloc.clone()?, expr.expr.nodes())?;
     let code = wide_code(alloc.clone()?, &nodes, link)?;
-    // Accessors load at X. The first round makes loads at fixed places of these, which the second
-    // one can pass. `has_index_copy` needs no clause: a mistake would only cost length or time.
-    let has_accessors = has_index_copy(&code);
+    // A load at X becomes a load at a fixed place in the first round if X is a constant. A walk of
+    // the second round can pass it. `has_index_copy` needs no clause: a mistake would only cost
+    // length or time.
+    let copies_to_index = has_index_copy(&code);
     let once = optimised(alloc.clone()?, code)?;
-    let short = optimised_if(alloc.clone()?, once, has_accessors)?;
+    let short = optimised_if(alloc.clone()?, once, copies_to_index)?;
     if short.len() >= TOO_MANY {
         return Err(AllocError);
     }
     let insns = laid_out(alloc, &short)?;
     match check(insns) {
         Ok(program) => Ok(program),
-        // What the passes make of valid code is valid.
+        // The plain code is valid, and each pass keeps it valid.
         Err(_) => unreachable!(),
     }
 }

@@ -1,8 +1,10 @@
-//! Jump threading: moves the targets of tests as far on as what is known at the test decides.
+//! Jump threading: a test whose target is another test with a known outcome skips to the place
+//! where that leads.
 //!
-//! A walk starts at each target of a test, and passes instructions as long as what is known decides
-//! what they do. The new target is the last place of the walk at which a run may continue instead
-//! of at the old target. If the walk ends at a test, `target` tries both of its outcomes too.
+//! A walk starts at each target of a test, with the state (`Known`) after that outcome. It passes
+//! only instructions whose effect follows from this state. The new target is the last place of the
+//! walk at which a run may continue instead of at the old target. If the walk ends at a test,
+//! `target` tries both of its outcomes too.
 //!
 //! In a walk a place is an index of the code that follows the test. Clauses cite definitions of the
 //! same names; the contract of `threaded` states what follows from them (`Threads`).
@@ -28,15 +30,16 @@ use flt_bpf::Wide;
 use flt_bpf::operation::{AluOperation, Operand, Operation, Register, Source, Test, decode};
 use std::alloc::{AllocError, Allocator};
 
-/// The most instructions that a walk passes. It bounds the time that a walk takes.
+/// The most instructions that a walk passes. After a test at its end, each outcome gets as many
+/// again. This bounds the time that a walk takes.
 const FUEL: usize = 128;
 
 /// Code of at most this many instructions is threaded only if a load occurs twice in it
 /// (`repeats_a_load`). The search takes quadratic time, so longer code is always threaded.
 const SHORT_CODE: usize = 64;
 
-/// The position of a walk. If a run continues there instead of at the start of the walk, A holds
-/// what it held at the start. After the passed instructions, A may hold another field.
+/// The position of a walk. A run that continues there, instead of at the start of the walk, has the
+/// value of A from the start. After the passed instructions, A may hold another field.
 #[derive(Clone, Copy)]
 pub struct Spot {
     /// An index of the code after the test.
@@ -84,8 +87,8 @@ fn other_field(held: Held, field: Field) -> Option<Field>
     }
 }
 
-/// The position after a test whether A is a number; `None` if what is known doesn't decide the
-/// test.
+/// The position after a test for equality of A with a constant; `None` if the known facts don't
+/// decide it.
 fn past_test(known: &Known, insn: Wide, spot: Spot) -> Option<Spot>
     requires { spot.place < 2 ^ 63 }
     ensures { result ≡ past_test known.now insn spot }
@@ -122,7 +125,7 @@ fn past_mask(known: &Known, mask: u32, spot: Spot) -> Option<Spot>
     }
 }
 
-/// Whether A, at the start of the walk, holds the value that this load at X would put there.
+/// Whether A, at the start of the walk, holds the value that this load at X would put into A.
 fn holds_load(held: Held, insn: Wide) -> bool
     ensures { result ≡ holds_load held insn }
 {
@@ -132,8 +135,8 @@ fn holds_load(held: Held, insn: Wide) -> bool
     }
 }
 
-/// The position after one instruction; `None` if what is known doesn't decide what the instruction
-/// does, so that the walk ends before it.
+/// The position after one instruction; `None` if the walk ends before it. A walk passes only
+/// instructions whose effect follows from the state.
 fn past_insn(known: &Known, insn: Wide, spot: Spot) -> Option<Spot>
     requires { spot.place < 2 ^ 63 }
     ensures { result ≡ past_insn (operation_of insn.code) known.now insn spot }
@@ -199,8 +202,7 @@ fn ignores_accumulator_at(code: &[Wide], place: usize) -> bool
 }
 
 /// Whether the value of A doesn't matter at a place: the instruction there overwrites A, or ends
-/// the run, without reading A. If the instruction loads the length of a header into X, the one
-/// after it decides.
+/// the run, without reading A. If it loads the length of a header into X, the next one must do so.
 fn is_free(code: &[Wide], place: usize) -> bool
     ensures { result ≡ is_free code.now place }
 {
@@ -213,8 +215,8 @@ fn is_free(code: &[Wide], place: usize) -> bool
     }
 }
 
-/// Whether a run may continue at the position of a walk, instead of at its start: A is the same
-/// there as after the passed instructions, or its value doesn't matter.
+/// Whether a run may continue at a spot instead of at the start of the walk: the place is inside
+/// the code, and A is the same there as after the passed instructions, or its value doesn't matter.
 fn can_stop(code: &[Wide], spot: Spot) -> bool
     ensures { result ≡ can_stop code.now spot }
 {
@@ -232,7 +234,8 @@ fn place_or_best(code: &[Wide], spot: Spot, best: usize) -> usize
     }
 }
 
-/// Continues a walk as far as what is known decides, past at most `fuel` instructions.
+/// Continues a walk to the first instruction that it can't pass, or to the end of the code, past at
+/// most `fuel` instructions.
 #[tactic(auto, unfolding(crate::specs::inside::Threads::walk))]
 fn walk(fuel: usize, known: &Known, code: &[Wide], reached: &mut Reached)
     ensures { reached.new ≡ walk fuel known.now code.now reached.old }
@@ -249,7 +252,7 @@ fn walk(fuel: usize, known: &Known, code: &[Wide], reached: &mut Reached)
     }
 }
 
-/// Walks from a place as far as what is known decides, past at most `FUEL` instructions.
+/// Walks from a place, past at most `FUEL` instructions.
 fn walk_from(known: &Known, code: &[Wide], from: usize) -> Reached
     ensures { result ≡ walk_from known.now code.now from }
 {
@@ -262,8 +265,8 @@ fn walk_from(known: &Known, code: &[Wide], from: usize) -> Reached
     reached
 }
 
-/// The last place at which a run may continue instead of at the start of a walk that ended before a
-/// test, if the outcome of the test skips this number of instructions.
+/// The best place of a walk that continues past the test at its end, if the test skips this number
+/// of instructions.
 fn best_after(known: &Known, code: &[Wide], end: &Reached, skipped: u32) -> usize
     requires { end.now.spot.place < 2 ^ 63 }
     ensures { result ≡ best_after known.now code.now end.now skipped }
@@ -278,9 +281,9 @@ fn best_after(known: &Known, code: &[Wide], end: &Reached, skipped: u32) -> usiz
     reached.best
 }
 
-/// The last place at which a run may continue instead of at the start of a walk that ended before
-/// this instruction: the best of the walk. If the instruction is a test, the walk goes on after
-/// both outcomes: if both lead to the same later place, that is the result.
+/// The last place found at which a run may continue instead of at the start of a walk that ended
+/// before this instruction: the best of the walk. If the instruction is a test, the walk goes on
+/// after both outcomes: if both lead to the same later place, that is the result.
 fn target_past(known: &Known, code: &[Wide], end: &Reached, insn: Wide) -> usize
     requires { end.now.spot.place < 2 ^ 63 }
     ensures { result ≡ target_by (operation_of insn.code) known.now code.now end.now insn }
@@ -298,8 +301,8 @@ fn target_past(known: &Known, code: &[Wide], end: &Reached, insn: Wide) -> usize
     }
 }
 
-/// The last place at which a run may continue instead of at `from`. Places are indices of the code
-/// after the test whose target is `from`.
+/// The last place found at which a run may continue instead of at `from`. Places are indices of the
+/// code after the test whose target is `from`.
 fn target(known: &Known, code: &[Wide], from: usize) -> usize
     ensures { result ≡ target known.now code.now from }
 {
@@ -310,8 +313,8 @@ fn target(known: &Known, code: &[Wide], from: usize) -> usize
     }
 }
 
-/// The new offset of a test whose old one is `skipped`: that of the target, moved as far on as what
-/// is known decides. It is `skipped` if the new one exceeds 32 bits.
+/// The threaded offset of a test whose old one is `skipped`; it is `skipped` if the new one exceeds
+/// 32 bits.
 fn threaded_offset(known: &Known, following: &[Wide], skipped: u32) -> u32
     ensures { result ≡ threaded_offset known.now following.now skipped }
 {
@@ -323,9 +326,9 @@ fn threaded_offset(known: &Known, following: &[Wide], skipped: u32) -> u32
     }
 }
 
-/// Moves both targets of a test as far on as what is known decides, and notes what is known at
-/// them. The instruction after the test is at the place `from` of the whole code. Afterwards `here`
-/// is what is known if the test fails.
+/// Threads both targets of a test, and joins the state after each outcome into the state at its
+/// target. The instruction after the test is at the place `from` of the whole code. Afterwards
+/// `here` is the state after the test if it fails.
 fn thread_test(
     seen: &mut [Known],
     from: usize,
@@ -351,9 +354,10 @@ fn thread_test(
     insn
 }
 
-/// Threads one instruction: only a test changes, and only if runs may reach it. Notes what is known
-/// at each place where a run continues after it. The next instruction is at the place `from` of the
-/// whole code. `here`, what is known before the instruction, may change, and isn't needed any more.
+/// Threads one instruction: only a test changes, and only if a run may reach it. Joins the state
+/// after it into the state at each place where a run continues. The next instruction is at the
+/// place `from` of the whole code. `here`, the state before the instruction, may change, and isn't
+/// needed any more.
 fn thread_insn(
     seen: &mut [Known],
     from: usize,
@@ -383,7 +387,8 @@ fn thread_insn(
     }
 }
 
-/// Threads all instructions in order, each with what is known on every way to it.
+/// Threads all instructions in order, each with the state at its place, which is the join of the
+/// states on all paths to it.
 fn thread_all(seen: &mut [Known], insns: &mut [Wide])
     ensures { insns.new ≡ flow 0 seen.old insns.old }
 {
@@ -398,7 +403,7 @@ fn thread_all(seen: &mut [Known], insns: &mut [Wide])
     }
 }
 
-/// Threads code; `seen` is what is known at each place before the first instruction is read. The
+/// Threads code; `seen` has the state at each place before the first instruction is read. The
 /// contract here defines the new code; that of `threaded` states what follows from it.
 fn threaded_insns<A: Allocator>(seen: &mut [Known], mut insns: Vec<Wide, A>) -> Vec<Wide, A>
     ensures { result.items ≡ flow 0 seen.old insns.items }
@@ -449,9 +454,9 @@ fn is_among(insns: &[Wide], insn: Wide) -> bool {
     false
 }
 
-/// Moves the targets of tests as far on as what is known at the test decides. The new code returns
-/// the same on each packet. Code of at most 64 instructions in which no load occurs twice is
-/// returned unchanged, since threading seldom changes it. The error is a failed allocation.
+/// Threads code: its tests skip tests whose outcome is known. The new code returns the same on each
+/// packet. Code of at most 64 instructions in which no load occurs twice is returned unchanged,
+/// since threading seldom changes it. The error is a failed allocation.
 pub fn threaded<A: Allocator>(alloc: A, insns: Vec<Wide, A>) -> Result<Vec<Wide, A>, AllocError>
     ensures { IfOk result (λ new. Threads new.items insns.items) }
 {

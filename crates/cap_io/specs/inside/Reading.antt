@@ -1,6 +1,6 @@
 -- The effect of a call that reads one unit (a file header, a record or a block): on the device, the
--- buffer and the state of the file. A clause after `IsTrue device.tells` is stated only if
--- contracts know the bytes of the device.
+-- buffer and the state of the file. A clause after `IsTrue device.tells` applies only if contracts
+-- know the bytes of the device.
 use Rattle.std.specs.Prelude.{◌≡◌, ℕ, ◌+◌, ◌^◌, ◌<◌, ◌≤◌, ◌⊎◌, Bool, true, false, List, [], ◌∷◌, ◌++◌, length, take, drop, Option, None, Some, Result, Ok, Err, IfOk, IfErr, is_some, IsTrue, OnOk, OnErr}
 use Rattle.std.specs.List.{slice_get}
 use Rattle.cap_octet.specs.Packet.{Captured}
@@ -34,12 +34,12 @@ pub record Moves {I X : Type 0} (device : Ghosts I) (old new : I) (front : ℕ) 
     (most : ℕ) (r : Result X Fault) : Type 0 where
   pub counted : IfOk r (λ x. device.given new + front ≡ device.given old + count x)
   pub grown : device.given old ≤ device.given new
-  -- if the call read bytes, the device has given fewer than 2^63 in all
+  -- if the call succeeds and has read bytes, the device has given fewer than 2^63 in all
   pub bounded : IfOk r (λ x. front < count x → device.given new < 2 ^ 63)
   pub at_most : IfErr r (λ _. device.given new + front ≤ device.given old + most)
   pub failed : device.failures new ≡ device.failures old + read_failures r
   pub sure : device.sure new ≡ device.sure old
-  -- a device that has ever failed had given at least as many bytes as it was sure to give
+  -- a device that has ever failed has given at least as many bytes as it was sure to give
   pub enough : 0 < device.failures new → HasGiven (device.sure new) (device.given new)
   -- the number of unread bytes decreased by the number of bytes given
   pub told : IsTrue device.tells
@@ -67,8 +67,8 @@ abbrev pub FrontCame : List ℕ → List ℕ → Bool → List ℕ → Type 0
 FrontCame unread front true unread' = unread ≡ front ++ unread'
 FrontCame unread front false unread' = (unread ≡ []) × (unread' ≡ [])
 
--- The first `size` bytes of a unit couldn't all be read: one byte or more is unread, but fewer than
--- `size` (`Truncated`), or the device failed (`ReadFailed`).
+-- The first `size` bytes of a unit couldn't all be read: one byte or more was unread, but fewer
+-- than `size` (`Truncated`), or the device failed (`ReadFailed`).
 pub record FrontMissing (size : ℕ) (unread unread' : List ℕ) (fault : Fault) : Type 0 where
   pub some : 0 < length unread ⊎ (fault ≡ ReadFailed)
   pub missing : RestMissing 0 size unread unread' fault

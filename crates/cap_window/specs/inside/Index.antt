@@ -47,7 +47,7 @@ mark_at marks i = slice_index_or marks i (record { length = 0; digest = [] })
 abbrev pub links_at : List Links → ℕ → Links
 links_at links i = slice_index_or links i (record { zeros = 0; ones = 0 })
 
--- no wanted mark of the class is at a place from `low` on that is below `limit`
+-- no wanted mark of the class is at the places from `low` to `limit - 1`
 abbrev pub HasNoMark : List Mark → (class wanted : Mark → Bool) → (low limit : ℕ) → Type 0
 HasNoMark marks class wanted low limit =
     (j : ℕ) → low ≤ j → j < limit → IsTrue (class (mark_at marks j))
@@ -95,8 +95,8 @@ pub record IsPutOnTop (marks : List Mark) (old new : List Links) (class : Mark �
   pub below : IsOnTop marks new class every 0 place
   pub others : (j : ℕ) → (IsTrue (class (mark_at marks j)) → ⊥) → links_at new j ≡ links_at old j
 
--- the hash of a mark, which is its index in `heads`: the first four bytes of its digest, as a
--- little-endian number, bitwise and the mask
+-- the hash of a mark, which is its index in `heads`: the first four bytes of its digest,
+-- little-endian, ANDed with `mask`
 abbrev pub hash_of : ℕ → Mark → ℕ
 hash_of mask m = bit_and (from_le_bytes w32 (take 4 m.digest)) mask
 
