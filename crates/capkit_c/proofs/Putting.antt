@@ -8,7 +8,7 @@ use Rattle.std.proofs.lemmas.Cmp.{nat_eq_equiv, nat_list_eq_equiv}
 use Rattle.std.specs.Prelude.{cond}
 use Rattle.cap_io.specs.Text as text
 use Rattle.cap_pcapng.specs.Encoding.{interface_text, packet_block, section_text}
-use Rattle.capkit_c.specs.Writer.{written_interface, interfaces_in, most_written, room_for, put_checks, put_refusal, has_all, next_text, HasWritten, KeepsWritten, IsWhole}
+use Rattle.capkit_c.specs.Writer.{output_interface, interfaces_in, most_written, room_for, put_checks, put_refusal, has_all, next_text, HasWritten, KeepsWritten, IsWhole}
 use Rattle.capkit_c.specs.inside.Writer.{HasAdded}
 use Rattle.capkit_c.specs.declared.memory.layout.Writer.{Writer}
 use Rattle.capkit_c.specs.declared.memory.writing.Written.{Written}
@@ -79,10 +79,10 @@ module _ (w : Writer) (table : List Interface) (p : Captured) (known number room
   one_more w' table' is s l h = record {
     section = ap (λ (v : Writer). v.has_section == 0) h.counted ∙ s;
     interfaces =
-        ap₂ (λ n t. map written_interface (take n t)) count h.put
-        ∙ ap (map written_interface) (take_more_set table known h.entry h.fits.0)
-        ∙ map_append written_interface (take known table) (h.entry ∷ [])
-        ∙ ap₂ (λ n e. map written_interface (take n table) ++ e ∷ []) is h.same
+        ap₂ (λ n t. map output_interface (take n t)) count h.put
+        ∙ ap (map output_interface) (take_more_set table known h.entry h.fits.0)
+        ∙ map_append output_interface (take known table) (h.entry ∷ [])
+        ∙ ap₂ (λ n e. map output_interface (take n table) ++ e ∷ []) is h.same
         ∙ ap (λ z. ks ++ z) (sym (added_is false s (sym among ∙ l)));
     room = long;
   }

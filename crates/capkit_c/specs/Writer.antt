@@ -18,10 +18,10 @@ use Rattle.capkit_c.specs.declared.memory.writing.Written.{Written}
 use Rattle.capkit_c.specs.declared.memory.writing.Written.TheVariants as written
 
 -- an interface of the table, as it is written
-abbrev pub written_interface : Interface → text.Interface
-written_interface i = record { link = i.link_type; snap = i.snap; name = take i.name_length i.name }
+abbrev pub output_interface : Interface → text.Interface
+output_interface i = record { link = i.link_type; snap = i.snap; name = take i.name_length i.name }
 
--- how many interfaces a file may have whose table has room for so many
+-- the most interfaces of a file, by the room of its table
 abbrev pub room_for : ℕ → ℕ
 room_for room = min room text.most_output_interfaces
 
@@ -31,7 +31,7 @@ most_written w room = min w.interfaces (room_for room)
 
 -- the interfaces that are written so far
 abbrev pub interfaces_in : Writer → List Interface → List text.Interface
-interfaces_in w table = map written_interface (take (most_written w (length table)) table)
+interfaces_in w table = map output_interface (take (most_written w (length table)) table)
 
 -- the checks of a packet that must be put, in order; `room` is whether its interface is one of those
 -- that the file may have

@@ -169,8 +169,8 @@ fn tell_put(put: Put, length: &mut usize) -> u32
 
 /// Writes the next unit of a pcapng file to which a packet is put: the section header, or the
 /// description of the packet's interface, or the packet's block. Buffer and result are as for
-/// `capkit_write_packet`, but for one more result: 227 means that the unit comes before the
-/// packet's, so the same packet is to be put again.
+/// `capkit_write_packet`, with one more result: 227 means that the unit comes before the packet's,
+/// so the same packet must be put again.
 ///
 /// `writer` and the table are what is written so far: `writer` is all zeros at first, and the table
 /// may have anything. They are unchanged if nothing is written. Interfaces of equal link type,

@@ -2,7 +2,7 @@
 use Rattle.std.specs.Prelude.{◌≡◌, ℕ, ◌+◌, ◌<◌, List, length, slice_set}
 use Rattle.cap_io.specs.Text as text
 use Rattle.cap_octet.specs.Packet.{Captured}
-use Rattle.capkit_c.specs.Writer.{written_interface}
+use Rattle.capkit_c.specs.Writer.{output_interface}
 use Rattle.capkit_c.specs.declared.memory.layout.Interface.{Interface}
 use Rattle.capkit_c.specs.declared.memory.layout.Writer.{Writer}
 
@@ -11,6 +11,6 @@ pub record HasAdded (known : ℕ) (p : Captured) (w : Writer) (table : List Inte
     (table' : List Interface) : Type 0 where
   pub fits : (known < length table) × (known < 4096)
   pub entry : Interface
-  pub same : written_interface entry ≡ text.interface_of p
+  pub same : output_interface entry ≡ text.interface_of p
   pub put : table' ≡ slice_set table known entry
   pub counted : w' ≡ record w { interfaces = known + 1 }

@@ -5,7 +5,7 @@ ghost use Rattle.cap_io.specs.Capture.{first_link_of};
 ghost use Rattle.cap_io.specs.Reading.{declared_by};
 ghost use Rattle.capkit_c.specs.Layout.{HasLink, described_of, reader_form, most_known};
 ghost use Rattle.capkit_c.specs.Layout.{order_of_flag};
-ghost use Rattle.capkit_c.specs.Writer.{written_interface};
+ghost use Rattle.capkit_c.specs.Writer.{output_interface};
 ghost use Rattle.cap_io.specs.Text.{interface_of, is_same};
 ghost use Rattle.cap_octet.specs.Packet.{captured};
 
@@ -211,7 +211,7 @@ impl Interface {
     /// `name` is 0, which no clause states.
     pub(crate) fn of_packet(packet: &OctetPacket<'_>) -> Self
         requires { length packet.now.name.now ≤ 255 }
-        ensures { written_interface result ≡ interface_of (captured packet.now) }
+        ensures { output_interface result ≡ interface_of (captured packet.now) }
     {
         let mut name = [0; MOST_NAME];
         name[..packet.name.len()].copy_from_slice(packet.name);
@@ -227,7 +227,7 @@ impl Interface {
 
     /// Whether this is the interface of a packet: link type, snapshot length and name are equal.
     pub(crate) fn is_of(&self, packet: &OctetPacket<'_>) -> bool
-        ensures { result ≡ is_same (interface_of (captured packet.now)) (written_interface self.now) }
+        ensures { result ≡ is_same (interface_of (captured packet.now)) (output_interface self.now) }
     {
         packet.link == self.link_type
             && (packet.snap == self.snap && packet.name == &self.name[..self.name_length as usize])

@@ -5,7 +5,7 @@ ghost use Rattle.std.specs.Prelude.{◌≡◌, ◌≤◌, ◌<◌, ◌==◌, ◌
 ghost use Rattle.cap_octet.specs.Checks.{first_failing};
 ghost use Rattle.cap_octet.specs.Packet.{captured};
 ghost use Rattle.cap_io.specs.Text.{interface_of, number_among};
-ghost use Rattle.capkit_c.specs.Writer.{written_interface, put_checks, interfaces_in};
+ghost use Rattle.capkit_c.specs.Writer.{output_interface, put_checks, interfaces_in};
 ghost use Rattle.capkit_c.specs.Writer.{most_written, room_for};
 ghost use Rattle.capkit_c.specs.Writer.{Puts, IsWhole};
 ghost use Rattle.capkit_c.specs.Buffers.{WriteLeaves};
@@ -27,7 +27,7 @@ pub struct Put {
 
 /// The index in a table of the interface of a packet; the length of the table if it isn't there.
 fn number_of(table: &[Interface], packet: &Packet<'_>) -> usize
-    ensures { result ≡ number_among (map written_interface table.now)
+    ensures { result ≡ number_among (map output_interface table.now)
         (interface_of (captured packet.now)) }
 {
     let mut at = 0;
@@ -100,7 +100,7 @@ fn put_new_interface(
     written
 }
 
-/// Where the interface of a packet is among those that are written.
+/// The place of the interface of a packet among those that are written.
 #[derive(Clone, Copy)]
 struct Place {
     /// How many are written.
@@ -111,7 +111,7 @@ struct Place {
     room: usize,
 }
 
-/// Where the interface of a packet is among those that are written.
+/// The place of the interface of a packet among those that are written.
 fn place_of(writer: &Writer, table: &[Interface], packet: &Packet<'_>) -> Place
     ensures known { result.known ≡ length (interfaces_in writer.now table.now) }
     ensures written { result.known ≡ most_written writer.now (length table.now) }

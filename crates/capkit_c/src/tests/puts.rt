@@ -22,7 +22,7 @@ const ANY: Interface = Interface {
     name: [7; 255],
 };
 
-/// The packets, each with what tells its interface from others: link type, snapshot length, name.
+/// The packets, each with the fields of its interface: link type, snapshot length, name.
 /// Those at 0, 2 and 5 have one interface.
 const PUT: [(u16, u32, &[u8]); 6] = [
     (1, 96, b"en"),
