@@ -1,5 +1,6 @@
--- Laws of reading.
-use Rattle.std.specs.Prelude.{ℕ, ◌+◌, ◌≤◌, List, length, drop}
+-- Laws of reading and writing.
+use Rattle.std.specs.Prelude.{◌≡◌, ℕ, ◌+◌, ◌≤◌, List, ◌++◌, length, drop}
+use Rattle.cap_io.specs.Text as text
 use Rattle.capkit_c.specs.Units.{NextLeaves}
 use Rattle.capkit_c.specs.declared.memory.layout.Interface.{Interface}
 use Rattle.capkit_c.specs.declared.memory.layout.Packet.{Packet}
@@ -21,3 +22,10 @@ RestIsRead =
     (what : Found) → k ≤ length capture → NextLeaves (drop k capture) r r' t t' p p' what
     → NextLeaves capture (reader_from k r) (reader_from k r') t t' (packet_from k p)
     (packet_from k p') what
+
+-- The number of a packet's interface is the same before and after the interface is described. So the
+-- units of the calls that put a packet are, one after another, what a sink adds.
+abbrev pub NumberStays : Type 0
+NumberStays =
+    (known : List text.Interface) (i : text.Interface)
+    → text.number_among (known ++ text.new_among known i) i ≡ text.number_among known i

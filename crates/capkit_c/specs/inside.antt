@@ -3,3 +3,4 @@ pub mod Blocks
 pub mod Listings
 pub mod Matching
 pub mod Units
+pub mod Writer

@@ -3,12 +3,17 @@ ghost use Rattle.std.specs.Prelude.{◌≡◌, ◌↔◌, List};
 ghost use Rattle.flt_bpf.specs.declared.insn.Insn.{Insn};
 ghost use Rattle.capkit_c.specs.Elsewhere.{HereFromZeros, SameFromAnyWords};
 ghost use Rattle.capkit_c.specs.Elsewhere.{SameOnLibpcap, SameOnLinux};
-ghost use Rattle.capkit_c.specs.Laws.{RestIsRead};
+ghost use Rattle.capkit_c.specs.Laws.{NumberStays, RestIsRead};
 ghost use Rattle.capkit_c.specs.Portable.{is_portable, portability};
 
 /// The rest of a capture, from the reader's place on, is read as the capture is.
 pub fn rest_is_read()
     ensures { RestIsRead }
+{}
+
+/// The number of a packet's interface is the same before and after its interface is described.
+pub fn number_stays()
+    ensures { NumberStays }
 {}
 
 /// The machine here is one of those that the next laws speak of.

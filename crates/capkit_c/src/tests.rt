@@ -4,5 +4,6 @@ mod captures;
 mod portable;
 mod printing;
 mod programs;
+mod puts;
 mod texts;
 mod units;

@@ -111,6 +111,7 @@ fn found_text(number: u32) -> &'static str
         24 => "no room for the interface",
         25 => "no room in the buffer",
         26 => "another link type",
+        27 => "a unit before the packet",
         _ => "",
     }
 }

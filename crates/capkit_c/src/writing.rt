@@ -1,6 +1,6 @@
 //! Calls for C that write a capture to the caller's buffer, one file header, record or block per
 //! call.
-ghost use Rattle.std.specs.Prelude.{◌≡◌, [], None};
+ghost use Rattle.std.specs.Prelude.{◌≡◌, ◌<◌, ◌≤◌, [], Bool, IfSome, None, Some, length};
 ghost use Rattle.cap_octet.specs.Checks.{first_failing};
 ghost use Rattle.cap_io.specs.Text.{record_text};
 ghost use Rattle.cap_pcap.specs.Encoding.{file_header};
@@ -9,11 +9,17 @@ ghost use Rattle.capkit_c.specs.Layout.{resolution_by};
 ghost use Rattle.capkit_c.specs.Buffers.{written_block_checks, interface_checks, written_packet};
 ghost use Rattle.capkit_c.specs.Buffers.{written_record_checks};
 ghost use Rattle.capkit_c.specs.Writing.{WriteTells, written_length, written_number};
+ghost use Rattle.capkit_c.specs.Writer.{PutTells, packet_put, put_checks, put_number};
+ghost use Rattle.cap_octet.specs.Date.{TIME_END};
+ghost use Rattle.cap_octet.specs.Packet.{Captured};
 
 use crate::memory::{
-    Written, write_file_header, write_interface, write_packet, write_record, write_section,
+    Interface, MOST_COMMENT, Packet, Put, Writer, Written, put_next, write_file_header,
+    write_interface, write_packet, write_record, write_section,
 };
 use crate::reading::fault_number;
+use cap_octet::{Fault, Packet as OctetPacket, date};
+use cap_pcapng::MOST_NAME;
 
 /// Returns the result of a write as a number of `library/include/capkit.h`: 0 if the unit is
 /// written, 225 if the buffer is too small, or the number of the fault if the unit is refused.
@@ -128,4 +134,74 @@ pub extern "C" fn capkit_write_packet(
 {
     let written = write_packet(interface, time, original, packet, comment, buffer);
     tell_written(written, length)
+}
+
+/// Why a packet isn't put, by its time and the lengths of its name and comment; `None` if these
+/// fail no check.
+fn refusal_by_sizes(time: u64, name: &[u8], comment: &[u8]) -> Option<Fault>
+    ensures some { IfSome result (λ fault. (room : Bool) (p : Captured) → p.time ≡ time
+        → p.name ≡ name.now → p.comment ≡ comment.now
+        → first_failing (put_checks room p) ≡ Some fault) }
+    ensures none { result ≡ None
+        → (time < TIME_END) × ((length name.now ≤ 255) × (length comment.now ≤ 65535)) }
+{
+    if time >= date::TIME_END {
+        return Some(Fault::TimeOutOfRange);
+    }
+    if comment.len() > MOST_COMMENT || name.len() > MOST_NAME {
+        return Some(Fault::BadOption);
+    }
+    None
+}
+
+/// Returns the result of a put as a number of `library/include/capkit.h`: 0 if the packet's block
+/// is written, 227 if a unit before it is, else as `tell_written`.
+fn tell_put(put: Put, length: &mut usize) -> u32
+    ensures number { result ≡ put_number put.written put.is_packet }
+    ensures length { length.new ≡ written_length put.written }
+{
+    let number = tell_written(put.written, length);
+    match put.written {
+        Written::Whole(_) if !put.is_packet => 227,
+        _ => number,
+    }
+}
+
+/// Writes the next unit of a pcapng file to which a packet is put: the section header, or the
+/// description of the packet's interface, or the packet's block. Buffer and result are as for
+/// `capkit_write_packet`, with one more result: 227 means that the unit comes before the packet's,
+/// so the same packet must be put again.
+///
+/// `writer` and the table are what is written so far: `writer` is all zeros at first, and the table
+/// may have anything. They are unchanged if nothing is written. Interfaces of equal link type,
+/// snapshot length and name are one. A packet whose interface the table has no room for, or that
+/// would be the 4,097th, is refused (221).
+#[unsafe(no_mangle)]
+pub extern "C" fn capkit_writer_put(
+    writer: &mut Writer,
+    interfaces: &mut [Interface],
+    packet: &Packet,
+    name: &[u8],
+    bytes: &[u8],
+    comment: &[u8],
+    buffer: &mut [u8],
+    length: &mut usize,
+) -> u32
+    ensures { PutTells writer.old interfaces.old
+        (packet_put packet.now name.now bytes.now comment.now) buffer.old buffer.new length.new
+        result writer.new interfaces.new }
+{
+    if let Some(fault) = refusal_by_sizes(packet.time, name, comment) {
+        return tell_written(Written::Refused(fault), length);
+    }
+    let packet = OctetPacket {
+        link: packet.link_type,
+        snap: packet.snap,
+        name,
+        time: packet.time,
+        orig: packet.original,
+        bytes,
+        comment,
+    };
+    tell_put(put_next(writer, interfaces, &packet, buffer), length)
 }

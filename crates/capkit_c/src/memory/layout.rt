@@ -5,9 +5,12 @@ ghost use Rattle.cap_io.specs.Capture.{first_link_of};
 ghost use Rattle.cap_io.specs.Reading.{declared_by};
 ghost use Rattle.capkit_c.specs.Layout.{HasLink, described_of, reader_form, most_known};
 ghost use Rattle.capkit_c.specs.Layout.{order_of_flag};
+ghost use Rattle.capkit_c.specs.Writer.{output_interface};
+ghost use Rattle.cap_io.specs.Text.{interface_of, is_same};
+ghost use Rattle.cap_octet.specs.Packet.{captured};
 
 use cap_io::FileState;
-use cap_octet::Order;
+use cap_octet::{Order, Packet as OctetPacket};
 use cap_pcap::{Head, Resolution};
 use cap_pcapng::{Clock, Interface as PcapngInterface, MOST_INTERFACES, MOST_NAME};
 
@@ -32,6 +35,19 @@ pub struct Reader {
     pub big_endian: u8,
     /// 1 if a pcap file has nanoseconds.
     pub nanoseconds: u8,
+}
+
+/// The ticks of an interface that is written: nanoseconds.
+const NANOSECONDS: u64 = 1_000_000_000;
+
+/// What is written of a pcapng file so far. All zeros is the start of a file.
+#[repr(C)]
+#[derive(Clone, Copy)]
+pub struct Writer {
+    /// The number of its interfaces, which are the first ones of the caller's table.
+    pub interfaces: u32,
+    /// 0 if its section header isn't written yet.
+    pub has_section: u32,
 }
 
 /// An interface of a section.
@@ -189,6 +205,32 @@ impl Interface {
             name_length: read.name.len() as u8,
             name,
         }
+    }
+
+    /// The entry of the caller's table for the interface of a packet that is written. The rest of
+    /// `name` is 0, which no clause states.
+    pub(crate) fn of_packet(packet: &OctetPacket<'_>) -> Self
+        requires { length packet.now.name.now ≤ 255 }
+        ensures { output_interface result ≡ interface_of (captured packet.now) }
+    {
+        let mut name = [0; MOST_NAME];
+        name[..packet.name.len()].copy_from_slice(packet.name);
+        Interface {
+            units: NANOSECONDS,
+            offset: 0,
+            snap: packet.snap,
+            link_type: packet.link,
+            name_length: packet.name.len() as u8,
+            name,
+        }
+    }
+
+    /// Whether this is the interface of a packet: link type, snapshot length and name are equal.
+    pub(crate) fn is_of(&self, packet: &OctetPacket<'_>) -> bool
+        ensures { result ≡ is_same (interface_of (captured packet.now)) (output_interface self.now) }
+    {
+        packet.link == self.link_type
+            && (packet.snap == self.snap && packet.name == &self.name[..self.name_length as usize])
     }
 
     /// The interface as blocks know it, with its name lent.

@@ -26,7 +26,7 @@ const COMMENT_CODE: u16 = 1;
 const NAME_CODE: u16 = 2;
 
 /// The most bytes of a comment: its option has 16 bits for their number.
-const MOST_COMMENT: usize = 65535;
+pub const MOST_COMMENT: usize = 65535;
 
 /// The most interfaces that a file is given.
 const MOST_OUTPUT_INTERFACES: u32 = cap_io::MOST_OUTPUT_INTERFACES as u32;
@@ -150,7 +150,7 @@ pub fn write_interface(link_type: u16, snap: u32, name: &[u8], buffer: &mut [u8]
 
 /// Puts the description of a packet's interface; its parts are as `cap_pcapng::write_interface` has
 /// them.
-fn put_interface(packet: &Packet<'_>, buffer: &mut [u8]) -> Written
+pub(crate) fn put_interface(packet: &Packet<'_>, buffer: &mut [u8]) -> Written
     ensures { WriteLeaves None
         (interface_text packet.now.link packet.now.snap packet.now.name.now) buffer.old buffer.new
         result }
@@ -213,7 +213,7 @@ pub fn write_packet(
 
 /// Puts the enhanced packet block of a packet that fits; its parts are as
 /// `cap_pcapng::write_packet` has them.
-fn put_packet(number: u32, packet: &Packet<'_>, buffer: &mut [u8]) -> Written
+pub(crate) fn put_packet(number: u32, packet: &Packet<'_>, buffer: &mut [u8]) -> Written
     requires { first_failing (block_fit_checks (captured packet.now)) ≡ None }
     ensures { WriteLeaves None (packet_block number (captured packet.now)) buffer.old buffer.new
         result }

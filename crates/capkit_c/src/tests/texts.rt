@@ -40,7 +40,7 @@ const RULES: [&str; 9] = [
 
 /// By its number less 200: what capkit_next and the writing calls return. None returns 215
 /// to 220; callers show 218 of a pcap file.
-const FOUND: [&str; 27] = [
+const FOUND: [&str; 28] = [
     "",
     "not a capture file",
     "truncated",
@@ -68,6 +68,7 @@ const FOUND: [&str; 27] = [
     "no room for the interface",
     "no room in the buffer",
     "another link type",
+    "a unit before the packet",
 ];
 
 /// Whether a number is named like this in a buffer of 32 bytes, filled with `~`, with a NUL after.
