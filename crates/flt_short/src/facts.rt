@@ -121,7 +121,7 @@ pub fn same_optional(one: Option<u32>, other: Option<u32>) -> bool
     }
 }
 
-/// Whether two fields are the same bits of the same bytes, loaded by the same code.
+/// Whether two fields are values of the same load, with the same mask or both without one.
 pub fn same_field(one: Field, other: Field) -> bool
     ensures { result ≡ same_field one other }
 {
@@ -479,8 +479,9 @@ fn held_without_index(held: Held) -> Held
     }
 }
 
-/// The value of A after an instruction that isn't a test, by the value before. It may be known
-/// after a load of the packet or of its length, and after a mask; after all else it is `Unknown`.
+/// The value of A after an instruction that isn't a test, by the value before. It is known after a
+/// load of the packet or of its length, and after a mask of a field. Instructions that don't set A
+/// keep it, but a value that was loaded at X is forgotten if X changes.
 fn held_after(held: Held, insn: Wide) -> Held
     ensures { result ≡ held_after (operation_of insn.code) held insn }
 {

@@ -1,5 +1,5 @@
-//! Makes code shorter and faster: moves the targets of tests as far on as what is known at the test
-//! decides, and replaces several instructions by fewer that do the same.
+//! Makes code shorter and faster: tests skip tests whose outcome is known, and fewer instructions
+//! replace several that do the same.
 //!
 //! `flt_gen` calls [`threaded`], then [`shortened`].
 //!
@@ -12,7 +12,7 @@
 //!
 //! - *known*: what holds of the packet, A and X in each run that reaches a place (`facts`).
 //! - *way*: a part of a run, from one place to another. A test has two ways on, a return none.
-//! - *walk*: the way from a target of a test on, as far as what is known decides it (`thread`).
+//! - *walk*: the way from a target of a test on, as far as the facts at the test decide (`thread`).
 //! - *landing*: the place of the new code for an instruction of the old one, or nowhere; and
 //!   whether A and X may be read from there on (`alike`).
 #![tactic(auto)]
