@@ -146,7 +146,7 @@ def build(top, made):
         fcntl.flock(lock, fcntl.LOCK_EX)
     if made.exists():
         return
-    say("proving and building: once, some 55 minutes of processor time from nothing")
+    say("proving and building: once, some 30 minutes of processor time from nothing")
     prove(crates := crates_below(top), lock)
     made.parent.mkdir(parents=True, exist_ok=True)
     os.rename(shutil.copy2(crates[-1].made, f"{made}.new"), made)
