@@ -22,19 +22,16 @@ const ANY: Interface = Interface {
     name: [7; 255],
 };
 
-/// The packets, each with the fields of its interface: link type, snapshot length, name.
-/// Those at 0, 2 and 5 have one interface.
-const PUT: [(u16, u32, &[u8]); 6] = [
-    (1, 96, b"en"),
-    (1, 96, b""),
-    (1, 96, b"en"),
-    (101, 96, b"en"),
-    (1, 0, b"en"),
-    (1, 96, b"en"),
+/// The packets, each with its interface: link type, snapshot length, name, and the number that it
+/// has by the order of first use.
+const PUT: [(u16, u32, &[u8], u32); 6] = [
+    (1, 96, b"en", 0),
+    (1, 96, b"", 1),
+    (1, 96, b"en", 0),
+    (101, 96, b"en", 2),
+    (1, 0, b"en", 3),
+    (1, 96, b"en", 0),
 ];
-
-/// The numbers of their interfaces, by the order of first use.
-const NUMBERS: [u32; 6] = [0, 1, 0, 2, 3, 0];
 
 /// The bytes of each packet, and its comment.
 const BYTES: [u8; 5] = [1, 2, 3, 4, 5];
@@ -67,52 +64,82 @@ struct File<'a> {
 }
 
 impl File<'_> {
-    /// Puts one packet of `PUT`, with units before it, and returns the last number.
+    /// Puts a packet once, and returns the number of that.
+    fn put_unit(&mut self, packet: &Packet, name: &[u8]) -> u32 {
+        let Some(rest) = self.buffer.get_mut(self.at..) else {
+            return 1000;
+        };
+        let mut length = 77;
+        let number = capkit_writer_put(
+            &mut self.writer,
+            self.table,
+            packet,
+            name,
+            &BYTES,
+            &COMMENT,
+            rest,
+            &mut length,
+        );
+        if number == 227 || number == 0 {
+            self.at = self.at.saturating_add(length);
+        }
+        number
+    }
+
+    /// Puts a packet with the units before it, and returns the last number.
     fn put(&mut self, link_type: u16, snap: u32, name: &[u8], time: u64) -> u32 {
         let packet = packet_of(link_type, snap, time);
         // At most three units: a section header, an interface, a packet.
         for _ in 0..3 {
-            let mut length = 77;
-            let number = capkit_writer_put(
-                &mut self.writer,
-                self.table,
-                &packet,
-                name,
-                &BYTES,
-                &COMMENT,
-                &mut self.buffer[self.at..],
-                &mut length,
-            );
-            if number != 227 && number != 0 {
+            let number = self.put_unit(&packet, name);
+            if number != 227 {
                 return number;
-            }
-            self.at = self.at.saturating_add(length).min(self.buffer.len());
-            if number == 0 {
-                return 0;
             }
         }
         227
     }
 }
 
+/// The units of `PUT`, written by the calls for units.
+#[derive(Drop)]
+struct Units<'a> {
+    buffer: &'a mut [u8],
+    at: usize,
+    /// How many interfaces are described.
+    described: u32,
+}
+
+impl Units<'_> {
+    /// Writes a packet, and its interface before it if that is new.
+    fn write(&mut self, link_type: u16, snap: u32, name: &[u8], number: u32) {
+        let mut length = 0;
+        if number == self.described {
+            if let Some(rest) = self.buffer.get_mut(self.at..) {
+                capkit_write_interface(link_type, snap, name, rest, &mut length);
+            }
+            self.at = self.at.saturating_add(length);
+            self.described = number.saturating_add(1);
+        }
+        if let Some(rest) = self.buffer.get_mut(self.at..) {
+            capkit_write_packet(number, 5, 60, &BYTES, &COMMENT, rest, &mut length);
+        }
+        self.at = self.at.saturating_add(length);
+    }
+}
+
 /// Writes the units of `PUT` by the calls for units, and returns how many bytes they are.
 fn write_units(buffer: &mut [u8]) -> usize {
-    let mut at = 0;
     let mut length = 0;
-    let mut described = 0;
     capkit_write_section(buffer, &mut length);
-    at += length.min(buffer.len());
-    for ((link_type, snap, name), number) in PUT.iter().zip(&NUMBERS) {
-        if *number == described {
-            capkit_write_interface(*link_type, *snap, name, &mut buffer[at..], &mut length);
-            at = at.saturating_add(length).min(buffer.len());
-            described += 1;
-        }
-        let rest = &mut buffer[at..];
-        capkit_write_packet(*number, 5, 60, &BYTES, &COMMENT, rest, &mut length);
-        at = at.saturating_add(length).min(buffer.len());
+    let mut units = Units {
+        buffer,
+        at: length,
+        described: 0,
+    };
+    for (link_type, snap, name, number) in &PUT {
+        units.write(*link_type, *snap, name, *number);
     }
-    at
+    units.at
 }
 
 #[test]
@@ -126,7 +153,7 @@ fn packets_are_put(rt: HostRuntime) -> Result<(), Fail> {
         buffer: &mut buffer,
         at: 0,
     };
-    for (link_type, snap, name) in &PUT {
+    for (link_type, snap, name, _) in &PUT {
         assert!(rt; file.put(*link_type, *snap, name, 5) == 0);
     }
     assert!(rt; file.at == size && file.writer.interfaces == 4);
@@ -149,16 +176,16 @@ fn packets_are_not_put(rt: HostRuntime) -> Result<(), Fail> {
     assert!(rt; file.put(1, 0, &[0; 256], 5) == 208);
     assert!(rt; file.at == 0 && file.writer.has_section == 0);
     assert!(rt; file.put(1, 0, b"", 5) == 0);
-    let at = file.at;
+    // 28 bytes of the section header, 32 of an interface without a name, 52 of the block.
+    assert!(rt; file.at == 112);
     // The table has room for one interface.
     assert!(rt; file.put(1, 0, b"other", 5) == 221);
-    assert!(rt; file.at == at && file.writer.interfaces == 1);
+    assert!(rt; file.at == 112 && file.writer.interfaces == 1);
     // One byte less than the block of the next packet takes.
-    let length = at;
-    file.at = 512 - 51;
+    file.at = 461;
     assert!(rt; file.put(1, 0, b"", 5) == 225);
-    file.at = 512 - 52;
+    file.at = 460;
     assert!(rt; file.put(1, 0, b"", 5) == 0);
-    assert!(rt; buffer[length..512 - 52].iter().all(|byte| *byte == 0xa5));
+    assert!(rt; buffer[112..460].iter().all(|byte| *byte == 0xa5));
     Ok(())
 }
