@@ -13,6 +13,8 @@ import unittest
 import fields
 import library
 import pictures
+import runs
+import sides
 import tree
 import words
 
@@ -269,6 +271,21 @@ class Words(unittest.TestCase):
             program = library.Program(made)
             self.assertTrue(words.glosses_of(program.instructions, 1)[0].text)
             self.assertIn("<svg", pictures.flow_picture(program, "x"))
+
+
+class Reasons(unittest.TestCase):
+    """Why a packet matches or doesn't: with the field and its number, as the expression has them."""
+
+    def test_fields_and_numbers(self):
+        ip = bytes(12) + b"\x08\x00" + b"\x45" + bytes(11) + bytes([10, 1, 2, 3]) + bytes(32)
+        for text, data, told in [
+            ("net 10.0.0.0/8", ip, "is the source network 10.0.0.0/8? Yes, it is 10.1.2.3"),
+            ("len > 1000", ip, "is the length above 1000? No, it is 62"),
+            ("ether[0] = 60", b"\x3c" + ip[1:], "Yes, it is 60 (0x3c)"),
+        ]:
+            found = runs.Runs(sides.of_expression(text))
+            found.add(library.capkit.Packet(0, 1, data))
+            self.assertIn(told, found.reasons[0])
 
 
 if __name__ == "__main__":
