@@ -48,6 +48,7 @@ FORMS = {b"\xd4\xc3\xb2\xa1": ("<", 10**6), b"\x4d\x3c\xb2\xa1": ("<", 10**9),
          b"\xa1\xb2\xc3\xd4": (">", 10**6), b"\xa1\xb2\x3c\x4d": (">", 10**9)}
 MAGICS = {form: magic for magic, form in FORMS.items()}
 SECTION, INTERFACE, OBSOLETE, SIMPLE, ENHANCED = 0x0A0D0D0A, 1, 2, 3, 6
+SAME = True, ""  # of a block: it is right as it is
 LEAST = {SECTION: 28, INTERFACE: 20, OBSOLETE: 12, SIMPLE: 16, ENHANCED: 32}
 SECTION_TYPE, ORDER_MAGIC = b"\n\r\r\n", 0x1A2B3C4D
 SECTIONS = {struct.pack(it + "IHH", ORDER_MAGIC, 1, minor): it for it in "<>" for minor in (0, 2)}
@@ -55,7 +56,7 @@ HEADER = re.compile(b"|".join(map(re.escape, [*FORMS, SECTION_TYPE])))
 LONGEST, LONGEST_BLOCK, MOST_INTERFACES, ETHERNET = 262_144, 1_048_576, 256, 1
 HELD, AHEAD, ZONE = 8 << 20, 3 << 20, 1 << 20  # of the file, held and looked through at once
 INSIDE, UNITS, FAR = 65_552, 32, 2 << 20  # what no packet's inside exceeds; a chain that does
-SHORT, NO_OFFSET = {"<": b"\x14\0\0\0", ">": b"\0\0\0\x14"}, bytes(8)  # of an interface
+SHORT = {"<": b"\x14\0\0\0", ">": b"\0\0\0\x14"}  # of an interface without options
 PATIENCE, BYTES_A_STEP = 600_000, 64  # steps that may be tried at first, and one for so many bytes
 DOUBTED, NOTES, NEAR, EARLIER, NO_TIME = 8, 20, 86_400, 1, float("nan")
 
@@ -74,7 +75,7 @@ class Source:
         if not self.base <= at or at + ahead > end < self.size:
             self.data = b""
             self.data, self.base = self.get(at, HELD), at
-            self.data += bytes(8) if at + HELD >= self.size else b""
+            self.data += bytes(16) if at + HELD >= self.size else b""
             self.tried += 2000
         return self.data, self.base
 
@@ -255,32 +256,48 @@ class Records(Reader):
     def read_held(self, at, data, base):
         """Reads some of the records held, up to a fault."""
         out, append, units, unpack = self.out, self.last.append, self.units, self.unpack
-        size, made, packets = self.source.size - base, bytearray(), 0
+        size, odd, packets = self.source.size - base, [], 0
         place = done = at - base
         stop = min(place + ZONE, size - 16 if len(data) > size else len(data) - 2 * LONGEST)
+        after = unpack(data, place) if place <= stop else None
         while place <= stop:
-            _, part, captured, original = unpack(data, place)
-            end, is_pair = place + 16 + captured, captured & 255 and captured <= original <= LONGEST
-            if part >= units or part == captured or not is_pair or end > size:
-                after = unpack(data, end) if is_pair and part >= units and end <= stop else bytes(4)
-                if not 0 < after[2] <= after[3] <= LONGEST and self.is_fault(data, base, place):
-                    break
-            if part < units:
+            seconds, part, captured, original = after
+            end = place + 16 + captured
+            if captured > LONGEST or end > size:
+                break
+            after = unpack(data, end)
+            is_pair = captured & 255 and captured <= original <= LONGEST
+            if part < units and (is_pair and (part != captured or seconds >= units)
+                                 or not captured and original):
                 append(base + place)
             else:
-                made += data[done : place + 4] + b"\0\0\0\0"
-                done = place + 8
-                out.note(base + place, "a fraction of a second or more, written as 0")
+                is_next = is_pair and part >= units and 0 < after[2] <= after[3] <= LONGEST
+                if not is_next and self.is_fault(data, base, place):
+                    break
+                (odd if part >= units else self.last).append(place + base)
             packets += 1
             place = end
-        if made:
-            out.put(made)
-            self.is_odd = True
-            while self.last and self.last[0] < base + done:
-                self.last.popleft()
+        if odd:
+            done = self.put_right(odd, data, base, done)
         out.keep(base + done, base + place)
         out.packets += packets
         return base + place
+
+    def put_right(self, odd, data, base, begin):
+        """Writes records up to the fraction of the last odd one, with 0 as those; returns where."""
+        done = odd[-1] + 8
+        made = bytearray(data[begin : done - base])
+        for at in odd:
+            at -= base + begin
+            made[at + 4 : at + 8] = b"\0\0\0\0"
+        for at in odd[:NOTES]:
+            self.out.note(at, "a fraction of a second or more, written as 0")
+        self.out.places += len(odd[NOTES:])
+        self.out.put(made)
+        self.is_odd = True
+        while self.last and self.last[0] < done:
+            self.last.popleft()
+        return done - base
 
     def is_fault(self, data, base, place):
         """Whether this is no record (of any fraction), or reading is off by 4 bytes, or by 1."""
@@ -327,8 +344,9 @@ class Blocks(Reader):
     is_sure = True
     LIKELY = {"<": (re.compile(rb"\0\0\0(?<=[\1-\3\6]\0\0\0)"), 1, b"\0"),
               ">": (re.compile(rb"\0\0\0[\1-\3\6]"), 0, b"\0")}
-    # Of a section's interfaces the time limits, blocks and first snap length, and if one is lost.
-    faces, described, snap, is_torn = [], b"", 0, False
+    # Of a section's interfaces the time limits, blocks and first snap length, and if one is lost;
+    # of the last one the options.
+    faces, described, snap, is_torn, options = [], b"", 0, False, None
 
     def begin(self, at):
         """A section header, if there is none."""
@@ -345,7 +363,7 @@ class Blocks(Reader):
         kind, _, face, high = self.head(at)
         if kind != ENHANCED or face >= len(self.faces):
             return NO_TIME
-        return (high << 32 | self.head(at + 16)[0]) / limits(*self.faces[face])[2]
+        return (high << 32 | self.head(at + 16)[0]) / self.faces[face][2]
 
     def step(self, at, data, base):
         """Where a block ends; past the end of the file if it is cut; None if it is none."""
@@ -367,41 +385,42 @@ class Blocks(Reader):
 
     def read_held(self, at, data, base):
         """Reads blocks in the bytes held, up to one that is none or isn't held as a whole."""
-        out, ends, made = self.out, self.ends, bytearray()
+        out, ends, made, most = self.out, self.ends, bytearray(), len(data) - 16
         place = done = at - base
         kind, length = self.sizes(data, place)
-        while length and (end := place + length) + 8 <= len(data):
+        while length and (end := place + length) <= most:
             again, after, more = ends(data, end - 4)
             if again != length or length & 3 or not LEAST.get(kind, 12) <= length <= LONGEST_BLOCK:
                 break
-            if kind in LEAST:
-                block = data[place:end]
-                right, why = self.right(kind, block)
-                if right is None:
-                    break
-                if right is not block:
-                    made += right if done == place else data[done:place] + right
-                    done = end
-                    out.note(base + place, why, 0 if right else length)
+            right, why = self.right(kind, data, place, length) if kind in LEAST else SAME
+            if right is None:
+                break
+            if right is not True:
+                made += right if done == place else data[done:place] + right
+                done = end
+                out.note(base + place, why, 0 if right else length)
             place, kind, length = end, after, more
         if made:
             out.put(made)
         out.keep(base + done, base + place)
         return base + place
 
-    def right(self, kind, block):
-        """A block as it is or put right, empty if capkit refuses it, None if it is none; and why"""
-        if kind == ENHANCED or kind == INTERFACE:
-            return self.enhanced(block) if kind == ENHANCED else self.interface(block)
-        size = len(block) - 16
+    def right(self, kind, data, place, size):
+        """A block put right, True if it is, empty if capkit refuses it, None if it is none; why."""
+        if kind == ENHANCED:
+            return self.enhanced(data, place, size)
+        if kind == INTERFACE:
+            return self.interface(data[place : place + size])
         if kind == SECTION:
-            if SECTIONS.get(block[8:16]) != self.order:
+            if SECTIONS.get(data[place + 8 : place + 16]) != self.order:
                 return None, ""
             self.faces, self.described, self.is_torn = [], b"", False
-        elif not self.faces or kind == OBSOLETE or self.snap > size < self.sizes(block, 8)[0]:
+        elif (kind == OBSOLETE or not self.faces
+              or self.snap > size - 16 < self.sizes(data, place + 8)[0]):
             return b"", " (an obsolete packet block, or a simple one, cut or of no interface)"
-        self.out.packets += kind == SIMPLE
-        return block, ""
+        else:
+            self.out.packets += 1
+        return SAME
 
     def interface(self, block):
         """An interface, without its options if capkit doesn't read them; none after damage."""
@@ -410,41 +429,44 @@ class Blocks(Reader):
             return b"", " (an interface whose number isn't known)"
         if not self.faces:
             self.described, self.snap = bytearray(), self.sizes(block, 8)[1] or 2**32
-        unit, offset = self.times(block) if len(block) > 20 else (b"\6", NO_OFFSET)
-        why = "" if unit else "an interface, without its options"
-        if not unit:
-            size, unit = SHORT[self.order], b"\6"
-            block = block[:4] + size + block[8:16] + size
-        self.faces.append((self.order, self.out.most, unit, offset))
+        options = block[16:-4]
+        if options != self.options:
+            self.options, self.times = options, self.times_of(options)
+        self.faces.append(self.times)
+        if not self.is_read:
+            block = block[:4] + SHORT[self.order] + block[8:16] + SHORT[self.order]
         self.described += block if len(self.described) <= ZONE else b""
-        return block, why
+        return SAME if self.is_read else (block, "an interface, without its options")
 
-    def times(self, block):
-        """The unit and offset of an interface's times; no unit if capkit refuses its options."""
-        option, found, code, place, end = self.option, {}, 1, 16, len(block) - 4
+    def times_of(self, options):
+        """The limits of an interface's times: of microseconds if capkit refuses its options."""
+        unpack, found, code, place, end = self.option, {}, 1, 0, len(options)
         while place < end and code:
-            code, length = option(block, place)
+            code, length = unpack(options, place)
             if code in (2, 9, 14) and code not in found:
-                found[code] = block[place + 4 : place + 4 + length]
+                found[code] = options[place + 4 : place + 4 + length]
             place += 4 + (length + 3 & -4)
-        unit, offset = found.get(9, b"\6"), found.get(14, NO_OFFSET)
+        unit, offset = found.get(9, b"\6"), found.get(14, bytes(8))
         is_unit = len(unit) == 1 and (unit[0] <= 12 or 128 <= unit[0] <= 160)
-        is_right = is_unit and len(offset) == 8 and place <= end and len(found.get(2, b"")) <= 255
-        return (unit, offset) if is_right else (b"", NO_OFFSET)
+        is_short = place <= end and len(found.get(2, b"")) <= 255
+        self.is_read = is_unit and is_short and len(offset) == 8
+        given = (unit, offset) if self.is_read else (b"\6", bytes(8))
+        return limits(self.order, self.out.most, *given)
 
-    def enhanced(self, block):
+    def enhanced(self, data, place, size):
         """A packet, with the least time if its own is out of range."""
-        face, high, low, captured = self.unpack(block, 8)
-        if 32 + captured > len(block):
+        face, high, low, captured = self.unpack(data, place + 8)
+        if 32 + captured > size:
             return None, ""
         if face >= len(self.faces):
             return b"", " (a packet whose interface isn't known)"
-        least, greatest, second, time = limits(*self.faces[face])
+        least, greatest, second, time = self.faces[face]
         ticks = high << 32 | low
         self.source.time = ticks / second
         self.out.packets += 1
         if least <= ticks <= greatest:
-            return block, ""
+            return SAME
+        block = data[place : place + size]
         return block[:12] + time + block[20:], "a time out of range, written as 0"
 
     def settle(self, at, place):
@@ -456,7 +478,8 @@ class Blocks(Reader):
             is_known = kind <= 10 and LEAST.get(kind, 12) <= size or block[8:16] in SECTIONS
             if is_known and length in (block[4:8], block[-4:]):
                 block = block[:4] + length + block[8:-4] + length
-                right, why = self.right(kind, block) if kind in LEAST else (block, "")
+                right, why = self.right(kind, block, 0, size) if kind in LEAST else SAME
+                right = block if right is True else right
                 why = why or "a block with a damaged length, put right" if right else why
                 self.out.note(at, why, 0 if right else size)
                 self.out.put(right or b"")
