@@ -285,34 +285,29 @@ class Records(Reader):
 
     def put_right(self, odd, data, base, begin):
         """Writes records up to the fraction of the last odd one, with 0 as those; returns where."""
-        done = odd[-1] + 8
-        made = bytearray(data[begin : done - base])
+        made, begin = bytearray(data[begin : odd[-1] + 8 - base]), base + begin
         for at in odd:
-            at -= base + begin
-            made[at + 4 : at + 8] = b"\0\0\0\0"
+            made[at - begin + 4 : at - begin + 8] = b"\0\0\0\0"
         for at in odd[:NOTES]:
             self.out.note(at, "a fraction of a second or more, written as 0")
         self.out.places += len(odd[NOTES:])
         self.out.put(made)
-        self.is_odd = True
-        while self.last and self.last[0] < done:
-            self.last.popleft()
-        return done - base
+        later, self.is_odd = [it for it in self.last if it > odd[-1]], True
+        self.last = collections.deque(later, DOUBTED)
+        return odd[-1] + 8 - base
 
     def is_fault(self, data, base, place):
         """Whether this is no record (of any fraction), or reading is off by 4 bytes, or by 1."""
         seconds, part, captured, original = self.unpack(data, place)
         at, is_pair = base + place, 0 < captured <= original <= LONGEST
         end = at + 16 + captured
-        if captured > LONGEST or end > self.source.size or not captured | original:
-            return True
         if is_pair and not captured & 255:
             real = at + (1 if self.order == "<" else -1)
             times = [*map(self.when, self.last)] or [self.source.time]
             is_near = lambda it: any(abs(self.when(it) - time) <= NEAR for time in times)
             if not is_near(at) and is_near(real) and self.step(real, *self.source.load(real)):
                 return True
-        if part >= self.units:
+        if part >= self.units or not captured | original:
             return not (is_pair and self.step(end, data, base))
         is_off = 0 < captured == part and seconds < self.units
         return is_off and self.step(end - 4, data, base)
@@ -429,29 +424,28 @@ class Blocks(Reader):
             return b"", " (an interface whose number isn't known)"
         if not self.faces:
             self.described, self.snap = bytearray(), self.sizes(block, 8)[1] or 2**32
-        options = block[16:-4]
-        if options != self.options:
-            self.options, self.times = options, self.times_of(options)
-        self.faces.append(self.times)
+        if block[16:-4] != self.options:
+            self.options = block[16:-4]
+            self.times, self.is_read = self.read_options(self.options)
         if not self.is_read:
             block = block[:4] + SHORT[self.order] + block[8:16] + SHORT[self.order]
+        self.faces.append(self.times)
         self.described += block if len(self.described) <= ZONE else b""
         return SAME if self.is_read else (block, "an interface, without its options")
 
-    def times_of(self, options):
-        """The limits of an interface's times: of microseconds if capkit refuses its options."""
-        unpack, found, code, place, end = self.option, {}, 1, 0, len(options)
+    def read_options(self, options):
+        """The limits of an interface's times, and whether capkit reads its options."""
+        option, found, code, place, end = self.option, {}, 1, 0, len(options)
         while place < end and code:
-            code, length = unpack(options, place)
+            code, length = option(options, place)
             if code in (2, 9, 14) and code not in found:
                 found[code] = options[place + 4 : place + 4 + length]
             place += 4 + (length + 3 & -4)
         unit, offset = found.get(9, b"\6"), found.get(14, bytes(8))
         is_unit = len(unit) == 1 and (unit[0] <= 12 or 128 <= unit[0] <= 160)
-        is_short = place <= end and len(found.get(2, b"")) <= 255
-        self.is_read = is_unit and is_short and len(offset) == 8
-        given = (unit, offset) if self.is_read else (b"\6", bytes(8))
-        return limits(self.order, self.out.most, *given)
+        is_right = is_unit and len(offset) == 8 and place <= end and len(found.get(2, b"")) <= 255
+        given = (unit, offset) if is_right else (b"\6", bytes(8))
+        return limits(self.order, self.out.most, *given), is_right
 
     def enhanced(self, data, place, size):
         """A packet, with the least time if its own is out of range."""
@@ -479,10 +473,9 @@ class Blocks(Reader):
             if is_known and length in (block[4:8], block[-4:]):
                 block = block[:4] + length + block[8:-4] + length
                 right, why = self.right(kind, block, 0, size) if kind in LEAST else SAME
-                right = block if right is True else right
                 why = why or "a block with a damaged length, put right" if right else why
                 self.out.note(at, why, 0 if right else size)
-                self.out.put(right or b"")
+                self.out.put(block if right is True else right or b"")
                 return place
         self.is_torn = True
         return at
