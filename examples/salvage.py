@@ -21,12 +21,11 @@ To keep packets from being made up, of the last eight records before a fault tho
 chain are dropped, and up to half of the eight if their lengths are impossible. A record without
 bytes needs an original length. Reading stops if it has slid 4 bytes off a chain, or 1 byte: lengths
 are 256 times too long, the time is a day or more from those of the last eight records, and that of
-the record 1 byte off is not.
-
-Packets may still be made up: if damage stands right before a packet that carries a capture of the
-last second, if a section header is lost with its interfaces, and in a file that only looks like a
-capture. Interfaces after damage are left out with their packets: their numbers aren't known. After
-a bounded number of tries a chain is only looked for in 256 of each 4,096 bytes.
+the record 1 byte off is not. Packets may still be made up: if damage stands right before a packet
+that carries a capture of the last second, if a section header is lost with its interfaces, and in a
+file that only looks like a capture. Interfaces after damage are left out with their packets: their
+numbers aren't known. After a bounded number of tries a chain is only looked for in 256 of each
+4,096 bytes, and a file header only if it is the same as the last one.
 
 IN isn't changed, and copied only if it is a pipe or in text mode. OUT gets its name at the end. The
 first 20 places of damage and sums go to standard error. The status is 0 if IN was in order, 1 if
@@ -48,7 +47,6 @@ FORMS = {b"\xd4\xc3\xb2\xa1": ("<", 10**6), b"\x4d\x3c\xb2\xa1": ("<", 10**9),
          b"\xa1\xb2\xc3\xd4": (">", 10**6), b"\xa1\xb2\x3c\x4d": (">", 10**9)}
 MAGICS = {form: magic for magic, form in FORMS.items()}
 SECTION, INTERFACE, OBSOLETE, SIMPLE, ENHANCED = 0x0A0D0D0A, 1, 2, 3, 6
-SAME = True, ""  # of a block: it is right as it is
 LEAST = {SECTION: 28, INTERFACE: 20, OBSOLETE: 12, SIMPLE: 16, ENHANCED: 32}
 SECTION_TYPE, ORDER_MAGIC = b"\n\r\r\n", 0x1A2B3C4D
 SECTIONS = {struct.pack(it + "IHH", ORDER_MAGIC, 1, minor): it for it in "<>" for minor in (0, 2)}
@@ -58,7 +56,7 @@ HELD, AHEAD, ZONE = 8 << 20, 3 << 20, 1 << 20  # of the file, held and looked th
 INSIDE, UNITS, FAR = 65_552, 32, 2 << 20  # what no packet's inside exceeds; a chain that does
 SHORT = {"<": b"\x14\0\0\0", ">": b"\0\0\0\x14"}  # of an interface without options
 PATIENCE, BYTES_A_STEP = 600_000, 64  # steps that may be tried at first, and one for so many bytes
-DOUBTED, NOTES, NEAR, EARLIER, NO_TIME = 8, 20, 86_400, 1, float("nan")
+DOUBTED, NOTES, NEAR, EARLIER, NO_TIME, SAME = 8, 20, 86_400, 1, float("nan"), (True, "")
 
 
 class Source:
@@ -67,15 +65,14 @@ class Source:
     def __init__(self, held, name, row):
         self.held, self.name, self.row = held, name, row
         self.size = os.fstat(held.fileno()).st_size
-        self.data, self.base, self.tried, self.time = b"", 0, 0, NO_TIME
+        self.data, self.base, self.tried, self.time, self.header = b"", 0, 0, NO_TIME, b""
 
     def load(self, at, ahead=AHEAD):
         """Holds the bytes from a place on; returns these, which may begin before, and where."""
         end = self.base + len(self.data)
         if not self.base <= at or at + ahead > end < self.size:
             self.data = b""
-            self.data, self.base = self.get(at, HELD), at
-            self.data += bytes(16) if at + HELD >= self.size else b""
+            self.data, self.base = self.get(at, HELD) + bytes(16 * (at + HELD >= self.size)), at
             self.tried += 2000
         return self.data, self.base
 
@@ -256,16 +253,12 @@ class Records(Reader):
     def read_held(self, at, data, base):
         """Reads some of the records held, up to a fault."""
         out, append, units, unpack = self.out, self.last.append, self.units, self.unpack
-        size, odd, packets = self.source.size - base, [], 0
+        size, odd, made, packets = self.source.size - base, [], bytearray(), 0
         place = done = at - base
         stop = min(place + ZONE, size - 16 if len(data) > size else len(data) - 2 * LONGEST)
         after = unpack(data, place) if place <= stop else None
-        while place <= stop:
-            seconds, part, captured, original = after
-            end = place + 16 + captured
-            if captured > LONGEST or end > size:
-                break
-            after = unpack(data, end)
+        while place <= stop and (end := place + 16 + after[2]) <= size and after[2] <= LONGEST:
+            (seconds, part, captured, original), after = after, unpack(data, end)
             is_pair = captured & 255 and captured <= original <= LONGEST
             if part < units and (is_pair and (part != captured or seconds >= units)
                                  or not captured and original):
@@ -274,27 +267,21 @@ class Records(Reader):
                 is_next = is_pair and part >= units and 0 < after[2] <= after[3] <= LONGEST
                 if not is_next and self.is_fault(data, base, place):
                     break
-                (odd if part >= units else self.last).append(place + base)
-            packets += 1
-            place = end
+                (odd if part >= units else self.last).append(base + place)
+                if part >= units:
+                    made += data[done : place + 4] + b"\0\0\0\0"
+                    done = place + 8
+            packets, place = packets + 1, end
+        for it in odd[:NOTES]:
+            out.note(it, "a fraction of a second or more, written as 0")
         if odd:
-            done = self.put_right(odd, data, base, done)
+            out.places += len(odd[NOTES:])
+            out.put(made)
+            later, self.is_odd = [it for it in self.last if it > odd[-1]], True
+            self.last = collections.deque(later, DOUBTED)
         out.keep(base + done, base + place)
         out.packets += packets
         return base + place
-
-    def put_right(self, odd, data, base, begin):
-        """Writes records up to the fraction of the last odd one, with 0 as those; returns where."""
-        made, begin = bytearray(data[begin : odd[-1] + 8 - base]), base + begin
-        for at in odd:
-            made[at - begin + 4 : at - begin + 8] = b"\0\0\0\0"
-        for at in odd[:NOTES]:
-            self.out.note(at, "a fraction of a second or more, written as 0")
-        self.out.places += len(odd[NOTES:])
-        self.out.put(made)
-        later, self.is_odd = [it for it in self.last if it > odd[-1]], True
-        self.last = collections.deque(later, DOUBTED)
-        return odd[-1] + 8 - base
 
     def is_fault(self, data, base, place):
         """Whether this is no record (of any fraction), or reading is off by 4 bytes, or by 1."""
@@ -309,8 +296,7 @@ class Records(Reader):
                 return True
         if part >= self.units or not captured | original:
             return not (is_pair and self.step(end, data, base))
-        is_off = 0 < captured == part and seconds < self.units
-        return is_off and self.step(end - 4, data, base)
+        return 0 < captured == part and seconds < self.units and self.step(end - 4, data, base)
 
     def settle(self, at, place):
         """Drops records in the way of a chain, or puts one right; returns the end of those kept."""
@@ -339,8 +325,7 @@ class Blocks(Reader):
     is_sure = True
     LIKELY = {"<": (re.compile(rb"\0\0\0(?<=[\1-\3\6]\0\0\0)"), 1, b"\0"),
               ">": (re.compile(rb"\0\0\0[\1-\3\6]"), 0, b"\0")}
-    # Of a section's interfaces the time limits, blocks and first snap length, and if one is lost;
-    # of the last one the options.
+    # Of a section's interfaces the time limits, blocks, first snap length, if one is lost; options.
     faces, described, snap, is_torn, options = [], b"", 0, False, None
 
     def begin(self, at):
@@ -400,33 +385,30 @@ class Blocks(Reader):
         out.keep(base + done, base + place)
         return base + place
 
-    def right(self, kind, data, place, size):
+    def right(self, kind, data, at, size):
         """A block put right, True if it is, empty if capkit refuses it, None if it is none; why."""
-        if kind == ENHANCED:
-            return self.enhanced(data, place, size)
-        if kind == INTERFACE:
-            return self.interface(data[place : place + size])
+        if kind == ENHANCED or kind == INTERFACE:
+            return (self.enhanced if kind == ENHANCED else self.interface)(data, at, size)
         if kind == SECTION:
-            if SECTIONS.get(data[place + 8 : place + 16]) != self.order:
+            if SECTIONS.get(data[at + 8 : at + 16]) != self.order:
                 return None, ""
             self.faces, self.described, self.is_torn = [], b"", False
         elif (kind == OBSOLETE or not self.faces
-              or self.snap > size - 16 < self.sizes(data, place + 8)[0]):
+              or self.snap > size - 16 < self.sizes(data, at + 8)[0]):
             return b"", " (an obsolete packet block, or a simple one, cut or of no interface)"
-        else:
-            self.out.packets += 1
+        self.out.packets += kind == SIMPLE
         return SAME
 
-    def interface(self, block):
+    def interface(self, data, at, size):
         """An interface, without its options if capkit doesn't read them; none after damage."""
         if self.is_torn or len(self.faces) == MOST_INTERFACES:
             self.faces, self.described, self.is_torn = [], b"", True
             return b"", " (an interface whose number isn't known)"
         if not self.faces:
-            self.described, self.snap = bytearray(), self.sizes(block, 8)[1] or 2**32
+            self.described, self.snap = bytearray(), self.sizes(data, at + 8)[1] or 2**32
+        block = data[at : at + size]
         if block[16:-4] != self.options:
-            self.options = block[16:-4]
-            self.times, self.is_read = self.read_options(self.options)
+            self.options, (self.times, self.is_read) = block[16:-4], self.read_options(block[16:-4])
         if not self.is_read:
             block = block[:4] + SHORT[self.order] + block[8:16] + SHORT[self.order]
         self.faces.append(self.times)
@@ -520,7 +502,8 @@ def find(source, out, readers, begin, passes):
         place, reader = min(chains, key=lambda it: it[0], default=(end, None))
         for at in source.places(HEADER, 0, b"\xa1", begin, place):
             source.tried += 8
-            if at and (capture := capture_at(source, out, at)):
+            is_free = source.may_try(at) or source.header in (b"", source.get(at, 24))
+            if at and is_free and (capture := capture_at(source, out, at)):
                 bounds = capture[0].chain(capture[1], True)
                 if bounds and bounds[-1] > passes:
                     return at, *capture
@@ -541,6 +524,7 @@ def salvage(source, out):
     while other:
         if other is not reader:
             other.begin(place)
+            source.header = source.get(place, 24)
             if reader:
                 out.note(place, "another capture begins")
         reader = seen[type(other), other.order] = other
