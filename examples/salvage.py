@@ -3,14 +3,14 @@
 
 usage: salvage.py [-F FORMAT] [-n ROW] IN OUT        (- is standard input or output)
 
-What capkit reads is right: a file that it reads to its end is written as `capkit edit` does, and in
-another one nothing is guessed before the first fault. After a fault the first chain wins: a row of
-records (or blocks) with consistent lengths. It is believed if it is longer than what a packet
-carries (64 KiB, and 32 records or 2 MiB), or if it has ROW records (3) or more and leads to the end
-of the file or to a file header with a chain. Another one of ROW records, which a lost packet may
-have carried, is at most a second earlier than the last packet and a day later; blocks before any
-packet need no time. Of chains that meet, the one with most records before wins. One whose fractions
-are captured lengths is 4 bytes off: no chain.
+A file that capkit reads to its end is written as `capkit edit` does; in another one nothing is
+guessed before the first fault. After a fault the first chain wins: a row of records (or blocks)
+with consistent lengths. It is believed if it is longer than what a packet carries (64 KiB, and 32
+records or 2 MiB), or has ROW records (3) or more and leads to the end of the file or to a file
+header with a chain. Another one of ROW records, which a lost packet may have carried, is at most a
+second earlier than the last packet and a day later; blocks before any packet need no time. Of
+chains that meet, the one with most records before wins. One whose fractions are captured lengths is
+4 bytes off: no chain.
 
 Put right in place, and reported, are: a fraction of a second or more (0, if a record follows), a
 damaged length (if the other one leads to the chain), a time out of range (0), the version and the
@@ -25,15 +25,13 @@ the record 1 byte off is not. Packets may still be made up: if damage stands rig
 that carries a capture of the last second, if a section header is lost with its interfaces, and in a
 file that only looks like a capture. Interfaces after damage are left out with their packets: their
 numbers aren't known. After a bounded number of tries a chain is only looked for in 256 of each
-4,096 bytes, and a file header only if it is the same as the last one.
-
-IN isn't changed, and copied only if it is a pipe or in text mode. OUT gets its name at the end. The
-first 20 places of damage and sums go to standard error. The status is 0 if IN was in order, 1 if
-not or nothing was written, 2 if the command line is wrong. Needs Python 3.10.
+4,096 bytes, and a file header only if it is the same as the last one. IN isn't changed, and copied
+only if it is a pipe or in text mode. OUT gets its name at the end. The first 20 places of damage
+and sums go to standard error. The status is 0 if IN was in order, 1 if not or nothing was written,
+2 if the command line is wrong. Needs Python 3.10.
 """
 import argparse
 import collections
-import functools
 import itertools
 import os
 import re
@@ -54,6 +52,7 @@ HEADER = re.compile(b"|".join(map(re.escape, [*FORMS, SECTION_TYPE])))
 LONGEST, LONGEST_BLOCK, MOST_INTERFACES, ETHERNET = 262_144, 1_048_576, 256, 1
 HELD, AHEAD, ZONE = 8 << 20, 3 << 20, 1 << 20  # of the file, held and looked through at once
 INSIDE, UNITS, FAR = 65_552, 32, 2 << 20  # what no packet's inside exceeds; a chain that does
+TICKS = {bytes([it]): 10**it for it in range(13)} | {bytes([it + 128]): 2**it for it in range(33)}
 SHORT = {"<": b"\x14\0\0\0", ">": b"\0\0\0\x14"}  # of an interface without options
 PATIENCE, BYTES_A_STEP = 600_000, 64  # steps that may be tried at first, and one for so many bytes
 DOUBTED, NOTES, NEAR, EARLIER, NO_TIME, SAME = 8, 20, 86_400, 1, float("nan"), (True, "")
@@ -260,8 +259,9 @@ class Records(Reader):
         while place <= stop and (end := place + 16 + after[2]) <= size and after[2] <= LONGEST:
             (seconds, part, captured, original), after = after, unpack(data, end)
             is_pair = captured & 255 and captured <= original <= LONGEST
-            if part < units and (is_pair and (part != captured or seconds >= units)
-                                 or not captured and original):
+            is_off = part == captured and seconds < units and (
+                0 < after[1] <= after[2] or end + 12 > size)
+            if part < units and (is_pair and not is_off or not captured and original):
                 append(base + place)
             else:
                 is_next = is_pair and part >= units and 0 < after[2] <= after[3] <= LONGEST
@@ -325,7 +325,7 @@ class Blocks(Reader):
     is_sure = True
     LIKELY = {"<": (re.compile(rb"\0\0\0(?<=[\1-\3\6]\0\0\0)"), 1, b"\0"),
               ">": (re.compile(rb"\0\0\0[\1-\3\6]"), 0, b"\0")}
-    # Of a section's interfaces the time limits, blocks, first snap length, if one is lost; options.
+    # Of a section's interfaces the times, blocks, first snap length, if one is lost; last options.
     faces, described, snap, is_torn, options = [], b"", 0, False, None
 
     def begin(self, at):
@@ -343,7 +343,7 @@ class Blocks(Reader):
         kind, _, face, high = self.head(at)
         if kind != ENHANCED or face >= len(self.faces):
             return NO_TIME
-        return (high << 32 | self.head(at + 16)[0]) / self.faces[face][2]
+        return (high << 32 | self.head(at + 16)[0]) / self.times(face)[2]
 
     def step(self, at, data, base):
         """Where a block ends; past the end of the file if it is cut; None if it is none."""
@@ -351,12 +351,11 @@ class Blocks(Reader):
         if at + 12 > size:
             return size + 1
         kind, length = self.sizes(data, place)
-        end = place + length
         if not LEAST.get(kind, 12) <= length <= LONGEST_BLOCK or length & 3:
             return None
         if at + length > size:
             return at + length if kind <= 10 else None
-        is_right = data[place + 4 : place + 8] == data[end - 4 : end]
+        is_right = data[place + 4 : place + 8] == data[place + length - 4 : place + length]
         if kind == ENHANCED:
             is_right &= 32 + self.sizes(data, place + 16)[1] <= length
         elif kind == SECTION:
@@ -393,8 +392,7 @@ class Blocks(Reader):
             if SECTIONS.get(data[at + 8 : at + 16]) != self.order:
                 return None, ""
             self.faces, self.described, self.is_torn = [], b"", False
-        elif (kind == OBSOLETE or not self.faces
-              or self.snap > size - 16 < self.sizes(data, at + 8)[0]):
+        elif kind == OBSOLETE or not self.faces or self.snap > size - 16 < self.ends(data, at)[2]:
             return b"", " (an obsolete packet block, or a simple one, cut or of no interface)"
         self.out.packets += kind == SIMPLE
         return SAME
@@ -407,27 +405,40 @@ class Blocks(Reader):
         if not self.faces:
             self.described, self.snap = bytearray(), self.sizes(data, at + 8)[1] or 2**32
         block = data[at : at + size]
-        if block[16:-4] != self.options:
-            self.options, (self.times, self.is_read) = block[16:-4], self.read_options(block[16:-4])
-        if not self.is_read:
+        if (options := block[16:-4]) != self.options:
+            self.options, self.found = options, self.read_options(options)
+        if not self.found[0]:
             block = block[:4] + SHORT[self.order] + block[8:16] + SHORT[self.order]
-        self.faces.append(self.times)
+        self.faces.append(self.found)
         self.described += block if len(self.described) <= ZONE else b""
-        return SAME if self.is_read else (block, "an interface, without its options")
+        return SAME if self.found[0] else (block, "an interface, without its options")
 
     def read_options(self, options):
-        """The limits of an interface's times, and whether capkit reads its options."""
+        """Whether capkit reads an interface's options, and the ticks of a second and the offset."""
         option, found, code, place, end = self.option, {}, 1, 0, len(options)
         while place < end and code:
             code, length = option(options, place)
-            if code in (2, 9, 14) and code not in found:
+            if code in {2, 9, 14} and code not in found:
                 found[code] = options[place + 4 : place + 4 + length]
             place += 4 + (length + 3 & -4)
-        unit, offset = found.get(9, b"\6"), found.get(14, bytes(8))
-        is_unit = len(unit) == 1 and (unit[0] <= 12 or 128 <= unit[0] <= 160)
-        is_right = is_unit and len(offset) == 8 and place <= end and len(found.get(2, b"")) <= 255
-        given = (unit, offset) if is_right else (b"\6", bytes(8))
-        return limits(self.order, self.out.most, *given), is_right
+        if not found:
+            return [place <= end, 10**6, 0]
+        second, given = TICKS.get(found.get(9, b"\6")), found.get(14, bytes(8))
+        if second and len(given) == 8 and len(found.get(2, b"")) <= 255 and place <= end:
+            (offset,) = struct.unpack(self.order + "q", given)
+            if -offset * second < 2**64 and offset * 10**9 < self.out.most:
+                return [True, second, offset]
+        return [False, 10**6, 0]
+
+    def times(self, face):
+        """Of an interface the least and greatest ticks, those of a second, the least as written."""
+        found = self.faces[face]
+        if len(found) == 3:
+            _, second, offset = found
+            least, most = max(0, -offset * second), self.out.most - offset * 10**9
+            time = struct.pack(self.order + "II", least >> 32, least % 2**32)
+            found.append((least, -(-most * second // 10**9) - 1, second, time))
+        return found[3]
 
     def enhanced(self, data, place, size):
         """A packet, with the least time if its own is out of range."""
@@ -436,9 +447,8 @@ class Blocks(Reader):
             return None, ""
         if face >= len(self.faces):
             return b"", " (a packet whose interface isn't known)"
-        least, greatest, second, time = self.faces[face]
-        ticks = high << 32 | low
-        self.source.time = ticks / second
+        least, greatest, second, time = self.times(face)
+        self.source.time = (ticks := high << 32 | low) / second
         self.out.packets += 1
         if least <= ticks <= greatest:
             return SAME
@@ -461,15 +471,6 @@ class Blocks(Reader):
                 return place
         self.is_torn = True
         return at
-
-
-@functools.lru_cache(MOST_INTERFACES)
-def limits(order, most, unit, offset):
-    """Of an interface the least and greatest ticks, those of a second, and the least as written."""
-    (unit,), (offset,) = unit, struct.unpack(order + "q", offset)
-    second = 10**unit if unit < 128 else 2 ** (unit - 128)
-    least, greatest = max(0, -offset * second), -(-(most - offset * 10**9) * second // 10**9) - 1
-    return least, greatest, second, struct.pack(order + "II", least >> 32, least % 2**32)
 
 
 def capture_at(source, out, at):
