@@ -160,8 +160,8 @@ class Reader:
     def __init__(self, source, out, order):
         self.source, self.out, self.order = source, out, order
         self.last, self.likely = collections.deque(maxlen=DOUBTED), self.LIKELY[order]
-        shapes = (struct.Struct(order + it).unpack_from for it in ("HH", "II", "III", "IIII"))
-        self.option, self.sizes, self.ends, self.unpack = shapes
+        shapes = (struct.Struct(order + it).unpack_from for it in ("HH", "II", "III", "IIII", "q"))
+        self.option, self.sizes, self.ends, self.unpack, self.offset = shapes
 
     def head(self, at):
         return self.unpack(self.source.get(at, 16).ljust(16, b"\0"))
@@ -421,14 +421,12 @@ class Blocks(Reader):
             if code in {2, 9, 14} and code not in found:
                 found[code] = options[place + 4 : place + 4 + length]
             place += 4 + (length + 3 & -4)
-        if not found:
-            return [place <= end, 10**6, 0]
-        second, given = TICKS.get(found.get(9, b"\6")), found.get(14, bytes(8))
-        if second and len(given) == 8 and len(found.get(2, b"")) <= 255 and place <= end:
-            (offset,) = struct.unpack(self.order + "q", given)
-            if -offset * second < 2**64 and offset * 10**9 < self.out.most:
-                return [True, second, offset]
-        return [False, 10**6, 0]
+        second, offset, given = TICKS.get(found[9]) if 9 in found else 10**6, 0, found.get(14)
+        is_right = place <= end and second and len(found.get(2, b"")) <= 255
+        if given is not None:
+            (offset,) = self.offset(given) if len(given) == 8 else (2**63,)
+            is_right = is_right and -offset * second < 2**64 and offset * 10**9 < self.out.most
+        return [True, second, offset] if is_right else [False, 10**6, 0]
 
     def times(self, face):
         """Of an interface the least and greatest ticks, those of a second, the least as written."""
