@@ -460,7 +460,8 @@ class Blocks(Reader):
             block, length = self.source.get(at, size), struct.pack(self.order + "I", size)
             kind = self.sizes(block)[0]
             is_known = kind <= 10 and LEAST.get(kind, 12) <= size or block[8:16] in SECTIONS
-            if is_known and length in (block[4:8], block[-4:]):
+            is_empty = kind == ENHANCED and block[20:28] == bytes(8)  # of both lengths
+            if is_known and not is_empty and length in (block[4:8], block[-4:]):
                 block = block[:4] + length + block[8:-4] + length
                 right, why = self.right(kind, block, 0, size) if kind in LEAST else SAME
                 why = why or "a block with a damaged length, put right" if right else why
