@@ -3,14 +3,14 @@
 
 usage: salvage.py [-F FORMAT] [-n ROW] IN OUT        (- is standard input or output)
 
-What capkit reads is right: a file that it reads to its end is written as `capkit edit` does, and in
-another one nothing is guessed before the first fault. After a fault the first chain wins: a row of
-records (or blocks) with consistent lengths. It is believed if it is longer than what a packet
-carries (64 KiB, and 32 records or 2 MiB), or if it has ROW records (3) or more and leads to the end
-of the file or to a file header with a chain. Another one of ROW records, which a lost packet may
-have carried, is at most a second earlier than the last packet and a day later; blocks before any
-packet need no time. Of chains that meet, the one with most records before wins. One whose fractions
-are captured lengths is 4 bytes off: no chain.
+A file that capkit reads to its end is written as `capkit edit` does; in another one nothing is
+guessed before the first fault. After a fault the first chain wins: a row of records (or blocks)
+with consistent lengths. It is believed if it is longer than what a packet carries (64 KiB, and 32
+records or 2 MiB), or has ROW records (3) or more and leads to the end of the file or to a file
+header with a chain. Another one of ROW records, which a lost packet may have carried, is at most a
+second earlier than the last packet and a day later; blocks before any packet need no time. Of
+chains that meet, the one with most records before wins. One whose fractions are captured lengths is
+4 bytes off: no chain.
 
 Put right in place, and reported, are: a fraction of a second or more (0, if a record follows), a
 damaged length (if the other one leads to the chain), a time out of range (0), the version and the
@@ -21,20 +21,17 @@ To keep packets from being made up, of the last eight records before a fault tho
 chain are dropped, and up to half of the eight if their lengths are impossible. A record without
 bytes needs an original length. Reading stops if it has slid 4 bytes off a chain, or 1 byte: lengths
 are 256 times too long, the time is a day or more from those of the last eight records, and that of
-the record 1 byte off is not.
-
-Packets may still be made up: if damage stands right before a packet that carries a capture of the
-last second, if a section header is lost with its interfaces, and in a file that only looks like a
-capture. Interfaces after damage are left out with their packets: their numbers aren't known. After
-a bounded number of tries a chain is only looked for in 256 of each 4,096 bytes.
-
-IN isn't changed, and copied only if it is a pipe or in text mode. OUT gets its name at the end. The
-first 20 places of damage and sums go to standard error. The status is 0 if IN was in order, 1 if
-not or nothing was written, 2 if the command line is wrong. Needs Python 3.10.
+the record 1 byte off is not. Packets may still be made up: if damage stands right before a packet
+that carries a capture of the last second, if a section header is lost with its interfaces, and in a
+file that only looks like a capture. Interfaces after damage are left out with their packets: their
+numbers aren't known. After a bounded number of tries a chain is only looked for in 256 of each
+4,096 bytes, and a file header only if it is the same as the last one. IN isn't changed, and copied
+only if it is a pipe or in text mode. OUT gets its name at the end. The first 20 places of damage
+and sums go to standard error. The status is 0 if IN was in order, 1 if not or nothing was written,
+2 if the command line is wrong. Needs Python 3.10.
 """
 import argparse
 import collections
-import functools
 import itertools
 import os
 import re
@@ -55,9 +52,10 @@ HEADER = re.compile(b"|".join(map(re.escape, [*FORMS, SECTION_TYPE])))
 LONGEST, LONGEST_BLOCK, MOST_INTERFACES, ETHERNET = 262_144, 1_048_576, 256, 1
 HELD, AHEAD, ZONE = 8 << 20, 3 << 20, 1 << 20  # of the file, held and looked through at once
 INSIDE, UNITS, FAR = 65_552, 32, 2 << 20  # what no packet's inside exceeds; a chain that does
-SHORT, NO_OFFSET = {"<": b"\x14\0\0\0", ">": b"\0\0\0\x14"}, bytes(8)  # of an interface
+TICKS = {bytes([it]): 10**it for it in range(13)} | {bytes([it + 128]): 2**it for it in range(33)}
+SHORT = {"<": b"\x14\0\0\0", ">": b"\0\0\0\x14"}  # of an interface without options
 PATIENCE, BYTES_A_STEP = 600_000, 64  # steps that may be tried at first, and one for so many bytes
-DOUBTED, NOTES, NEAR, EARLIER, NO_TIME = 8, 20, 86_400, 1, float("nan")
+DOUBTED, NOTES, NEAR, EARLIER, NO_TIME, SAME = 8, 20, 86_400, 1, float("nan"), (True, "")
 
 
 class Source:
@@ -66,15 +64,14 @@ class Source:
     def __init__(self, held, name, row):
         self.held, self.name, self.row = held, name, row
         self.size = os.fstat(held.fileno()).st_size
-        self.data, self.base, self.tried, self.time = b"", 0, 0, NO_TIME
+        self.data, self.base, self.tried, self.time, self.header = b"", 0, 0, NO_TIME, b""
 
     def load(self, at, ahead=AHEAD):
         """Holds the bytes from a place on; returns these, which may begin before, and where."""
         end = self.base + len(self.data)
         if not self.base <= at or at + ahead > end < self.size:
             self.data = b""
-            self.data, self.base = self.get(at, HELD), at
-            self.data += bytes(8) if at + HELD >= self.size else b""
+            self.data, self.base = self.get(at, HELD) + bytes(16 * (at + HELD >= self.size)), at
             self.tried += 2000
         return self.data, self.base
 
@@ -163,8 +160,8 @@ class Reader:
     def __init__(self, source, out, order):
         self.source, self.out, self.order = source, out, order
         self.last, self.likely = collections.deque(maxlen=DOUBTED), self.LIKELY[order]
-        shapes = (struct.Struct(order + it).unpack_from for it in ("HH", "II", "III", "IIII"))
-        self.option, self.sizes, self.ends, self.unpack = shapes
+        shapes = (struct.Struct(order + it).unpack_from for it in ("HH", "II", "III", "IIII", "q"))
+        self.option, self.sizes, self.ends, self.unpack, self.offset = shapes
 
     def head(self, at):
         return self.unpack(self.source.get(at, 16).ljust(16, b"\0"))
@@ -255,29 +252,33 @@ class Records(Reader):
     def read_held(self, at, data, base):
         """Reads some of the records held, up to a fault."""
         out, append, units, unpack = self.out, self.last.append, self.units, self.unpack
-        size, made, packets = self.source.size - base, bytearray(), 0
+        size, odd, made, packets = self.source.size - base, [], bytearray(), 0
         place = done = at - base
         stop = min(place + ZONE, size - 16 if len(data) > size else len(data) - 2 * LONGEST)
-        while place <= stop:
-            _, part, captured, original = unpack(data, place)
-            end, is_pair = place + 16 + captured, captured & 255 and captured <= original <= LONGEST
-            if part >= units or part == captured or not is_pair or end > size:
-                after = unpack(data, end) if is_pair and part >= units and end <= stop else bytes(4)
-                if not 0 < after[2] <= after[3] <= LONGEST and self.is_fault(data, base, place):
-                    break
-            if part < units:
+        after = unpack(data, place) if place <= stop else None
+        while place <= stop and (end := place + 16 + after[2]) <= size and after[2] <= LONGEST:
+            (seconds, part, captured, original), after = after, unpack(data, end)
+            is_pair = captured & 255 and captured <= original <= LONGEST
+            is_off = part == captured and seconds < units and (
+                0 < after[1] <= after[2] or end + 12 > size)
+            if part < units and (is_pair and not is_off or not captured and original):
                 append(base + place)
             else:
-                made += data[done : place + 4] + b"\0\0\0\0"
-                done = place + 8
-                out.note(base + place, "a fraction of a second or more, written as 0")
-            packets += 1
-            place = end
-        if made:
+                is_next = is_pair and part >= units and 0 < after[2] <= after[3] <= LONGEST
+                if not is_next and self.is_fault(data, base, place):
+                    break
+                (odd if part >= units else self.last).append(base + place)
+                if part >= units:
+                    made += data[done : place + 4] + b"\0\0\0\0"
+                    done = place + 8
+            packets, place = packets + 1, end
+        for it in odd[:NOTES]:
+            out.note(it, "a fraction of a second or more, written as 0")
+        if odd:
+            out.places += len(odd[NOTES:])
             out.put(made)
-            self.is_odd = True
-            while self.last and self.last[0] < base + done:
-                self.last.popleft()
+            later, self.is_odd = [it for it in self.last if it > odd[-1]], True
+            self.last = collections.deque(later, DOUBTED)
         out.keep(base + done, base + place)
         out.packets += packets
         return base + place
@@ -287,18 +288,15 @@ class Records(Reader):
         seconds, part, captured, original = self.unpack(data, place)
         at, is_pair = base + place, 0 < captured <= original <= LONGEST
         end = at + 16 + captured
-        if captured > LONGEST or end > self.source.size or not captured | original:
-            return True
         if is_pair and not captured & 255:
             real = at + (1 if self.order == "<" else -1)
             times = [*map(self.when, self.last)] or [self.source.time]
             is_near = lambda it: any(abs(self.when(it) - time) <= NEAR for time in times)
             if not is_near(at) and is_near(real) and self.step(real, *self.source.load(real)):
                 return True
-        if part >= self.units:
+        if part >= self.units or not captured | original:
             return not (is_pair and self.step(end, data, base))
-        is_off = 0 < captured == part and seconds < self.units
-        return is_off and self.step(end - 4, data, base)
+        return 0 < captured == part and seconds < self.units and self.step(end - 4, data, base)
 
     def settle(self, at, place):
         """Drops records in the way of a chain, or puts one right; returns the end of those kept."""
@@ -327,8 +325,8 @@ class Blocks(Reader):
     is_sure = True
     LIKELY = {"<": (re.compile(rb"\0\0\0(?<=[\1-\3\6]\0\0\0)"), 1, b"\0"),
               ">": (re.compile(rb"\0\0\0[\1-\3\6]"), 0, b"\0")}
-    # Of a section's interfaces the time limits, blocks and first snap length, and if one is lost.
-    faces, described, snap, is_torn = [], b"", 0, False
+    # Of a section's interfaces the times, blocks, first snap length, if one is lost; last options.
+    faces, described, snap, is_torn, options = [], b"", 0, False, None
 
     def begin(self, at):
         """A section header, if there is none."""
@@ -345,7 +343,7 @@ class Blocks(Reader):
         kind, _, face, high = self.head(at)
         if kind != ENHANCED or face >= len(self.faces):
             return NO_TIME
-        return (high << 32 | self.head(at + 16)[0]) / limits(*self.faces[face])[2]
+        return (high << 32 | self.head(at + 16)[0]) / self.times(face)[2]
 
     def step(self, at, data, base):
         """Where a block ends; past the end of the file if it is cut; None if it is none."""
@@ -353,12 +351,11 @@ class Blocks(Reader):
         if at + 12 > size:
             return size + 1
         kind, length = self.sizes(data, place)
-        end = place + length
         if not LEAST.get(kind, 12) <= length <= LONGEST_BLOCK or length & 3:
             return None
         if at + length > size:
             return at + length if kind <= 10 else None
-        is_right = data[place + 4 : place + 8] == data[end - 4 : end]
+        is_right = data[place + 4 : place + 8] == data[place + length - 4 : place + length]
         if kind == ENHANCED:
             is_right &= 32 + self.sizes(data, place + 16)[1] <= length
         elif kind == SECTION:
@@ -367,84 +364,93 @@ class Blocks(Reader):
 
     def read_held(self, at, data, base):
         """Reads blocks in the bytes held, up to one that is none or isn't held as a whole."""
-        out, ends, made = self.out, self.ends, bytearray()
+        out, ends, made, most = self.out, self.ends, bytearray(), len(data) - 16
         place = done = at - base
         kind, length = self.sizes(data, place)
-        while length and (end := place + length) + 8 <= len(data):
+        while length and (end := place + length) <= most:
             again, after, more = ends(data, end - 4)
             if again != length or length & 3 or not LEAST.get(kind, 12) <= length <= LONGEST_BLOCK:
                 break
-            if kind in LEAST:
-                block = data[place:end]
-                right, why = self.right(kind, block)
-                if right is None:
-                    break
-                if right is not block:
-                    made += right if done == place else data[done:place] + right
-                    done = end
-                    out.note(base + place, why, 0 if right else length)
+            right, why = self.right(kind, data, place, length) if kind in LEAST else SAME
+            if right is None:
+                break
+            if right is not True:
+                made += right if done == place else data[done:place] + right
+                done = end
+                out.note(base + place, why, 0 if right else length)
             place, kind, length = end, after, more
         if made:
             out.put(made)
         out.keep(base + done, base + place)
         return base + place
 
-    def right(self, kind, block):
-        """A block as it is or put right, empty if capkit refuses it, None if it is none; and why"""
+    def right(self, kind, data, at, size):
+        """A block put right, True if it is, empty if capkit refuses it, None if it is none; why."""
         if kind == ENHANCED or kind == INTERFACE:
-            return self.enhanced(block) if kind == ENHANCED else self.interface(block)
-        size = len(block) - 16
+            return (self.enhanced if kind == ENHANCED else self.interface)(data, at, size)
         if kind == SECTION:
-            if SECTIONS.get(block[8:16]) != self.order:
+            if SECTIONS.get(data[at + 8 : at + 16]) != self.order:
                 return None, ""
             self.faces, self.described, self.is_torn = [], b"", False
-        elif not self.faces or kind == OBSOLETE or self.snap > size < self.sizes(block, 8)[0]:
+        elif kind == OBSOLETE or not self.faces or self.snap > size - 16 < self.ends(data, at)[2]:
             return b"", " (an obsolete packet block, or a simple one, cut or of no interface)"
         self.out.packets += kind == SIMPLE
-        return block, ""
+        return SAME
 
-    def interface(self, block):
+    def interface(self, data, at, size):
         """An interface, without its options if capkit doesn't read them; none after damage."""
         if self.is_torn or len(self.faces) == MOST_INTERFACES:
             self.faces, self.described, self.is_torn = [], b"", True
             return b"", " (an interface whose number isn't known)"
         if not self.faces:
-            self.described, self.snap = bytearray(), self.sizes(block, 8)[1] or 2**32
-        unit, offset = self.times(block) if len(block) > 20 else (b"\6", NO_OFFSET)
-        why = "" if unit else "an interface, without its options"
-        if not unit:
-            size, unit = SHORT[self.order], b"\6"
-            block = block[:4] + size + block[8:16] + size
-        self.faces.append((self.order, self.out.most, unit, offset))
+            self.described, self.snap = bytearray(), self.sizes(data, at + 8)[1] or 2**32
+        block = data[at : at + size]
+        if (options := block[16:-4]) != self.options:
+            self.options, self.found = options, self.read_options(options)
+        if not self.found[0]:
+            block = block[:4] + SHORT[self.order] + block[8:16] + SHORT[self.order]
+        self.faces.append(self.found)
         self.described += block if len(self.described) <= ZONE else b""
-        return block, why
+        return SAME if self.found[0] else (block, "an interface, without its options")
 
-    def times(self, block):
-        """The unit and offset of an interface's times; no unit if capkit refuses its options."""
-        option, found, code, place, end = self.option, {}, 1, 16, len(block) - 4
+    def read_options(self, options):
+        """Whether capkit reads an interface's options, and the ticks of a second and the offset."""
+        option, found, code, place, end = self.option, {}, 1, 0, len(options)
         while place < end and code:
-            code, length = option(block, place)
-            if code in (2, 9, 14) and code not in found:
-                found[code] = block[place + 4 : place + 4 + length]
+            code, length = option(options, place)
+            if code in {2, 9, 14} and code not in found:
+                found[code] = options[place + 4 : place + 4 + length]
             place += 4 + (length + 3 & -4)
-        unit, offset = found.get(9, b"\6"), found.get(14, NO_OFFSET)
-        is_unit = len(unit) == 1 and (unit[0] <= 12 or 128 <= unit[0] <= 160)
-        is_right = is_unit and len(offset) == 8 and place <= end and len(found.get(2, b"")) <= 255
-        return (unit, offset) if is_right else (b"", NO_OFFSET)
+        second, offset, given = TICKS.get(found[9]) if 9 in found else 10**6, 0, found.get(14)
+        is_right = place <= end and second and len(found.get(2, b"")) <= 255
+        if given is not None:
+            (offset,) = self.offset(given) if len(given) == 8 else (2**63,)
+            is_right = is_right and -offset * second < 2**64 and offset * 10**9 < self.out.most
+        return [True, second, offset] if is_right else [False, 10**6, 0]
 
-    def enhanced(self, block):
+    def times(self, face):
+        """Of an interface the least and greatest ticks, those of a second, the least as written."""
+        found = self.faces[face]
+        if len(found) == 3:
+            _, second, offset = found
+            least, most = max(0, -offset * second), self.out.most - offset * 10**9
+            time = struct.pack(self.order + "II", least >> 32, least % 2**32)
+            found.append((least, -(-most * second // 10**9) - 1, second, time))
+        return found[3]
+
+    def enhanced(self, data, place, size):
         """A packet, with the least time if its own is out of range."""
-        face, high, low, captured = self.unpack(block, 8)
-        if 32 + captured > len(block):
+        face, high, low, captured = self.unpack(data, place + 8)
+        if 32 + captured > size:
             return None, ""
         if face >= len(self.faces):
             return b"", " (a packet whose interface isn't known)"
-        least, greatest, second, time = limits(*self.faces[face])
-        ticks = high << 32 | low
-        self.source.time = ticks / second
+        least, greatest, second, time = self.times(face)
+        self.source.time = (ticks := high << 32 | low) / second
         self.out.packets += 1
         if least <= ticks <= greatest:
-            return block, ""
+            return SAME
+        block = data[place : place + size]
         return block[:12] + time + block[20:], "a time out of range, written as 0"
 
     def settle(self, at, place):
@@ -454,24 +460,16 @@ class Blocks(Reader):
             block, length = self.source.get(at, size), struct.pack(self.order + "I", size)
             kind = self.sizes(block)[0]
             is_known = kind <= 10 and LEAST.get(kind, 12) <= size or block[8:16] in SECTIONS
-            if is_known and length in (block[4:8], block[-4:]):
+            is_empty = kind == ENHANCED and block[20:28] == bytes(8)  # of both lengths
+            if is_known and not is_empty and length in (block[4:8], block[-4:]):
                 block = block[:4] + length + block[8:-4] + length
-                right, why = self.right(kind, block) if kind in LEAST else (block, "")
+                right, why = self.right(kind, block, 0, size) if kind in LEAST else SAME
                 why = why or "a block with a damaged length, put right" if right else why
                 self.out.note(at, why, 0 if right else size)
-                self.out.put(right or b"")
+                self.out.put(block if right is True else right or b"")
                 return place
         self.is_torn = True
         return at
-
-
-@functools.lru_cache(MOST_INTERFACES)
-def limits(order, most, unit, offset):
-    """Of an interface the least and greatest ticks, those of a second, and the least as written."""
-    (unit,), (offset,) = unit, struct.unpack(order + "q", offset)
-    second = 10**unit if unit < 128 else 2 ** (unit - 128)
-    least, greatest = max(0, -offset * second), -(-(most - offset * 10**9) * second // 10**9) - 1
-    return least, greatest, second, struct.pack(order + "II", least >> 32, least % 2**32)
 
 
 def capture_at(source, out, at):
@@ -504,7 +502,8 @@ def find(source, out, readers, begin, passes):
         place, reader = min(chains, key=lambda it: it[0], default=(end, None))
         for at in source.places(HEADER, 0, b"\xa1", begin, place):
             source.tried += 8
-            if at and (capture := capture_at(source, out, at)):
+            is_free = source.may_try(at) or source.header in (b"", source.get(at, 24))
+            if at and is_free and (capture := capture_at(source, out, at)):
                 bounds = capture[0].chain(capture[1], True)
                 if bounds and bounds[-1] > passes:
                     return at, *capture
@@ -525,6 +524,7 @@ def salvage(source, out):
     while other:
         if other is not reader:
             other.begin(place)
+            source.header = source.get(place, 24)
             if reader:
                 out.note(place, "another capture begins")
         reader = seen[type(other), other.order] = other
