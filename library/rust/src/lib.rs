@@ -24,7 +24,9 @@ mod filter;
 mod reading;
 mod writing;
 
-pub use errors::{Check, CompileError, ProgramError, ReadError, Rule, Status, WriteError};
+pub use errors::{
+    Check, CompileError, ListingError, ProgramError, ReadError, Rule, Status, WriteError,
+};
 pub use filter::{explain, Expression, Filter, Instruction, Step};
 pub use reading::{Packet, Packets};
 pub use writing::{Format, Writer};
