@@ -10,9 +10,13 @@ use std::sync::{Arc, Mutex};
 #[repr(C)]
 #[derive(Clone, Copy, Debug, Default, PartialEq, Eq, Hash)]
 pub struct Instruction {
+    /// The operation.
     pub code: u16,
+    /// How many instructions a jump skips if its test holds,
     pub jt: u8,
+    /// and if it doesn't.
     pub jf: u8,
+    /// The operand.
     pub k: u32,
 }
 
