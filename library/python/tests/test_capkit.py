@@ -78,6 +78,8 @@ class FilterTest(unittest.TestCase):
             self.assertEqual(str(caught.exception), f"not a listing (at line {line})")
         with self.assertRaisesRegex(capkit.ProgramError, "no return at the end"):
             capkit.Filter.from_listing("1\n128 0 0 0\n")
+        with self.assertRaisesRegex(TypeError, "a listing is a str, not bytes"):
+            capkit.Filter.from_listing(b"1\n6 0 0 0\n")
 
     def test_values(self):
         """Filters and expressions compare, are shown, and go to other processes, used or not."""

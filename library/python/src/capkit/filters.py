@@ -56,9 +56,9 @@ def _number_of(call: Any, text: bytes, *arguments: Any) -> int:
     return number.value
 
 
-def _encoded(text: str) -> bytes:
+def _encoded(text: str, name: str = "an expression") -> bytes:
     if not isinstance(text, str):
-        raise TypeError(f"an expression is a str, not {type(text).__name__}")
+        raise TypeError(f"{name} is a str, not {type(text).__name__}")
     # What isn't UTF-8 on a command line comes as lone surrogates, and is given back.
     return text.encode(errors="surrogateescape")
 
@@ -108,7 +108,7 @@ class Filter:
         Raises ListingError, or ProgramError if its instructions aren't a valid program.
         """
         insns, number = (native.Insn * native.MOST_INSNS)(), c.c_size_t()
-        encoded = text.encode(errors="replace")
+        encoded = _encoded(text, "a listing")
         status = native.read_listing(encoded, len(encoded), insns, len(insns), c.byref(number))
         if status == NOT_A_LISTING:
             raise ListingError(number.value)
