@@ -52,6 +52,18 @@ for name in day.pcap nanoseconds.pcap two-sections.pcapng comments.pcapng; do
     test "$(out/stream <"../samples/$name" | wc -l)" = "$(out/filter tcp "../samples/$name" | sed -n 's/.* of \([0-9]*\) packets match/\1/p')" ||
         { echo "stream: $name"; bad=1; }
 done
+# A live pipe gives a packet 0.2 s after its last byte came, or earlier. The header and the first packet have 100 bytes.
+rm -f out/live && mkfifo out/live
+out/stream <out/live >out/live.txt &
+exec 3>out/live
+head -c 90 ../samples/day.pcap >&3
+sleep 0.2
+test -s out/live.txt && { echo 'stream: a packet before its end'; bad=1; }
+tail -c +91 ../samples/day.pcap | head -c 10 >&3
+sleep 0.2
+test "$(wc -l <out/live.txt)" = 1 || { echo 'stream: no packet of a live pipe'; bad=1; }
+exec 3>&-
+wait $! || bad=1
 # What an expression means; and a refused one.
 meaning='((tcp src or dst port 80) or (tcp src or dst port 443)) and (src or dst host 10.0.0.1)'
 for text in 'tcp port 80 or 443 and host 10.0.0.1' "$meaning"; do

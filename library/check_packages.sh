@@ -151,6 +151,7 @@ check_filter() {
     expect 0 '' '0 of 1 packets match' filter tcp "$packages/large.pcapng"
     expect 2 'unknown word' '' filter prt "$samples/day.pcap"
     expect 1 'link type not filtered' '' filter arp "$samples/any.pcap"
+    expect 0 '' '9 of 9 packets match' filter '' "$samples/any.pcap"
     expect 1 'o such file' '' filter tcp "$packages/missing.pcap"
     expect 1 'irectory' '' filter tcp "$samples"
     # A file that is redirected, and a pipe.
@@ -163,12 +164,15 @@ check_filter() {
 
 check_keep() {
     kept=$packages/kept.pcapng
-    for name in day.pcap mirror.pcap nanoseconds.pcap comments.pcapng two-sections.pcapng cooked.pcap; do
-        linked "$packages/c-keep" 'tcp or udp' "$samples/$name" "$packages/c.pcapng"
-        expect 0 '' '' keep 'tcp or udp' "$samples/$name" "$kept"
+    for name in day.pcap mirror.pcap nanoseconds.pcap comments.pcapng two-sections.pcapng cooked.pcap any.pcap; do
+        text='tcp or udp'
+        # Of another link type only the empty expression is one.
+        if [ $name = any.pcap ]; then text=''; fi
+        linked "$packages/c-keep" "$text" "$samples/$name" "$packages/c.pcapng"
+        expect 0 '' '' keep "$text" "$samples/$name" "$kept"
         cmp "$packages/c.pcapng" "$kept" || bad=1
         if have capkit; then
-            capkit print -w "$packages/printed.pcapng" "$samples/$name" 'tcp or udp' >/dev/null
+            capkit print -w "$packages/printed.pcapng" "$samples/$name" "$text" >/dev/null
             cmp "$packages/printed.pcapng" "$kept" || bad=1
         fi
     done

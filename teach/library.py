@@ -42,18 +42,12 @@ try:
         "capkit_run", ctypes.c_uint32, ctypes.c_void_p, ctypes.c_size_t, ctypes.c_char_p,
         ctypes.c_size_t, ctypes.c_uint32, ctypes.POINTER(ctypes.c_size_t),
     )  # fmt: skip
-    _read_listing = native.declare(
-        "capkit_read_listing", ctypes.c_uint32, ctypes.c_char_p, ctypes.c_size_t, ctypes.c_void_p,
-        ctypes.c_size_t, ctypes.POINTER(ctypes.c_size_t),
-    )  # fmt: skip
 except (ImportError, OSError):
     sys.exit(f"{NAME}: {NO_LIBRARY}")
 except AttributeError as error:
     sys.exit(f"{NAME}: the library is older than these tools: {error}")
 
 WORDS_OF_A_STEP = ctypes.sizeof(native.Step) // 4
-MOST_INSNS = 32768  # of a listing
-NOT_A_LISTING = 17
 
 
 class Trace(NamedTuple):
@@ -95,25 +89,6 @@ class Program:
         count = native.trace(*arguments, self._steps, self._room)
         words = self._words[: WORDS_OF_A_STEP * count]
         return Trace(*(words[column::WORDS_OF_A_STEP].tolist() for column in range(3)), words)
-
-
-class NotAListing(Exception):
-    """A text that is no listing; `line` is its first wrong line, from 1."""
-
-    def __init__(self, line):
-        super().__init__(f"not a listing at line {line}")
-        self.line = line
-
-
-def listed(text):
-    """The instructions that a listing in ASCII has; raises NotAListing."""
-    insns, number = (native.Insn * MOST_INSNS)(), ctypes.c_size_t()
-    status = _read_listing(text, len(text), insns, MOST_INSNS, ctypes.byref(number))
-    if status == NOT_A_LISTING:
-        raise NotAListing(number.value)
-    if status:
-        raise MemoryError
-    return [(it.code, it.jt, it.jf, it.k) for it in insns[: number.value]]
 
 
 def compiled(text, link_type):

@@ -21,7 +21,7 @@ def why_wrong(lines, place):
     if place == 1 and len(words) != 1:
         return f"line 1: {len(words)} numbers, not one, the count of instructions; {FORM}"
     if place == 1:
-        return f"line 1: {words[0]} is no count of at most {library.MOST_INSNS} instructions; {FORM}"
+        return f"line 1: {words[0]} is no count of at most {library.native.MOST_INSNS} instructions; {FORM}"
     if place > int(lines[0]) + 1 or place > len(lines):
         return f"line 1 counts {lines[0]} instructions, and {len(lines) - 1} lines follow"
     if len(words) != 4:
@@ -32,25 +32,18 @@ def why_wrong(lines, place):
     return f"line {place}: {FORM}"
 
 
-def instructions_of(text):
-    """The instructions of a listing in ASCII, as the library reads it; other spaces are blanks."""
+def program_of(text):
+    """The program of a listing in ASCII, read and checked by the library; other spaces are blanks."""
     lines = [" ".join(line.split()) for line in text.rstrip().split("\n")]
     if lines == [""]:
         raise Bad(f"it is empty; {FORM}")
     try:
-        return library.listed("\n".join(lines).encode())
-    except library.NotAListing as error:
+        return library.Program(library.capkit.Filter.from_listing("\n".join(lines)))
+    except library.capkit.ListingError as error:
         raise Bad(why_wrong(lines, error.line)) from error
-
-
-def program_of(text):
-    """The program of a listing, checked by the library."""
-    instructions = instructions_of(text)
-    try:
-        return library.Program(library.capkit.Filter.from_instructions(instructions))
     except library.capkit.ProgramError as error:
         place = error.index
-        where = f"line {place + 2}: instruction {place}: " if place < len(instructions) else ""
+        where = f"line {place + 2}: instruction {place}: " if place < len(lines) - 1 else ""
         reason = str(error).rsplit(" (", 1)[0]
         raise Bad(f"{where}{reason}; the program isn't valid, so no packet is run on it") from error
 

@@ -322,4 +322,14 @@ func TestPrograms(t *testing.T) {
 	if _, err := capkit.FromInstructions(nil); err == nil {
 		t.Error("no instructions were taken")
 	}
+	if same, err = capkit.FromListing(long.String()); err != nil || same.String() != long.String() {
+		t.Error(same, err)
+	}
+	var wrong *capkit.ListingError
+	if _, err := capkit.FromListing("2\n6 0 0 0\n"); !errors.As(err, &wrong) || wrong.Line != 3 || !errors.Is(err, capkit.ErrNotAListing) {
+		t.Error(err)
+	}
+	if _, err := capkit.FromListing("1\n128 0 0 0\n"); !errors.Is(err, capkit.ErrNoReturn) {
+		t.Error(err)
+	}
 }

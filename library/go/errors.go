@@ -24,6 +24,7 @@ const (
 	ErrNoMemory               Code = 13
 	ErrNotUTF8                Code = 14
 	ErrLinkType               Code = 15
+	ErrNotAListing            Code = 17
 	ErrEmpty                  Code = 101
 	ErrTooMany                Code = 102
 	ErrUnknownCode            Code = 103
@@ -79,6 +80,14 @@ func (e *ProgramError) Error() string { return fmt.Sprintf("%s (instruction %d)"
 
 // Unwrap is the code.
 func (e *ProgramError) Unwrap() error { return e.Code }
+
+// ListingError is the first wrong line of a text that isn't a listing, from 1.
+type ListingError struct{ Line int }
+
+func (e *ListingError) Error() string { return fmt.Sprintf("%s (at line %d)", ErrNotAListing, e.Line) }
+
+// Unwrap is ErrNotAListing.
+func (e *ListingError) Unwrap() error { return ErrNotAListing }
 
 // CaptureError is where a capture ends with a fault, and the check that the unit at this offset fails.
 type CaptureError struct {

@@ -81,19 +81,40 @@ func explainInto(source, buffer []byte) (int, error) {
 	return int(number), compileError(status, number)
 }
 
-// FromInstructions is a program from elsewhere, as tcpdump -ddd prints it. Its error is a
-// *ProgramError.
+// FromInstructions is a program from elsewhere. Its error is a *ProgramError.
 func FromInstructions(instructions []Instruction) (*Filter, error) {
 	insns := make([]C.struct_capkit_insn, len(instructions)+1)
 	for i, it := range instructions {
 		insns[i] = C.struct_capkit_insn{C.uint16_t(it.Code), C.uint8_t(it.JT), C.uint8_t(it.JF), C.uint32_t(it.K)}
 	}
+	return checked(insns, len(instructions))
+}
+
+// FromListing is the program of a listing, as capkit compile and tcpdump -ddd print it. Its error is a
+// *ListingError, or a *ProgramError if the instructions aren't a valid program.
+func FromListing(listing string) (*Filter, error) {
+	source := []byte(listing)
+	var number C.size_t
+	insns := make([]C.struct_capkit_insn, C.CAPKIT_MOST_INSNS+1)
+	status := C.capkit_read_listing((*C.char)(start(source)), C.size_t(len(source)), &insns[0],
+		C.CAPKIT_MOST_INSNS, &number)
+	switch status {
+	case C.CAPKIT_OK:
+		return checked(append([]C.struct_capkit_insn(nil), insns[:number+1]...), int(number))
+	case C.CAPKIT_NOT_A_LISTING:
+		return nil, &ListingError{int(number)}
+	}
+	panic("capkit: out of memory")
+}
+
+// checked is the filter of the first so many of some instructions, which are one more at least.
+func checked(insns []C.struct_capkit_insn, count int) (*Filter, error) {
 	var index C.size_t
-	rule := C.capkit_check(&insns[0], C.size_t(len(instructions)), &index)
+	rule := C.capkit_check(&insns[0], C.size_t(count), &index)
 	if rule != C.CAPKIT_VALID {
 		return nil, &ProgramError{Code(rule), int(index)}
 	}
-	return &Filter{insns[:len(instructions)]}, nil
+	return &Filter{insns[:count]}, nil
 }
 
 // all is the program. A Filter that was neither compiled nor checked rejects every packet.
@@ -199,6 +220,9 @@ func NewExpression(text string) (*Expression, error) {
 	}
 	return &Expression{text: text}, nil
 }
+
+// String is the text of the expression.
+func (e *Expression) String() string { return e.text }
 
 // Filter is the expression's filter for a link type. Its error is a *CompileError.
 func (e *Expression) Filter(linkType uint16) (*Filter, error) {

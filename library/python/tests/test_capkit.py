@@ -71,6 +71,15 @@ class FilterTest(unittest.TestCase):
         self.assertEqual(arp.instructions[1], capkit.Instruction(21, 0, 1, 2054))
         self.assertTrue(arp.is_portable)
         self.assertEqual(str(arp), arp.listing)
+        self.assertEqual(capkit.Filter.from_listing(arp.listing), arp)
+        for text, line in (("", 1), ("2\n6 0 0 0\n", 3), ("1\n6 0 0 \u0660\n", 2)):
+            with self.assertRaises(capkit.ListingError) as caught:
+                capkit.Filter.from_listing(text)
+            self.assertEqual(str(caught.exception), f"not a listing (at line {line})")
+        with self.assertRaisesRegex(capkit.ProgramError, "no return at the end"):
+            capkit.Filter.from_listing("1\n128 0 0 0\n")
+        with self.assertRaisesRegex(TypeError, "a listing is a str, not bytes"):
+            capkit.Filter.from_listing(b"1\n6 0 0 0\n")
 
     def test_values(self):
         """Filters and expressions compare, are shown, and go to other processes, used or not."""
@@ -90,7 +99,7 @@ class FilterTest(unittest.TestCase):
 
     def test_errors_reach_other_processes(self):
         program, capture = capkit.ProgramError(108, 3), capkit.CaptureError(202, 7, None)
-        for error in (capkit.CompileError(3, 5), program, capture, capkit.WriteError("why")):
+        for error in (capkit.CompileError(3, 5), program, capture, capkit.ListingError(2), capkit.WriteError("why")):
             again = pickle.loads(pickle.dumps(error))
             self.assertEqual((str(again), vars(again)), (str(error), vars(error)))
         with self.assertRaises(capkit.CaptureError) as caught:

@@ -101,6 +101,30 @@ impl fmt::Display for ProgramError {
     }
 }
 
+/// Why a text isn't the listing of a valid program.
+#[derive(Clone, Copy, Debug, PartialEq, Eq)]
+#[non_exhaustive]
+pub enum ListingError {
+    /// It isn't a listing: its first wrong line, from 1.
+    Line(usize),
+    /// Its instructions aren't a valid program.
+    Program(ProgramError),
+    /// Memory ran out.
+    NoMemory,
+}
+
+impl fmt::Display for ListingError {
+    fn fmt(&self, f: &mut fmt::Formatter<'_>) -> fmt::Result {
+        match self {
+            ListingError::Line(line) => {
+                write!(f, "{} (at line {line})", ffi::text(ffi::NOT_A_LISTING))
+            }
+            ListingError::Program(error) => error.fmt(f),
+            ListingError::NoMemory => Status::NoMemory.fmt(f),
+        }
+    }
+}
+
 /// Why a capture's packets end before its end.
 #[derive(Debug)]
 #[non_exhaustive]
@@ -149,6 +173,7 @@ impl fmt::Display for WriteError {
 
 impl error::Error for CompileError {}
 impl error::Error for ProgramError {}
+impl error::Error for ListingError {}
 impl error::Error for ReadError {}
 impl error::Error for WriteError {}
 

@@ -2,11 +2,13 @@
 
 pub const OK: u32 = 0;
 pub const PACKET: u32 = 0;
+pub const NOT_A_LISTING: u32 = 17;
 pub const NOT_A_CAPTURE_FILE: u32 = 201;
 pub const TRUNCATED: u32 = 202;
 pub const END: u32 = 222;
 pub const NO_ROOM_IN_BUFFER: u32 = 225;
 pub const ANOTHER_LINK_TYPE: u32 = 226;
+pub const MOST_INSNS: usize = 32_768;
 pub const MOST_INTERFACES: usize = 256;
 pub const MOST_UNIT: usize = 1 << 20;
 
@@ -75,6 +77,10 @@ extern "C" {
         insns: *const crate::Instruction, count: usize, packet: *const u8, captured: usize,
         original: u32, steps: *mut crate::Step, room: usize,
     ) -> usize;
+    pub fn capkit_read_listing(
+        text: *const u8, length: usize, insns: *mut crate::Instruction, room: usize,
+        number: *mut usize,
+    ) -> u32;
     pub fn capkit_write_listing(
         insns: *const crate::Instruction, count: usize, buffer: *mut u8, room: usize,
         length: *mut usize,

@@ -1,5 +1,5 @@
 use crate::errors::Rule;
-use crate::{ffi, CompileError, Packet, ProgramError};
+use crate::{ffi, CompileError, ListingError, Packet, ProgramError};
 use std::collections::HashMap;
 use std::fmt;
 use std::str::FromStr;
@@ -10,9 +10,13 @@ use std::sync::{Arc, Mutex};
 #[repr(C)]
 #[derive(Clone, Copy, Debug, Default, PartialEq, Eq, Hash)]
 pub struct Instruction {
+    /// The operation.
     pub code: u16,
+    /// How many instructions a jump skips if its test holds,
     pub jt: u8,
+    /// and if it doesn't.
     pub jf: u8,
+    /// The operand.
     pub k: u32,
 }
 
@@ -32,11 +36,12 @@ pub struct Step {
 
 /// The program of an expression for packets of one link type. It is always valid.
 ///
-/// As text it is the listing that `capkit compile` and `tcpdump -ddd` print:
+/// As text it is the listing that `capkit compile` and `tcpdump -ddd` print, and is parsed from it:
 ///
 /// ```
 /// let arp = capkit::Filter::new("arp", capkit::LINK_ETHERNET)?;
 /// assert_eq!(arp.to_string(), "4\n40 0 0 12\n21 0 1 2054\n6 0 0 262144\n6 0 0 0\n");
+/// assert_eq!(arp.to_string().parse(), Ok(arp));
 /// # Ok::<(), capkit::CompileError>(())
 /// ```
 #[derive(Clone, Debug, PartialEq, Eq)]
@@ -159,6 +164,25 @@ impl fmt::Display for Filter {
         let mut buffer = vec![0; length + 1];
         self.listing_into(&mut buffer)?;
         f.write_str(&String::from_utf8_lossy(&buffer[..length]))
+    }
+}
+
+impl FromStr for Filter {
+    type Err = ListingError;
+
+    fn from_str(listing: &str) -> Result<Filter, ListingError> {
+        let mut insns = vec![Instruction::default(); ffi::MOST_INSNS];
+        let (text, length) = (listing.as_ptr(), listing.len());
+        let (to, room, mut number) = (insns.as_mut_ptr(), insns.len(), 0);
+        // SAFETY: the pointers and lengths are those of the text and of the instructions.
+        let status = unsafe { ffi::capkit_read_listing(text, length, to, room, &mut number) };
+        match status {
+            ffi::OK => {
+                Filter::from_instructions(insns[..number].to_vec()).map_err(ListingError::Program)
+            }
+            ffi::NOT_A_LISTING => Err(ListingError::Line(number)),
+            _ => Err(ListingError::NoMemory),
+        }
     }
 }
 

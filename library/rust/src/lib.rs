@@ -17,6 +17,7 @@
 //! # }
 //! ```
 #![deny(unsafe_op_in_unsafe_fn)]
+#![warn(missing_docs)]
 
 mod errors;
 mod ffi;
@@ -24,7 +25,9 @@ mod filter;
 mod reading;
 mod writing;
 
-pub use errors::{Check, CompileError, ProgramError, ReadError, Rule, Status, WriteError};
+pub use errors::{
+    Check, CompileError, ListingError, ProgramError, ReadError, Rule, Status, WriteError,
+};
 pub use filter::{explain, Expression, Filter, Instruction, Step};
 pub use reading::{Packet, Packets};
 pub use writing::{Format, Writer};

@@ -7,6 +7,7 @@ use std::io::{self, Write};
 /// How a capture is written.
 #[derive(Clone, Copy, Debug, PartialEq, Eq)]
 pub enum Format {
+    /// Times are in nanoseconds; comments and names of interfaces are kept.
     Pcapng,
     /// Times are cut to microseconds; comments and names of interfaces aren't kept.
     Pcap,

@@ -223,4 +223,10 @@ fn errors_as_text() {
     let back = Instruction { code: 5, k: 9, ..Default::default() };
     let error = Filter::from_instructions(vec![back]).unwrap_err();
     assert_eq!(error.to_string(), "jump out (instruction 0)");
+    for (listing, shown) in [
+        ("2\n6 0 0 0\n", "not a listing (at line 3)"),
+        ("1\n128 0 0 0\n", "no return at the end (instruction 0)"),
+    ] {
+        assert_eq!(listing.parse::<Filter>().unwrap_err().to_string(), shown);
+    }
 }

@@ -6,7 +6,8 @@
 A time is in nanoseconds since 1970-01-01 00:00:00 UTC. A link type is the number that captures have
 for it; expressions are compiled for LINK_ETHERNET, LINK_RAW and LINK_COOKED.
 """
-from .errors import CaptureError, Check, CompileError, ProgramError, Rule, Status, WriteError
+from .errors import CaptureError, Check, CompileError, ListingError, ProgramError, Rule, Status
+from .errors import WriteError
 from .filters import Elsewhere, Expression, Filter, Instruction, Step, explain
 from .reading import Capture, Packet, packets
 from .writing import Writer
@@ -19,6 +20,6 @@ LINK_COOKED = 113
 
 __all__ = [
     "LINK_COOKED", "LINK_ETHERNET", "LINK_RAW", "Capture", "CaptureError", "Check",
-    "CompileError", "Elsewhere", "Expression", "Filter", "Instruction", "Packet", "ProgramError",
-    "Rule", "Status", "Step", "WriteError", "Writer", "explain", "packets",
+    "CompileError", "Elsewhere", "Expression", "Filter", "Instruction", "ListingError", "Packet",
+    "ProgramError", "Rule", "Status", "Step", "WriteError", "Writer", "explain", "packets",
 ]  # fmt: skip

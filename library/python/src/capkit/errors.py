@@ -64,6 +64,9 @@ class Check(enum.IntEnum):
     TOO_MANY_OUTPUT_INTERFACES = 221
 
 
+NOT_A_LISTING = 17
+
+
 class _Error(ValueError):
     """Errors that other processes get whole: they are made again of what they were made of."""
 
@@ -95,6 +98,14 @@ class ProgramError(_Error):
     def __init__(self, rule: int, index: int) -> None:
         self.rule, self.index, self._made_of = Rule(rule), index, (rule, index)
         super().__init__(f"{native.text_of(rule)} (instruction {index})")
+
+
+class ListingError(_Error):
+    """A text isn't a listing; `line` is its first wrong line, from 1."""
+
+    def __init__(self, line: int) -> None:
+        self.line, self._made_of = line, (line,)
+        super().__init__(f"{native.text_of(NOT_A_LISTING)} (at line {line})")
 
 
 class CaptureError(_Error):

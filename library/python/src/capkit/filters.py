@@ -6,7 +6,7 @@ import enum
 from typing import TYPE_CHECKING, Any, Dict, Iterable, List, NamedTuple, Optional, Tuple, Union
 
 from . import native
-from .errors import CompileError, ProgramError, Status
+from .errors import NOT_A_LISTING, CompileError, ListingError, ProgramError, Status
 
 if TYPE_CHECKING:
     from .reading import Packet
@@ -56,9 +56,9 @@ def _number_of(call: Any, text: bytes, *arguments: Any) -> int:
     return number.value
 
 
-def _encoded(text: str) -> bytes:
+def _encoded(text: str, name: str = "an expression") -> bytes:
     if not isinstance(text, str):
-        raise TypeError(f"an expression is a str, not {type(text).__name__}")
+        raise TypeError(f"{name} is a str, not {type(text).__name__}")
     # What isn't UTF-8 on a command line comes as lone surrogates, and is given back.
     return text.encode(errors="surrogateescape")
 
@@ -98,8 +98,26 @@ class Filter:
 
     @classmethod
     def from_instructions(cls, instructions: Iterable[Tuple[int, int, int, int]]) -> Filter:
-        """A program from elsewhere, such as `tcpdump -ddd` prints; raises ProgramError."""
-        program = [_insn(*instruction) for instruction in instructions]
+        """A program from elsewhere; raises ProgramError."""
+        return cls._checked([_insn(*instruction) for instruction in instructions])
+
+    @classmethod
+    def from_listing(cls, text: str) -> Filter:
+        """The program of a listing, as `capkit compile` and `tcpdump -ddd` print it.
+
+        Raises ListingError, or ProgramError if its instructions aren't a valid program.
+        """
+        insns, number = (native.Insn * native.MOST_INSNS)(), c.c_size_t()
+        encoded = _encoded(text, "a listing")
+        status = native.read_listing(encoded, len(encoded), insns, len(insns), c.byref(number))
+        if status == NOT_A_LISTING:
+            raise ListingError(number.value)
+        if status:
+            raise MemoryError
+        return cls._checked(insns[: number.value])
+
+    @classmethod
+    def _checked(cls, program: List[Any]) -> Filter:
         made, index = cls.__new__(cls), c.c_size_t()
         made._insns, made._count = (native.Insn * len(program))(*program), len(program)
         rule = native.check(made._insns, made._count, c.byref(index))

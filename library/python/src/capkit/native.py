@@ -7,6 +7,7 @@ import os
 import pathlib
 from typing import Any, List, Sequence, Tuple
 
+MOST_INSNS = 32768
 MOST_INTERFACES = 256
 MOST_UNIT = 1048576
 
@@ -58,6 +59,7 @@ check = declare("capkit_check", _32, *_buffer)
 run = declare("capkit_run", _32, _at, _size, _at, _size, _32, _number)
 matches = declare("capkit_matches", _32, _at, _size, _at, _size, _32)
 trace = declare("capkit_trace", _size, _at, _size, _at, _size, _32, _at, _size)
+read_listing = declare("capkit_read_listing", _32, _text, _size, *_buffer)
 write_listing = declare("capkit_write_listing", _32, _at, _size, *_buffer)
 insn_text = declare("capkit_insn_text", _size, _at, _32, _at, _size)
 line = declare("capkit_line", _size, _16, _64, _32, _at, _size, _32, _at, _size)
