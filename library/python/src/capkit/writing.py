@@ -38,7 +38,8 @@ class Writer:
         # That of the first packet, once it is written.
         self._link_type: Optional[int] = None
         # What is written of a pcapng file.
-        self._state, self._interfaces = native.WriterState(), (native.Interface * 1)()
+        self._state, self._interfaces, self._room = native.WriterState(), (native.Interface * 1)(), 1
+        self._info = native.PacketInfo()
         self._unit, self._length = c.create_string_buffer(4096), c.c_size_t()
         self._target = target
         self._file: Optional[IO[bytes]] = None
@@ -55,12 +56,13 @@ class Writer:
         if self._is_closed:
             raise ValueError("write to a closed writer")
         packet = _checked(packet)
-        if self._format == "pcapng":
-            state = native.WriterState.from_buffer_copy(self._state)
-            self._put(self._block(packet, state))
-            self._state = state
-        else:
-            self._put(self._record(packet))
+        units = self._block(packet) if self._format == "pcapng" else self._record(packet)
+        try:
+            self._put(units)
+        except BaseException:
+            # The next packet begins a new section.
+            self._state.has_section = self._state.interfaces = 0
+            raise
         self._link_type = packet.link_type
 
     def close(self) -> None:
@@ -101,14 +103,14 @@ class Writer:
         units = b""
         while True:
             written = call(*arguments, self._unit, len(self._unit), c.byref(self._length))
-            if written == _NO_ROOM_IN_BUFFER:
-                self._unit = c.create_string_buffer(self._length.value)
-                continue
-            if written not in (_WRITTEN, _UNIT_BEFORE):
-                raise WriteError(native.text_of(written))
-            units += c.string_at(self._unit, self._length.value)
             if written == _WRITTEN:
-                return units
+                return units + c.string_at(self._unit, self._length.value)
+            if written == _UNIT_BEFORE:
+                units += c.string_at(self._unit, self._length.value)
+            elif written == _NO_ROOM_IN_BUFFER:
+                self._unit = c.create_string_buffer(self._length.value)
+            else:
+                raise WriteError(native.text_of(written))
 
     def _header(self, link_type: int) -> bytes:
         if self._format == "pcapng":
@@ -124,18 +126,18 @@ class Writer:
         record = self._made(call, self._nanoseconds, time, original, data, len(data))
         return self._header(packet.link_type) + record if self._link_type is None else record
 
-    def _block(self, packet: Packet, state: Any) -> bytes:
+    def _block(self, packet: Packet) -> bytes:
         """A packet's block, after the units that come before it."""
         name, data, comment = packet.interface_name, packet.data, packet.comment
-        info = native.PacketInfo(
-            time=packet.time, original=packet.original_length, snap=packet.snap_length,
-            link_type=packet.link_type,
-        )  # fmt: skip
-        room = state.interfaces + 1
-        c.resize(self._interfaces, room * c.sizeof(native.Interface))
+        info, room = self._info, self._state.interfaces + 1
+        info.time, info.original = packet.time, packet.original_length
+        info.snap, info.link_type = packet.snap_length, packet.link_type
+        if room > self._room:
+            self._room = room
+            c.resize(self._interfaces, room * c.sizeof(native.Interface))
         return self._made(
-            native.writer_put, c.byref(state), self._interfaces, room, c.byref(info), name, len(name),
-            data, len(data), comment, len(comment),
+            native.writer_put, c.byref(self._state), self._interfaces, room, c.byref(info), name,
+            len(name), data, len(data), comment, len(comment),
         )  # fmt: skip
 
 
