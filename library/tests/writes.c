@@ -27,7 +27,7 @@ static size_t size, wrong, whole, no_room, refused, files, packets;
 static struct capkit_writer writer;
 static struct capkit_interface table[4100], from;
 static size_t entries, known, name_length;
-static const char *name;
+static const uint8_t *name;
 
 /* ---- the second encoder */
 
@@ -132,8 +132,8 @@ static uint32_t put_next(const struct unit *u, uint8_t *buffer, size_t room, siz
     size_t bytes = entries * sizeof *table, count = known + (u->kind == INTERFACE);
     struct capkit_interface *copy = memcpy(place(third, bytes), table, bytes);
     uint32_t status =
-        capkit_writer_put(&after, copy, entries, &packet, name, name_length, p->bytes, p->captured,
-                          p->comment, p->comment_length, buffer, room, length);
+        capkit_writer_put(&after, copy, entries, &packet, (const char *)name, name_length, p->bytes,
+                          p->captured, p->comment, p->comment_length, buffer, room, length);
     if (status == CAPKIT_UNIT_BEFORE) {
         wrong += u->kind == PACKET || !after.has_section || after.interfaces != count ||
                  (count > known && !is_same(&copy[known], &from));
@@ -278,7 +278,7 @@ static void random_put(struct unit p)
     size_t most, i;
     uint32_t refuses;
     struct unit u = {.kind = SECTION};
-    entries = rnd() % 200 ? rnd() % 4 : 4090 + rnd() % 10;
+    entries = rnd() % 200 ? rnd() % 9 : 4090 + rnd() % 10;
     most = entries < 4096 ? entries : 4096;
     for (i = 0; i < entries; i++)
         table[i] = some_interface();
@@ -294,14 +294,9 @@ static void random_put(struct unit p)
     refuses = refusal(&p);
     if (name_length > 255 && refuses != CAPKIT_TIME_OUT_OF_RANGE)
         refuses = CAPKIT_BAD_OPTION;
-    if (writer.has_section && i < known)
-        u = p;
-    else if (writer.has_section)
-        u = (struct unit){.kind = INTERFACE,
-                          .snap = from.snap,
-                          .link_type = from.link_type,
-                          .bytes = (const uint8_t *)name,
-                          .captured = name_length};
+    if (writer.has_section)
+        u = i < known ? p : (struct unit){INTERFACE, 0,    from.snap,   0, 0, from.link_type,
+                                          0,         name, name_length, 0, 0, 0};
     u.put = &p;
     in_rooms(&u, refuses);
 }
