@@ -31,6 +31,13 @@ grep -q "CAPKIT_VERSION \"$(cat ../packaging/version)\"" include/capkit.h || { e
 grep -q "CAPKIT_VERSION_NUMBER $(printf '0x%02x%02x%02x' $(tr . ' ' <../packaging/version))u" include/capkit.h ||
     { echo 'another number of the version'; bad=1; }
 
+# The programs of the page: one counts, and one is a function of keep.c.
+sed -n '/^    #include <capkit.h>/,/^    }/s/^    //p' ../docs/LIBRARY.md >out/count.c
+cc -O2 -Wall -Wextra -Iinclude -o out/count out/count.c out/libcapkit.a || bad=1
+test "$(out/count 'tcp port 80' <../samples/day.pcap)" = '9 packets match' || { echo 'the page: count'; bad=1; }
+sed -n '/^    static uint32_t keep(/,/^    }/s/^    //p' ../docs/LIBRARY.md >out/page.c
+sed -n '/^static uint32_t keep(/,/^}/p' examples/keep.c | cmp - out/page.c || bad=1
+
 # What keep writes reads back, and is what capkit writes.
 for name in day.pcap mirror.pcap nanoseconds.pcap comments.pcapng; do
     out/keep '' "../samples/$name" out/kept.pcapng || bad=1

@@ -113,6 +113,15 @@ func TestRefusedPacketsLeaveTheCapture(t *testing.T) {
 	if err := writer.Close(); err != nil || !bytes.Equal(out.Bytes(), written(t, capkit.Pcapng)) {
 		t.Error(err, out.Len())
 	}
+	// As many interfaces as capkit writes, and one more.
+	writer = capkit.NewWriter(io.Discard, capkit.Pcapng)
+	for snap := uint32(0); snap < 4097; snap++ {
+		each := packet(arp())
+		each.SnapLength = snap
+		if err := writer.Write(each); (err != nil) != (snap == 4096) || err != nil && !errors.Is(err, capkit.ErrTooManyOutputInterfaces) {
+			t.Error(snap, err)
+		}
+	}
 }
 
 // full is an output that fails once it has that many bytes.

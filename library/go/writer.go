@@ -19,20 +19,14 @@ const (
 	PcapNanoseconds
 )
 
-// interfaceKey is what two packets of one interface have in common.
-type interfaceKey struct {
-	linkType   uint16
-	snapLength uint32
-	name       string
-}
-
 // Writer writes packets to a capture, the same bytes as capkit(1) writes.
 type Writer struct {
 	out        io.Writer
 	format     Format
 	hasHeader  bool
-	linkType   uint16
-	interfaces map[interfaceKey]C.uint32_t
+	linkType   uint16                      // that of the last packet
+	state      C.struct_capkit_writer      // what is written of a pcapng file
+	interfaces []C.struct_capkit_interface // and its table
 	buffer     []byte
 	failure    error
 }
@@ -40,7 +34,7 @@ type Writer struct {
 // NewWriter writes nothing yet: the file's header is written with the first packet. Each packet is one
 // call of out.Write, so an out that is a file is best a bufio.Writer.
 func NewWriter(out io.Writer, format Format) *Writer {
-	w := &Writer{out: out, format: format, linkType: LinkEthernet}
+	w := &Writer{out: out, format: format}
 	if format < Pcapng || format > PcapNanoseconds {
 		w.failure = os.ErrInvalid
 	}
@@ -56,15 +50,16 @@ func (w *Writer) Write(packet Packet) error {
 	if packet.Time.Before(time.Unix(0, 0)) || packet.Time.After(time.Unix(0, 1<<63-1)) {
 		return &WriteError{ErrTimeOutOfRange}
 	}
-	encode := w.block
-	if w.format != Pcapng {
-		encode = w.record
+	encode := w.record
+	if w.format == Pcapng {
+		encode = w.block
 	}
-	unit, err := encode(packet)
+	units, err := encode(packet)
 	if err != nil {
 		return err
 	}
-	return w.put(packet.LinkType, unit)
+	w.hasHeader, w.linkType = true, packet.LinkType
+	return w.put(units)
 }
 
 // Close writes the file's header where there was no packet. It neither flushes nor closes the output.
@@ -72,46 +67,45 @@ func (w *Writer) Close() error {
 	if w.failure == os.ErrClosed {
 		return nil
 	}
-	if err := w.put(w.linkType, nil); err != nil {
-		return err
+	header, err := []byte(nil), error(nil)
+	if !w.hasHeader {
+		header, err = w.header(LinkEthernet)
 	}
-	w.failure = os.ErrClosed
-	return nil
+	if err == nil {
+		err = w.put(header)
+	}
+	if err == nil {
+		w.failure = os.ErrClosed
+	}
+	return err
 }
 
-// put writes a unit, after the file's header where that wasn't written yet.
-func (w *Writer) put(linkType uint16, unit []byte) error {
+// put writes units.
+func (w *Writer) put(units []byte) error {
 	if w.out == nil {
 		w.failure = os.ErrInvalid
 	}
-	if w.failure != nil {
-		return w.failure
-	}
-	if !w.hasHeader {
-		header, err := w.header(linkType)
-		if err != nil {
-			return err
-		}
-		unit = append(header, unit...)
-		w.hasHeader, w.linkType = true, linkType
-	}
-	if len(unit) > 0 {
-		_, w.failure = w.out.Write(unit)
+	if w.failure == nil && len(units) > 0 {
+		_, w.failure = w.out.Write(units)
 	}
 	return w.failure
 }
 
-// made is a copy of the unit that a call makes.
-func (w *Writer) made(call func(buffer *C.uint8_t, room C.size_t, length *C.size_t) C.uint32_t) ([]byte, error) {
+// made is the units that a call makes, one after another.
+func (w *Writer) made(call func(buffer *C.uint8_t, room C.size_t, length *C.size_t) C.uint32_t) (units []byte, err error) {
 	for {
 		var length C.size_t
-		switch written := call((*C.uint8_t)(start(w.buffer)), C.size_t(len(w.buffer)), &length); written {
-		case C.CAPKIT_WRITTEN:
-			return append([]byte(nil), w.buffer[:length]...), nil
+		written := call((*C.uint8_t)(start(w.buffer)), C.size_t(len(w.buffer)), &length)
+		switch written {
+		case C.CAPKIT_WRITTEN, C.CAPKIT_UNIT_BEFORE:
+			units = append(units, w.buffer[:length]...)
 		case C.CAPKIT_NO_ROOM_IN_BUFFER:
 			w.buffer = make([]byte, length)
 		default:
 			return nil, &WriteError{Code(written)}
+		}
+		if written == C.CAPKIT_WRITTEN {
+			return units, nil
 		}
 	}
 }
@@ -132,49 +126,37 @@ func (w *Writer) header(linkType uint16) ([]byte, error) {
 	})
 }
 
+// record is a packet's record, after the file's header if it is the first one.
 func (w *Writer) record(packet Packet) ([]byte, error) {
 	if w.hasHeader && packet.LinkType != w.linkType {
 		return nil, &WriteError{ErrLinkTypesDiffer}
 	}
-	return w.made(func(buffer *C.uint8_t, room C.size_t, length *C.size_t) C.uint32_t {
+	record, err := w.made(func(buffer *C.uint8_t, room C.size_t, length *C.size_t) C.uint32_t {
 		return C.capkit_write_record(w.nanoseconds(), C.uint64_t(packet.Time.UnixNano()),
 			C.uint32_t(packet.original()), (*C.uint8_t)(start(packet.Data)), C.size_t(len(packet.Data)),
 			buffer, room, length)
 	})
+	if err != nil || w.hasHeader {
+		return record, err
+	}
+	header, err := w.header(packet.LinkType)
+	return append(header, record...), err
 }
 
-// block is a packet's block, after that of its interface where it is the first of it.
+// block is a packet's block, after the units that come before it.
 func (w *Writer) block(packet Packet) ([]byte, error) {
-	key := interfaceKey{packet.LinkType, packet.SnapLength, packet.InterfaceName}
-	number, isKnown := w.interfaces[key]
-	if !isKnown {
-		number = C.uint32_t(len(w.interfaces))
+	if len(w.interfaces) == int(w.state.interfaces) {
+		w.interfaces = append(w.interfaces, C.struct_capkit_interface{})
 	}
-	comment := []byte(packet.Comment)
-	block, err := w.made(func(buffer *C.uint8_t, room C.size_t, length *C.size_t) C.uint32_t {
-		return C.capkit_write_packet(number, C.uint64_t(packet.Time.UnixNano()), C.uint32_t(packet.original()),
-			(*C.uint8_t)(start(packet.Data)), C.size_t(len(packet.Data)), (*C.char)(start(comment)),
-			C.size_t(len(comment)), buffer, room, length)
-	})
-	if err != nil || isKnown {
-		return block, err
+	info := C.struct_capkit_packet{
+		time: C.uint64_t(packet.Time.UnixNano()), original: C.uint32_t(packet.original()),
+		snap: C.uint32_t(packet.SnapLength), link_type: C.uint16_t(packet.LinkType),
 	}
-	described, err := w.described(key)
-	if err != nil {
-		return nil, err
-	}
-	if w.interfaces == nil {
-		w.interfaces = map[interfaceKey]C.uint32_t{}
-	}
-	w.interfaces[key] = number
-	return append(described, block...), nil
-}
-
-// described is the block of an interface.
-func (w *Writer) described(key interfaceKey) ([]byte, error) {
-	name := []byte(key.name)
+	name, comment := []byte(packet.InterfaceName), []byte(packet.Comment)
 	return w.made(func(buffer *C.uint8_t, room C.size_t, length *C.size_t) C.uint32_t {
-		return C.capkit_write_interface(C.uint16_t(key.linkType), C.uint32_t(key.snapLength),
-			(*C.char)(start(name)), C.size_t(len(name)), buffer, room, length)
+		return C.capkit_writer_put(&w.state, &w.interfaces[0], C.size_t(len(w.interfaces)), &info,
+			(*C.char)(start(name)), C.size_t(len(name)), (*C.uint8_t)(start(packet.Data)),
+			C.size_t(len(packet.Data)), (*C.char)(start(comment)), C.size_t(len(comment)),
+			buffer, room, length)
 	})
 }

@@ -192,6 +192,20 @@ static void batches(const uint8_t *capture, size_t size)
     wrong += next != found || one.offset != many.offset;
 }
 
+/* Puts a packet, of which a part is name and comment too, with a table of one entry or of none. */
+static void put(const struct capkit_packet *p, const uint8_t *bytes)
+{
+    static struct capkit_interface entry;
+    struct capkit_writer writer = {rnd() % 2 ? rnd() % 2 : rnd(), rnd() % 2};
+    size_t entries = rnd() % 2, room = rnd() % 200, part = p->captured % 300, length = 1;
+    uint32_t status = capkit_writer_put(
+        &writer, entries ? &entry : NULL, entries, p, (const char *)bytes, part, bytes, p->captured,
+        (const char *)bytes, part, place(third, room), room, &length);
+    int is_written = status == CAPKIT_WRITTEN || status == CAPKIT_UNIT_BEFORE;
+    wrong += is_written ? length == 0 || length > room
+                        : (status == CAPKIT_NO_ROOM_IN_BUFFER) != (length > room);
+}
+
 /* A capture as it stands, and damaged. */
 static void captures(const char *name, size_t rounds)
 {
@@ -233,6 +247,7 @@ static void captures(const char *name, size_t rounds)
             struct pcap_pkthdr *h;
             const u_char *bytes;
             packets++;
+            put(&p, capture + p.at);
             if (p.at + p.captured > size || p.at + p.captured > reader.offset)
                 wrong++;
             if (theirs) {
@@ -285,6 +300,7 @@ static void nothing(void)
 {
     struct capkit_insn accept = {6, 0, 0, 7};
     struct capkit_reader reader = {0};
+    struct capkit_writer writer = {0};
     struct capkit_packet p = {0};
     size_t number, index, any;
     size_t steps;
@@ -297,6 +313,8 @@ static void nothing(void)
     wrong += capkit_next_unit(&reader, NULL, 0, NULL, 0, &p) != CAPKIT_NOT_A_CAPTURE_FILE;
     wrong += capkit_comment(&reader, NULL, 0, &p, NULL, 0) != 0;
     wrong += capkit_write_section(NULL, 0, &number) != CAPKIT_NO_ROOM_IN_BUFFER;
+    wrong += capkit_writer_put(&writer, NULL, 0, &p, NULL, 0, NULL, 0, NULL, 0, NULL, 0, &number) !=
+             CAPKIT_TOO_MANY_OUTPUT_INTERFACES;
     wrong += capkit_matches(&accept, 1, NULL, 0, 0) != 7;
     wrong += capkit_trace(&accept, 1, NULL, 0, 0, NULL, 0) != 1;
     wrong += capkit_insn_text(&accept, 0, NULL, 0) != 17;

@@ -17,10 +17,17 @@ struct unit {
     size_t captured;
     const char *comment;
     size_t comment_length;
+    const struct unit *put; /* the packet that is put, if this is the unit that is written for it */
 };
 
-static uint8_t *first, *second, want[GUARDED];
+static uint8_t *first, *second, *third, *fourth, want[GUARDED];
 static size_t size, wrong, whole, no_room, refused, files, packets;
+
+/* What is written before a packet is put, and the packet's interface, whose name has any length. */
+static struct capkit_writer writer;
+static struct capkit_interface table[4100], from;
+static size_t entries, known, name_length;
+static const uint8_t *name;
 
 /* ---- the second encoder */
 
@@ -110,6 +117,35 @@ static void encode(const struct unit *u)
     }
 }
 
+static int is_same(const struct capkit_interface *i, const struct capkit_interface *j)
+{
+    return i->snap == j->snap && i->link_type == j->link_type && i->name_length == j->name_length &&
+           memcmp(i->name, j->name, i->name_length) == 0;
+}
+
+/* Puts a packet, with copies of the writer and its table, and checks what they become. */
+static uint32_t put_next(const struct unit *u, uint8_t *buffer, size_t room, size_t *length)
+{
+    const struct unit *p = u->put;
+    struct capkit_packet packet = {p->time, 0, 0, 0, p->original, 0, 0, from.snap, from.link_type};
+    struct capkit_writer after = writer;
+    size_t bytes = entries * sizeof *table, count = known + (u->kind == INTERFACE);
+    struct capkit_interface *copy = memcpy(place(third, bytes), table, bytes);
+    uint32_t status =
+        capkit_writer_put(&after, copy, entries, &packet, (const char *)name, name_length, p->bytes,
+                          p->captured, p->comment, p->comment_length, buffer, room, length);
+    if (status == CAPKIT_UNIT_BEFORE) {
+        wrong += u->kind == PACKET || !after.has_section || after.interfaces != count ||
+                 (count > known && !is_same(&copy[known], &from));
+        memcpy(copy + known, table + known, (count - known) * sizeof *copy);
+        status = CAPKIT_WRITTEN;
+    } else {
+        wrong += memcmp(&after, &writer, sizeof after) || (!status && u->kind != PACKET);
+    }
+    wrong += memcmp(copy, table, bytes) != 0;
+    return status;
+}
+
 /* The first check that a unit fails, or 0. */
 static uint32_t refusal(const struct unit *u)
 {
@@ -132,6 +168,8 @@ static uint32_t refusal(const struct unit *u)
 
 static uint32_t call(const struct unit *u, uint8_t *buffer, size_t room, size_t *length)
 {
+    if (u->put)
+        return put_next(u, buffer, room, length);
     switch (u->kind) {
     case HEADER:
         return capkit_write_file_header(u->nanoseconds, u->link_type, buffer, room, length);
@@ -211,19 +249,64 @@ static struct unit some_unit(void)
     return u;
 }
 
+static void in_rooms(const struct unit *u, uint32_t refuses)
+{
+    if (refuses)
+        size = rnd() % 100;
+    else
+        encode(u);
+    in_room(u, refuses, 0);
+    in_room(u, refuses, size ? size - 1 : 0);
+    in_room(u, refuses, size);
+    in_room(u, refuses, size + rnd() % 20);
+}
+
+/* An interface of few, so that some are equal. */
+static struct capkit_interface some_interface(void)
+{
+    struct capkit_interface is;
+    memset(&is, 'a' + rnd() % 2, sizeof is);
+    is.link_type = rnd() % 2;
+    is.snap = rnd() % 2;
+    is.name_length = rnd() % 20 ? rnd() % 2 : 254 + rnd() % 2;
+    return is;
+}
+
+/* A packet that is put, with a writer of any numbers, and a table of few entries or of too many. */
+static void random_put(struct unit p)
+{
+    size_t most, i;
+    uint32_t refuses;
+    struct unit u = {.kind = SECTION};
+    entries = rnd() % 200 ? rnd() % 9 : 4090 + rnd() % 10;
+    most = entries < 4096 ? entries : 4096;
+    for (i = 0; i < entries; i++)
+        table[i] = some_interface();
+    writer = (struct capkit_writer){rnd() % 4 ? rnd() % 4 : rnd(), rnd() % 3};
+    known = writer.interfaces < most ? writer.interfaces : most;
+    from = some_interface();
+    name_length = from.name_length + (from.name_length == 255 && rnd() % 2);
+    name = memset(place(fourth, name_length), from.name[0], name_length);
+    for (i = 0; i < known && !is_same(&table[i], &from);)
+        i++;
+    p.kind = PACKET;
+    p.interface = i < most ? i : 4096;
+    refuses = refusal(&p);
+    if (name_length > 255 && refuses != CAPKIT_TIME_OUT_OF_RANGE)
+        refuses = CAPKIT_BAD_OPTION;
+    if (writer.has_section)
+        u = i < known ? p : (struct unit){INTERFACE, 0,    from.snap,   0, 0, from.link_type,
+                                          0,         name, name_length, 0, 0, 0};
+    u.put = &p;
+    in_rooms(&u, refuses);
+}
+
 static void random_units(size_t rounds)
 {
     for (; rounds; rounds--) {
         struct unit u = some_unit();
-        uint32_t refuses = refusal(&u);
-        if (refuses)
-            size = rnd() % 100;
-        else
-            encode(&u);
-        in_room(&u, refuses, 0);
-        in_room(&u, refuses, size ? size - 1 : 0);
-        in_room(&u, refuses, size);
-        in_room(&u, refuses, size + rnd() % 20);
+        in_rooms(&u, refusal(&u));
+        random_put(u);
     }
 }
 
@@ -331,8 +414,8 @@ static void random_file(void)
                     theirs);
     while (capkit_next_unit(&reader, interface, 8, file, end, &p) == CAPKIT_NO_PACKET)
         ;
-    wrong +=
-        capkit_next_unit(&reader, interface, 8, file, end, &p) != CAPKIT_END || reader.offset != end;
+    wrong += capkit_next_unit(&reader, interface, 8, file, end, &p) != CAPKIT_END ||
+             reader.offset != end;
     if (theirs)
         pcap_close(theirs);
     else
@@ -345,6 +428,8 @@ int main(int argc, char **argv)
     seed = (argc > 1 ? atol(argv[1]) : 1) * 0x9e3779b97f4a7c15u + 1;
     first = guarded();
     second = guarded();
+    third = guarded();
+    fourth = guarded();
     random_units(rounds);
     for (i = 0; i < rounds / 20; i++)
         random_file();

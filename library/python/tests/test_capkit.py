@@ -355,6 +355,17 @@ class WriterTest(unittest.TestCase):
                     writer.write(packet())
                 self.assertEqual(file.getvalue(), written([packet()] * 2, format))
 
+    def test_as_many_interfaces_as_capkit_writes(self):
+        file, names = io.BytesIO(), [b"%d" % number for number in range(4097)]
+        with capkit.Writer(file) as writer:
+            for name in names[:256] * 2:
+                writer.write(packet(interface_name=name))
+            self.assertEqual([p.interface_name for p in capkit.packets(file.getvalue())], names[:256] * 2)
+            for name in names[256:4096]:
+                writer.write(packet(interface_name=name))
+            with self.assertRaisesRegex(capkit.WriteError, "too many"):
+                writer.write(packet(interface_name=names[4096]))
+
     def test_no_packets(self):
         self.assertEqual(len(written([])), 28)
         self.assertEqual(len(written([], "pcap")), 24)
@@ -380,11 +391,15 @@ class WriterTest(unittest.TestCase):
         with tempfile.TemporaryDirectory() as folder:
             path = pathlib.Path(folder, "self.pcap")
             path.write_bytes(written([packet()] * 2))
-            with self.assertRaisesRegex(capkit.WriteError, "is being read"):
-                with capkit.Writer(path) as writer:
-                    for each in capkit.packets(path):
+            with capkit.Capture(path) as capture, capkit.Writer(path) as writer:
+                with self.assertRaisesRegex(capkit.WriteError, "is being read"):
+                    for each in capture:
                         writer.write(each)
-            self.assertEqual(len(list(capkit.packets(path))), 2)
+                self.assertEqual(len(list(capkit.packets(path))), 2)
+                # Later it is written as a whole file.
+                capture.close()
+                writer.write(packet(UDP))
+            self.assertEqual(path.read_bytes(), written([packet(UDP)]))
 
     def test_arguments(self):
         with capkit.Writer(io.BytesIO()) as writer:

@@ -8,6 +8,10 @@ pub const TRUNCATED: u32 = 202;
 pub const END: u32 = 222;
 pub const NO_ROOM_IN_BUFFER: u32 = 225;
 pub const ANOTHER_LINK_TYPE: u32 = 226;
+<<<<<<< HEAD
+=======
+pub const UNIT_BEFORE: u32 = 227;
+>>>>>>> 5835b9b8d83ac07043ba6076502cc6fb7cdd4193
 pub const MOST_INSNS: usize = 32_768;
 pub const MOST_INTERFACES: usize = 256;
 pub const MOST_UNIT: usize = 1 << 20;
@@ -23,6 +27,13 @@ pub struct Reader {
     pub form: u8,
     pub big_endian: u8,
     pub nanoseconds: u8,
+}
+
+#[repr(C)]
+#[derive(Clone, Copy, Default)]
+pub struct Writer {
+    pub interfaces: u32,
+    pub has_section: u32,
 }
 
 #[repr(C)]
@@ -114,14 +125,10 @@ extern "C" {
         buffer: *mut u8, room: usize, length: *mut usize,
     ) -> u32;
     pub fn capkit_write_section(buffer: *mut u8, room: usize, length: *mut usize) -> u32;
-    pub fn capkit_write_interface(
-        link_type: u16, snap: u32, name: *const u8, name_length: usize, buffer: *mut u8,
-        room: usize, length: *mut usize,
-    ) -> u32;
-    pub fn capkit_write_packet(
-        interface: u32, time: u64, original: u32, packet: *const u8, captured: usize,
-        comment: *const u8, comment_length: usize, buffer: *mut u8, room: usize,
-        length: *mut usize,
+    pub fn capkit_writer_put(
+        writer: *mut Writer, interfaces: *mut Interface, room: usize, packet: *const Packet,
+        name: *const u8, name_length: usize, bytes: *const u8, captured: usize, comment: *const u8,
+        comment_length: usize, buffer: *mut u8, size: usize, length: *mut usize,
     ) -> u32;
     pub fn capkit_text(number: u32, buffer: *mut u8, room: usize) -> usize;
 }
@@ -139,18 +146,24 @@ pub fn text(number: u32) -> String {
     text_by(|buffer, room| unsafe { capkit_text(number, buffer, room) })
 }
 
-/// The unit that a call puts into a buffer, given where it begins, its room and where the length
+/// The units that a call puts into a buffer, given where it begins, its room and where the length
 /// goes; or the number by which it is refused.
 ///
-/// The call writes no more than the room, and `*length` bytes where it returns `OK`.
-pub fn unit(
-    buffer: &mut Vec<u8>, call: impl Fn(*mut u8, usize, *mut usize) -> u32,
-) -> Result<&[u8], u32> {
-    let mut length = 0;
-    let mut written = call(buffer.as_mut_ptr(), buffer.len(), &mut length);
-    if written == NO_ROOM_IN_BUFFER {
-        buffer.resize(length, 0);
-        written = call(buffer.as_mut_ptr(), buffer.len(), &mut length);
+/// The call writes no more than the room, and `*length` bytes if it returns `OK`, after the last unit, or
+/// `UNIT_BEFORE`.
+pub fn units(
+    buffer: &mut Vec<u8>, mut call: impl FnMut(*mut u8, usize, *mut usize) -> u32,
+) -> Result<Vec<u8>, u32> {
+    let (mut units, mut length) = (Vec::new(), 0);
+    loop {
+        let written = call(buffer.as_mut_ptr(), buffer.len(), &mut length);
+        match written {
+            NO_ROOM_IN_BUFFER => buffer.resize(length, 0),
+            OK | UNIT_BEFORE => units.extend_from_slice(&buffer[..length]),
+            _ => return Err(written),
+        }
+        if written == OK {
+            return Ok(units);
+        }
     }
-    (written == OK).then(|| &buffer[..length]).ok_or(written)
 }

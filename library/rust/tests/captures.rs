@@ -65,6 +65,13 @@ fn refused_packets_leave_the_capture() {
     let error = writer.write(&Packet::new(TIME, LINK_ETHERNET, large.clone())).unwrap_err();
     assert!(matches!(error, WriteError::Refused(Check::TooLong)));
     assert_eq!(writer.finish().unwrap(), written(Format::Pcap, [&good]));
+    // As many interfaces as capkit writes, and one more.
+    let mut writer = Writer::new(io::sink(), Format::Pcapng);
+    for snap_length in (0..4096).chain(0..4096) {
+        writer.write(&Packet { snap_length, ..good.clone() }).unwrap();
+    }
+    let error = writer.write(&Packet { snap_length: 4096, ..good }).unwrap_err();
+    assert!(matches!(error, WriteError::Refused(Check::TooManyOutputInterfaces)));
 }
 
 #[test]

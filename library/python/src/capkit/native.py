@@ -35,6 +35,7 @@ PacketInfo = _struct("PacketInfo", [
     ("time", _64), *_of(_size, "at options_at"),
     *_of(_32, "captured original options_length interface snap"), ("link_type", _16),
 ])  # fmt: skip
+WriterState = _struct("WriterState", _of(_32, "interfaces has_section"))
 BatchPacket = _struct("BatchPacket", [("packet", PacketInfo), ("end", _size)])
 
 # It has the calls of libcapkit.so.0 too, which it is linked to.
@@ -69,9 +70,8 @@ comment = declare("capkit_comment", _size, _at, _at, _size, _at, _at, _size)
 write_file_header = declare("capkit_write_file_header", _32, _32, _16, *_buffer)
 write_record = declare("capkit_write_record", _32, _32, _64, _32, _text, _size, *_buffer)
 write_section = declare("capkit_write_section", _32, *_buffer)
-write_interface = declare("capkit_write_interface", _32, _16, _32, _text, _size, *_buffer)
-write_packet = declare(
-    "capkit_write_packet", _32, _32, _64, _32, _text, _size, _text, _size, *_buffer
+writer_put = declare(
+    "capkit_writer_put", _32, _at, _at, _size, _at, _text, _size, _text, _size, _text, _size, *_buffer
 )
 number_text = declare("capkit_text", _size, _32, _at, _size)
 

@@ -4,7 +4,7 @@ from __future__ import annotations
 import ctypes as c
 import os
 import stat
-from typing import IO, Any, Dict, Literal, Optional, Tuple, Union, get_args
+from typing import IO, Any, Literal, Optional, Union, get_args
 
 from . import native
 from .errors import Check, WriteError
@@ -14,7 +14,7 @@ from .reading import Packet, Path, is_being_read
 Format = Literal["pcapng", "pcap", "nsecpcap"]
 
 _ETHERNET = 1
-_NO_ROOM_IN_BUFFER = 225
+_WRITTEN, _NO_ROOM_IN_BUFFER, _UNIT_BEFORE = 0, 225, 227
 
 
 class Writer:
@@ -35,9 +35,11 @@ class Writer:
             raise ValueError(f"format {format!r} is none of {', '.join(formats)}")
         self._format = format
         self._nanoseconds = int(format == "nsecpcap")
-        # That of the first packet, once the file's header is written.
+        # That of the first packet, once it is written.
         self._link_type: Optional[int] = None
-        self._interfaces: Dict[Tuple[int, int, bytes], int] = {}
+        # What is written of a pcapng file.
+        self._state, self._interfaces, self._room = native.WriterState(), (native.Interface * 1)(), 1
+        self._info = native.PacketInfo()
         self._unit, self._length = c.create_string_buffer(4096), c.c_size_t()
         self._target = target
         self._file: Optional[IO[bytes]] = None
@@ -54,16 +56,19 @@ class Writer:
         if self._is_closed:
             raise ValueError("write to a closed writer")
         packet = _checked(packet)
-        if self._format == "pcapng":
-            self._put(packet.link_type, self._block(packet))
-        else:
-            self._put(packet.link_type, self._record(packet))
+        units = self._block(packet) if self._format == "pcapng" else self._record(packet)
+        try:
+            self._put(units)
+        except BaseException:
+            # The next packet begins a new section.
+            self._state.has_section = self._state.interfaces = 0
+            raise
+        self._link_type = packet.link_type
 
     def close(self) -> None:
         """Writes what is left, and closes a file that the writer opened."""
         if not self._is_closed:
-            if self._link_type is None:
-                self._put(_ETHERNET, b"")
+            self._put(self._header(_ETHERNET) if self._link_type is None else b"")
             self._end()
 
     def __enter__(self) -> Writer:
@@ -75,17 +80,14 @@ class Writer:
         else:
             self._end()
 
-    def _put(self, link_type: int, unit: bytes) -> None:
-        """Writes a unit, after the header of the file if that wasn't written yet."""
+    def _put(self, units: bytes) -> None:
+        """Writes units to the file, which is opened if it wasn't yet."""
         if self._file is None:
             target = self._target
             is_path = isinstance(target, (str, os.PathLike))
             self._file = _opened(target) if is_path else target  # type: ignore[arg-type, assignment]
         assert self._file is not None
-        if self._link_type is None:
-            self._file.write(self._header(link_type))
-            self._link_type = link_type
-        self._file.write(unit)
+        self._file.write(units)
 
     def _end(self) -> None:
         self._is_closed = True
@@ -97,14 +99,18 @@ class Writer:
             self._file.close()
 
     def _made(self, call: Any, *arguments: Any) -> bytes:
-        """The unit that a call makes."""
+        """The units that a call makes, one after another."""
+        units = b""
         while True:
             written = call(*arguments, self._unit, len(self._unit), c.byref(self._length))
-            if not written:
-                return c.string_at(self._unit, self._length.value)
-            if written != _NO_ROOM_IN_BUFFER:
+            if written == _WRITTEN:
+                return units + c.string_at(self._unit, self._length.value)
+            if written == _UNIT_BEFORE:
+                units += c.string_at(self._unit, self._length.value)
+            elif written == _NO_ROOM_IN_BUFFER:
+                self._unit = c.create_string_buffer(self._length.value)
+            else:
                 raise WriteError(native.text_of(written))
-            self._unit = c.create_string_buffer(self._length.value)
 
     def _header(self, link_type: int) -> bytes:
         if self._format == "pcapng":
@@ -112,27 +118,27 @@ class Writer:
         return self._made(native.write_file_header, self._nanoseconds, link_type)
 
     def _record(self, packet: Packet) -> bytes:
-        """A packet's record."""
+        """A packet's record, after the header of the file if it is the first one."""
         if self._link_type not in (None, packet.link_type):
             raise WriteError(native.text_of(Check.LINK_TYPES_DIFFER))
         time, data, original = packet.time, packet.data, packet.original_length
         call = native.write_record
-        return self._made(call, self._nanoseconds, time, original, data, len(data))
+        record = self._made(call, self._nanoseconds, time, original, data, len(data))
+        return self._header(packet.link_type) + record if self._link_type is None else record
 
     def _block(self, packet: Packet) -> bytes:
-        """A packet's block, after that of its interface if it is the first of it."""
-        key = (packet.link_type, packet.snap_length, packet.interface_name)
-        number = self._interfaces.get(key, len(self._interfaces))
-        data, comment = packet.data, packet.comment
-        block = self._made(
-            native.write_packet, number, packet.time, packet.original_length, data, len(data),
-            comment, len(comment),
+        """A packet's block, after the units that come before it."""
+        name, data, comment = packet.interface_name, packet.data, packet.comment
+        info, room = self._info, self._state.interfaces + 1
+        info.time, info.original = packet.time, packet.original_length
+        info.snap, info.link_type = packet.snap_length, packet.link_type
+        if room > self._room:
+            self._room = room
+            c.resize(self._interfaces, room * c.sizeof(native.Interface))
+        return self._made(
+            native.writer_put, c.byref(self._state), self._interfaces, room, c.byref(info), name,
+            len(name), data, len(data), comment, len(comment),
         )  # fmt: skip
-        if key not in self._interfaces:
-            link_type, snap, name = key
-            block = self._made(native.write_interface, link_type, snap, name, len(name)) + block
-            self._interfaces[key] = number
-        return block
 
 
 def _opened(target: Path) -> IO[bytes]:
