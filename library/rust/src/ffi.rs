@@ -8,10 +8,7 @@ pub const TRUNCATED: u32 = 202;
 pub const END: u32 = 222;
 pub const NO_ROOM_IN_BUFFER: u32 = 225;
 pub const ANOTHER_LINK_TYPE: u32 = 226;
-<<<<<<< HEAD
-=======
 pub const UNIT_BEFORE: u32 = 227;
->>>>>>> 5835b9b8d83ac07043ba6076502cc6fb7cdd4193
 pub const MOST_INSNS: usize = 32_768;
 pub const MOST_INTERFACES: usize = 256;
 pub const MOST_UNIT: usize = 1 << 20;
