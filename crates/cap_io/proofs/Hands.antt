@@ -1,19 +1,13 @@
 -- A record that a device had at hand.
-use Rattle.cap_io.proofs.Common.{◌≡◌, ℕ, Bool, true, IsTrue, is_some, ◌+◌, ◌^◌, ◌<◌, ◌≤◌, List, ◌++◌, length, take, drop, Ok, refl, sym, ap, ap₂, ◌∙◌, arith, add-zero, length-take-le, take-take, take-append-le, take-append-drop, append_assoc, HasGiven, Passes, checked, first_failing, Head, RecordHead, field_checks, most_captured, record_header_in, PacketSpans, most_in_unit, packet_in_unit, PacketCame, record_spans, Declared, PcapFile, SourceView, Reading, IsBetween, TakesNext}
+use Rattle.cap_io.proofs.Common.{◌≡◌, ℕ, Bool, true, IsTrue, is_some, ◌+◌, ◌^◌, ◌<◌, ◌≤◌, List, ◌++◌, length, take, drop, Ok, refl, sym, ap, ◌∙◌, arith, add-zero, length-take-le, take-take, take-append-drop, append_assoc, HasGiven, checked, first_failing, Head, RecordHead, field_checks, most_captured, record_header_in, PacketSpans, most_in_unit, packet_in_unit, PacketCame, record_spans, Declared, PcapFile, SourceView, Reading, IsBetween, TakesNext}
 use Rattle.cap_io.proofs.Passing.{FindsPacket-next}
 use Rattle.cap_io.proofs.Came.{fields_came, record_came}
 
--- what was copied of it stands first in the buffer
-pub copied-front : (hand unit rest : List ℕ) (size upper_bound : ℕ) → unit ≡ take size hand → size ≤ length hand → upper_bound ≤ size → take upper_bound (unit ++ rest) ≡ take upper_bound hand
-copied-front hand unit rest size upper_bound is within le =
-    let long : length unit ≡ size = ap length is ∙ length-take-le size hand within in
-    take-append-le upper_bound unit rest (omega (arith, long, le)) ∙ ap (take upper_bound) is ∙ take-take upper_bound size hand le
-
--- it was the first of what comes
-pub taken-first : (unread unread' hand : List ℕ) (size : ℕ) → take (length hand) unread ≡ hand → size ≤ length hand → Passes unread size true unread' → unread ≡ take size hand ++ unread'
-taken-first unread unread' hand size starts within passes =
+-- it is the first of what comes
+pub lent-first : (unread hand : List ℕ) (size : ℕ) → take (length hand) unread ≡ hand → size ≤ length hand → unread ≡ take size hand ++ drop size unread
+lent-first unread hand size starts within =
     let same : take size unread ≡ take size hand = sym (take-take size (length hand) unread within) ∙ ap (take size) starts in
-    sym (take-append-drop size unread) ∙ ap₂ (λ (x y : List ℕ). x ++ y) same (sym passes.1)
+    sym (take-append-drop size unread) ∙ ap (λ (x : List ℕ). x ++ drop size unread) same
 
 -- the record that was taken is a unit with a packet
 pub record-taken : (head : Head) (unread unread' buffer : List ℕ) (found : RecordHead) → checked (first_failing (field_checks head (take 16 buffer))) (record_header_in head (take 16 buffer)) ≡ Ok found
@@ -33,10 +27,10 @@ record-taken head unread unread' buffer found says there splits =
 -- a source that stood between units took the next one, which has a packet
 pub takes-next : (tells : Bool) (head : Head) (found : RecordHead) (buffer : List ℕ) (old new : SourceView) → IsBetween old
     → checked (first_failing (field_checks head (take 16 buffer))) (record_header_in head (take 16 buffer)) ≡ Ok found → found.captured ≤ most_captured → 16 + found.captured ≤ length buffer
-    → new.given ≡ old.given + (16 + found.captured) → new.given < 2 ^ 63 → new.failures ≡ old.failures → new.sure ≡ old.sure → (0 < new.failures → HasGiven new.sure new.given) → new.room ≡ length buffer → new.room ≡ old.room → new.room ≤ most_in_unit → (IsTrue tells → old.unread ≡ take (16 + found.captured) buffer ++ new.unread)
+    → new.given ≡ old.given + (16 + found.captured) → new.given < 2 ^ 63 → new.failures ≡ old.failures → new.sure ≡ old.sure → (0 < new.failures → HasGiven new.sure new.given) → 16 + found.captured ≤ new.room → new.room ≡ old.room → new.room ≤ most_in_unit → (IsTrue tells → old.unread ≡ take (16 + found.captured) buffer ++ new.unread)
     → old.declared ≡ PcapFile head → new.declared ≡ PcapFile head → new.block ≡ take (16 + found.captured) buffer → new.packet ≡ packet_in_unit (PcapFile head) (record_spans found) (take (16 + found.captured) buffer)
     → new.offset ≡ old.offset → new.phase ≡ Reading → TakesNext tells old new
-takes-next tells head found buffer old new between says short there given bounded failures sure enough room same held splits was declared block packet offset phase =
+takes-next tells head found buffer old new between says short there given bounded failures sure enough fits same held splits was declared block packet offset phase =
     let spans : PacketSpans = record_spans found in
     let size : ℕ = 16 + found.captured in
     let whole : length new.block ≡ size = ap length block ∙ length-take-le size buffer there in
@@ -45,13 +39,13 @@ takes-next tells head found buffer old new between says short there given bounde
     record {
       packet = λ t.
           let came = record-taken head old.unread new.unread buffer found says there (splits t) in
-          FindsPacket-next old new spans buffer between (rw (was, declared) came) block (packet ∙ ap (λ (d : Declared). packet_in_unit d spans (take size buffer)) (sym declared)) offset (omega (arith, same)) room phase;
+          FindsPacket-next old new spans buffer between (rw (was, declared) came) block (packet ∙ ap (λ (d : Declared). packet_in_unit d spans (take size buffer)) (sym declared)) offset (omega (arith, same)) (omega (arith, ap length block, whole, fits)) phase;
       bounds = record {
         given = omega (arith, given);
         failures = failures ∙ sym (add-zero old.failures);
         sure = sure;
         enough = enough;
-        block = omega (arith, whole, room, there);
+        block = omega (arith, whole, fits);
         held = held;
         room = omega (arith, same);
         packet = λ is. (omega (arith, given), bounded, some);

@@ -1,5 +1,5 @@
 -- From one place in a file to a later one.
-use Rattle.cap_io.proofs.Common.{◌≡◌, ℕ, ◌+◌, ◌-◌, ◌≤◌, List, [], ◌++◌, length, take, drop, Option, Some, None, is_some, true, refl, sym, ap, ap₂, ◌∙◌, subst, arith, slice_get, option_map, append_assoc, drop-take, take-take, length-append, length-take, length-take-le, Order, Head, Described, packet_of, Fault, NoMemory, PacketSpans, Declared, Nothing, PcapFile, PcapngFile, AreUnits, no_unit, TakesMemory, held_length, no_unit_fits, packet_in_unit, EndCame, HasInterface, PacketCame, NoUnitCame, UnitPassed, span_bytes, SourceView, Reading, Ended, Failed, SkipsUnits, IsBroken, FindsPacket, FindsEnd, FindsFault, block_at, end_offset, phase_at, IsBetween, HoldsIfAny}
+use Rattle.cap_io.proofs.Common.{◌≡◌, ℕ, ◌+◌, ◌-◌, ◌≤◌, List, [], ◌++◌, length, take, drop, Option, Some, None, is_some, true, refl, sym, ap, ap₂, ◌∙◌, subst, arith, slice_get, option_map, append_assoc, drop-take, take-take, length-append, length-take-le, Order, Head, Described, packet_of, Fault, NoMemory, PacketSpans, Declared, Nothing, PcapFile, PcapngFile, AreUnits, no_unit, TakesMemory, held_length, no_unit_fits, packet_in_unit, EndCame, HasInterface, PacketCame, NoUnitCame, UnitPassed, span_bytes, SourceView, Reading, Ended, Failed, SkipsUnits, IsBroken, FindsPacket, FindsEnd, FindsFault, block_at, end_offset, phase_at, IsBetween, HoldsIfAny}
 use Rattle.cap_pcapng.specs.Comment.{comment_in}
 use Rattle.cap_io.specs.declared.source.Stage.{Stage}
 use Rattle.cap_io.specs.declared.source.Stage.TheVariants as stage
@@ -52,15 +52,15 @@ SkipsUnits-next old new size between came place room fits = record {
 }
 
 pub FindsPacket-next : (old new : SourceView) (spans : PacketSpans) (buffer : List ℕ) → IsBetween old → PacketCame old.declared old.unread buffer spans new.declared new.unread
-    → new.block ≡ take spans.size buffer → new.packet ≡ packet_in_unit new.declared spans (take spans.size buffer) → new.offset ≡ old.offset → old.room ≤ new.room → new.room ≡ length buffer → new.phase ≡ Reading
+    → new.block ≡ take spans.size buffer → new.packet ≡ packet_in_unit new.declared spans (take spans.size buffer) → new.offset ≡ old.offset → old.room ≤ new.room → length (take spans.size buffer) ≤ new.room → new.phase ≡ Reading
     → FindsPacket old new
-FindsPacket-next old new spans buffer between came block packet place room held phase =
+FindsPacket-next old new spans buffer between came block packet place room fits phase =
     let P : List ℕ → Type 0 = λ rest. SkipsUnits old new rest in record {
       passes = subst P (came.splits ∙ ap (λ (l : List ℕ). l ++ new.unread) (sym block)) (stays old new between came.same place room);
       packet = came.packet;
       held = packet ∙ ap (λ (d : Declared). packet_in_unit d spans (take spans.size buffer)) came.same ∙ came.is_lent;
       unit = rw (block, came.same) came.unit;
-      fits = omega (arith, held, ap length block, length-take spans.size buffer);
+      fits = omega (arith, fits, ap length block);
       phase = phase;
     }
 
@@ -182,7 +182,7 @@ pub stage_between : (now : Stage) (spans : PacketSpans) (buffer : List ℕ) → 
 stage_between stage.Between spans buffer phase none holds = refl
 stage_between stage.Current spans buffer phase none holds =
     absurd (omega (arith, holds.some, holds.there, sym (length-take-le spans.size buffer holds.there) ∙ ap length none))
+stage_between stage.Lent spans buffer phase none holds =
+    absurd (omega (arith, holds.some, holds.there, sym (length-take-le spans.size buffer holds.there) ∙ ap length none))
 stage_between stage.Ended spans buffer phase none holds = (cc)
 stage_between (stage.Failed fault) spans buffer phase none holds = (cc)
-
--- ---- nothing is taken

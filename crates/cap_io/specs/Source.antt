@@ -1,5 +1,5 @@
 -- The view of a source, and the results of its calls.
-use Rattle.std.specs.Prelude.{◌≡◌, ℕ, ◌+◌, ◌^◌, ◌<◌, ◌≤◌, Bool, true, false, List, [], ◌∷◌, ◌++◌, length, take, Option, None, Some, Result, Ok, Err, OnOk, OnErr, is_some}
+use Rattle.std.specs.Prelude.{◌≡◌, ℕ, ◌+◌, ◌^◌, ◌<◌, ◌≤◌, Bool, true, false, List, [], ◌∷◌, ◌++◌, length, take, drop, Option, None, Some, Result, Ok, Err, OnOk, OnErr, is_some}
 use Rattle.cap_octet.specs.Device.{HasGiven}
 use Rattle.cap_octet.specs.declared.device.Input.{Ghosts}
 use Rattle.cap_octet.specs.Packet.{Captured}
@@ -9,6 +9,7 @@ use Rattle.cap_pcapng.specs.Interface.{FitSection}
 use Rattle.cap_io.specs.declared.source.Stage.{Stage}
 use Rattle.cap_io.specs.declared.source.Stage.TheVariants as stage
 use Rattle.cap_pcapng.specs.declared.effect.PacketSpans.{PacketSpans}
+use Rattle.cap_io.specs.declared.lending.Lending.{Lending}
 use Rattle.cap_io.specs.declared.next_unit.UnitReader.{UnitReader}
 use Rattle.cap_io.specs.Capture.{Declared, Nothing, PcapngFile, IsUnit, AreUnits, NoUnit, front_of}
 use Rattle.cap_io.specs.Reading.{most_in_unit, read_failures, IsReason, IsTaken, FitUnits, TakesMemory, declared_by, packet_in_unit}
@@ -59,29 +60,38 @@ phase_at stage.Ended = Ended
 phase_at (stage.Failed fault) = Failed fault
 phase_at other = Reading
 
--- the bytes of the current unit, at the start of the buffer; none if no packet is current
+-- the bytes at whose start the current unit is: those of the buffer; or, if it is lent, those that
+-- the device has at hand
+abbrev pub unit_at : {I A : Type 0} → (device : Ghosts I) → Stage → UnitReader (Lending I device) A → List ℕ
+unit_at device stage.Lent r = device.held r.input.input
+unit_at device other r = r.buffer.items
+
+-- the bytes of the current unit, at the start of these; none if no packet is current
 abbrev pub block_at : Stage → PacketSpans → List ℕ → List ℕ
-block_at stage.Current spans buffer = take spans.size buffer
-block_at other spans buffer = []
+block_at stage.Current spans bytes = take spans.size bytes
+block_at stage.Lent spans bytes = take spans.size bytes
+block_at other spans bytes = []
 
 -- the current packet; None if none is current
 abbrev pub packet_at : Stage → PacketSpans → Declared → List ℕ → Option Captured
-packet_at stage.Current spans declared buffer =
-    packet_in_unit declared spans (take spans.size buffer)
-packet_at other spans declared buffer = None
+packet_at stage.Current spans declared bytes =
+    packet_in_unit declared spans (take spans.size bytes)
+packet_at stage.Lent spans declared bytes =
+    packet_in_unit declared spans (take spans.size bytes)
+packet_at other spans declared bytes = None
 
--- the view of a source with these fields
-abbrev pub view_of : {I A : Type 0} → Ghosts I → Stage → UnitReader I A → ℕ → SourceView
+-- the view of a source with these fields; what is lent counts as given
+abbrev pub view_of : {I A : Type 0} → (device : Ghosts I) → Stage → UnitReader (Lending I device) A → ℕ → SourceView
 view_of device stage r offset = record {
   phase = phase_at stage;
   declared = declared_by r.file r.table;
-  packet = packet_at stage r.spans (declared_by r.file r.table) r.buffer.items;
-  block = block_at stage r.spans r.buffer.items;
+  packet = packet_at stage r.spans (declared_by r.file r.table) (unit_at device stage r);
+  block = block_at stage r.spans (unit_at device stage r);
   offset = offset;
-  unread = device.unread r.input;
-  given = device.given r.input;
-  failures = device.failures r.input;
-  sure = device.sure r.input;
+  unread = drop r.input.lent (device.unread r.input.input);
+  given = device.given r.input.input + r.input.lent;
+  failures = device.failures r.input.input;
+  sure = device.sure r.input.input;
   room = length r.buffer.items;
 }
 

@@ -8,6 +8,7 @@
 
 mod file_state;
 pub mod laws;
+mod lending;
 mod next_unit;
 mod numbering;
 mod pcap;

@@ -3,14 +3,15 @@ ghost use Rattle.std.specs.Prelude.{◌≡◌, ℕ, ◌+◌, ◌^◌, ◌<◌, �
 ghost use Rattle.std.specs.Prelude.{List, [], length, IfSome, IsNone};
 ghost use Rattle.cap_pcapng.specs.Frame.{is_section};
 ghost use Rattle.cap_io.specs.Capture.{Nothing};
-ghost use Rattle.cap_io.specs.inside.Reading.{HeaderCame, Moves, NothingTaken, ReadsUnit};
-ghost use Rattle.cap_io.specs.inside.Reading.{RecordTaken, NoUnitCame, record_spans};
+ghost use Rattle.cap_io.specs.inside.Reading.{HeaderCame, Moves, NothingLent, ReadsUnit};
+ghost use Rattle.cap_io.specs.inside.Reading.{RecordLent, NoUnitCame, record_spans};
 ghost use Rattle.cap_pcap.specs.Record.{most_captured};
 ghost use Rattle.cap_io.specs.declared.file_state.FileState.TheVariants as state;
 
 use crate::file_state::NextUnit;
+use crate::lending::Lending;
 use crate::next_unit::UnitReader;
-use crate::unit::{copy_unit, make_room, read_front, read_rest};
+use crate::unit::{make_room, read_front, read_rest};
 use cap_octet::{Fault, Input, u32_at};
 use cap_pcap::{Head, RecordHead, read_head, read_magic, read_record};
 use cap_pcapng::{PacketSpans, Span};
@@ -42,32 +43,30 @@ pub(crate) fn read_header<I: Input>(input: &mut I, first: &[u8; 4]) -> Result<He
     read_head(&bytes)
 }
 
-/// The fast way of `next_record`: copies the next record to the start of the buffer and returns its
-/// header, if the device has all of it at hand, the buffer has room for it, and it fails no check.
-/// `None` if not, or if the device doesn't pass the record: the device has given nothing, the
-/// buffer may have changed.
+/// The fast way of `next_record`: lends the next record and returns its header, if the device has
+/// all of it at hand, it has at most `room` bytes, and it fails no check. `None` if not, or if the
+/// device wouldn't pass the record: nothing is lent. What was lent before is passed.
 #[inline(always)]
-pub(crate) fn take_record<I: Input>(
-    input: &mut I,
+pub(crate) fn lend_record<I: Input>(
+    input: &mut Lending<I>,
     head: &Head,
-    buffer: &mut [u8],
+    room: usize,
 ) -> Option<RecordHead>
-    ensures taken { IfSome result (λ found. RecordTaken I.Input head.now input.old buffer.new found
+    ensures lent { IfSome result (λ found. RecordLent I.Input head.now room input.old found
         input.new) }
-    ensures nothing { IsNone result → NothingTaken I.Input input.old input.new }
-    ensures room { length buffer.new ≡ length buffer.old }
+    ensures nothing { IsNone result → NothingLent I.Input input.old input.new }
 {
-    let hand = input.at_hand();
+    input.settle();
+    let hand = input.lent_bytes();
     let front = hand.first_chunk::<RECORD_HEADER_LENGTH>()?;
     let Ok(found) = read_record(head, front) else {
         return None;
     };
     let size = RECORD_HEADER_LENGTH + found.captured as usize;
-    if size > hand.len() || size > buffer.len() {
+    if size > room || !input.lend(size) {
         return None;
     }
-    copy_unit(hand, buffer, size);
-    if input.pass(size) { Some(found) } else { None }
+    Some(found)
 }
 
 /// Whether the next record is wholly among these bytes, by its captured length.

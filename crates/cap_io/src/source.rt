@@ -1,7 +1,8 @@
 //! Packets of a capture, one at a time.
 use crate::file_state::{FileState, NextUnit};
+use crate::lending::Lending;
 use crate::next_unit::UnitReader;
-use crate::pcap::{holds_record, record_spans, take_record};
+use crate::pcap::{holds_record, lend_record, record_spans};
 use crate::pcapng::holds_packet;
 use cap_octet::{Fault, Input, Packet};
 use cap_pcap::Resolution;
@@ -25,19 +26,23 @@ pub enum Kind {
 pub(crate) enum Stage {
     /// No unit is current, and the next one was not read yet.
     Between,
-    /// A packet is current.
+    /// A packet is current, and its unit is at the start of the buffer.
     Current,
+    /// A packet is current, and its unit is lent: the first of the bytes that the device has at
+    /// hand.
+    Lent,
     /// The clean end was met.
     Ended,
     /// An `advance` returned this fault.
     Failed(Fault),
 }
 
-/// Reads the packets of a capture from a device, through one buffer for the current unit, and
-/// next to it for pcapng the table of a section's interfaces.
+/// Reads the packets of a capture from a device. A record of pcap that the device has at hand stays
+/// there; other units are read into one buffer. For pcapng there is also the table of a section's
+/// interfaces.
 #[derive(Drop)]
 pub struct Source<I: Input, A: Allocator> {
-    reader: UnitReader<I, A>,
+    reader: UnitReader<Lending<I>, A>,
     stage: Stage,
     /// The beginning of the current unit, else of the next one, in bytes from the file's start.
     offset: u64,
@@ -68,7 +73,7 @@ impl<I: Input, A: Allocator> Source<I, A> {
     ghost use Rattle.cap_io.specs.inside.Source.{NextBounds, past_unit};
     ghost use Rattle.cap_io.specs.Source.{phase_after};
     ghost use Rattle.cap_io.specs.Source.{source_at};
-    ghost use Rattle.cap_io.specs.inside.Source.{TakesNext, TakesNothing};
+    ghost use Rattle.cap_io.specs.inside.Source.{TakesNext};
 
     /// A source of which nothing is read yet. It takes no memory.
     pub fn new(alloc: A, input: I) -> Self
@@ -79,7 +84,7 @@ impl<I: Input, A: Allocator> Source<I, A> {
     {
         Source {
             reader: UnitReader {
-                input,
+                input: Lending::new(input),
                 file: FileState::Unknown,
                 buffer: Vec::new(alloc),
                 table: Table::new(alloc),
@@ -103,7 +108,7 @@ impl<I: Input, A: Allocator> Source<I, A> {
         match self.stage {
             Stage::Ended => Ok(false),
             Stage::Failed(fault) => Err(fault),
-            Stage::Between | Stage::Current => {
+            Stage::Between | Stage::Current | Stage::Lent => {
                 let answer = self.advance_to_packet();
                 if let Err(fault) = answer {
                     self.stage = Stage::Failed(fault);
@@ -120,7 +125,7 @@ impl<I: Input, A: Allocator> Source<I, A> {
     pub fn has_next_at_hand(&self) -> bool
         ensures comes { IsTrue I.tells → result ≡ true → 12 ≤ length self.now.unread }
     {
-        let hand = self.reader.input.at_hand();
+        let hand = self.reader.input.next_bytes();
         match &self.reader.file {
             FileState::Unknown => false,
             FileState::Pcap(head) => holds_record(head, hand),
@@ -128,19 +133,19 @@ impl<I: Input, A: Allocator> Source<I, A> {
         }
     }
 
-    /// The current packet, lent from the buffer, with its comment; `None` before the first
-    /// `advance`, at the clean end and after a fault.
+    /// The current packet, lent from the buffer or from the device's bytes at hand, with its
+    /// comment; `None` before the first `advance`, at the clean end and after a fault.
     pub fn head(&self) -> Option<Packet<'_>>
         ensures packet { option_map captured result ≡ self.now.packet }
         ensures short { IfSome result (λ packet. length packet.bytes.now ≤ most_in_unit) }
     {
-        let Stage::Current = self.stage else {
-            return None;
-        };
         let reader = &self.reader;
-        reader
-            .file
-            .packet(&reader.spans, &reader.buffer, &reader.table)
+        let unit = match self.stage {
+            Stage::Current => reader.buffer.as_slice(),
+            Stage::Lent => reader.input.lent_bytes(),
+            Stage::Between | Stage::Ended | Stage::Failed(_) => return None,
+        };
+        reader.file.packet(&reader.spans, unit, &reader.table)
     }
 
     /// The time of the current packet, in nanoseconds since 1970-01-01 00:00:00 UTC; `None` if
@@ -149,7 +154,7 @@ impl<I: Input, A: Allocator> Source<I, A> {
         ensures { result ≡ option_map (λ p. p.time) self.now.packet }
     {
         match self.stage {
-            Stage::Current => Some(self.reader.spans.time),
+            Stage::Current | Stage::Lent => Some(self.reader.spans.time),
             Stage::Between | Stage::Ended | Stage::Failed(_) => None,
         }
     }
@@ -195,7 +200,7 @@ impl<I: Input, A: Allocator> Source<I, A> {
     {
         let Source { reader, .. } = self;
         let UnitReader { input, .. } = reader;
-        input
+        input.into_inner()
     }
 
     /// Ends the current unit, if there is one, and reads on to the next packet; `false` at the
@@ -217,24 +222,26 @@ impl<I: Input, A: Allocator> Source<I, A> {
         self.skip_to_packet()
     }
 
-    /// Takes the next record of a pcap file, if the device has it at hand, the buffer has room for
+    /// Lends the next record of a pcap file, if the device has it at hand, the buffer has room for
     /// it and it fails no check: its packet is the current one then. `false` means that nothing was
     /// taken: `skip_to_packet` then finds the packet, the end or the fault.
+    // A record for which the buffer has no room makes it grow: so memory runs out only at a record
+    // that is longer than all before it.
     #[inline(always)]
     fn take_next(&mut self) -> bool
         requires between { IsBetween self.old }
         ensures found { IsTrue result → TakesNext I.tells self.old self.new }
-        ensures nothing { result ≡ false → TakesNothing I.tells self.old self.new }
+        ensures nothing { result ≡ false → self.new ≡ self.old }
     {
         let FileState::Pcap(head) = &self.reader.file else {
             return false;
         };
-        let buffer = self.reader.buffer.as_mut_slice();
-        let Some(found) = take_record(&mut self.reader.input, head, buffer) else {
+        let room = self.reader.buffer.len();
+        let Some(found) = lend_record(&mut self.reader.input, head, room) else {
             return false;
         };
         self.reader.spans = record_spans(&found);
-        self.stage = Stage::Current;
+        self.stage = Stage::Lent;
         true
     }
 
@@ -262,7 +269,7 @@ impl<I: Input, A: Allocator> Source<I, A> {
         requires { self.old.phase ≡ Reading }
         ensures { self.new ≡ past_unit self.old }
     {
-        if let Stage::Current = self.stage {
+        if let Stage::Current | Stage::Lent = self.stage {
             self.offset += u64::from(self.reader.spans.size);
         }
         self.stage = Stage::Between;

@@ -87,20 +87,3 @@ pub(crate) fn read_rest<I: Input>(
     }
     Ok(())
 }
-
-/// Copies the first `size` bytes of `from` to the start of the buffer; the buffer's bytes after
-/// them may change too.
-// Most units are short. A copy of a fixed size has no branch that depends on a packet's size.
-#[inline(always)]
-pub(crate) fn copy_unit(from: &[u8], buffer: &mut [u8], size: usize)
-    requires there { size ≤ length from.now }
-    requires room { size ≤ length buffer.old }
-    ensures copied { take size buffer.new ≡ take size from.now }
-    ensures room { length buffer.new ≡ length buffer.old }
-{
-    if size <= SHORT_UNIT && SHORT_UNIT <= from.len() && SHORT_UNIT <= buffer.len() {
-        buffer[..SHORT_UNIT].copy_from_slice(&from[..SHORT_UNIT]);
-    } else {
-        buffer[..size].copy_from_slice(&from[..size]);
-    }
-}

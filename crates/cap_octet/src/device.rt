@@ -1,7 +1,7 @@
 //! Devices: what a contract sees of bytes that come and go; and reads and writes of all that is
 //! asked for, by as many calls of a device as that takes.
 ghost use Rattle.std.specs.Prelude.{◌≡◌, ℕ, ◌+◌, ◌^◌, ◌<◌, ◌≤◌, Bool, IsTrue, List, length, IfOk};
-ghost use Rattle.std.specs.Prelude.{IfErr, Option, Some, if◌then◌else◌, true};
+ghost use Rattle.std.specs.Prelude.{IfErr, Option, Some, [], drop, if◌then◌else◌, true};
 ghost use Rattle.std.specs.List.{flat_map};
 ghost use Rattle.std.specs.Io.{StartsWith};
 ghost use Rattle.cap_octet.specs.Device.{AppendsOrStops, HasGiven, Passes, Reads, Fills, Writes};
@@ -37,6 +37,9 @@ pub trait Input {
     /// call changes that. If a device doesn't give this it may fail at once.
     ghost sure: { Self → Option ℕ } = { λ _. Some 0 };
 
+    /// The bytes that `at_hand` shows. If a device doesn't give this they are none.
+    ghost held: { Self → List ℕ } = { λ _. [] };
+
     /// Reads into the start of the buffer and returns how many bytes came. 0 for a buffer that
     /// isn't empty means the end. An error is a failure of the device in this call: it gave
     /// nothing, and if it `tells`, the buffer is unchanged.
@@ -49,27 +52,29 @@ pub trait Input {
         ensures exact { IsTrue tells
             → Reads (unread self.old) buf.old result (unread self.new) buf.new };
 
-    /// Bytes that it has already, which the next reads give. If a device doesn't give this it
-    /// shows none.
+    /// Bytes that it has already, which the next reads give. They stay where they are until it is
+    /// read or passes some. A device without such bytes shows none.
     fn at_hand(&self) -> &[u8]
         ensures exact { IsTrue tells → StartsWith (unread self.now) result.now }
-    {
-        &[]
-    }
+        ensures held { result.now ≡ held self.now };
+
+    /// Whether `pass` would pass this count of bytes, which isn't 0.
+    fn can_pass(&self, count: usize) -> bool
+        ensures { result ≡ true → (count ≤ length (held self.now))
+            × (given self.now + count < 2 ^ 63) };
 
     /// Moves past the next `count` bytes, of those that `at_hand` shows, as a read of them would,
-    /// and returns `true`; or takes none, and returns `false`. If a device doesn't give this it
-    /// takes none.
+    /// and returns `true`; or takes none, and returns `false`.
     fn pass(&mut self, count: usize) -> bool
         ensures counted { given self.new ≡ given self.old + (if result then count else 0) }
         ensures bounded { IsTrue result → given self.new < 2 ^ 63 }
         ensures failed { failures self.new ≡ failures self.old }
         ensures sure { sure self.new ≡ sure self.old }
+        ensures rest { unread self.new ≡ drop (if result then count else 0) (unread self.old) }
         ensures exact { IsTrue tells
             → Passes (unread self.old) count result (unread self.new) }
-    {
-        false
-    }
+        ensures passes { 0 < count → count ≤ length (held self.old)
+            → given self.old + count < 2 ^ 63 → result ≡ true };
 
     /// A device that failed had given as many bytes as it was sure to. `Prim.search rules` proves
     /// it of one that may fail at once, and of one that never fails.

@@ -51,6 +51,8 @@ impl Input for MemInput<'_> {
 
     ghost sure = { λ _. None };
 
+    ghost held = { λ s. s.rest.now };
+
     /// Gives as many of the bytes left as the buffer has room for. Never fails.
     fn read(&mut self, buf: &mut [u8]) -> Result<usize, DeviceFault>
         ensures within { IfOk result (λ n. n ≤ length buf.old) }
@@ -73,9 +75,17 @@ impl Input for MemInput<'_> {
     /// All bytes that are left.
     fn at_hand(&self) -> &[u8]
         ensures exact { IsTrue true → StartsWith self.now.rest.now result.now }
-        ensures all { result.now ≡ self.now.rest.now }
+        ensures held { result.now ≡ self.now.rest.now }
     {
         self.rest
+    }
+
+    /// Whether as many bytes are left.
+    fn can_pass(&self, count: usize) -> bool
+        ensures { result ≡ true → (count ≤ length self.now.rest.now)
+            × (self.now.given + count < 2 ^ 63) }
+    {
+        count <= self.rest.len()
     }
 
     /// Takes `count` bytes where as many are left; else none, and returns `false`.
@@ -84,8 +94,11 @@ impl Input for MemInput<'_> {
         ensures bounded { IsTrue result → self.new.given < 2 ^ 63 }
         ensures failed { ◌≡◌ {A = ℕ} 0 0 }
         ensures sure { ◌≡◌ {A = Option ℕ} None None }
+        ensures rest { self.new.rest.now ≡ drop (if result then count else 0) self.old.rest.now }
         ensures exact { IsTrue true → Passes self.old.rest.now count result self.new.rest.now }
-        ensures passes { count ≤ length self.old.rest.now → result ≡ true }
+        ensures passes { 0 < count → count ≤ length self.old.rest.now
+            → self.old.given + count < 2 ^ 63 → result ≡ true }
+        ensures always { count ≤ length self.old.rest.now → result ≡ true }
     {
         if count > self.rest.len() {
             return false;

@@ -1,7 +1,7 @@
 //! Devices over std's buffered readers and writers.
 ghost use Rattle.std.specs.Prelude.{◌≡◌, ℕ, ◌+◌, ◌≤◌, ◌<◌, ◌^◌, ◌||◌, IsTrue};
 ghost use Rattle.std.specs.Prelude.{IfOk, None, Option, Some, false, [], List, true};
-ghost use Rattle.std.specs.Prelude.{if◌then◌else◌, is_err, is_some, length};
+ghost use Rattle.std.specs.Prelude.{drop, if◌then◌else◌, is_err, is_some, length};
 ghost use Rattle.std.proofs.Common.{rules};
 ghost use Rattle.std.specs.Io.Buffered.{reader_buffer, reader_remaining, writer_buffer};
 ghost use Rattle.std.specs.Io.Buffered.{writer_contents};
@@ -84,6 +84,8 @@ impl<R: Read> Input for StdInput<R> {
 
     ghost failures = { λ s. s.failures.count };
 
+    ghost held = { λ s. reader_buffer s.reader.reader };
+
     /// Fills this buffer from the reader's own, if that holds as many bytes; else makes one read
     /// of the reader into this buffer and returns what that returned. A read that would reach 2^63
     /// bytes in all is a failure.
@@ -124,9 +126,18 @@ impl<R: Read> Input for StdInput<R> {
     #[inline(always)]
     fn at_hand(&self) -> &[u8]
         ensures exact { IsTrue false → StartsWith [] result.now }
-        ensures shows { result.now ≡ reader_buffer self.now.reader.reader }
+        ensures held { result.now ≡ reader_buffer self.now.reader.reader }
     {
         self.reader.buffer()
+    }
+
+    /// Whether the reader's buffer holds as many bytes, and 2^63 in all wouldn't be reached.
+    #[inline(always)]
+    fn can_pass(&self, count: usize) -> bool
+        ensures { result ≡ true → (count ≤ length (reader_buffer self.now.reader.reader))
+            × (self.now.given + count < 2 ^ 63) }
+    {
+        count <= self.reader.buffer().len() && self.given + (count as u64) < GIVEN_END
     }
 
     /// Takes `count` bytes of what the reader's buffer holds, if it holds as many, and returns
@@ -138,8 +149,11 @@ impl<R: Read> Input for StdInput<R> {
         ensures bounded { IsTrue result → self.new.given < 2 ^ 63 }
         ensures failed { self.new.failures.count ≡ self.old.failures.count }
         ensures sure { ◌≡◌ {A = Option ℕ} (Some 0) (Some 0) }
+        ensures rest { ◌≡◌ {A = List ℕ} [] (drop (if result then count else 0) []) }
         ensures exact { IsTrue false → Passes [] count result [] }
-        ensures passes { IsPassed (reader_buffer self.old.reader.reader)
+        ensures passes { 0 < count → count ≤ length (reader_buffer self.old.reader.reader)
+            → self.old.given + count < 2 ^ 63 → result ≡ true }
+        ensures bytes { IsPassed (reader_buffer self.old.reader.reader)
             (reader_remaining R.remaining self.old.reader.reader) count result
             (reader_remaining R.remaining self.new.reader.reader) }
         ensures calls { self.new.reader.calls.count ≡ self.old.reader.calls.count }

@@ -4,7 +4,7 @@
 ghost use Rattle.std.specs.Prelude.{◌≡◌, ℕ, ◌+◌, ◌-◌, ◌≤◌, ◌<◌, ◌^◌, IsTrue, List, [], length};
 ghost use Rattle.std.proofs.Common.{rules};
 ghost use Rattle.std.specs.Prelude.{Some, None, true, IfOk, IsErr, OnErr, OnOk, min, is_some};
-ghost use Rattle.std.specs.Prelude.{if◌then◌else◌, take};
+ghost use Rattle.std.specs.Prelude.{drop, if◌then◌else◌, take};
 ghost use Rattle.std.specs.Option.{option_map};
 ghost use Rattle.std.specs.Io.{StartsWith};
 ghost use Rattle.cap_octet.specs.Device.{Passes, Reads, Writes, count_of, failures_of};
@@ -73,6 +73,10 @@ impl Input for TrialInput<'_> {
     /// Sure of no byte if a read must fail, which may be the first; else it never fails.
     ghost sure = { λ s. option_map {U = ℕ} (λ _. 0) s.fails_at };
 
+    /// What one read gives; nothing if some read must fail.
+    ghost held = { λ s. if is_some s.fails_at then []
+        else take s.piece (⟦<MemInput<'static> as Input>⟧.unread s.inner) };
+
     /// Gives at most `piece` bytes; fails only when `reads` becomes `fails_at`.
     fn read(&mut self, buf: &mut [u8]) -> Result<usize, DeviceFault>
         ensures within { IfOk result (λ n. n ≤ length buf.old) }
@@ -105,15 +109,23 @@ impl Input for TrialInput<'_> {
     fn at_hand(&self) -> &[u8]
         ensures exact { IsTrue true
             → StartsWith (⟦<MemInput<'static> as Input>⟧.unread self.now.inner) result.now }
-        ensures all { self.now.fails_at ≡ None
-            → result.now
-            ≡ take self.now.piece (⟦<MemInput<'static> as Input>⟧.unread self.now.inner) }
+        ensures held { result.now ≡ (if is_some self.now.fails_at then []
+            else take self.now.piece (⟦<MemInput<'static> as Input>⟧.unread self.now.inner)) }
     {
         if self.fails_at.is_some() {
             return &[];
         }
         let hand = self.inner.at_hand();
         &hand[..hand.len().min(self.piece)]
+    }
+
+    /// Whether one read gives as many bytes, and no read must fail.
+    fn can_pass(&self, count: usize) -> bool
+        ensures { result ≡ true → (count ≤ length (if is_some self.now.fails_at then []
+            else take self.now.piece (⟦<MemInput<'static> as Input>⟧.unread self.now.inner)))
+            × (⟦<MemInput<'static> as Input>⟧.given self.now.inner + count < 2 ^ 63) }
+    {
+        self.fails_at.is_none() && count <= self.piece && self.inner.can_pass(count)
     }
 
     /// Takes `count` bytes if one read gives as many and no read must fail; else none, and
@@ -127,10 +139,18 @@ impl Input for TrialInput<'_> {
         ensures failed { self.new.failures.count ≡ self.old.failures.count }
         ensures sure { option_map {U = ℕ} (λ _. 0) self.new.fails_at
             ≡ option_map {U = ℕ} (λ _. 0) self.old.fails_at }
+        ensures rest { ⟦<MemInput<'static> as Input>⟧.unread self.new.inner
+            ≡ drop (if result then count else 0)
+            (⟦<MemInput<'static> as Input>⟧.unread self.old.inner) }
         ensures exact { IsTrue true
             → Passes (⟦<MemInput<'static> as Input>⟧.unread self.old.inner) count result
             (⟦<MemInput<'static> as Input>⟧.unread self.new.inner) }
-        ensures passes { self.old.fails_at ≡ None → count ≤ self.old.piece
+        ensures passes { 0 < count
+            → count ≤ length (if is_some self.old.fails_at then []
+            else take self.old.piece (⟦<MemInput<'static> as Input>⟧.unread self.old.inner))
+            → ⟦<MemInput<'static> as Input>⟧.given self.old.inner + count < 2 ^ 63
+            → result ≡ true }
+        ensures always { self.old.fails_at ≡ None → count ≤ self.old.piece
             → count ≤ length (⟦<MemInput<'static> as Input>⟧.unread self.old.inner)
             → result ≡ true }
         ensures settings { (self.new.piece ≡ self.old.piece)

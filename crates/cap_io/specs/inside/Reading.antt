@@ -20,6 +20,7 @@ use Rattle.cap_pcap.specs.declared.header.RecordHead.{RecordHead}
 use Rattle.cap_io.specs.declared.file_state.NextUnit.{NextUnit}
 use Rattle.cap_io.specs.declared.file_state.NextUnit.TheVariants as next_unit
 use Rattle.cap_pcapng.specs.declared.effect.PacketSpans.{PacketSpans}
+use Rattle.cap_io.specs.declared.lending.Lending.{Lending}
 use Rattle.cap_io.specs.declared.next_unit.UnitReader.{UnitReader}
 use Rattle.cap_io.specs.declared.file_state.FileState.{FileState}
 use Rattle.cap_io.specs.declared.file_state.FileState.TheVariants as state
@@ -138,29 +139,34 @@ record_spans found = record {
   orig = found.orig;
 }
 
--- The device gave a whole record, which fails no check, and didn't fail in this call. The record is
--- at the start of the buffer, and `found` is its header.
-pub record RecordTaken {I : Type 0} (device : Ghosts I) (head : Head) (old : I) (buffer : List ℕ)
-    (found : RecordHead) (new : I) : Type 0 where
-  pub says : checked (first_failing (field_checks head (take 16 buffer)))
-      (record_header_in head (take 16 buffer)) ≡ Ok found
+-- What was lent before is passed, and no byte more; no call failed.
+pub record NothingLent {I : Type 0} (device : Ghosts I) (old new : Lending I device) : Type 0 where
+  pub counted : device.given new.input + new.lent ≡ device.given old.input + old.lent
+  pub failed : device.failures new.input ≡ device.failures old.input
+  pub sure : device.sure new.input ≡ device.sure old.input
+  pub rest : drop new.lent (device.unread new.input) ≡ drop old.lent (device.unread old.input)
+
+-- A whole record is lent, which fails no check and has at most `room` bytes; `found` is its header.
+-- The device has it at hand, gave no more, and didn't fail in this call.
+pub record RecordLent {I : Type 0} (device : Ghosts I) (head : Head) (room : ℕ) (old : Lending I device)
+    (found : RecordHead) (new : Lending I device) : Type 0 where
+  pub says : checked (first_failing (field_checks head (take 16 (device.held new.input))))
+      (record_header_in head (take 16 (device.held new.input))) ≡ Ok found
   pub short : found.captured ≤ most_captured
   pub in_range : found.time < 2 ^ 63
-  pub there : 16 + found.captured ≤ length buffer
-  pub counted : device.given new ≡ device.given old + (16 + found.captured)
-  pub bounded : device.given new < 2 ^ 63
-  pub failed : device.failures new ≡ device.failures old
-  pub sure : device.sure new ≡ device.sure old
-  pub enough : 0 < device.failures new → HasGiven (device.sure new) (device.given new)
+  pub there : 16 + found.captured ≤ length (device.held new.input)
+  pub fits : 16 + found.captured ≤ room
+  pub counted : device.given new.input + new.lent
+      ≡ device.given old.input + old.lent + (16 + found.captured)
+  pub bounded : device.given new.input + new.lent < 2 ^ 63
+  pub failed : device.failures new.input ≡ device.failures old.input
+  pub sure : device.sure new.input ≡ device.sure old.input
+  pub enough : 0 < device.failures new.input
+      → HasGiven (device.sure new.input) (device.given new.input + new.lent)
   pub splits : IsTrue device.tells
-      → device.unread old ≡ take (16 + found.captured) buffer ++ device.unread new
-
--- the device gave no bytes, and didn't fail in this call
-pub record NothingTaken {I : Type 0} (device : Ghosts I) (old new : I) : Type 0 where
-  pub counted : device.given new ≡ device.given old
-  pub failed : device.failures new ≡ device.failures old
-  pub sure : device.sure new ≡ device.sure old
-  pub rest : IsTrue device.tells → device.unread new ≡ device.unread old
+      → drop old.lent (device.unread old.input)
+      ≡ take (16 + found.captured) (device.held new.input)
+      ++ drop new.lent (device.unread new.input)
 
 -- a unit of `size` bytes without a packet was read
 pub record UnitPassed (declared : Declared) (unread : List ℕ) (size : ℕ) (declared' : Declared)

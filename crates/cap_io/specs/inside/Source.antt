@@ -8,32 +8,36 @@ use Rattle.cap_io.specs.declared.source.Stage.TheVariants as stage
 use Rattle.cap_io.specs.declared.file_state.NextUnit.{NextUnit}
 use Rattle.cap_io.specs.declared.file_state.NextUnit.TheVariants as next_unit
 use Rattle.cap_pcapng.specs.declared.effect.PacketSpans.{PacketSpans}
+use Rattle.cap_io.specs.declared.lending.Lending.{Lending}
 use Rattle.cap_io.specs.declared.next_unit.UnitReader.{UnitReader}
 use Rattle.cap_io.specs.Capture.{Declared}
 use Rattle.cap_io.specs.Reading.{most_in_unit, read_failures, declared_by}
 use Rattle.cap_io.specs.inside.Reading.{HasInterface, FitsBuffer, IsConsistent}
-use Rattle.cap_io.specs.Source.{SourceView, block_at, SkipsUnits, FindsPacket, FindsEnd, IsBroken, end_offset, Reading, Ended}
+use Rattle.cap_io.specs.Source.{SourceView, block_at, unit_at, SkipsUnits, FindsPacket, FindsEnd, IsBroken, end_offset, Reading, Ended}
 
--- if a packet is current, its unit is in the buffer
+-- if a packet is current, its unit is among these bytes
 abbrev pub HoldsIfAny : Stage → PacketSpans → List ℕ → Type 0
-HoldsIfAny stage.Between spans buffer = Unit {0}
-HoldsIfAny stage.Current spans buffer = FitsBuffer spans buffer
-HoldsIfAny stage.Ended spans buffer = Unit {0}
-HoldsIfAny (stage.Failed fault) spans buffer = Unit {0}
+HoldsIfAny stage.Between spans bytes = Unit {0}
+HoldsIfAny stage.Current spans bytes = FitsBuffer spans bytes
+HoldsIfAny stage.Lent spans bytes = FitsBuffer spans bytes
+HoldsIfAny stage.Ended spans bytes = Unit {0}
+HoldsIfAny (stage.Failed fault) spans bytes = Unit {0}
 
 -- if a packet is current, its interface is known
 abbrev pub HasInterfaceIfCurrent : Stage → PacketSpans → Declared → Type 0
 HasInterfaceIfCurrent stage.Between spans declared = Unit {0}
 HasInterfaceIfCurrent stage.Current spans declared = HasInterface declared spans
+HasInterfaceIfCurrent stage.Lent spans declared = HasInterface declared spans
 HasInterfaceIfCurrent stage.Ended spans declared = Unit {0}
 HasInterfaceIfCurrent (stage.Failed fault) spans declared = Unit {0}
 
 -- the invariant of a source's fields
-pub record IsSound {I A : Type 0} (device : Ghosts I) (stage : Stage) (r : UnitReader I A)
-    (offset : ℕ) : Type 0 where
-  pub fits : offset + length (block_at stage r.spans r.buffer.items) < 2 ^ 63
-  pub counted : offset + length (block_at stage r.spans r.buffer.items) ≤ device.given r.input
-  pub lies : HoldsIfAny stage r.spans r.buffer.items
+pub record IsSound {I A : Type 0} (device : Ghosts I) (stage : Stage)
+    (r : UnitReader (Lending I device) A) (offset : ℕ) : Type 0 where
+  pub fits : offset + length (block_at stage r.spans (unit_at device stage r)) < 2 ^ 63
+  pub counted : offset + length (block_at stage r.spans (unit_at device stage r))
+      ≤ device.given r.input.input + r.input.lent
+  pub lies : HoldsIfAny stage r.spans (unit_at device stage r)
   pub known : HasInterfaceIfCurrent stage r.spans (declared_by r.file r.table)
   pub consistent : IsConsistent r.file r.table
   pub bounded : length r.buffer.items ≤ most_in_unit
@@ -98,15 +102,3 @@ pub record NextBounds (old : SourceView) (r : Result NextUnit Fault)
 pub record TakesNext (tells : Bool) (old new : SourceView) : Type 0 where
   pub packet : IsTrue tells → FindsPacket old new
   pub bounds : NextBounds old (Ok next_unit.Packet) new
-
--- nothing is taken: the source is between units as before, though the bytes in its buffer may have
--- changed
-pub record TakesNothing (tells : Bool) (old new : SourceView) : Type 0 where
-  pub between : IsBetween new
-  pub declared : new.declared ≡ old.declared
-  pub offset : new.offset ≡ old.offset
-  pub given : new.given ≡ old.given
-  pub failures : new.failures ≡ old.failures
-  pub sure : new.sure ≡ old.sure
-  pub room : new.room ≡ old.room
-  pub unread : IsTrue tells → new.unread ≡ old.unread

@@ -1,5 +1,5 @@
 //! An input that is watched from outside, even once it is gone.
-ghost use Rattle.std.specs.Prelude.{true};
+ghost use Rattle.std.specs.Prelude.{[], if◌then◌else◌, true};
 ghost use Rattle.std.proofs.Common.{rules};
 
 use cap_octet::{DeviceFault, Input, MemInput};
@@ -49,6 +49,8 @@ impl Input for Watched<'_> {
 
     ghost failures = { λ s. ⟦<MemInput<'static> as Input>⟧.failures s.inner };
 
+    ghost held = { λ s. if s.lends then ⟦<MemInput<'static> as Input>⟧.held s.inner else [] };
+
     fn read(&mut self, buf: &mut [u8]) -> Result<usize, DeviceFault> {
         let returned = self.inner.read(buf);
         self.count(returned.unwrap_or(0));
@@ -61,6 +63,10 @@ impl Input for Watched<'_> {
         } else {
             &[]
         }
+    }
+
+    fn can_pass(&self, count: usize) -> bool {
+        self.lends && self.inner.can_pass(count)
     }
 
     fn pass(&mut self, count: usize) -> bool {

@@ -32,6 +32,18 @@ impl Input for Counting<'_> {
         self.inner.read(buf)
     }
 
+    fn at_hand(&self) -> &[u8] {
+        &[]
+    }
+
+    fn can_pass(&self, _count: usize) -> bool {
+        false
+    }
+
+    fn pass(&mut self, _count: usize) -> bool {
+        false
+    }
+
     ghost unfailed = { Prim.search rules };
 }
 

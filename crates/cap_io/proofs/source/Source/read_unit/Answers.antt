@@ -1,4 +1,4 @@
-use Rattle.cap_io.proofs.Common.{◌+◌, ◌∙◌, Err, arith, length, refl, ap, ap₂, err_from_is_err_and, declared_by, SourceView, block_at, packet_at, view_of}
+use Rattle.cap_io.proofs.Common.{◌+◌, ◌∙◌, Err, arith, length, refl, ap, ap₂, err_from_is_err_and, length-take, declared_by, SourceView, block_at, packet_at, unit_at, view_of}
 use Rattle.cap_io.specs.declared.source.Stage.TheVariants as stage
 use Rattle.cap_io.proofs.Passing.{FindsEnd-next, FindsPacket-next, IsBroken-next, SkipsUnits-next, stage_between}
 use Rattle.cap_io.proofs.source.Source.read_unit.Goals as goal
@@ -10,13 +10,13 @@ returns-in_err-unit-clause-packets g c =
     let unread = ap (λ (v : SourceView). v.unread) c.self.view_is in
     let room = ap (λ (v : SourceView). v.room) c.self.view_is in
     let new = view_of g.I.Input c.self.inside.stage c.next_unit.new.self c.self.inside.offset in
-    let between = stage_between c.self.inside.stage c.self.inside.reader.spans c.self.inside.reader.buffer.items (ap (λ (v : SourceView). v.phase) c.self.view_is ∙ c.requires.between.phase)
+    let between = stage_between c.self.inside.stage c.self.inside.reader.spans (unit_at g.I.Input c.self.inside.stage c.self.inside.reader) (ap (λ (v : SourceView). v.phase) c.self.view_is ∙ c.requires.between.phase)
     (ap (λ (v : SourceView). v.block) c.self.view_is ∙ c.requires.between.block) c.self.invariant.lies in
     rw (p.1, p.2) (λ t. IsBroken-next c.args.self.now new c.in_err-unit.field-0.0 c.requires.between (rw (declared, unread) at (c.in_err-unit.ensures.err t))
     (ap₂ declared_by c.in_err-unit.ensures.kept.0 c.in_err-unit.ensures.kept.1 ∙ declared) (ap (λ (v : SourceView). v.offset) c.self.view_is)
     (omega (arith, c.in_err-unit.ensures.grown, room)) (λ e. rw (declared, unread) at (c.in_err-unit.ensures.memory (ap Err e) t)) (c.in_err-unit.ensures.moves.told t ∙ ap (λ (v : SourceView). v.given + length v.unread) c.self.view_is)
-    (ap (λ s. block_at s c.next_unit.new.self.spans c.next_unit.new.self.buffer.items) between)
-    (ap (λ s. packet_at s c.next_unit.new.self.spans (declared_by c.next_unit.new.self.file c.next_unit.new.self.table) c.next_unit.new.self.buffer.items) between))
+    (ap (λ s. block_at s c.next_unit.new.self.spans (unit_at g.I.Input s c.next_unit.new.self)) between)
+    (ap (λ s. packet_at s c.next_unit.new.self.spans (declared_by c.next_unit.new.self.file c.next_unit.new.self.table) (unit_at g.I.Input s c.next_unit.new.self)) between))
 
 pub returns-in-Packet-clause-packets : goal.returns-in-Packet-clause-packets
 returns-in-Packet-clause-packets g c = λ t.
@@ -25,7 +25,7 @@ returns-in-Packet-clause-packets g c = λ t.
     let room = ap (λ (v : SourceView). v.room) c.self.view_is in
     let new = view_of g.I.Input stage.Current c.next_unit.new.self c.self.inside.offset in
     rw c.in-Packet.is (FindsPacket-next c.args.self.now new c.next_unit.new.self.spans c.next_unit.new.self.buffer.items c.requires.between
-    (rw (declared, unread) at (rw c.in-Packet.is at (c.in_ok-unit.ensures.ok t))) refl refl (ap (λ (v : SourceView). v.offset) c.self.view_is) (omega (arith, c.in_ok-unit.ensures.grown, room)) refl refl)
+    (rw (declared, unread) at (rw c.in-Packet.is at (c.in_ok-unit.ensures.ok t))) refl refl (ap (λ (v : SourceView). v.offset) c.self.view_is) (omega (arith, c.in_ok-unit.ensures.grown, room)) (omega (arith, length-take c.next_unit.new.self.spans.size c.next_unit.new.self.buffer.items)) refl)
 
 pub returns-in-Other-clause-packets : goal.returns-in-Other-clause-packets
 returns-in-Other-clause-packets g c = λ t.

@@ -1,0 +1,144 @@
+//! An input whose bytes are lent before it passes them.
+ghost use Rattle.std.specs.Prelude.{◌≡◌, ℕ, ◌+◌, ◌^◌, ◌<◌, ◌≤◌, IsTrue, IfOk, length, drop, take};
+ghost use Rattle.std.specs.Prelude.{[], false, if◌then◌else◌, true};
+ghost use Rattle.std.proofs.Common.{rules};
+ghost use Rattle.std.specs.Io.{StartsWith};
+ghost use Rattle.cap_octet.specs.Device.{Reads, count_of, failures_of};
+
+use cap_octet::{DeviceFault, Input};
+
+/// An input whose first bytes at hand may be lent. What is lent counts as given, but the input
+/// itself passes it only before it is asked for more: until then the bytes stay where they are, and
+/// nobody copies them.
+#[derive(Drop)]
+pub(crate) struct Lending<I: Input> {
+    input: I,
+    /// How many bytes are lent.
+    lent: usize,
+    ghost within: { lent ≤ length (I.held input) },
+    ghost bounded: { 0 < lent → I.given input + lent < 2 ^ 63 },
+}
+
+impl<I: Input> Lending<I> {
+    /// An input of which nothing is lent.
+    pub(crate) fn new(input: I) -> Self
+        ensures input { result.input ≡ input }
+        ensures lent { result.lent ≡ 0 }
+    {
+        Lending { input, lent: 0 }
+    }
+
+    /// The bytes at hand, of which the first are lent.
+    #[inline(always)]
+    pub(crate) fn lent_bytes(&self) -> &[u8]
+        ensures held { result.now ≡ I.held self.now.input }
+        ensures exact { IsTrue I.tells → StartsWith (I.unread self.now.input) result.now }
+    {
+        self.input.at_hand()
+    }
+
+    /// The bytes at hand after those that are lent.
+    pub(crate) fn next_bytes(&self) -> &[u8]
+        ensures { IsTrue I.tells
+            → StartsWith (drop self.now.lent (I.unread self.now.input)) result.now }
+    {
+        &self.input.at_hand()[self.lent..]
+    }
+
+    /// Lends this count of bytes, which isn't 0, if the input has them at hand and would pass them;
+    /// else none, and returns `false`.
+    #[inline(always)]
+    pub(crate) fn lend(&mut self, count: usize) -> bool
+        requires some { 0 < count }
+        requires settled { self.old.lent ≡ 0 }
+        ensures input { self.new.input ≡ self.old.input }
+        ensures lent { self.new.lent ≡ (if result then count else 0) }
+        ensures there { IsTrue result → count ≤ length (I.held self.old.input) }
+        ensures bounded { IsTrue result → I.given self.old.input + count < 2 ^ 63 }
+    {
+        if !self.input.can_pass(count) {
+            return false;
+        }
+        self.lent = count;
+        true
+    }
+
+    /// Passes what is lent.
+    #[inline(always)]
+    pub(crate) fn settle(&mut self)
+        ensures lent { self.new.lent ≡ 0 }
+        ensures given { I.given self.new.input ≡ I.given self.old.input + self.old.lent }
+        ensures failures { I.failures self.new.input ≡ I.failures self.old.input }
+        ensures sure { I.sure self.new.input ≡ I.sure self.old.input }
+        ensures rest { I.unread self.new.input ≡ drop self.old.lent (I.unread self.old.input) }
+    {
+        if self.lent > 0 {
+            // It does, since `lend` asked whether it would.
+            let _ = self.input.pass(self.lent);
+            self.lent = 0;
+        }
+    }
+
+    /// The input, past what is lent.
+    pub(crate) fn into_inner(mut self) -> I
+        ensures given { I.given result ≡ I.given self.input + self.lent }
+        ensures failures { I.failures result ≡ I.failures self.input }
+        ensures sure { I.sure result ≡ I.sure self.input }
+        ensures rest { I.unread result ≡ drop self.lent (I.unread self.input) }
+    {
+        self.settle();
+        let Lending { input, .. } = self;
+        input
+    }
+}
+
+impl<I: Input> Input for Lending<I> {
+    ghost tells = { I.tells };
+
+    ghost unread = { λ s. drop s.lent (I.unread s.input) };
+
+    ghost given = { λ s. I.given s.input + s.lent };
+
+    ghost failures = { λ s. I.failures s.input };
+
+    ghost sure = { λ s. I.sure s.input };
+
+    /// Passes what is lent, and makes a read of the input.
+    fn read(&mut self, buf: &mut [u8]) -> Result<usize, DeviceFault>
+        ensures within { IfOk result (λ n. n ≤ length buf.old) }
+        ensures counted { I.given self.new.input + self.new.lent
+            ≡ I.given self.old.input + self.old.lent + count_of result }
+        ensures bounded { I.given self.new.input + self.new.lent < 2 ^ 63 }
+        ensures failed { I.failures self.new.input
+            ≡ I.failures self.old.input + failures_of result }
+        ensures sure { I.sure self.new.input ≡ I.sure self.old.input }
+        ensures exact { IsTrue I.tells → Reads (drop self.old.lent (I.unread self.old.input))
+            buf.old result (drop self.new.lent (I.unread self.new.input)) buf.new }
+    {
+        self.settle();
+        self.input.read(buf)
+    }
+
+    /// Shows none: `Lending` itself lends what is at hand.
+    fn at_hand(&self) -> &[u8]
+        ensures exact { IsTrue I.tells
+            → StartsWith (drop self.now.lent (I.unread self.now.input)) result.now }
+        ensures held { result.now ≡ [] }
+    {
+        &[]
+    }
+
+    /// It passes none.
+    fn can_pass(&self, _count: usize) -> bool
+        ensures { result ≡ false }
+    {
+        false
+    }
+
+    /// Passes none.
+    fn pass(&mut self, _count: usize) -> bool {
+        false
+    }
+
+    ghost unfailed = { Prim.search rules };
+}
