@@ -20,7 +20,7 @@ pub use Rattle.cap_inputs.specs.inside.Queue.{NotAfter, Precedes, IsFirstWaiting
 pub use Rattle.cap_inputs.specs.inside.Inputs.{NoneWaits, IsLeast, KeysOver, KeysFrom, waiting_count, AllEnded, AllReady, IsNext, IsNextIn, IsOpen, IsReady, NoneEnded, offset_of}
 pub use Rattle.cap_inputs.specs.declared.inputs.Next.{Next}
 pub use Rattle.cap_io.specs.Capture.{Placed, Items, Ending}
-pub use Rattle.cap_io.specs.Source.{Advances, SectionFits, SkipsUnits, Phase, Reading, Ended, Failed, SourceView, Steps, end_offset, phase_after}
+pub use Rattle.cap_io.specs.Source.{Advances, SectionFits, TakesIfAtHand, SkipsUnits, Phase, Reading, Ended, Failed, SourceView, Steps, end_offset, phase_after}
 pub use Rattle.cap_io.specs.Sequence.{PacketOrder, InTurn, ByTime, order_of, Packet, SequenceEnd, Complete, FaultIn, with_front, InputItems, Entry, end_after, entries_of, all_entries, comes_before, insert_entry, sort_entries, sequence_of_entries, first_end, fault_without_packets, unless_fault, sequence_by_time}
 pub use Rattle.cap_octet.specs.declared.fault.Fault.{Fault}
 pub use Rattle.cap_octet.specs.Views.{FreshInput, fresh_input}

@@ -1,5 +1,5 @@
 -- One input among others.
-use Rattle.cap_inputs.proofs.Common.{◌≡◌, ℕ, zero, suc, ◌+◌, ◌<◌, List, [], ◌∷◌, ◌++◌, length, max, Option, Some, refl, sym, ◌∙◌, ap, ap₂, arith, get_or, Bool, true, false, Result, Ok, Err, append-nil, length-append, Placed, slice_set, Fault, Advances, SectionFits, SkipsUnits, Phase, Reading, Ended, Failed, SourceView, Steps, end_offset, phase_after, Schedule, Turn, Merge, ordering_of, schedule_after, schedule_after_decided, DeviceLimits, device_limits, limits_of, InputView, InputsView, InputPast, AreInputsAfter, KnowGreatest, IsInput, ReadsInput, ReadSteps, greatest_of, input_after, input_after_decided, packet_time, with_cursor}
+use Rattle.cap_inputs.proofs.Common.{◌≡◌, ℕ, zero, suc, ◌+◌, ◌<◌, List, [], ◌∷◌, ◌++◌, length, max, Option, Some, refl, sym, ◌∙◌, ap, ap₂, subst, arith, get_or, Bool, true, false, Result, Ok, Err, append-nil, length-append, Placed, slice_set, Fault, Advances, SectionFits, TakesIfAtHand, SkipsUnits, Phase, Reading, Ended, Failed, SourceView, Steps, end_offset, phase_after, Schedule, Turn, Merge, ordering_of, schedule_after, schedule_after_decided, DeviceLimits, device_limits, limits_of, InputView, InputsView, InputPast, AreInputsAfter, KnowGreatest, IsInput, ReadsInput, ReadSteps, greatest_of, input_after, input_after_decided, packet_time, with_cursor}
 use Rattle.std.proofs.Math.Nat.{max_comm}
 use Rattle.cap_octet.specs.Packet.{Captured}
 use Rattle.cap_io.specs.Position.{given_in_all}
@@ -33,6 +33,10 @@ schedule-order (Merge next last) i (Err fault) = refl
 pub following-order : (schedule : Schedule) (i : ℕ) → ordering_of (schedule_after_decided schedule i) ≡ ordering_of schedule
 following-order (Turn turn) i = refl
 following-order (Merge next last) i = refl
+
+-- what is known if the next packet was at hand
+pub taken-of : (tells r : Bool) (old new : SourceView) → r ≡ true → TakesIfAtHand tells old r new → TakesIfAtHand tells old true new
+taken-of tells r old new is takes = subst (λ b. TakesIfAtHand tells old b new) is takes
 
 pub fetches-by : (inputs : InputsView) (i : ℕ) (r : Result Bool Fault) (old new : InputView) → i < length inputs.cursors → old ≡ get_or inputs.cursors i old
     → Advances old.source.phase old.source r new.source → Steps old.source.phase old.source r new.source → new ≡ input_after old r new.source

@@ -76,10 +76,10 @@ fn current_time<I: Input, A: Allocator>(source: &Source<I, A>) -> u64
 
 impl<I: Input, A: Allocator> InputCursor<I, A> {
     ghost use Rattle.cap_inputs.specs.Inputs.{InputView, input_after, is_packet_found};
-    ghost use Rattle.std.specs.Prelude.{IsTrue, true};
+    ghost use Rattle.std.specs.Prelude.{IsTrue, Ok, false, true};
     ghost use Rattle.cap_inputs.specs.Inputs.{input_after_decided};
     ghost use Rattle.cap_io.specs.Source.{SourceView, Advances, SectionFits, Reading, Steps};
-    ghost use Rattle.cap_io.specs.Source.{phase_after};
+    ghost use Rattle.cap_io.specs.Source.{TakesIfAtHand, phase_after};
     ghost use Rattle.std.specs.Option.{option_map};
     ghost use Rattle.cap_octet.specs.Packet.{captured};
     ghost use Rattle.cap_io.specs.Capture.{first_link_of, kind_of};
@@ -114,6 +114,23 @@ impl<I: Input, A: Allocator> InputCursor<I, A> {
         self.waiting = matches!(result, Ok(true));
         self.time = current_time(&self.source);
         result
+    }
+
+    /// Goes on to the next packet, as `advance` does, if the device has it at hand, and returns
+    /// whether it does: the packet then waits to be decided. `false`: nothing changes.
+    #[inline(always)]
+    fn take_at_hand(&mut self) -> bool
+        ensures takes { TakesIfAtHand I.tells self.old.source result self.new.source }
+        ensures upper_bound { SectionFits self.new.source.declared }
+        ensures is { result ≡ true → self.new ≡ input_after self.old (Ok true) self.new.source }
+        ensures nothing { result ≡ false → self.new ≡ self.old }
+    {
+        if !self.source.take_at_hand() {
+            return false;
+        }
+        self.waiting = true;
+        self.time = current_time(&self.source);
+        true
     }
 
     /// The current packet, decided or not; `None` if there is none.
@@ -218,6 +235,7 @@ impl<I: Input, A: Allocator> Inputs<I, A> {
     ghost use Rattle.cap_inputs.specs.Inputs.{InputsView, IsInput, MarksDecided};
     ghost use Rattle.cap_inputs.specs.inside.Inputs.{IsNext};
     ghost use Rattle.cap_inputs.specs.Inputs.{ReadSteps, ReadsInput};
+    ghost use Rattle.std.specs.Prelude.{Ok};
     ghost use Rattle.cap_inputs.specs.inside.Inputs.{first_declared_link};
     ghost use Rattle.cap_inputs.specs.inside.Inputs.{is_in_turn};
 
@@ -322,6 +340,31 @@ impl<I: Input, A: Allocator> Inputs<I, A> {
         ensures { result ≡ first_declared_link self.now.cursors }
     {
         first_link_in(&self.cursors)
+    }
+
+    /// Reads on the input with this index, which `next` told to read, as `read_input` does, if the
+    /// device has its next packet at hand, and returns whether it has; else nothing changes.
+    #[inline(always)]
+    pub fn take_at_hand(&mut self, input: usize) -> bool
+        requires within { input < length self.old.cursors }
+        requires next { IsNext self.old (Next.Read input) }
+        ensures exact { result ≡ true → IsTrue I.tells
+            → ReadsInput self.old input (Ok true) self.new }
+        ensures steps { result ≡ true → ReadSteps self.old input (Ok true) self.new }
+        ensures nothing { result ≡ false → self.new ≡ self.old }
+    {
+        let cursor = &mut self.cursors[input];
+        if !cursor.take_at_hand() {
+            return false;
+        }
+        let time = cursor.key();
+        update_after_read(
+            &mut self.queue,
+            &mut self.schedule,
+            Waiting { time, input },
+            Ok(true),
+        );
+        true
     }
 
     /// Reads on the input with this index, which `next` told to read, and returns whether there is

@@ -1,7 +1,12 @@
 -- A record that a device had at hand.
-use Rattle.cap_io.proofs.Common.{◌≡◌, ℕ, Bool, true, IsTrue, is_some, ◌+◌, ◌^◌, ◌<◌, ◌≤◌, List, ◌++◌, length, take, drop, Ok, refl, sym, ap, ◌∙◌, arith, add-zero, length-take-le, take-take, take-append-drop, append_assoc, HasGiven, checked, first_failing, Head, RecordHead, field_checks, most_captured, record_header_in, PacketSpans, most_in_unit, packet_in_unit, PacketCame, record_spans, Declared, PcapFile, SourceView, Reading, IsBetween, TakesNext}
+use Rattle.cap_io.proofs.Common.{subst, ◌≡◌, ℕ, Bool, true, IsTrue, is_some, ◌+◌, ◌^◌, ◌<◌, ◌≤◌, List, [], ◌++◌, length, take, drop, Ok, refl, sym, ap, ◌∙◌, arith, add-zero, length-take-le, take-take, take-append-drop, append_assoc, HasGiven, checked, first_failing, Head, RecordHead, field_checks, most_captured, record_header_in, PacketSpans, most_in_unit, packet_in_unit, PacketCame, record_spans, Declared, PcapFile, SourceView, Phase, Reading, Advances, AreUnits, IsBetween, TakesIfAtHand, TakesNext, false, past_unit}
+use Rattle.cap_io.specs.Source.{Steps}
 use Rattle.cap_io.proofs.Passing.{FindsPacket-next}
 use Rattle.cap_io.proofs.Came.{fields_came, record_came}
+
+-- bytes that begin with others begin alike
+pub begins-same : (bytes front : List ℕ) (size : ℕ) → take (length front) bytes ≡ front → size ≤ length front → take size front ≡ take size bytes
+begins-same bytes front size begins within = ap (take size) (sym begins) ∙ take-take size (length front) bytes within
 
 -- it is the first of what comes
 pub lent-first : (unread hand : List ℕ) (size : ℕ) → take (length hand) unread ≡ hand → size ≤ length hand → unread ≡ take size hand ++ drop size unread
@@ -56,3 +61,65 @@ takes-next tells head found buffer old new between says short there given bounde
         passed = λ n is. (cc);
       };
     }
+
+-- a source that ended its current unit first took the next one after it
+pub takes-after : (tells : Bool) (old new : SourceView) → TakesNext tells (past_unit old) new → TakesNext tells old new
+takes-after tells old new takes =
+    let bounds = takes.bounds in record {
+      packet = λ t.
+          let found = takes.packet t in record {
+            passes = record {
+              passed = found.passes.passed;
+              splits = found.passes.splits;
+              units = subst (λ n. AreUnits old.declared n found.passes.passed [] new.declared) (add-zero (old.offset + length old.block)) found.passes.units;
+              offset = omega (arith, found.passes.offset);
+              room = found.passes.room;
+              fit = found.passes.fit;
+            };
+            packet = found.packet;
+            held = found.held;
+            unit = found.unit;
+            fits = found.fits;
+            phase = found.phase;
+          };
+      bounds = record {
+        given = bounds.given;
+        failures = bounds.failures;
+        sure = bounds.sure;
+        enough = bounds.enough;
+        block = bounds.block;
+        held = bounds.held;
+        room = bounds.room;
+        packet = bounds.packet;
+        counted = omega (arith, bounds.counted);
+        broken = tt;
+        ended = bounds.ended;
+        found = bounds.found;
+        passed = bounds.passed;
+      };
+    }
+
+-- what `take_at_hand` returns
+pub if-at-hand : (tells : Bool) (old new : SourceView) (r : Bool) → old.phase ≡ Reading → (IsTrue r → TakesNext tells old new) → (r ≡ false → new ≡ old) → TakesIfAtHand tells old r new
+if-at-hand tells old new true reading found nothing =
+    let takes = found refl in
+    let bounds = takes.bounds in
+    let some = bounds.packet refl in (
+      subst (λ (p : Phase). IsTrue tells → Advances p old (Ok true) new) (sym reading) takes.packet,
+      subst (λ (p : Phase). Steps p old (Ok true) new) (sym reading) (record {
+        given = bounds.given;
+        failures = bounds.failures;
+        sure = bounds.sure;
+        enough = bounds.enough;
+        block = bounds.block;
+        held = bounds.held;
+        room = bounds.room;
+        progress = λ is. some.0;
+        bounded = λ is. some.1;
+        packet = λ is. some.2;
+        counted = bounds.counted;
+        broken = tt;
+      }),
+      bounds.found refl,
+    )
+if-at-hand tells old new false reading found nothing = nothing refl

@@ -4,6 +4,7 @@ ghost use Rattle.std.specs.Prelude.{[], false, if◌then◌else◌, true};
 ghost use Rattle.std.proofs.Common.{rules};
 ghost use Rattle.std.specs.Io.{StartsWith};
 ghost use Rattle.cap_octet.specs.Device.{Reads, count_of, failures_of};
+ghost use Rattle.cap_io.specs.inside.Lending.{Lends};
 
 use cap_octet::{DeviceFault, Input};
 
@@ -17,6 +18,7 @@ pub(crate) struct Lending<I: Input> {
     lent: usize,
     ghost within: { lent ≤ length (I.held input) },
     ghost bounded: { 0 < lent → I.given input + lent < 2 ^ 63 },
+    ghost short: { lent < 2 ^ 63 },
 }
 
 impl<I: Input> Lending<I> {
@@ -31,46 +33,50 @@ impl<I: Input> Lending<I> {
     /// The bytes at hand, of which the first are lent.
     #[inline(always)]
     pub(crate) fn lent_bytes(&self) -> &[u8]
-        ensures held { result.now ≡ I.held self.now.input }
-        ensures exact { IsTrue I.tells → StartsWith (I.unread self.now.input) result.now }
+        ensures { result.now ≡ I.held self.now.input }
     {
         self.input.at_hand()
     }
 
     /// The bytes at hand after those that are lent.
+    #[inline(always)]
     pub(crate) fn next_bytes(&self) -> &[u8]
-        ensures { IsTrue I.tells
+        ensures held { result.now ≡ drop self.now.lent (I.held self.now.input) }
+        ensures exact { IsTrue I.tells
             → StartsWith (drop self.now.lent (I.unread self.now.input)) result.now }
     {
         &self.input.at_hand()[self.lent..]
     }
 
-    /// Lends this count of bytes, which isn't 0, if the input has them at hand and would pass them;
-    /// else none, and returns `false`.
+    /// Lends the next `count` bytes, which aren't 0, if the input has them at hand and would pass
+    /// them: what was lent before is passed. Else it changes nothing, and returns `false`.
     #[inline(always)]
     pub(crate) fn lend(&mut self, count: usize) -> bool
         requires some { 0 < count }
-        requires settled { self.old.lent ≡ 0 }
-        ensures input { self.new.input ≡ self.old.input }
-        ensures lent { self.new.lent ≡ (if result then count else 0) }
-        ensures there { IsTrue result → count ≤ length (I.held self.old.input) }
-        ensures bounded { IsTrue result → I.given self.old.input + count < 2 ^ 63 }
+        requires short { count < 2 ^ 63 }
+        ensures nothing { result ≡ false → (self.new.input ≡ self.old.input)
+            × (self.new.lent ≡ self.old.lent) }
+        ensures lends { result ≡ true → Lends I.Input count self.old.input self.old.lent
+            self.new.input self.new.lent }
     {
-        if !self.input.can_pass(count) {
+        if !self.input.can_pass(self.lent + count) {
             return false;
         }
+        self.settle();
         self.lent = count;
         true
     }
 
     /// Passes what is lent.
     #[inline(always)]
-    pub(crate) fn settle(&mut self)
+    fn settle(&mut self)
         ensures lent { self.new.lent ≡ 0 }
         ensures given { I.given self.new.input ≡ I.given self.old.input + self.old.lent }
         ensures failures { I.failures self.new.input ≡ I.failures self.old.input }
         ensures sure { I.sure self.new.input ≡ I.sure self.old.input }
         ensures rest { I.unread self.new.input ≡ drop self.old.lent (I.unread self.old.input) }
+        ensures stays { StartsWith (I.held self.new.input)
+            (drop self.old.lent (I.held self.old.input)) }
     {
         if self.lent > 0 {
             // It does, since `lend` asked whether it would.

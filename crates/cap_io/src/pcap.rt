@@ -3,7 +3,7 @@ ghost use Rattle.std.specs.Prelude.{◌≡◌, ℕ, ◌+◌, ◌^◌, ◌<◌, �
 ghost use Rattle.std.specs.Prelude.{List, [], length, IfSome, IsNone};
 ghost use Rattle.cap_pcapng.specs.Frame.{is_section};
 ghost use Rattle.cap_io.specs.Capture.{Nothing};
-ghost use Rattle.cap_io.specs.inside.Reading.{HeaderCame, Moves, NothingLent, ReadsUnit};
+ghost use Rattle.cap_io.specs.inside.Reading.{HeaderCame, Moves, ReadsUnit};
 ghost use Rattle.cap_io.specs.inside.Reading.{RecordLent, NoUnitCame, record_spans};
 ghost use Rattle.cap_pcap.specs.Record.{most_captured};
 ghost use Rattle.cap_io.specs.declared.file_state.FileState.TheVariants as state;
@@ -44,8 +44,8 @@ pub(crate) fn read_header<I: Input>(input: &mut I, first: &[u8; 4]) -> Result<He
 }
 
 /// The fast way of `next_record`: lends the next record and returns its header, if the device has
-/// all of it at hand, it has at most `room` bytes, and it fails no check. `None` if not, or if the
-/// device wouldn't pass the record: nothing is lent. What was lent before is passed.
+/// all of it at hand and would pass it, it has at most `room` bytes, and it fails no check. `None` if
+/// not: then nothing changes.
 #[inline(always)]
 pub(crate) fn lend_record<I: Input>(
     input: &mut Lending<I>,
@@ -54,10 +54,10 @@ pub(crate) fn lend_record<I: Input>(
 ) -> Option<RecordHead>
     ensures lent { IfSome result (λ found. RecordLent I.Input head.now room input.old found
         input.new) }
-    ensures nothing { IsNone result → NothingLent I.Input input.old input.new }
+    ensures nothing { IsNone result → (input.new.input ≡ input.old.input)
+        × (input.new.lent ≡ input.old.lent) }
 {
-    input.settle();
-    let hand = input.lent_bytes();
+    let hand = input.next_bytes();
     let front = hand.first_chunk::<RECORD_HEADER_LENGTH>()?;
     let Ok(found) = read_record(head, front) else {
         return None;

@@ -67,7 +67,7 @@ impl<I: Input, A: Allocator> Source<I, A> {
     ghost use Rattle.cap_octet.specs.Packet.{captured};
     ghost use Rattle.cap_io.specs.Capture.{kind_of, first_link_of};
     ghost use Rattle.cap_io.specs.Reading.{most_in_unit};
-    ghost use Rattle.cap_io.specs.Source.{Reading, Advances};
+    ghost use Rattle.cap_io.specs.Source.{Reading, Advances, TakesIfAtHand};
     ghost use Rattle.cap_io.specs.inside.Source.{Continues, FindsNext, IsBetween};
     ghost use Rattle.cap_io.specs.Source.{KeepsBounds, SectionFits, Steps};
     ghost use Rattle.cap_io.specs.inside.Source.{NextBounds, past_unit};
@@ -115,6 +115,20 @@ impl<I: Input, A: Allocator> Source<I, A> {
                 }
                 answer
             }
+        }
+    }
+
+    /// Goes on to the next packet, as `advance` does, if the device has it at hand: if both it and
+    /// the current one are records of pcap that are lent. `false` if not: then nothing changes.
+    // It is apart from `advance` so that it is inlined without the rest.
+    #[inline(always)]
+    pub fn take_at_hand(&mut self) -> bool
+        ensures takes { TakesIfAtHand I.tells self.old result self.new }
+        ensures interfaces { SectionFits self.new.declared }
+    {
+        match self.stage {
+            Stage::Lent => self.take_next(),
+            Stage::Between | Stage::Current | Stage::Ended | Stage::Failed(_) => false,
         }
     }
 
@@ -205,9 +219,6 @@ impl<I: Input, A: Allocator> Source<I, A> {
 
     /// Ends the current unit, if there is one, and reads on to the next packet; `false` at the
     /// clean end, and faults as in `advance`.
-    // Inlined with `take_next`, so that a record at hand is taken without a call; all else is out
-    // of line.
-    #[inline(always)]
     fn advance_to_packet(&mut self) -> Result<bool, Fault>
         requires { self.old.phase ≡ Reading }
         ensures packets { IsTrue I.tells → Continues self.old result self.new }
@@ -215,24 +226,26 @@ impl<I: Input, A: Allocator> Source<I, A> {
         ensures phase { OnOk result (self.new.phase ≡ phase_after result) }
         ensures err { IfErr result (λ _. self.new.block ≡ []) }
     {
-        self.leave_unit();
         if self.take_next() {
             return Ok(true);
         }
+        self.leave_unit();
         self.skip_to_packet()
     }
 
-    /// Lends the next record of a pcap file, if the device has it at hand, the buffer has room for
-    /// it and it fails no check: its packet is the current one then. `false` means that nothing was
-    /// taken: `skip_to_packet` then finds the packet, the end or the fault.
+    /// Ends the current unit, if there is one, and lends the next record of a pcap file, if the
+    /// device has it at hand, the buffer has room for it and it fails no check: its packet is the
+    /// current one then. `false` if not: then nothing changes.
     // A record for which the buffer has no room makes it grow: so memory runs out only at a record
     // that is longer than all before it.
     #[inline(always)]
     fn take_next(&mut self) -> bool
-        requires between { IsBetween self.old }
+        requires { self.old.phase ≡ Reading }
         ensures found { IsTrue result → TakesNext I.tells self.old self.new }
         ensures nothing { result ≡ false → self.new ≡ self.old }
+        ensures declared { self.new.declared ≡ self.old.declared }
     {
+        let size = self.current_size();
         let FileState::Pcap(head) = &self.reader.file else {
             return false;
         };
@@ -240,9 +253,21 @@ impl<I: Input, A: Allocator> Source<I, A> {
         let Some(found) = lend_record(&mut self.reader.input, head, room) else {
             return false;
         };
+        self.offset += u64::from(size);
         self.reader.spans = record_spans(&found);
         self.stage = Stage::Lent;
         true
+    }
+
+    /// How many bytes the current unit has; 0 if there is none.
+    #[inline(always)]
+    fn current_size(&self) -> u32
+        ensures { result ≡ length self.now.block }
+    {
+        match self.stage {
+            Stage::Current | Stage::Lent => self.reader.spans.size,
+            Stage::Between | Stage::Ended | Stage::Failed(_) => 0,
+        }
     }
 
     /// Reads units up to the next one with a packet, which becomes the current one; `false` at the
@@ -269,9 +294,7 @@ impl<I: Input, A: Allocator> Source<I, A> {
         requires { self.old.phase ≡ Reading }
         ensures { self.new ≡ past_unit self.old }
     {
-        if let Stage::Current | Stage::Lent = self.stage {
-            self.offset += u64::from(self.reader.spans.size);
-        }
+        self.offset += u64::from(self.current_size());
         self.stage = Stage::Between;
     }
 

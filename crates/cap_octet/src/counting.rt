@@ -1,7 +1,7 @@
 //! std's buffered readers and writers, with a count of the reads or writes that are made of them.
 //! The lines of `read`, `write` and `flush` are all that must be believed of the counts: only they
 //! count, and each makes its call.
-ghost use Rattle.std.specs.Prelude.{◌≡◌, ◌+◌, [], OnOk, Some, length};
+ghost use Rattle.std.specs.Prelude.{◌≡◌, ◌+◌, [], OnOk, Some, drop, length};
 ghost use Rattle.std.specs.Io.{ReadsAtMost, WritesAtMost};
 ghost use Rattle.std.specs.Io.Buffered.{reader_buffer, reader_remaining};
 ghost use Rattle.std.specs.Io.Buffered.{writer_buffer, writer_contents};
@@ -51,13 +51,13 @@ impl<R: Read> CountingReader<R> {
         self.reader.buffer()
     }
 
-    /// Takes `count` bytes of what its buffer holds, without a read. No clause states what is left
-    /// if the buffer holds fewer.
+    /// Takes `count` bytes of what its buffer holds, without a read, or all if it holds fewer.
     #[inline(always)]
     pub(crate) fn consume(&mut self, count: usize)
         ensures bytes { DropsConsumable (reader_remaining R.remaining self.old.reader)
             (reader_remaining R.remaining self.new.reader)
             (Some (length (reader_buffer self.old.reader))) count }
+        ensures buffer { reader_buffer self.new.reader ≡ drop count (reader_buffer self.old.reader) }
         ensures calls { self.new.calls.count ≡ self.old.calls.count }
     {
         self.reader.consume(count);

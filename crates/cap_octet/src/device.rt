@@ -64,7 +64,8 @@ pub trait Input {
             × (given self.now + count < 2 ^ 63) };
 
     /// Moves past the next `count` bytes, of those that `at_hand` shows, as a read of them would,
-    /// and returns `true`; or takes none, and returns `false`.
+    /// and returns `true`; or takes none, and returns `false`. What was at hand after them still
+    /// is.
     fn pass(&mut self, count: usize) -> bool
         ensures counted { given self.new ≡ given self.old + (if result then count else 0) }
         ensures bounded { IsTrue result → given self.new < 2 ^ 63 }
@@ -74,7 +75,9 @@ pub trait Input {
         ensures exact { IsTrue tells
             → Passes (unread self.old) count result (unread self.new) }
         ensures passes { 0 < count → count ≤ length (held self.old)
-            → given self.old + count < 2 ^ 63 → result ≡ true };
+            → given self.old + count < 2 ^ 63 → result ≡ true }
+        ensures stays { StartsWith (held self.new)
+            (drop (if result then count else 0) (held self.old)) };
 
     /// A device that failed had given as many bytes as it was sure to. `Prim.search rules` proves
     /// it of one that may fail at once, and of one that never fails.

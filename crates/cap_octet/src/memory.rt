@@ -98,6 +98,8 @@ impl Input for MemInput<'_> {
         ensures exact { IsTrue true → Passes self.old.rest.now count result self.new.rest.now }
         ensures passes { 0 < count → count ≤ length self.old.rest.now
             → self.old.given + count < 2 ^ 63 → result ≡ true }
+        ensures stays { StartsWith self.new.rest.now
+            (drop (if result then count else 0) self.old.rest.now) }
         ensures always { count ≤ length self.old.rest.now → result ≡ true }
     {
         if count > self.rest.len() {

@@ -153,6 +153,8 @@ impl<R: Read> Input for StdInput<R> {
         ensures exact { IsTrue false → Passes [] count result [] }
         ensures passes { 0 < count → count ≤ length (reader_buffer self.old.reader.reader)
             → self.old.given + count < 2 ^ 63 → result ≡ true }
+        ensures stays { StartsWith (reader_buffer self.new.reader.reader)
+            (drop (if result then count else 0) (reader_buffer self.old.reader.reader)) }
         ensures bytes { IsPassed (reader_buffer self.old.reader.reader)
             (reader_remaining R.remaining self.old.reader.reader) count result
             (reader_remaining R.remaining self.new.reader.reader) }

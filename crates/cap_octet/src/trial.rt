@@ -150,6 +150,10 @@ impl Input for TrialInput<'_> {
             else take self.old.piece (⟦<MemInput<'static> as Input>⟧.unread self.old.inner))
             → ⟦<MemInput<'static> as Input>⟧.given self.old.inner + count < 2 ^ 63
             → result ≡ true }
+        ensures stays { StartsWith (if is_some self.new.fails_at then []
+            else take self.new.piece (⟦<MemInput<'static> as Input>⟧.unread self.new.inner))
+            (drop (if result then count else 0) (if is_some self.old.fails_at then []
+            else take self.old.piece (⟦<MemInput<'static> as Input>⟧.unread self.old.inner))) }
         ensures always { self.old.fails_at ≡ None → count ≤ self.old.piece
             → count ≤ length (⟦<MemInput<'static> as Input>⟧.unread self.old.inner)
             → result ≡ true }

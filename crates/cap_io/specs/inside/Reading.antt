@@ -139,13 +139,6 @@ record_spans found = record {
   orig = found.orig;
 }
 
--- What was lent before is passed, and no byte more; no call failed.
-pub record NothingLent {I : Type 0} (device : Ghosts I) (old new : Lending I device) : Type 0 where
-  pub counted : device.given new.input + new.lent ≡ device.given old.input + old.lent
-  pub failed : device.failures new.input ≡ device.failures old.input
-  pub sure : device.sure new.input ≡ device.sure old.input
-  pub rest : drop new.lent (device.unread new.input) ≡ drop old.lent (device.unread old.input)
-
 -- A whole record is lent, which fails no check and has at most `room` bytes; `found` is its header.
 -- The device has it at hand, gave no more, and didn't fail in this call.
 pub record RecordLent {I : Type 0} (device : Ghosts I) (head : Head) (room : ℕ) (old : Lending I device)

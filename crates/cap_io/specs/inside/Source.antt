@@ -98,7 +98,8 @@ pub record NextBounds (old : SourceView) (r : Result NextUnit Fault)
   pub passed : (size : ℕ) → r ≡ Ok (next_unit.Other size)
       → (old.given < new.given) × (new.given < 2 ^ 63) × IsBetween new
 
--- the next unit, which the device had at hand, is taken: it has a packet
+-- the current unit is ended, and the next one, which the device has at hand, is taken: it has a
+-- packet
 pub record TakesNext (tells : Bool) (old new : SourceView) : Type 0 where
   pub packet : IsTrue tells → FindsPacket old new
   pub bounds : NextBounds old (Ok next_unit.Packet) new

@@ -10,5 +10,5 @@ returns-clause-packet g c =
     let view = ap (λ (v : SourceView). v.packet) c.self.view_is in
     elim c.match-self.branch [
       | in-Current w ↦ c.packet.ensures.packet ∙ ap lent (ap (λ (b : Bor (List ℕ)). b.now) w.unit-is ∙ w.as_slice-unit.ensures.value) ∙ rw w.in-Current.is at view
-      | in-Lent w ↦ c.packet.ensures.packet ∙ ap lent (ap (λ (b : Bor (List ℕ)). b.now) w.unit-is ∙ w.lent_bytes-unit.ensures.held) ∙ rw w.in-Lent.is at view
+      | in-Lent w ↦ c.packet.ensures.packet ∙ ap lent (ap (λ (b : Bor (List ℕ)). b.now) w.unit-is ∙ w.lent_bytes-unit.ensures) ∙ rw w.in-Lent.is at view
     ]

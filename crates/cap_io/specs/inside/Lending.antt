@@ -1,0 +1,17 @@
+-- What a device lends before it passes it.
+use Rattle.std.specs.Prelude.{◌≡◌, ℕ, ◌+◌, ◌^◌, ◌<◌, ◌≤◌, drop, length}
+use Rattle.std.specs.Io.{StartsWith}
+use Rattle.cap_octet.specs.declared.device.Input.{Ghosts}
+
+-- The device had lent `lent` bytes, and passes them. Of those that it has at hand then it lends the
+-- first `count`.
+pub record Lends {I : Type 0} (device : Ghosts I) (count : ℕ) (old : I) (lent : ℕ) (new : I)
+    (lent' : ℕ) : Type 0 where
+  pub is : lent' ≡ count
+  pub there : count ≤ length (drop lent (device.held old))
+  pub stays : StartsWith (device.held new) (drop lent (device.held old))
+  pub given : device.given new ≡ device.given old + lent
+  pub bounded : device.given new + count < 2 ^ 63
+  pub failures : device.failures new ≡ device.failures old
+  pub sure : device.sure new ≡ device.sure old
+  pub rest : device.unread new ≡ drop lent (device.unread old)
