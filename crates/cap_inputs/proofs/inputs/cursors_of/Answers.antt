@@ -1,11 +1,15 @@
--- `grind` proves both at once; the search that comes before it by itself takes most of the time of
--- this function's proof.
 use Rattle.std.proofs.Common.{arith}
 use Rattle.std.proofs.lemmas.Grind.{common_steps}
+use Rattle.std.specs.Vec.Iter.{into_iter_items}
+use Rattle.cap_inputs.proofs.Common.{◌≡◌, ◌++◌, ◌∙◌, [], List, map, sym, ap, append-nil, fresh_view, fresh_input}
 use Rattle.cap_inputs.proofs.inputs.cursors_of.Goals as goal
 
 pub loop-input-preserved : goal.loop-input-preserved
 loop-input-preserved g c = grind (arith, common_steps)
 
 pub returns : goal.returns
-returns g c = grind (arith, common_steps)
+returns g c =
+    let yielded = c.loop-input.yielded in
+    let none : into_iter_items c.loop-input.input-iterator ≡ [] = grind (arith, common_steps) in
+    let all = sym (append-nil yielded) ∙ ap (λ (l : List _). yielded ++ l) (sym none) ∙ c.loop-input.invariant.0 in
+    c.loop-input.invariant.1 ∙ ap (map (λ input. fresh_view (fresh_input g.I.Input input))) all
