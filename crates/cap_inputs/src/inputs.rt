@@ -1,5 +1,5 @@
 //! The inputs of a job, and which of them is next.
-ghost use Rattle.std.specs.Prelude.{◌≡◌, ◌&&◌, [], true, ◌<◌, ◌≤◌, ◌-◌, ◌^◌, IsTrue, false, length};
+ghost use Rattle.std.specs.Prelude.{◌≡◌, ◌&&◌, [], true, ◌<◌, ◌≤◌, ◌-◌, ◌^◌, IsTrue, Ok, false, length};
 ghost use Rattle.std.specs.Prelude.{map};
 ghost use Rattle.std.specs.Option.{IfSome};
 ghost use Rattle.cap_inputs.specs.inside.Cursor.{EntersQueue, HasPlaceFor, IsAtCursor};
@@ -76,7 +76,7 @@ fn current_time<I: Input, A: Allocator>(source: &Source<I, A>) -> u64
 
 impl<I: Input, A: Allocator> InputCursor<I, A> {
     ghost use Rattle.cap_inputs.specs.Inputs.{InputView, input_after, is_packet_found};
-    ghost use Rattle.std.specs.Prelude.{IsTrue, Ok, false, true};
+    ghost use Rattle.std.specs.Prelude.{IsTrue, false, true};
     ghost use Rattle.cap_inputs.specs.Inputs.{input_after_decided};
     ghost use Rattle.cap_io.specs.Source.{SourceView, Advances, SectionFits, Reading, Steps};
     ghost use Rattle.cap_io.specs.Source.{TakesIfAtHand, phase_after};
@@ -235,7 +235,6 @@ impl<I: Input, A: Allocator> Inputs<I, A> {
     ghost use Rattle.cap_inputs.specs.Inputs.{InputsView, IsInput, MarksDecided};
     ghost use Rattle.cap_inputs.specs.inside.Inputs.{IsNext};
     ghost use Rattle.cap_inputs.specs.Inputs.{ReadSteps, ReadsInput};
-    ghost use Rattle.std.specs.Prelude.{Ok};
     ghost use Rattle.cap_inputs.specs.inside.Inputs.{first_declared_link};
     ghost use Rattle.cap_inputs.specs.inside.Inputs.{is_in_turn};
 
@@ -358,12 +357,7 @@ impl<I: Input, A: Allocator> Inputs<I, A> {
             return false;
         }
         let time = cursor.key();
-        update_after_read(
-            &mut self.queue,
-            &mut self.schedule,
-            Waiting { time, input },
-            Ok(true),
-        );
+        update_after_packet(&mut self.queue, &mut self.schedule, Waiting { time, input });
         true
     }
 
@@ -449,21 +443,28 @@ fn update_after_read<A: Allocator>(
         queue.new }
     ensures schedule { schedule.new ≡ schedule_after schedule.old entry.input read }
 {
-    let Ok(has_packet) = read else {
-        return;
-    };
-    match schedule {
-        Schedule::Turn(turn) => {
-            if !has_packet {
-                *turn = entry.input + 1;
-            }
-        }
-        Schedule::Merge(next, _) => {
-            *next = entry.input + 1;
-            if has_packet {
-                queue.add(entry);
-            }
-        }
+    match read {
+        Ok(true) => update_after_packet(queue, schedule, entry),
+        Ok(false) => match schedule {
+            Schedule::Turn(turn) => *turn = entry.input + 1,
+            Schedule::Merge(next, _) => *next = entry.input + 1,
+        },
+        Err(_) => {}
+    }
+}
+
+/// Updates queue and schedule after the input of an entry was read on to a packet: for a merge, the
+/// entry is queued, and the schedule goes on to the next input.
+#[inline(always)]
+fn update_after_packet<A: Allocator>(queue: &mut Queue<A>, schedule: &mut Schedule, entry: Waiting)
+    requires room { is_merge schedule.old ≡ true → HasPlaceFor queue.old entry.input }
+    requires upper_bound { entry.input < 2 ^ 64 - 1 }
+    ensures queue { EntersQueue (is_merge schedule.old) entry queue.old queue.new }
+    ensures schedule { schedule.new ≡ schedule_after schedule.old entry.input (Ok true) }
+{
+    if let Schedule::Merge(next, _) = schedule {
+        *next = entry.input + 1;
+        queue.add(entry);
     }
 }
 

@@ -154,10 +154,12 @@ impl<I: Input, A: Allocator> Source<I, A> {
         ensures short { IfSome result (λ packet. length packet.bytes.now ≤ most_in_unit) }
     {
         let reader = &self.reader;
-        let unit = match self.stage {
-            Stage::Current => reader.buffer.as_slice(),
-            Stage::Lent => reader.input.lent_bytes(),
-            Stage::Between | Stage::Ended | Stage::Failed(_) => return None,
+        let unit = if let Stage::Lent = self.stage {
+            reader.input.lent_bytes()
+        } else if let Stage::Current = self.stage {
+            reader.buffer.as_slice()
+        } else {
+            return None;
         };
         reader.file.packet(&reader.spans, unit, &reader.table)
     }
