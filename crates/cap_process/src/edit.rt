@@ -115,6 +115,21 @@ fn edited_packet<'a, A: Allocator>(edit: &Edit<A>, packet: &Packet<'a>, time: u6
     }
 }
 
+/// Changes a packet into what an edit writes of it, at its moved time.
+// Most edits change no bytes: then only the packet's time is written.
+fn change_packet<A: Allocator>(edit: &Edit<A>, packet: &mut Packet<'_>, time: u64)
+    requires { time < 2 ^ 63 }
+    ensures value { captured packet.new
+        ≡ edited_packet_with (edit_rule_of edit.now) (captured packet.old) time }
+    ensures short { length packet.new.bytes.now ≤ length packet.old.bytes.now }
+{
+    if edit.chop_start == 0 && edit.chop_end == 0 && edit.snap.is_none() {
+        packet.time = time;
+    } else {
+        *packet = edited_packet(edit, packet, time);
+    }
+}
+
 /// Puts the mark of a packet (its length and digest) into the window, which keeps the last ones,
 /// and returns whether the packet isn't a duplicate: whether no equal mark was there. Without a
 /// window no packet is a duplicate.
@@ -157,7 +172,7 @@ pub(crate) fn edit_packet<A: Allocator>(
     let Some(time) = shifted_time(edit.shift, packet.time) else {
         return Err(Fault::TimeOutOfRange);
     };
-    *packet = edited_packet(edit, packet, time);
+    change_packet(edit, packet, time);
     Ok(mark_and_check_unique(window, packet))
 }
 

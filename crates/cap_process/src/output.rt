@@ -87,7 +87,11 @@ impl<O: Output, A: Allocator> JobOutput<O, A> {
         match &mut self.device {
             Device::Capture(sink) => sink.put(packet),
             Device::Text(_) => Ok(()),
-            Device::Lines(options, text, output) => put_line(text, *options, packet, output),
+            Device::Lines(options, text, output) => {
+                // A copy, so that the packet itself need not lie in memory.
+                let copy = *packet;
+                put_line(text, *options, &copy, output)
+            }
         }
     }
 
@@ -164,6 +168,8 @@ impl<O: Output, A: Allocator> JobOutput<O, A> {
 
 /// Writes the line of a packet into `text`, a buffer, and from there to the output; its bytes too,
 /// if the options ask for them. The one error is `WriteFailed`.
+// Out of line, since `put` is inlined in the loop of `run`.
+#[inline(never)]
 fn put_line<O: Output>(
     text: &mut Text,
     options: Options,

@@ -6,9 +6,9 @@ pub none-before : {Z : Type 0} (p : Option (Preparation Z)) → is_some p ≡ fa
 none-before None is = refl
 none-before (Some p) is = (cc)
 
-pub none-taken : {Z : Type 0} (p : Option (Preparation Z)) → is_some p ≡ true → p ≡ None → ⊥
-none-taken None some none = (cc)
-none-taken (Some p) some none = (cc)
+pub some-before : {Z : Type 0} (p : Option (Preparation Z)) → is_some p ≡ true → option_map preparing_of p ≡ None → ⊥
+some-before None is none = (cc)
+some-before (Some p) is none = (cc)
 
 -- a job that prepares nothing is ready
 pub ready-none : (p : Option Preparing) (j : JobView) → p ≡ None → IsReadyIf p j

@@ -1,10 +1,10 @@
 //! Jobs: one for all commands, step by step.
 ghost use Rattle.std.specs.Prelude.{ℕ, ◌≡◌, ◌<◌, ◌≤◌, IfErr, IfOk, IsTrue, None, Some, length};
-ghost use Rattle.std.specs.Prelude.{map, string_bytes, true, vec_len};
+ghost use Rattle.std.specs.Prelude.{false, map, string_bytes, true, vec_len};
 ghost use Rattle.cap_command.specs.Command.{is_proper};
 ghost use Rattle.cap_process.specs.Messages.{IsTold};
 ghost use Rattle.cap_octet.specs.Views.{device_view, fresh_input, fresh_output, output_view};
-ghost use Rattle.cap_tools.specs.Bounds.{ReadsNothing, StepReads};
+ghost use Rattle.cap_tools.specs.Bounds.{ReadsNothing};
 ghost use Rattle.cap_command.specs.Call.{call_of, run_result};
 ghost use Rattle.cap_inputs.specs.inside.Inputs.{most_steps};
 ghost use Rattle.cap_inputs.specs.inside.Inputs as input_spec;
@@ -114,17 +114,18 @@ impl<I: Input, O: Output, E: Output, A: Allocator + Copy + Drop> Job<I, O, E, A>
     ghost use Rattle.cap_filter.specs.Refusals.{refusal_status};
     ghost use Rattle.cap_tools.specs.Commands.{CompileGives, DecidedBy, FilterGives};
     ghost use Rattle.cap_tools.specs.Commands.{StepKeeps, PreparesBy, PreparesOnly};
-    ghost use Rattle.cap_tools.specs.inside.Commands.{KeepsFirst};
+    ghost use Rattle.cap_tools.specs.inside.Commands.{KeepsFirst, MakesStep};
+    ghost use Rattle.cap_tools.specs.inside.Commands.{MakesStepUnless, MakesSteps};
     ghost use Rattle.cap_tools.specs.Commands.{StepReadsBy};
     ghost use Rattle.cap_tools.specs.FirstStep.{RefusesStart, filtering};
     ghost use Rattle.cap_tools.specs.inside.FirstStep.{EndsList, IsFresh};
     ghost use Rattle.cap_process.specs.inside.Output.{is_text};
-    ghost use Rattle.cap_tools.specs.Jobs.{JobGives, first_job};
+    ghost use Rattle.cap_tools.specs.Jobs.{JobGives, JobView, first_job};
     ghost use Rattle.cap_tools.specs.Jobs.{turn_goes_on};
     ghost use Rattle.cap_inputs.specs.Fresh.{nothing_done};
     ghost use Rattle.cap_tools.specs.Packets.{failures_by, room_by, written_by};
     ghost use Rattle.cap_tools.specs.Start.{asked_by};
-    ghost use Rattle.cap_tools.specs.inside.Step.{IsStep, ending};
+    ghost use Rattle.cap_tools.specs.inside.Step.{IsStep, IsUncounted, MayCount, ending};
 
     /// The job of a proper command. `names` are those of the inputs, then of the output. The error
     /// means that memory ran out: nothing was read or written, and `out` and `err` are handed back.
@@ -190,13 +191,96 @@ impl<I: Input, O: Output, E: Output, A: Allocator + Copy + Drop> Job<I, O, E, A>
             self.old self.new }
     {
         // Most steps have nothing to take; `take` would move the whole place each time.
-        if self.preparation.is_none() {
-            return self.step_prepared();
+        if self.preparation.is_some() {
+            return self.prepare();
         }
+        self.step_prepared()
+    }
+
+    /// Reads the filter or compiles, before the first packet. It is one step.
+    #[cold]
+    #[inline(never)]
+    fn prepare(&mut self) -> Turn
+        requires { self.old.preparing ≡ None → ⊥ }
+        ensures after { (s : ℕ) → self.old.done ≡ Some s → (result ≡ Turn.Done s)
+            × (self.new ≡ self.old) }
+        ensures exact { IsTrue I.tells → IsTrue O.tells → self.old.done ≡ None
+            → self.old.preparing ≡ None → JobGives E.tells self.old result self.new }
+        ensures prepares { PreparesBy self.old.preparing O.tells E.tells self.old result self.new }
+        ensures keeps { StepKeeps self.old result self.new }
+        ensures reads { StepReadsBy self.old.preparing I.tells (turn_goes_on result)
+            self.old self.new }
+    {
         match self.preparation.take() {
             Some(Preparation::Filter(print)) => self.start_filtering(&print),
             Some(Preparation::Listing(compile)) => self.compile(&compile),
-            None => self.step_prepared(),
+            None => Turn::More,
+        }
+    }
+
+    /// Makes one turn of the loop of `run`: the steps that one call of `step` would make, or two. An
+    /// input is read on if that is next; then, if no further read is next, the packet is decided or
+    /// the output ended.
+    // In `run` a packet is read and decided at one place each, so that the compiler inlines both.
+    #[inline(always)]
+    fn make_turn(&mut self) -> Turn
+        ensures { MakesSteps I.tells O.tells E.tells self.old result self.new }
+    {
+        if self.preparation.is_some() {
+            return self.prepare();
+        }
+        match self.done {
+            Some(status) => Turn::Done(status),
+            None => self.read_and_decide(),
+        }
+    }
+
+    /// The turn of a job that is under way and has nothing to prepare any more.
+    #[inline(always)]
+    fn read_and_decide(&mut self) -> Turn
+        requires prepared { self.old.preparing ≡ None }
+        requires undone { self.old.done ≡ None }
+        ensures { MakesSteps I.tells O.tells E.tells self.old result self.new }
+    {
+        match self.read_if_next() {
+            Turn::More => self.decide_if_next(),
+            Turn::Done(status) => Turn::Done(status),
+        }
+    }
+
+    /// Reads an input on, as one step, if that is next; else does nothing.
+    #[inline(always)]
+    fn read_if_next(&mut self) -> Turn
+        requires prepared { self.old.preparing ≡ None }
+        requires undone { self.old.done ≡ None }
+        ensures { MakesStepUnless false I.tells O.tells E.tells self.old result self.new }
+    {
+        match self.inputs.next() {
+            Next::Read(input) => {
+                let end = self.read_next(input);
+                self.count_step(end)
+            }
+            Next::Decide(_) | Next::Finish => Turn::More,
+        }
+    }
+
+    /// Decides a packet or ends the output, as one step, unless a read is next: then it does nothing.
+    #[inline(always)]
+    fn decide_if_next(&mut self) -> Turn
+        requires prepared { self.old.preparing ≡ None }
+        requires undone { self.old.done ≡ None }
+        ensures { MakesStepUnless true I.tells O.tells E.tells self.old result self.new }
+    {
+        match self.inputs.next() {
+            Next::Decide(input) => {
+                let end = self.decide_next(input);
+                self.count_step(end)
+            }
+            Next::Read(_) => Turn::More,
+            Next::Finish => {
+                let end = self.finish();
+                self.count_step(end)
+            }
         }
     }
 
@@ -235,21 +319,27 @@ impl<I: Input, O: Output, E: Output, A: Allocator + Copy + Drop> Job<I, O, E, A>
     /// One step of a job that has nothing to prepare any more: reads one input on, decides one
     /// packet or ends the output, and reports how the job ended if it did. After the end it
     /// returns the status again, and does nothing.
-    // It runs twice for each packet; being inlined in `step` saves about 70 instructions.
     #[inline(always)]
     fn step_prepared(&mut self) -> Turn
         requires { self.old.preparing ≡ None }
-        ensures after { (s : ℕ) → self.old.done ≡ Some s → (result ≡ Turn.Done s)
-            × (self.new ≡ self.old) }
-        ensures exact { IsTrue I.tells → IsTrue O.tells → self.old.done ≡ None
-            → JobGives E.tells self.old result self.new }
-        ensures keeps { StepKeeps self.old result self.new }
-        ensures reads { StepReads I.tells (turn_goes_on result) self.old self.new }
+        ensures { MakesStep I.tells O.tells E.tells self.old result self.new }
     {
         if let Some(status) = self.done {
             return Turn::Done(status);
         }
-        match self.do_next() {
+        let end = self.do_next();
+        self.count_step(end)
+    }
+
+    /// Counts a step that was made, and reports how the job ended if it did.
+    #[inline(always)]
+    fn count_step(&mut self, end: Option<JobEnd>) -> Turn
+        requires prepared { self.old.preparing ≡ None }
+        requires upper_bound { MayCount end self.old }
+        ensures { (before : JobView) → IsUncounted I.tells O.tells before end self.old
+            → MakesStep I.tells O.tells E.tells before result self.new }
+    {
+        match end {
             None => {
                 self.turns += 1;
                 Turn::More
@@ -351,6 +441,8 @@ impl<I: Input, O: Output, E: Output, A: Allocator + Copy + Drop> Job<I, O, E, A>
 
     /// Ends the output after the last packet of all inputs. It always returns the end, complete or
     /// by a failed write, since the job ends here.
+    #[cold]
+    #[inline(never)]
     fn finish(&mut self) -> Option<JobEnd>
         requires prepared { self.old.preparing ≡ None }
         requires next { input_spec.IsNext self.old.state.inputs Next.Finish }
@@ -365,6 +457,8 @@ impl<I: Input, O: Output, E: Output, A: Allocator + Copy + Drop> Job<I, O, E, A>
 
     /// Ends the job, which is one step: reports how it ended, and returns its status. A message
     /// that can't be written is lost.
+    #[cold]
+    #[inline(never)]
     fn end(&mut self, end: JobEnd) -> Turn
         requires prepared { self.old.preparing ≡ None }
         requires upper_bound { self.old.turns ≤ most_steps }
@@ -499,7 +593,7 @@ where
         }
     };
     loop {
-        match job.step() {
+        match job.make_turn() {
             Turn::More => {}
             Turn::Done(status) => {
                 let (out, err) = job.close();

@@ -39,8 +39,7 @@ fn put_by_verdict<O: Output, A: Allocator>(
     ensures upper_bound { HasFewOutputInterfaces output.old → HasFewOutputInterfaces output.new }
 {
     match verdict {
-        Verdict::Pass => output.put(packet),
-        Verdict::PassLast => output.put(packet),
+        Verdict::Pass | Verdict::PassLast => output.put(packet),
         Verdict::Skip => Ok(()),
     }
 }

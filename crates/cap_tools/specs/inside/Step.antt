@@ -1,14 +1,14 @@
 -- `IsStep`: what one step returns and changes, before an end of the job is reported. `ending`: the
 -- job after that report.
-use Rattle.std.specs.Prelude.{◌≡◌, ◌+◌, ◌<◌, Bool, IsTrue, Some, Option, None}
+use Rattle.std.specs.Prelude.{◌≡◌, ◌+◌, ◌<◌, ◌≤◌, Bool, IsTrue, Some, Option, None}
 use Rattle.cap_octet.specs.Views.{OutputView}
 use Rattle.cap_tools.specs.declared.step.JobEnd.{JobEnd}
-use Rattle.cap_inputs.specs.inside.Inputs.{steps_left}
+use Rattle.cap_inputs.specs.inside.Inputs.{most_steps, steps_left}
 use Rattle.cap_process.specs.Selector.{HavePrograms}
 use Rattle.cap_tools.specs.Packets.{StepGives, room_by}
 use Rattle.cap_tools.specs.Jobs.{JobView, end_status}
-use Rattle.cap_tools.specs.Bounds.{IsLight, StepReads}
-use Rattle.cap_tools.specs.inside.Bounds.{IsPaid, step_goes_on}
+use Rattle.cap_tools.specs.Bounds.{IsLight, StepReads, most_turns}
+use Rattle.cap_tools.specs.inside.Bounds.{IsPaid, step_goes_on, steps_owed_in_all}
 
 -- The result of a step. `exact` holds if contracts know the bytes of the inputs and of the output;
 -- the other clauses hold for all devices. Messages and the count of steps don't change.
@@ -38,3 +38,20 @@ ending end err j = record {
   turns = j.turns + 1;
   done = Some (end_status end);
 }
+
+-- A step was made that isn't counted or reported yet, by a job that was under way and had nothing to
+-- prepare.
+pub record IsUncounted (inputs_tell output_tells : Bool) (old : JobView) (r : Option JobEnd)
+    (now : JobView) : Type 0 where
+  pub step : IsStep inputs_tell output_tells old r now
+  pub prepared : old.preparing ≡ None
+  pub undone : old.done ≡ None
+  pub upper_bound : old.turns ≤ most_turns old.state.inputs
+
+-- a step with this result may be counted: there are no more steps than the bounds allow
+abbrev pub MayCount : Option JobEnd → JobView → Type 0
+MayCount None j =
+    (j.done ≡ None)
+    × (j.turns + 1 + steps_left j.state.inputs ≤ most_steps)
+    × (j.turns + 1 + steps_owed_in_all j.state.inputs ≤ most_turns j.state.inputs)
+MayCount (Some end) j = j.turns ≤ most_steps

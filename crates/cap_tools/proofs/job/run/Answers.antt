@@ -1,8 +1,8 @@
 use Rattle.cap_tools.proofs.Common.{◌≡◌, [], map, refl, sym, ◌∙◌, ap, subst, string_bytes, arith, append-nil, IsTold, no_memory_message, OutputView, fresh_input, fresh_output, output_view, Call, call_of, JobView, room_by, ends, fault_outcome, of_nothing, assignment}
-use Rattle.cap_tools.specs.declared.job.Turn.TheVariants as turn
 use Rattle.cap_tools.proofs.Calls.{call-runs, first-room}
-use Rattle.cap_tools.proofs.CommandRuns.{fresh, gives, under-more, under-done}
+use Rattle.cap_tools.proofs.CommandRuns.{fresh}
 use Rattle.cap_tools.proofs.CommandStarts.{command-begun}
+use Rattle.cap_tools.proofs.Turns.{steps-done, steps-more, steps-room, steps-status, steps-undone}
 use Rattle.cap_tools.proofs.job.run.Goals as goal
 
 pub loop-status-init : goal.loop-status-init
@@ -10,28 +10,22 @@ loop-status-init g c = record { undone = λ none. none; room = refl; exact = λ 
 
 pub loop-status-preserved : goal.loop-status-preserved
 loop-status-preserved g c = record {
-  undone = λ none. c.in-More.ensures.keeps.done;
-  room = c.in-More.ensures.keeps.room ∙ c.loop-status.invariant.room;
+  undone = λ none. steps-undone _ _ _ _ _ c.in-More.ensures;
+  room = steps-room _ _ _ _ _ _ c.in-More.ensures ∙ c.loop-status.invariant.room;
   exact = λ ti to none ss before d.
-      let job = c.loop-status.job in
-      let new = c.step.new.self in
-      let step = gives job.preparing g.O.Output.tells g.E.Output.tells job turn.More new to (c.in-More.ensures.exact ti to (c.loop-status.invariant.undone none)) c.in-More.ensures.prepares in
-      under-more g.E.Output.tells c.in-Ok.job job new ss before step d c.in-More.ensures.keeps.prepared c.in-More.ensures.keeps.done c.in-More.ensures.keeps.names c.in-More.ensures.keeps.policy
+      steps-more g.I.Input.tells g.O.Output.tells g.E.Output.tells c.in-Ok.job c.loop-status.job c.make_turn.new.self ss before ti to (c.loop-status.invariant.undone none) c.in-More.ensures d
       (c.loop-status.invariant.exact ti to none ss before d);
 }
 
 pub returns-in-Done : goal.returns-in-Done
 returns-in-Done g c = record {
-  status = c.in-Done.ensures.keeps.status;
+  status = steps-status _ _ _ _ _ _ c.in-Done.ensures;
   exact = λ ti to.
       let call : Call = call_of (map string_bytes c.args.names.items) (map (fresh_input g.I.Input) c.args.inputs.items) (fresh_output g.O.Output c.args.out) (fresh_output g.E.Output c.args.err) in
-      let job = c.loop-status.job in
-      let new = c.step.new.self in
-      let room : g.O.Output.room c.close-out.result.0 ≡ call.room = c.close-out.ensures.room ∙ c.in-Done.ensures.keeps.room ∙ c.loop-status.invariant.room
+      let room : g.O.Output.room c.close-out.result.0 ≡ call.room = c.close-out.ensures.room ∙ steps-room _ _ _ _ _ _ c.in-Done.ensures ∙ c.loop-status.invariant.room
       ∙ ap (λ (j : JobView). room_by j.state) c.in-Ok.ensures.fresh ∙ first-room (assignment c.args.command) call in
       call-runs (assignment c.args.command) call _ (λ failed. omega (arith, room, g.met.O.Output.filled c.close-out.result.0 failed)) (command-begun c.args.command call c.in-Ok.job _ c.in-Ok.ensures.fresh (λ none ss before d.
-      let step = gives job.preparing g.O.Output.tells g.E.Output.tells job (turn.Done c.in-Done.status) new to (c.in-Done.ensures.exact ti to (c.loop-status.invariant.undone none)) c.in-Done.ensures.prepares in
-      under-done g.E.Output.tells c.in-Ok.job job new ss before _ step d c.close-out.ensures.written c.close-out.ensures.failures c.close-out.ensures.messages
+      steps-done g.I.Input.tells g.O.Output.tells g.E.Output.tells c.in-Ok.job c.loop-status.job c.make_turn.new.self ss before _ ti to (c.loop-status.invariant.undone none) c.in-Done.ensures d c.close-out.ensures.written c.close-out.ensures.failures c.close-out.ensures.messages
       (c.loop-status.invariant.exact ti to none ss before d)));
 }
 
