@@ -1,7 +1,7 @@
 use Rattle.cap_tools.proofs.Common.{Option, Some, refl, subst, sym, option_map, OutputView, reads_nothing, JobView, state_at, JobState, Preparing, preparing_of, IsStep}
 use Rattle.cap_tools.specs.declared.step.JobEnd.TheVariants as end
 use Rattle.cap_tools.proofs.Weights.{is-light}
-use Rattle.cap_tools.proofs.job.Job.read_next.Goals as goal
+use Rattle.cap_tools.proofs.job.Job.read_slowly.Goals as goal
 
 pub returns-then-not-release_before : goal.returns-then-not-release_before
 returns-then-not-release_before g c =
