@@ -221,9 +221,9 @@ impl<I: Input, O: Output, E: Output, A: Allocator + Copy + Drop> Job<I, O, E, A>
         }
     }
 
-    /// Makes one turn of the loop of `run`: the steps that one call of `step` would make, or two. An
-    /// input is read on if that is next; then, if no further read is next, the packet is decided or
-    /// the output ended.
+    /// Makes one turn of the loop of `run`: the steps of one call of `step`, or of two. An input is
+    /// read on if that is next; then, if no further read is next, the packet is decided or the
+    /// output ended.
     // In `run` a packet is read and decided at one place each, so that the compiler inlines both.
     #[inline(always)]
     fn make_turn(&mut self) -> Turn
@@ -267,7 +267,7 @@ impl<I: Input, O: Output, E: Output, A: Allocator + Copy + Drop> Job<I, O, E, A>
         }
     }
 
-    /// Decides a packet or ends the output, as one step, unless a read is next: then it does nothing.
+    /// Decides a packet or ends the output, as one step; if a read is next it does nothing.
     #[inline(always)]
     fn decide_if_next(&mut self) -> Turn
         requires prepared { self.old.preparing ≡ None }
