@@ -87,11 +87,7 @@ impl<O: Output, A: Allocator> JobOutput<O, A> {
         match &mut self.device {
             Device::Capture(sink) => sink.put(packet),
             Device::Text(_) => Ok(()),
-            Device::Lines(options, text, output) => {
-                // A copy, so that the packet itself need not lie in memory.
-                let copy = *packet;
-                put_line(text, *options, &copy, output)
-            }
+            Device::Lines(options, text, output) => put_line(text, *options, packet, output),
         }
     }
 
@@ -168,9 +164,27 @@ impl<O: Output, A: Allocator> JobOutput<O, A> {
 
 /// Writes the line of a packet into `text`, a buffer, and from there to the output; its bytes too,
 /// if the options ask for them. The one error is `WriteFailed`.
-// Out of line, since `put` is inlined in the loop of `run`.
-#[inline(never)]
+// It hands on a copy, so that the packet itself need not lie in memory where `put` is inlined.
+#[inline(always)]
 fn put_line<O: Output>(
+    text: &mut Text,
+    options: Options,
+    packet: &Packet<'_>,
+    output: &mut O,
+) -> Result<(), Fault>
+    ensures exact { IsTrue O.tells → AppendsOrStops result (O.written output.old)
+        (printed_text options (captured packet.now)) (O.written output.new) }
+    ensures fault { IfErr result (λ fault. fault ≡ Fault.WriteFailed) }
+    ensures failed { O.failures output.new ≡ O.failures output.old + failures_of result }
+    ensures room { O.room output.new ≡ O.room output.old }
+{
+    let copy = *packet;
+    put_whole_line(text, options, &copy, output)
+}
+
+/// `put_line`, out of line.
+#[inline(never)]
+fn put_whole_line<O: Output>(
     text: &mut Text,
     options: Options,
     packet: &Packet<'_>,

@@ -116,6 +116,9 @@ impl<I: Input, O: Output, E: Output, A: Allocator + Copy + Drop> Job<I, O, E, A>
     ghost use Rattle.cap_tools.specs.Commands.{StepKeeps, PreparesBy, PreparesOnly};
     ghost use Rattle.cap_tools.specs.inside.Commands.{KeepsFirst, MakesStep};
     ghost use Rattle.cap_tools.specs.inside.Commands.{MakesStepUnless, MakesSteps};
+    ghost use Rattle.cap_inputs.specs.inside.Inputs.{steps_left};
+    ghost use Rattle.cap_tools.specs.inside.Bounds.{HasFewTurns};
+    ghost use Rattle.cap_tools.specs.inside.Jobs.{IsCounted};
     ghost use Rattle.cap_tools.specs.Commands.{StepReadsBy};
     ghost use Rattle.cap_tools.specs.FirstStep.{RefusesStart, filtering};
     ghost use Rattle.cap_tools.specs.inside.FirstStep.{EndsList, IsFresh};
@@ -218,9 +221,9 @@ impl<I: Input, O: Output, E: Output, A: Allocator + Copy + Drop> Job<I, O, E, A>
         }
     }
 
-    /// Makes one turn of the loop of `run`: the steps that one call of `step` would make, or two. An
-    /// input is read on if that is next; then, if no further read is next, the packet is decided or
-    /// the output ended.
+    /// Makes one turn of the loop of `run`: the steps of one call of `step`, or of two. An input is
+    /// read on if that is next; then, if no further read is next, the packet is decided or the
+    /// output ended.
     // In `run` a packet is read and decided at one place each, so that the compiler inlines both.
     #[inline(always)]
     fn make_turn(&mut self) -> Turn
@@ -264,7 +267,7 @@ impl<I: Input, O: Output, E: Output, A: Allocator + Copy + Drop> Job<I, O, E, A>
         }
     }
 
-    /// Decides a packet or ends the output, as one step, unless a read is next: then it does nothing.
+    /// Decides a packet or ends the output, as one step; if a read is next it does nothing.
     #[inline(always)]
     fn decide_if_next(&mut self) -> Turn
         requires prepared { self.old.preparing ≡ None }
@@ -277,11 +280,24 @@ impl<I: Input, O: Output, E: Output, A: Allocator + Copy + Drop> Job<I, O, E, A>
                 self.count_step(end)
             }
             Next::Read(_) => Turn::More,
-            Next::Finish => {
-                let end = self.finish();
-                self.count_step(end)
-            }
+            Next::Finish => self.finish_step(),
         }
+    }
+
+    /// Ends the output, as one step.
+    #[cold]
+    #[inline(never)]
+    fn finish_step(&mut self) -> Turn
+        requires prepared { self.old.preparing ≡ None }
+        requires undone { self.old.done ≡ None }
+        requires next { input_spec.IsNext self.old.state.inputs Next.Finish }
+        requires counted { IsCounted self.old.done self.old.turns
+            (steps_left self.old.state.inputs) }
+        requires paid { HasFewTurns self.old.done self.old.turns self.old.state.inputs }
+        ensures { MakesStep I.tells O.tells E.tells self.old result self.new }
+    {
+        let end = self.finish();
+        self.count_step(end)
     }
 
     /// Reads the filter of a print, by which packets are judged from then on; or reports why it is
@@ -473,8 +489,6 @@ impl<I: Input, O: Output, E: Output, A: Allocator + Copy + Drop> Job<I, O, E, A>
 
     /// Ends the output after the last packet of all inputs. It always returns the end, complete or
     /// by a failed write, since the job ends here.
-    #[cold]
-    #[inline(never)]
     fn finish(&mut self) -> Option<JobEnd>
         requires prepared { self.old.preparing ≡ None }
         requires next { input_spec.IsNext self.old.state.inputs Next.Finish }

@@ -1,6 +1,7 @@
-use Rattle.cap_tools.proofs.Common.{◌≡◌, ◌∙◌, true, refl, ap, subst, JobView}
+use Rattle.cap_tools.proofs.Common.{◌≡◌, ◌∙◌, true, refl, ap, subst, JobView, HasFewTurns, steps_left}
 use Rattle.cap_inputs.specs.Inputs.{next_of}
 use Rattle.cap_tools.specs.inside.Commands.{is_read, makes, rests}
+use Rattle.cap_tools.specs.inside.Jobs.{IsCounted}
 use Rattle.cap_tools.proofs.Turns.{may-count, told-read, uncounted}
 use Rattle.cap_tools.proofs.job.Job.decide_if_next.Goals as goal
 
@@ -19,3 +20,13 @@ pub returns-in-Read : goal.returns-in-Read
 returns-in-Read g c =
     let N : JobView → Type 0 = λ v. is_read (next_of v.state.inputs) ≡ true in
     rests (subst N c.self.view_is (told-read c.self.inside.inputs c.next.result true c.next.ensures (ap is_read c.in-Read.is))) refl refl
+
+pub finish_step-requires-clause-counted : goal.finish_step-requires-clause-counted
+finish_step-requires-clause-counted g c =
+    let P : JobView → Type 0 = λ v. IsCounted v.done v.turns (steps_left v.state.inputs) in
+    subst P c.self.view_is c.self.invariant.4
+
+pub finish_step-requires-clause-paid : goal.finish_step-requires-clause-paid
+finish_step-requires-clause-paid g c =
+    let P : JobView → Type 0 = λ v. HasFewTurns v.done v.turns v.state.inputs in
+    subst P c.self.view_is c.self.invariant.5
