@@ -9,7 +9,7 @@ ghost use Rattle.cap_io.specs.inside.Lending.{Lends};
 use cap_octet::{DeviceFault, Input};
 
 /// An input whose first bytes at hand may be lent. What is lent counts as given, but the input
-/// itself passes it only before it is asked for more: until then the bytes stay where they are, and
+/// itself passes it only before it is asked for more: until then the bytes stay in its buffer, and
 /// nobody copies them.
 #[derive(Drop)]
 pub(crate) struct Lending<I: Input> {

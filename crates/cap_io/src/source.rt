@@ -67,12 +67,11 @@ impl<I: Input, A: Allocator> Source<I, A> {
     ghost use Rattle.cap_octet.specs.Packet.{captured};
     ghost use Rattle.cap_io.specs.Capture.{kind_of, first_link_of};
     ghost use Rattle.cap_io.specs.Reading.{most_in_unit};
-    ghost use Rattle.cap_io.specs.Source.{Reading, Advances, TakesIfAtHand};
+    ghost use Rattle.cap_io.specs.Source.{Reading, Advances};
     ghost use Rattle.cap_io.specs.inside.Source.{Continues, FindsNext, IsBetween};
     ghost use Rattle.cap_io.specs.Source.{KeepsBounds, SectionFits, Steps};
     ghost use Rattle.cap_io.specs.inside.Source.{NextBounds, past_unit};
-    ghost use Rattle.cap_io.specs.Source.{phase_after};
-    ghost use Rattle.cap_io.specs.Source.{source_at};
+    ghost use Rattle.cap_io.specs.Source.{TakesIfAtHand, phase_after, source_at};
     ghost use Rattle.cap_io.specs.inside.Source.{TakesNext};
 
     /// A source of which nothing is read yet. It takes no memory.

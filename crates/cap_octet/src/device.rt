@@ -52,8 +52,8 @@ pub trait Input {
         ensures exact { IsTrue tells
             → Reads (unread self.old) buf.old result (unread self.new) buf.new };
 
-    /// Bytes that it has already, which the next reads give. They stay where they are until it is
-    /// read or passes some. A device without such bytes shows none.
+    /// Bytes that it has already, which the next reads give. They stay the same until it is read or
+    /// passes some. A device without such bytes shows none.
     fn at_hand(&self) -> &[u8]
         ensures exact { IsTrue tells → StartsWith (unread self.now) result.now }
         ensures held { result.now ≡ held self.now };

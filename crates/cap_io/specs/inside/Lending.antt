@@ -3,8 +3,8 @@ use Rattle.std.specs.Prelude.{◌≡◌, ℕ, ◌+◌, ◌^◌, ◌<◌, ◌≤�
 use Rattle.std.specs.Io.{StartsWith}
 use Rattle.cap_octet.specs.declared.device.Input.{Ghosts}
 
--- The device had lent `lent` bytes, and passes them. Of those that it has at hand then it lends the
--- first `count`.
+-- The device had lent `lent` bytes, and passes them; then it lends the first `count` bytes that it has
+-- at hand.
 pub record Lends {I : Type 0} (device : Ghosts I) (count : ℕ) (old : I) (lent : ℕ) (new : I)
     (lent' : ℕ) : Type 0 where
   pub is : lent' ≡ count
