@@ -191,8 +191,6 @@ fn filters() {
     let raw = [&[0x45][..], &[0; 19]].concat();
     assert_eq!(ip.matches(&Packet::new(TIME, LINK_RAW, &raw[..])), Ok(true));
     assert_eq!(ip.matches(&Packet::new(TIME, LINK_ETHERNET, &raw[..])), Ok(false));
-    let error = ip.matches(&Packet::new(TIME, 276, &raw[..])).unwrap_err();
-    assert_eq!(error.to_string(), "link type not filtered");
     let long = Filter::new("greater 1000", LINK_ETHERNET).unwrap();
     assert!(long.matches(&[], 1000) && !long.matches(&[], 999) && !long.is_portable());
     let same = Filter::from_instructions(long.instructions().to_vec());
@@ -219,14 +217,6 @@ fn meanings() {
 
 #[test]
 fn errors_as_text() {
-    for (text, status, shown) in [
-        ("tcp ?", Status::UnknownCharacter, "unknown character (at byte 5)"),
-        ("tcp port", Status::NotAnExpression, "not an expression"),
-        (&"tcp ".repeat(20_000), Status::TooLong, "longer than 65536 bytes"),
-    ] {
-        let error = Expression::new(text).unwrap_err();
-        assert_eq!((error.status, &error.to_string()[..]), (status, shown));
-    }
     let back = Instruction { code: 5, k: 9, ..Default::default() };
     let error = Filter::from_instructions(vec![back]).unwrap_err();
     assert_eq!(error.to_string(), "jump out (instruction 0)");
