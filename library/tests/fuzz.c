@@ -158,67 +158,56 @@ static void batches(const uint8_t *capture, size_t size)
     wrong += next != found || one.offset != many.offset;
 }
 
-/* A capture as it stands, and damaged. */
+/* Reads a capture to its end, and returns how many packets it has. They lie in it, in front of
+ * where it was read to. */
+static size_t seen_in(const uint8_t *capture, size_t size)
+{
+    static char comment[4096];
+    struct capkit_interface *table = place(second, 256 * sizeof *table);
+    struct capkit_reader reader = {0};
+    struct capkit_packet p;
+    uint32_t found;
+    size_t seen = 0;
+    while ((found = capkit_next_unit(&reader, table, 256, capture, size, &p)) == CAPKIT_PACKET ||
+           found == CAPKIT_NO_PACKET) {
+        wrong += reader.offset > size;
+        if (found == CAPKIT_NO_PACKET)
+            continue;
+        seen++;
+        wrong +=
+            p.options_at + p.options_length > size || p.at + p.captured > reader.offset ||
+            capkit_comment(&reader, capture, size, &p, comment, sizeof comment) > p.options_length;
+    }
+    wrong += found < CAPKIT_NOT_A_CAPTURE_FILE || found > CAPKIT_END ||
+             capkit_text(found, comment, 0) == 0;
+    return seen;
+}
+
+/* A capture as it stands, cut after each of its bytes, which loses no packet before the cut, and
+ * damaged. */
 static void captures(const char *name, size_t rounds)
 {
     static uint8_t file[1 << 20];
-    static char comment[4096];
-    size_t r;
-    for (r = 0; r < 1 + rounds / 20000; r++) {
-        FILE *f = fopen(name, "rb");
-        size_t size = fread(file, 1, sizeof file, f), i;
-        struct capkit_reader reader = {0};
-        uint32_t found;
-        struct capkit_packet p;
-        fclose(f);
-        if (r) {
-            if (rnd() % 2)
-                size = size ? rnd() % size : 0;
-            for (i = rnd() % 4; size && i; i--)
-                file[rnd() % (rnd() % 2 ? size : size < 60 ? size : 60)] = rnd();
-        }
-        uint8_t *capture = memory_of(file, size);
-        struct capkit_interface *table = place(second, 256 * sizeof *table);
-        files++;
-        while ((found = capkit_next_unit(&reader, table, 256, capture, size, &p)) == 0 ||
-               found == CAPKIT_NO_PACKET) {
-            wrong += reader.offset > size;
-            if (found == CAPKIT_NO_PACKET)
-                continue;
-            packets++;
-            wrong += p.options_at + p.options_length > size ||
-                     capkit_comment(&reader, capture, size, &p, comment, sizeof comment) >
-                         p.options_length ||
-                     p.at + p.captured > size || p.at + p.captured > reader.offset;
-        }
-        wrong += found < 201 || found > 224 || capkit_text(found, comment, 0) == 0;
-        batches(capture, size);
-    }
-}
-
-/* A capture cut after each of its bytes: its packets lie before the cut, and none is lost. */
-static void cuts(const char *name)
-{
-    static uint8_t file[1 << 20];
     FILE *f = fopen(name, "rb");
-    size_t size = fread(file, 1, sizeof file, f), cut, most = 0;
+    size_t size = fread(file, 1, sizeof file, f), cut, most = 0, seen, r, i;
     fclose(f);
     for (cut = 0; cut <= size; cut++) {
         uint8_t *capture = memory_of(file, cut);
-        struct capkit_interface *table = place(second, 256 * sizeof *table);
-        struct capkit_reader reader = {0};
-        struct capkit_packet p;
-        size_t seen = 0;
-        uint32_t found;
-        while ((found = capkit_next_unit(&reader, table, 256, capture, cut, &p)) == 0 ||
-               found == CAPKIT_NO_PACKET) {
-            seen += found == 0;
-            wrong += reader.offset > cut || (found == 0 && p.at + p.captured > reader.offset);
-        }
-        wrong += found > CAPKIT_END || seen < most;
+        seen = seen_in(capture, cut);
+        wrong += seen < most;
         most = seen;
         cut_captures++;
         batches(capture, cut);
+    }
+    packets += most;
+    for (r = 0; r < rounds / 20000; r++) {
+        size_t part = rnd() % 2 && size ? rnd() % size : size;
+        uint8_t *capture = memory_of(file, part);
+        for (i = rnd() % 4; part && i; i--)
+            capture[rnd() % (rnd() % 2 ? part : part < 60 ? part : 60)] = rnd();
+        packets += seen_in(capture, part);
+        batches(capture, part);
+        files++;
     }
 }
 
@@ -260,14 +249,12 @@ int main(int argc, char **argv)
     third = guarded();
     random_programs(rounds);
     nothing();
-    for (a = 3; a < argc; a++) {
+    for (a = 3; a < argc; a++)
         captures(argv[a], rounds);
-        cuts(argv[a]);
-    }
     printf("%zu runs of random instructions, %zu valid, %zu answered, of these %zu on programs "
            "that the check refuses\n",
            runs, valid, answered, unchecked);
-    printf("%zu captures, %zu packets; bpf_filter other on %zu\n", files, packets, apart);
+    printf("%zu damaged captures, %zu packets; bpf_filter other on %zu\n", files, packets, apart);
     printf("%zu runs of programs that capkit_is_portable takes\n", portable);
     printf("%zu steps of runs; %zu instructions printed as libpcap prints them\n", steps_seen,
            printed);

@@ -83,27 +83,11 @@ fn a_packet_of_the_greatest_length() {
     }
 }
 
-/// An output that fails once it has that many bytes.
-struct Full(usize);
-
-impl Write for Full {
-    fn write(&mut self, bytes: &[u8]) -> io::Result<usize> {
-        if bytes.len() > self.0 {
-            return Err(io::ErrorKind::Other.into());
-        }
-        self.0 -= bytes.len();
-        Ok(bytes.len())
-    }
-
-    fn flush(&mut self) -> io::Result<()> {
-        Ok(())
-    }
-}
-
 #[test]
 fn after_a_failed_write_every_call_fails() {
     let packet = Packet::new(TIME, LINK_ETHERNET, [0; 60]);
-    let mut writer = Writer::new(Full(200), Format::Pcapng);
+    let mut room = [0; 200];
+    let mut writer = Writer::new(&mut room[..], Format::Pcapng);
     let results: Vec<_> = (0..4).map(|_| writer.write(&packet).is_ok()).collect();
     assert_eq!(results, [true, false, false, false]);
     assert!(matches!(writer.finish(), Err(WriteError::Io(_))));
