@@ -23,7 +23,7 @@ OPTIONS = (
 SECONDS = 60
 
 
-class Tab:
+class Tab(webdriver.Chrome):
     """The page of a running browser with a profile of its own, which ends with the block."""
 
     def __init__(self):
@@ -31,19 +31,14 @@ class Tab:
         for option in OPTIONS:
             options.add_argument(option)
         options.set_capability("goog:loggingPrefs", {"browser": "ALL", "performance": "ALL"})
-        self.driver = webdriver.Chrome(options=options)
+        super().__init__(options=options)
+        self.set_script_timeout(SECONDS)
         self.call("Accessibility.enable")
         self.size(1400, 1000)
 
-    def __enter__(self):
-        return self
-
-    def __exit__(self, *error):
-        self.driver.quit()
-
     def call(self, method, **parameters):
         """Calls a method of the browser's own protocol."""
-        return self.driver.execute_cdp_cmd(method, parameters)
+        return self.execute_cdp_cmd(method, parameters)
 
     def size(self, width, height):
         """Sets how large the page's window is."""
@@ -58,42 +53,38 @@ class Tab:
     def open(self, path):
         """Opens a file, and returns how many seconds that took, with the first picture of it."""
         for log in ("browser", "performance"):
-            self.driver.get_log(log)
+            self.get_log(log)
         start = time.monotonic()
-        self.driver.get(pathlib.Path(path).resolve().as_uri())
+        self.get(pathlib.Path(path).resolve().as_uri())
         self.value("new Promise((f) => requestAnimationFrame(() => requestAnimationFrame(f)))")
         return time.monotonic() - start
 
     def wait(self, condition):
-        WebDriverWait(self.driver, SECONDS, 0.01).until(lambda _: self.value(condition), condition)
+        WebDriverWait(self, SECONDS, 0.01).until(lambda _: self.value(condition), condition)
 
     def value(self, expression):
         """What an expression of JavaScript is in the page; a promise is waited for."""
-        how = {"returnByValue": True, "awaitPromise": True}
-        result = self.call("Runtime.evaluate", expression=expression, **how)
-        if "exceptionDetails" in result:
-            raise RuntimeError(result["exceptionDetails"])
-        return result["result"].get("value")
+        return self.execute_script(f"return ({expression})")
 
     def click(self, selector):
         """Scrolls to an element and clicks into its middle, as a mouse does."""
-        self.driver.find_element(By.CSS_SELECTOR, selector).click()
+        self.find_element(By.CSS_SELECTOR, selector).click()
 
     def choose(self, name, value):
         """Chooses of a list, by the id of its element, what has a value."""
-        Select(self.driver.find_element(By.ID, name)).select_by_value(value)
+        Select(self.find_element(By.ID, name)).select_by_value(value)
 
     def key(self, key):
         """Presses a key and lets it go."""
-        ActionChains(self.driver).send_keys(key).perform()
+        ActionChains(self).send_keys(key).perform()
 
     def faults(self):
         """Errors and warnings that the page caused since it was opened."""
-        log = self.driver.get_log("browser")
+        log = self.get_log("browser")
         return [entry["message"] for entry in log if entry["level"] in ("SEVERE", "WARNING")]
 
     def fetched(self):
         """The addresses that the page asked for, but its own."""
-        events = [json.loads(it["message"])["message"] for it in self.driver.get_log("performance")]
+        events = [json.loads(it["message"])["message"] for it in self.get_log("performance")]
         sent = [it["params"] for it in events if it["method"] == "Network.requestWillBeSent"]
         return [it["request"]["url"] for it in sent][1:]
