@@ -20,19 +20,20 @@ ended with another status than 0 or 1, or with a traceback. Such files are kept 
 """
 import argparse
 import collections
+import concurrent.futures
+import itertools
 import multiprocessing
 import os
 import pathlib
 import random
 import re
+import resource
 import shutil
-import signal
 import struct
 import subprocess
 import sys
 import tempfile
 import time
-import traceback
 
 ROOT = pathlib.Path(__file__).resolve().parent.parent
 sys.path.append(str(ROOT / "bench"))
@@ -357,42 +358,32 @@ def commands():
             "editcap": ["editcap", "-F", "nsecpcap", "IN", "OUT"]}
 
 
-def call(words, source, out, seconds):
+def call(words, source, out):
     """Runs a program on a file: its status, what it said, and of the script the processor time that it
     took; that is run in a copy of this process, which begins at once."""
     words = [str({"IN": source, "OUT": out}.get(word, word)) for word in words]
-    log, took = source.parent / "log", 0
+    log, before = source.parent / "log", resource.getrusage(resource.RUSAGE_CHILDREN)
     with open(log, "wb") as said:
         if words[0] == SCRIPT:
-            child = os.fork()
-            if not child:
-                run_script(words, said, seconds)
-            _, ended, used = os.wait4(child, 0)
-            status, took = os.waitstatus_to_exitcode(ended), used.ru_utime + used.ru_stime
+            child = multiprocessing.Process(target=run_script, args=(words, said))
+            child.start()
+            child.join(120)
+            child.kill()
+            child.join()
+            status = child.exitcode
         else:
             status = subprocess.run(words, stdout=said, stderr=said).returncode
+    used = resource.getrusage(resource.RUSAGE_CHILDREN)
+    took = used.ru_utime - before.ru_utime + used.ru_stime - before.ru_stime
     return status, log.read_text(errors="replace"), took
 
 
-def run_script(words, said, seconds):
-    """Runs the script in a child process, which is killed where it takes too long."""
-    signal.signal(signal.SIGALRM, signal.SIG_DFL)
-    signal.alarm(seconds)
+def run_script(words, said):
+    """Runs the script in a child process."""
+    sys.argv = words
     os.dup2(said.fileno(), 1)
     os.dup2(said.fileno(), 2)
-    sys.argv, sys.stdout, sys.stderr = words, open(1, "w", closefd=False), open(2, "w", closefd=False)
-    status = 0
-    try:
-        exec(script[0], {"__name__": "__main__", "__doc__": "no text"})
-    except SystemExit as done:
-        status = done.code if isinstance(done.code, int) or done.code is None else 1
-        print(done.code if isinstance(done.code, str) else "", file=sys.stderr)
-    except BaseException:
-        traceback.print_exc()
-        status = 99
-    sys.stdout.flush()
-    sys.stderr.flush()
-    os._exit(status or 0)
+    exec(script[0], {"__name__": "__main__", "__doc__": "no text"})
 
 
 def try_file(data, packets, is_timed):
@@ -403,7 +394,7 @@ def try_file(data, packets, is_timed):
         source.write_bytes(data)
         for name, words in commands().items():
             out = source.parent / f"{name}.out"
-            status, said, took = call(words, source, out, 120)
+            status, said, took = call(words, source, out)
             results[name] = counts(packets_of(out), packets, is_timed)
             if name == SCRIPT:
                 faults += [f"status {status}: {said}"] * (status not in (0, 1) or "Traceback" in said)
@@ -454,8 +445,8 @@ def try_sample(name, given):
             forms = ["pcap", "nsecpcap", "pcapng"] if size == len(data) else ["nsecpcap"]
             for form in forms:
                 own.unlink(missing_ok=True)
-                status, said, took = call([SCRIPT, "-F", form, "IN", "OUT"], source, own, 120)
-                edit = call(["capkit", "edit", "-F", form, "IN", "OUT"], source, edited, 120)[0]
+                status, said, took = call([SCRIPT, "-F", form, "IN", "OUT"], source, own)
+                edit = call(["capkit", "edit", "-F", form, "IN", "OUT"], source, edited)[0]
                 whole = edited.read_bytes() if edited.exists() else b""
                 text = own.read_bytes() if own.exists() else b""
                 is_right = status in (0, 1) and "Traceback" not in said and took < 10
@@ -508,10 +499,11 @@ def main():
                     for number, (when, original, data) in enumerate(packets_of(path)))
     script.append(compile((ROOT / "examples" / SCRIPT).read_text(), SCRIPT, "exec"))
     begin = time.monotonic()
-    with multiprocessing.Pool(given.jobs) as workers:
-        done = workers.starmap(try_one, [(it, given) for it in range(given.first, given.first + given.runs)], chunksize=1)
-        samples = sorted(it.name for it in (ROOT / "samples").glob("*.pcap*"))
-        of_samples = workers.starmap(try_sample, [(it, given) for it in samples], chunksize=1)
+    samples = sorted(it.name for it in (ROOT / "samples").glob("*.pcap*"))
+    with concurrent.futures.ProcessPoolExecutor(given.jobs) as workers:
+        runs = range(given.first, given.first + given.runs)
+        done = list(workers.map(try_one, runs, itertools.repeat(given)))
+        of_samples = list(workers.map(try_sample, samples, itertools.repeat(given)))
     if done:
         report(done, commands())
     wrong = [it for it in done if it[-1]]
