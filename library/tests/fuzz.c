@@ -34,48 +34,21 @@ static void print(const struct capkit_insn *p, uint32_t index)
     wrong += length != strlen(theirs) || (room && strncmp(buffer, theirs, room - 1));
 }
 
-/* What a program returns that has other instructions at a place and after it, the second a return
- * of A. A run reaches a place once at most, and then to no place before it. */
-static uint32_t returned(const struct capkit_insn *p, size_t n, const uint8_t *packet, size_t len,
-                         size_t at, uint16_t code, uint32_t k)
-{
-    struct capkit_insn changed[16];
-    struct capkit_insn now = {code, 0, 0, k}, then = {22, 0, 0, 0};
-    size_t any;
-    memcpy(changed, p, n * sizeof *p);
-    changed[at] = now;
-    if (at + 1 < n)
-        changed[at + 1] = then;
-    return capkit_run_any(changed, n, packet, len, len, &any);
-}
-
-/* The steps of a run are those of a second interpreter, and of the runs of programs that return
- * what a step shows, and as many are written as there is room for. */
+/* The steps of a run are those of a second interpreter, and as many are written as there is room
+ * for. */
 static void trace(const struct capkit_insn *p, size_t n, const uint8_t *packet, size_t len,
                   size_t count)
 {
-    size_t room = rnd() % 8 ? 16 : rnd() % 16, i, word;
+    size_t room = rnd() % 8 ? 16 : rnd() % 16, written = count < room ? count : room;
     struct bytes bytes = {packet, len, len};
     struct capkit_step *steps = place(third, room * sizeof *steps), again[16];
     memset(steps, 0xa5, room * sizeof *steps);
     wrong += capkit_trace(p, n, packet, len, len, steps, room) != count;
     wrong += states(p, &bytes, again) != count;
-    wrong += memcmp(steps, again, (count < room ? count : room) * sizeof *steps) != 0;
-    for (i = 0; i < room && i < count; i++) {
-        const struct capkit_step *s = steps + i;
-        steps_seen++;
-        wrong += s->index >= n || (i && s->index <= steps[i - 1].index);
-        if (s->index >= n)
-            continue;
-        wrong += returned(p, n, packet, len, s->index, 22, 0) != s->a;
-        if (s->index + 1 == n)
-            continue;
-        wrong += returned(p, n, packet, len, s->index, 135, 0) != s->x;
-        for (word = 0; word < 16; word++)
-            wrong += returned(p, n, packet, len, s->index, 96, word) != s->memory[word];
-    }
-    for (; i < room; i++)
-        wrong += steps[i].index != 0xa5a5a5a5 || steps[i].memory[15] != 0xa5a5a5a5;
+    wrong += memcmp(steps, again, written * sizeof *steps) != 0;
+    steps_seen += written;
+    for (; written < room; written++)
+        wrong += steps[written].index != 0xa5a5a5a5 || steps[written].memory[15] != 0xa5a5a5a5;
 }
 
 static void random_programs(size_t rounds)
