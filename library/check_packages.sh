@@ -73,12 +73,11 @@ check_rust() {
     make -s rust
     (cd rust && linked cargo test -q --offline --target-dir "$library/out/cargo") >"$packages/rust.txt" 2>&1 ||
         { cat "$packages/rust.txt"; wrong 'Rust: tests'; }
-    mkdir -p "$packages/rust/src"
+    mkdir -p "$packages/rust/src/bin"
     tar -C "$packages" -xzf out/rust/capkit-"$version".crate
     printf '[package]\nname = "user"\nversion = "0.0.0"\nedition = "2021"\n[dependencies]\ncapkit = { path = "%s" }\n' \
         "$packages/capkit-$version" >"$packages/rust/Cargo.toml"
     for example in filter keep; do
-        mkdir -p "$packages/rust/src/bin"
         cp "rust/examples/$example.rs" "$packages/rust/src/bin/"
         ln -s "rust/target/release/$example" "$packages/rust-$example"
     done
