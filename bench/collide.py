@@ -43,15 +43,6 @@ def others(count):
     return [START + struct.pack("<Q", rng.getrandbits(64)) for _ in range(count)]
 
 
-def write_capture(path, packets):
-    """Writes a pcap file, one packet a microsecond."""
-    with open(path, "wb") as file:
-        file.write(struct.pack("<IHHiIII", 0xA1B2C3D4, 2, 4, 0, 0, 262_144, 1))
-        for at, packet in enumerate(packets):
-            seconds, part = divmod(at, 1_000_000)
-            file.write(struct.pack("<IIII", seconds, part, len(packet), len(packet)) + packet)
-
-
 def main():
     parser = argparse.ArgumentParser(description=__doc__.split("\n")[0])
     parser.add_argument("--packets", type=int, default=10_000)
@@ -61,7 +52,7 @@ def main():
     with tempfile.TemporaryDirectory() as temporary:
         for name, choose in (("others", others), ("chosen", chosen)):
             capture = str(pathlib.Path(temporary) / f"{name}.pcap")
-            write_capture(capture, choose(arguments.packets))
+            run.make_capture.write_capture(capture, enumerate(choose(arguments.packets)))
             words = [capkit, "edit", "-F", "pcap", "-D", str(WINDOW), capture, "OUT"]
             if shutil.which("valgrind"):
                 cost = f"{run.instructions_of(words) / arguments.packets:.0f} instructions a packet"

@@ -97,20 +97,25 @@ def packet():
     return (rng.randbytes(12) + data).ljust(60, b"\0")
 
 
-def write_capture(path, count):
-    """Writes `count` packets, up to 200 microseconds apart, into the file at `path`: the same at each call."""
+def traffic(count):
+    """Yields `count` packets with their times, up to 200 microseconds apart: the same at each call."""
     rng.seed(SEED)
     micros = 1_700_000_000 * 1_000_000
+    for _ in range(count):
+        data = packet()
+        micros += rng.randrange(1, 200)
+        yield micros, data
+
+
+def write_capture(path, packets):
+    """Writes packets with their times in microseconds into the file at `path`."""
     with open(path, "wb", buffering=1 << 20) as out:
         out.write(struct.pack("<IHHiIII", 0xA1B2C3D4, 2, 4, 0, 0, 262144, 1))
-        for _ in range(count):
-            data = packet()
-            micros += rng.randrange(1, 200)
-            out.write(struct.pack("<IIII", micros // 1_000_000, micros % 1_000_000, len(data), len(data)))
-            out.write(data)
+        for micros, data in packets:
+            out.write(struct.pack("<IIII", *divmod(micros, 1_000_000), len(data), len(data)) + data)
 
 
 if __name__ == "__main__":
     if len(sys.argv) not in (2, 3):
         sys.exit(__doc__)
-    write_capture(sys.argv[1], int(sys.argv[2]) if len(sys.argv) > 2 else 1_000_000)
+    write_capture(sys.argv[1], traffic(int(sys.argv[2]) if len(sys.argv) > 2 else 1_000_000))

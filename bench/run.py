@@ -15,6 +15,7 @@ between a capture of 30,000 packets and its first 10,000: they are the same agai
 """
 import argparse
 import ipaddress
+import itertools
 import math
 import os
 import pathlib
@@ -76,19 +77,16 @@ FEW, MANY = 10_000, 30_000
 
 def parts_of(capture, count, folder):
     """Deals the packets of the capture out to `count` files in turn, so that each is in time order."""
-    names = [str(folder / f"part-{count}-{part}.pcap") for part in range(count)]
-    data = pathlib.Path(capture).read_bytes()
-    files = [open(name, "wb", buffering=1 << 20) for name in names]
-    for file in files:
-        file.write(data[:24])
-    at, packet = 24, 0
+    data, at = pathlib.Path(capture).read_bytes(), 24
+    parts = {str(folder / f"part-{count}-{part}.pcap"): [data[:24]] for part in range(count)}
+    turns = itertools.cycle(parts.values())
     while at < len(data):
         end = at + 16 + int.from_bytes(data[at + 8 : at + 12], "little")
-        files[packet % count].write(data[at:end])
-        at, packet = end, packet + 1
-    for file in files:
-        file.close()
-    return names
+        next(turns).append(data[at:end])
+        at = end
+    for name, pieces in parts.items():
+        pathlib.Path(name).write_bytes(b"".join(pieces))
+    return list(parts)
 
 
 def jobs(capkit, floor, capture, folder):
@@ -201,7 +199,7 @@ def small_jobs(capkit, floor, folder):
     for count in (FEW, MANY):
         place = folder / str(count)
         place.mkdir()
-        make_capture.write_capture(str(place / "capture.pcap"), count)
+        make_capture.write_capture(place / "capture.pcap", make_capture.traffic(count))
         yield dict(jobs(capkit, floor, str(place / "capture.pcap"), place))
 
 
@@ -224,7 +222,8 @@ def measure_jobs(arguments, folder):
     capkit, floor = arguments.capkit or str(built_program()), compiled_floor(folder)
     small = list(small_jobs(capkit, floor, folder)) if shutil.which("valgrind") else [{}, {}]
     capture = str(folder / "capture.pcap")
-    make_capture.write_capture(capture, 1000 if arguments.instructions else arguments.packets)
+    count = 1000 if arguments.instructions else arguments.packets
+    make_capture.write_capture(capture, make_capture.traffic(count))
     if not arguments.instructions:
         print(f"{arguments.packets} packets, {os.path.getsize(capture)} bytes; seconds of a processor, MiB")
     print_line("job", "peer", ("capkit", "peer", "ratio", "C", "capkit/C", "MiB", "peer's", "insns", "C's"))

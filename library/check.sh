@@ -38,16 +38,6 @@ test "$(out/count 'tcp port 80' <../samples/day.pcap)" = '9 packets match' || { 
 sed -n '/^    static uint32_t keep(/,/^    }/s/^    //p' ../docs/LIBRARY.md >out/page.c
 sed -n '/^static uint32_t keep(/,/^}/p' examples/keep.c | cmp - out/page.c || bad=1
 
-# What keep writes reads back, and is what capkit writes.
-for name in day.pcap mirror.pcap nanoseconds.pcap comments.pcapng; do
-    out/keep '' "../samples/$name" out/kept.pcapng || bad=1
-    test "$(out/filter tcp out/kept.pcapng | tail -n 1)" = "$(out/filter tcp "../samples/$name" | tail -n 1)" ||
-        { echo "keep: $name"; bad=1; }
-    if have capkit; then
-        capkit print -w out/printed.pcapng "../samples/$name" >/dev/null
-        cmp out/printed.pcapng out/kept.pcapng || bad=1
-    fi
-done
 for name in day.pcap two-sections.pcapng comments.pcapng damaged.pcap; do
     if have valgrind; then
         valgrind -q --error-exitcode=99 --leak-check=full --show-leak-kinds=definite out/filter 'tcp or udp' "../samples/$name" \
@@ -87,26 +77,19 @@ if [ -e /usr/include/pcap/pcap.h ]; then
         want=$(out/filter 'tcp or udp' "../samples/$name" 2>/dev/null | sed -n 's/^\([0-9]*\) of .*/\1 packets match/p')
         test "$(out/pcap_filter 'tcp or udp' "../samples/$name" 2>/dev/null)" = "$want" || { echo "libpcap: $name"; bad=1; }
     done
-    # capkit_line gives the lines that capkit prints.
-    for name in big-endian.pcap cooked.pcap day.pcap four.pcap nanoseconds.pcap two-sections.pcapng damaged.pcap; do
-        if have capkit; then
-            capkit print "../samples/$name" >out/printed.txt 2>/dev/null || true
-            out/lines 0 "../samples/$name" | cmp - out/printed.txt || { echo "lines: $name"; bad=1; }
-            capkit print -e "../samples/$name" >out/printed.txt 2>/dev/null || true
-            out/lines 1 "../samples/$name" | cmp - out/printed.txt || { echo "lines with links: $name"; bad=1; }
-        fi
-    done
     out/fuzz 1 "$rounds" ../samples/*.pcap ../samples/*.pcapng || bad=1
     out/writes 1 "$rounds" || bad=1
     out/compare tests/expressions.txt ../samples/*.pcap || bad=1
-    rm -f out/random.pcap out/few.pcap
     if have python3; then
         python3 tests/random_capture.py "$rounds" >out/random.pcap
-        out/compare tests/expressions.txt out/random.pcap || bad=1
-        python3 tests/random_capture.py 2000 >out/few.pcap
+        for link in 1 101 113; do
+            python3 tests/random_capture.py 2000 $link >out/few-$link.pcap
+        done
+        out/compare tests/expressions.txt out/random.pcap out/few-*.pcap || bad=1
+        # What capkit_explain writes is what the expression says, here and in libpcap.
+        { cat tests/expressions.txt && python3 tests/random_expressions.py 1; } |
+            out/meanings "$rounds" ../samples/*.pcap out/few-*.pcap || bad=1
     fi
-    # What capkit_explain writes is what the expression says, here and in libpcap.
-    out/meanings 1 "$rounds" tests/expressions.txt ../samples/*.pcap out/few.pcap || bad=1
 else
     echo "without libpcap's headers"
 fi

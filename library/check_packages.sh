@@ -40,11 +40,6 @@ check_c() {
         cc -O2 -Wall -Wextra -o "$packages/c-$example" "examples/$example.c" $(pkg-config --cflags --libs capkit)
     done
 }
-run_c() {
-    example=$1
-    shift
-    linked "$packages/c-$example" "$@"
-}
 
 check_python() {
     make -s python PYTHON="$python"
@@ -60,14 +55,14 @@ check_python() {
         >"$packages/python.txt" 2>&1 || grep -q 'there is no libcapkit.so.0: `make`' "$packages/python.txt" ||
         wrong 'Python: no word of what is missing'
     rm -rf "$packages/capkit-$version"
+    for example in filter keep trace; do
+        printf '#!/bin/sh\nunset LD_LIBRARY_PATH\nexec "%s/venv/bin/python" -I "%s/python/examples/%s.py" "$@"\n' \
+            "$packages" "$library" "$example" >"$packages/python-$example"
+        chmod +x "$packages/python-$example"
+    done
     if have mypy; then
         mypy --strict --no-error-summary python/src/capkit || wrong 'Python: types'
     fi
-}
-run_python() {
-    example=$1
-    shift
-    "$packages/venv/bin/python" -I "$library/python/examples/$example.py" "$@"
 }
 remove_python() {
     "$packages/venv/bin/pip" -q --disable-pip-version-check uninstall -y capkit
@@ -78,22 +73,17 @@ check_rust() {
     make -s rust
     (cd rust && linked cargo test -q --offline --target-dir "$library/out/cargo") >"$packages/rust.txt" 2>&1 ||
         { cat "$packages/rust.txt"; wrong 'Rust: tests'; }
-    mkdir -p "$packages/rust/src"
+    mkdir -p "$packages/rust/src/bin"
     tar -C "$packages" -xzf out/rust/capkit-"$version".crate
     printf '[package]\nname = "user"\nversion = "0.0.0"\nedition = "2021"\n[dependencies]\ncapkit = { path = "%s" }\n' \
         "$packages/capkit-$version" >"$packages/rust/Cargo.toml"
     for example in filter keep; do
-        mkdir -p "$packages/rust/src/bin"
         cp "rust/examples/$example.rs" "$packages/rust/src/bin/"
+        ln -s "rust/target/release/$example" "$packages/rust-$example"
     done
     (cd "$packages/rust" && cargo build -q --offline --release && CAPKIT_STATIC=1 cargo build -q --offline)
     # The second one needs no shared library.
     "$packages/rust/target/debug/filter" tcp "$samples/day.pcap" >"$packages/static.txt" || wrong 'Rust: static'
-}
-run_rust() {
-    example=$1
-    shift
-    linked "$packages/rust/target/release/$example" "$@"
 }
 
 check_go() {
@@ -113,18 +103,13 @@ check_go() {
         (cd "$packages/go" && go build -o "$packages/go-$example" "./$example")
     done
 }
-run_go() {
-    example=$1
-    shift
-    linked "$packages/go-$example" "$@"
-}
 
 # Runs an example in a language. What it writes is left in two files, and its status in a variable.
 run() { # LANGUAGE EXAMPLE WORD..
-    language=$1
-    shift
+    program=$packages/$1-$2
+    shift 2
     status=0
-    "run_$language" "$@" >"$packages/out.txt" 2>"$packages/err.txt" || status=$?
+    linked "$program" "$@" >"$packages/out.txt" 2>"$packages/err.txt" || status=$?
 }
 
 # An example ends with a status, a message that has these words, and standard output whose last line is this.
@@ -149,7 +134,10 @@ check_filter() {
     expect 1 'too long' '22 of 30 packets match' filter tcp "$samples/damaged.pcap"
     expect 1 'truncated' '0 of 1 packets match' filter tcp "$samples/truncated.pcap"
     expect 0 '' '0 of 1 packets match' filter tcp "$packages/large.pcapng"
-    expect 2 'unknown word' '' filter prt "$samples/day.pcap"
+    expect 2 'unknown word (at byte 1)' '' filter prt "$samples/day.pcap"
+    expect 2 'unknown character (at byte 5)' '' filter 'tcp ?' "$samples/day.pcap"
+    expect 2 'not an expression' '' filter 'tcp port' "$samples/day.pcap"
+    expect 2 'longer than 65536 bytes' '' filter "$(yes 'tcp ' | head -n 20000 | tr -d '\n')" "$samples/day.pcap"
     expect 1 'link type not filtered' '' filter arp "$samples/any.pcap"
     expect 0 '' '9 of 9 packets match' filter '' "$samples/any.pcap"
     expect 1 'o such file' '' filter tcp "$packages/missing.pcap"
@@ -162,19 +150,23 @@ check_filter() {
     rm "$packages/pipe"
 }
 
+counts_of() { linked "$packages/c-filter" tcp "$1" 2>/dev/null | tail -n 1; }
 check_keep() {
     kept=$packages/kept.pcapng
     for name in day.pcap mirror.pcap nanoseconds.pcap comments.pcapng two-sections.pcapng cooked.pcap any.pcap; do
-        text='tcp or udp'
-        # Of another link type only the empty expression is one.
-        if [ $name = any.pcap ]; then text=''; fi
-        linked "$packages/c-keep" "$text" "$samples/$name" "$packages/c.pcapng"
-        expect 0 '' '' keep "$text" "$samples/$name" "$kept"
-        cmp "$packages/c.pcapng" "$kept" || bad=1
-        if have capkit; then
-            capkit print -w "$packages/printed.pcapng" "$samples/$name" "$text" >/dev/null
-            cmp "$packages/printed.pcapng" "$kept" || bad=1
-        fi
+        for text in 'tcp or udp' ''; do
+            # Of another link type only the empty expression is one.
+            if [ "$text" ] && [ $name = any.pcap ]; then continue; fi
+            linked "$packages/c-keep" "$text" "$samples/$name" "$packages/c.pcapng"
+            expect 0 '' '' keep "$text" "$samples/$name" "$kept"
+            cmp "$packages/c.pcapng" "$kept" || bad=1
+            if have capkit; then
+                capkit print -w "$packages/printed.pcapng" "$samples/$name" "$text" >/dev/null
+                cmp "$packages/printed.pcapng" "$kept" || bad=1
+            fi
+        done
+        # What was kept of all packets reads back.
+        test "$(counts_of "$kept")" = "$(counts_of "$samples/$name")" || wrong "$language: keep: $name"
     done
     expect 1 'too long' '' keep tcp "$samples/damaged.pcap" "$kept"
     test "$(linked "$packages/c-filter" '' "$kept" | tail -n 1)" = '22 of 22 packets match' || wrong "$language: not all are kept"
@@ -217,12 +209,26 @@ check_trace() {
     expect 2 'usage: trace' '' trace tcp "$samples/day.pcap" 0
 }
 
+# The lines of packets are those that capkit prints, up to a fault.
+check_lines() {
+    lines='import sys, capkit; [print(p.line(sys.argv[1] == "-e")) for p in capkit.packets(sys.argv[2])]'
+    for name in big-endian.pcap cooked.pcap day.pcap four.pcap nanoseconds.pcap two-sections.pcapng damaged.pcap; do
+        for link in '' -e; do
+            # shellcheck disable=SC2086  # no word, or one
+            capkit print $link "$samples/$name" >"$packages/out.txt" 2>/dev/null || true
+            "$packages/venv/bin/python" -I -c "$lines" "$link" "$samples/$name" 2>/dev/null |
+                cmp - "$packages/out.txt" || wrong "Python: lines $link: $name"
+        done
+    done
+}
+
 for language in $languages; do
     "check_$language"
     check_filter
     check_keep
     check_usage
     if [ "$language" = python ]; then check_trace; fi
+    if [ "$language" = python ] && have capkit; then check_lines; fi
 done
 case $languages in *python*) remove_python ;; esac
 make -s uninstall PREFIX="$packages/prefix"

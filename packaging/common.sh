@@ -27,17 +27,6 @@ export SOURCE_DATE_EPOCH
 work=$(mktemp -d)
 trap 'rm -rf "$work"' EXIT
 
-# Writes a package's changelog, compressed.
-write_changelog() { # FILE
-    gzip -9nc >"$1" <<END
-capkit ($version) unstable; urgency=medium
-
-  * $built
-
- -- $name <$email>  $(LC_ALL=C date -Ru -d "@$SOURCE_DATE_EPOCH")
-END
-}
-
 # A link of a page to a file that isn't there becomes its text.
 drop_dead_links() { # PAGE
     python3 - "$1" <<'END'
@@ -61,8 +50,19 @@ strip_for() { # FILE
     (cd "$work" && dpkg-shlibdeps -O "$1" | sed -n 's/^shlibs:Depends=//p')
 }
 
-# Makes a package of a tree with its name. Standard input has the fields of its control file that these are not.
+# Makes a package of a tree with its name, with copyright and changelogs. Standard input has the fields of its control
+# file that these are not.
 pack() { # TREE ARCHITECTURE
+    documents=$1/usr/share/doc/${1##*/}
+    install -D -m 644 -t "$documents" "$root/packaging/copyright"
+    gzip -9nc "$root/CHANGELOG.md" >"$documents/changelog.gz"
+    gzip -9nc >"$documents/changelog.Debian.gz" <<END
+capkit ($version) unstable; urgency=medium
+
+  * $built
+
+ -- $name <$email>  $(LC_ALL=C date -Ru -d "@$SOURCE_DATE_EPOCH")
+END
     (cd "$1" && find usr -type f -exec md5sum {} +) | LC_ALL=C sort -k 2 >"$1/DEBIAN/md5sums"
     {
         cat <<END

@@ -43,18 +43,16 @@ install -D -m 644 -t "$documents/examples" "$root/examples/salvage.py" "$root/ex
 install -D -m 644 -t "$documents/examples/scale" "$root/examples/scale/filter.sbatch" "$root/examples/scale/filter.py"
 
 # The manual pages and completions.
-place() {
-    case $1 in
-    *.[17]) printf 'usr/share/man/man%s/%s' "${1##*.}" "$1" ;;
-    *.bash) printf 'usr/share/bash-completion/completions/%s' "${1%.bash}" ;;
-    *.fish) printf 'usr/share/fish/vendor_completions.d/%s' "$1" ;;
-    _*) printf 'usr/share/zsh/vendor-completions/%s' "$1" ;;
-    *) return 1 ;;
-    esac
-}
 "$root/packaging/pages.py" "$work/pages"
 for page in "$work"/pages/*; do
-    install -D -m 644 "$page" "$tree/$(place "${page##*/}")"
+    file=${page##*/}
+    case $file in
+    *.[17]) place=man/man${file##*.}/$file ;;
+    *.bash) place=bash-completion/completions/${file%.bash} ;;
+    *.fish) place=fish/vendor_completions.d/$file ;;
+    *) place=zsh/vendor-completions/$file ;;
+    esac
+    install -D -m 644 "$page" "$tree/usr/share/$place"
 done
 gzip -9n "$tree"/usr/share/man/man?/*
 
@@ -76,9 +74,6 @@ awk '/^## / { is_left_out = $2 ~ /^(Run|Install|Test)$/ } !is_left_out && !/^\| 
 for page in "$documents"/*.md "$documents"/docs/*.md "$documents"/docs/inside/*.md; do
     drop_dead_links "$page"
 done
-install -m 644 "$root/packaging/copyright" "$documents/"
-write_changelog "$documents/changelog.Debian.gz"
-gzip -9nc "$root/CHANGELOG.md" >"$documents/changelog.gz"
 
 pack "$tree" "$architecture" <<END
 Depends: $needs

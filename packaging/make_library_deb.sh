@@ -20,15 +20,7 @@ triplet=$(dpkg-architecture -qDEB_HOST_MULTIARCH)
 libraries=usr/lib/$triplet
 make -s -C "$root/library" install DESTDIR="$work/all" PREFIX=/usr LIBDIR="/$libraries"
 shared=$work/libcapkit0 dev=$work/libcapkit-dev python=$work/python3-capkit
-for tree in "$shared" "$dev" "$python"; do
-    documents=$tree/usr/share/doc/${tree##*/}
-    mkdir -p "$tree/DEBIAN" "$documents"
-    install -m 644 "$root/packaging/copyright" "$documents/copyright"
-    write_changelog "$documents/changelog.Debian.gz"
-    gzip -9nc "$root/CHANGELOG.md" >"$documents/changelog.gz"
-done
-
-mkdir -p "$shared/$libraries"
+mkdir -p "$shared/DEBIAN" "$dev/DEBIAN" "$python/DEBIAN" "$shared/$libraries"
 mv "$work/all/$libraries/libcapkit.so.$release" "$work/all/$libraries/libcapkit.so.0" "$shared/$libraries/"
 needs=$(strip_for "$shared/$libraries/libcapkit.so.$release")
 printf 'libcapkit 0 libcapkit0 (>= %s)\n' "$release" >"$shared/DEBIAN/shlibs"

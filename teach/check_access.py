@@ -6,6 +6,8 @@ reader, a narrow window, paper.
 """
 import pathlib
 
+import browser
+
 SCRIPT = pathlib.Path(__file__).with_suffix(".js").read_text()
 FOCUS = """(() => {
   const element = document.activeElement;
@@ -48,7 +50,7 @@ def unreached(tab):
     met, found = [], []
     for place in range(len(wanted)):
         if place:
-            tab.key("Tab", 9)
+            tab.key(browser.Keys.TAB)
         name, is_seen = tab.value(FOCUS)
         met.append(name)
         if not is_seen:

@@ -1,9 +1,13 @@
 """Captures for check_lessons.py: hostile texts, many packets, and what a page can't run."""
 import pathlib
 import random
-import struct
+import sys
 
 import library
+
+ROOT = pathlib.Path(__file__).resolve().parent.parent
+sys.path.append(str(ROOT / "bench"))
+import make_capture
 
 MARKUP = [
     b"<script>document.title = 'taken'</script>",
@@ -28,35 +32,18 @@ def hostile(path):
             writer.write(packet(number, text, comment=text, interface_name=text))
 
 
-def tcp(source, destination, ports):
-    """An Ethernet frame with a TCP segment."""
-    segment = struct.pack(">HHIIBBHHH", *ports, 1, 1, 0x50, 0x10, 8192, 0, 0)
-    header = struct.pack(">BBHHHBBHII", 0x45, 0, 40, 0, 0, 64, 6, 0, source, destination)
-    return bytes.fromhex("020000000002020000000001") + b"\x08\x00" + header + segment
-
-
-def frames(count, length):
-    """Frames between many addresses, of up to a length, the same ones at each call."""
-    chance = random.Random(61)
-    for number in range(count):
-        host = 0x0A000000 + chance.randrange(1 << 10)
-        ports = chance.randrange(1024, 65536), chance.choice([80, 443, 8080])
-        data = tcp(host, 0xCB007150, ports) + chance.randbytes(chance.randrange(80, length))
-        yield packet(number, data)
-
-
 def large(path, count=10_000, length=160):
-    """Many packets."""
+    """Many packets, of made-up traffic and some bytes more."""
+    chance = random.Random(61)
     with library.capkit.Writer(path, "pcap") as writer:
-        for frame in frames(count, length):
-            writer.write(frame)
+        for number, (_, data) in enumerate(make_capture.traffic(count)):
+            writer.write(packet(number, data + chance.randbytes(chance.randrange(length))))
 
 
 def changed(path, change):
     """The packets of a day, each with other bytes."""
-    day = pathlib.Path(__file__).resolve().parent.parent / "samples" / "day.pcap"
     with library.capkit.Writer(path, "pcap") as writer:
-        for number, whole in enumerate(library.capkit.packets(day), 1):
+        for number, whole in enumerate(library.capkit.packets(ROOT / "samples" / "day.pcap"), 1):
             writer.write(whole._replace(data=change(number, whole.data)))
 
 

@@ -6,8 +6,8 @@ usage: check_lessons.py [--screenshot FILE] [--keep FOLDER]
 Of one lesson each packet is clicked, and its line, bytes, answer, number of steps, registers and
 instructions are held against the library. What docs/TEACHING.md asks students to find is found.
 Lessons of a hostile, a damaged, an empty and a large capture follow, of two filters, and of
-listings. It needs chromium (apt-get install chromium), and for one lesson tcpdump. Nothing is
-fetched. The status is 1 where something is wrong.
+listings. It needs Debian's packages python3-selenium and chromium-driver, and for one lesson
+tcpdump. Nothing is fetched. The status is 1 where something is wrong.
 """
 import argparse
 import base64
@@ -71,11 +71,7 @@ class Lesson:
 
     def listed(self, choice):
         """The numbers of the packets that the list has at a choice of `Show`."""
-        self.value(f"""(() => {{
-          const select = document.getElementById("show");
-          select.value = "{choice}";
-          select.dispatchEvent(new Event("change"));
-        }})()""")
+        self.tab.choose("show", choice)
         return self.value("""[...document.querySelectorAll("[role=option]:not([hidden])")].map(
           (option) => Number(option.id.slice(7)))""")
 
@@ -239,11 +235,11 @@ def check_parts(lesson, place, packet):
 def check_keys(lesson):
     """The list by the keyboard: arrows, pages, the first and the last packet."""
     lesson.value("document.getElementById('list').focus()")
-    for key, code, expected in [
-        ("Home", 36, 0), ("ArrowDown", 40, 1), ("PageDown", 34, 11), ("ArrowUp", 38, 10),
-        ("End", 35, 43), ("ArrowDown", 40, 43), ("PageUp", 33, 33),
+    for key, expected in [
+        ("HOME", 0), ("ARROW_DOWN", 1), ("PAGE_DOWN", 11), ("ARROW_UP", 10), ("END", 43),
+        ("ARROW_DOWN", 43), ("PAGE_UP", 33),
     ]:  # fmt: skip
-        lesson.tab.key(key, code)
+        lesson.tab.key(getattr(browser.Keys, key))
         lesson.shows(key, "chosen", expected)
     active = "document.getElementById(list.getAttribute('aria-activedescendant')).id"
     lesson.shows("active", active, "packet-34")
@@ -492,8 +488,8 @@ def check_steps(tab, folder):
     lesson.shows("chosen at first", "chosen", 0)
     lesson.value("location.hash = '#packet-7'")
     tab.wait("chosen === 6")
-    for key, code, step in (("n", 78, "1"), ("n", 78, "2"), ("n", 78, "3"), ("p", 80, "2")):
-        tab.key(key, code)
+    for key, step in (("n", "1"), ("n", "2"), ("n", "3"), ("p", "2")):
+        tab.key(key)
         lesson.equal(key, lesson.texts(".here > :first-child"), [step])
     told = lesson.text("#step")
     lesson.true(told, told.startswith("Step 2. (001) jeq #0x800"))
@@ -537,8 +533,6 @@ def main():
     parser.add_argument("--screenshot", metavar="FILE")
     parser.add_argument("--keep", metavar="FOLDER", help="where the lessons are left")
     arguments = parser.parse_args()
-    if browser.program() is None:
-        sys.exit("check_lessons.py: there is no Chromium: apt-get install chromium")
     with tempfile.TemporaryDirectory(prefix="lessons-") as temporary:
         folder = pathlib.Path(arguments.keep or temporary).resolve()
         folder.mkdir(parents=True, exist_ok=True)

@@ -38,10 +38,7 @@ try:
     from capkit import native
 
     explained = capkit.explain  # what an expression means, as an expression
-    _run = native.declare(
-        "capkit_run", ctypes.c_uint32, ctypes.c_void_p, ctypes.c_size_t, ctypes.c_char_p,
-        ctypes.c_size_t, ctypes.c_uint32, ctypes.POINTER(ctypes.c_size_t),
-    )  # fmt: skip
+    _run = native.run
 except (ImportError, OSError):
     sys.exit(f"{NAME}: {NO_LIBRARY}")
 except AttributeError as error:

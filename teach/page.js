@@ -51,15 +51,9 @@ function choose(show) {
 
 // The packet that is some shown ones further; the last one where there are fewer.
 function further(place, steps) {
-  const way = Math.sign(steps);
-  let found = place;
-  for (let next = place + way; next >= 0 && next < count && steps !== 0; next += way) {
-    if (isShown(next)) {
-      found = next;
-      steps -= way;
-    }
-  }
-  return found;
+  const shown = [...list.querySelectorAll("[role=option]:not([hidden])")].map((item) => item.id.slice(7) - 1);
+  const ahead = steps > 0 ? shown.filter((it) => it > place) : shown.filter((it) => it < place).reverse();
+  return ahead[Math.min(Math.abs(steps), ahead.length) - 1] ?? place;
 }
 
 const KEYS = {

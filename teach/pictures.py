@@ -169,8 +169,8 @@ class Flow:
         is_left = side_of(kind) == "left"
         edge = self.x if is_left else self.end
         rail = self.x - LANE * (lane + 1) - 4 if is_left else self.end + LANE * (lane + 1) + 4
-        tail = f"H{edge}m{5 if not is_left else -5} -3l{-5 if not is_left else 5} 3"
-        tail += f"l{5 if not is_left else -5} 3"
+        head = -5 if is_left else 5
+        tail = f"H{edge}m{head} -3l{-head} 3l{head} 3"
         y = y_of(target) - 3
         begin = y_of(start) + 3 if start >= first else self.top(first)
         finish = f"V{y:g}{tail}" if target < last else f"V{self.bottom(last):g}"

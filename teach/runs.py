@@ -19,22 +19,19 @@ DIGITS = "ABCDEFGHIJKLMNOPQRSTUVWXYZabcdefghijklmnopqrstuvwxyz0123456789+/"
 TWO_DIGITS = [first + second for first in DIGITS for second in DIGITS]
 
 
-def is_load_of_bytes(code):
-    """Whether an instruction loads bytes of the packet."""
-    kind, mode = code & words.CLASS, code & 0xE0
-    return kind == words.LOAD and mode in (0x20, 0x40) or kind == words.LOAD_X and mode == 0xA0
-
-
 def size_of(code):
-    """How many bytes of the packet an instruction loads."""
-    return words.SIZES[code & 0x18] if is_load_of_bytes(code) else 0
+    """How many bytes of the packet an instruction loads; 0 where it loads none."""
+    kind, mode = code & words.CLASS, code & 0xE0
+    is_load = kind == words.LOAD and mode in (0x20, 0x40) or kind == words.LOAD_X and mode == 0xA0
+    return words.SIZES[code & 0x18] if is_load else 0
 
 
 def load_of(insn):
     """How many bytes an instruction loads, and from where if that is always the same; or 0."""
-    if not is_load_of_bytes(insn.code):
+    size = size_of(insn.code)
+    if not size:
         return 0
-    return [size_of(insn.code)] if is_indexed(insn.code) else [size_of(insn.code), insn.k]
+    return [size] if is_indexed(insn.code) else [size, insn.k]
 
 
 def is_indexed(code):
@@ -72,7 +69,7 @@ class Path:
                 if written is not None:
                     self.columns.append((step, written, []))
             code = program.instructions[place].code
-            if is_load_of_bytes(code) and is_indexed(code):
+            if size_of(code) and is_indexed(code):
                 self.columns.append((step, "read", []))
 
     def add(self, program, trace):

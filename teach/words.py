@@ -95,34 +95,21 @@ def load_field(known, link, code, k):
     return " or ".join(sorted(found))
 
 
-def load_text(known, link, code, k):
-    """What a load into A reads, in words."""
-    mode = code & 0xE0
-    if mode == 0x00:
-        return f"the number {k}"
-    if mode == 0x60:
-        return f"the word M[{k}]"
-    if mode == 0x80:
-        return "the length of the packet on the wire"
-    size = SIZES.get(code & 0x18, 4)
-    where = f"byte {'X + ' if mode == 0x40 else ''}{k}"
-    if size > 1:
-        where = f"{size} bytes from {where}"
-    field = load_field(known, link, code, k)
-    return f"the {field} ({where})" if field else where
-
-
-def subject_of(known, link, code, k):
-    """What a load into A reads, as a test on it calls it; None of a word of memory."""
+def load_texts(known, link, code, k):
+    """What a load into A reads, in words; and as a test on it calls it, None of a word of memory."""
     mode, size = code & 0xE0, SIZES.get(code & 0x18, 4)
-    if mode in (0x00, 0x60):
-        return None
+    if mode == 0x00:
+        return f"the number {k}", None
+    if mode == 0x60:
+        return f"the word M[{k}]", None
     if mode == 0x80:
-        return "the length"
+        return "the length of the packet on the wire", "the length"
+    base = "X + " if mode == 0x40 else ""
+    where = f"{size} bytes from byte {base}{k}" if size > 1 else f"byte {base}{k}"
     field = load_field(known, link, code, k)
     if field:
-        return f"the {field}"
-    return f"the number in {bytes_text(size, k, 'X + ' if mode == 0x40 else '')}"
+        return f"the {field} ({where})", f"the {field}"
+    return where, f"the number in {bytes_text(size, k, base)}"
 
 
 def field_of(known):
@@ -164,12 +151,12 @@ def text_of(known, link, insn):
     code, _, _, k = insn
     kind = code & CLASS
     if kind == LOAD:
-        return f"A is {load_text(known, link, code, k)}"
+        return f"A is {load_texts(known, link, code, k)[0]}"
     if kind == LOAD_X:
         if code & 0xE0 == 0xA0:
             where = f"four times the low half of byte {k}"
             return f"X is {where}" + (", the IPv4 header's length" if k == link.header else "")
-        return f"X is {load_text(known, link, code, k)}"
+        return f"X is {load_texts(known, link, code, k)[0]}"
     if kind in (STORE, STORE_X):
         return f"the word M[{k}] is {'A' if kind == STORE else 'X'}"
     if kind == COMPUTE:
@@ -204,8 +191,8 @@ def after(known, link, insn):
     code, _, _, k = insn
     kind = code & CLASS
     if kind == LOAD:
-        subject, field = subject_of(known, link, code, k), load_field(known, link, code, k)
-        return known._replace(field=field, subject=subject, mask=None)
+        _, subject = load_texts(known, link, code, k)
+        return known._replace(field=load_field(known, link, code, k), subject=subject, mask=None)
     if kind == LOAD_X or code == 7:
         return known._replace(is_header=code == 0xB1 and k == link.header)
     if kind == COMPUTE:

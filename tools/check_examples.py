@@ -1,7 +1,7 @@
 #!/usr/bin/env python3
 """Runs the examples of the pages and compares what they print with what the pages show.
 
-usage: check_examples.py [--capkit PROGRAM] [--library FILE] [--update] [PAGE..]
+usage: check_examples.py [--capkit PROGRAM] [--update] [PAGE..]
 
 An example is a fenced block whose first line begins with "$ ". The examples under one heading run one after another in one
 shell, in a folder of their own, after the line of docs/RECIPES.md that sets up a checkout. That of a package has to leave
@@ -51,25 +51,25 @@ def set_up(where):
     return found[1]
 
 
-def checkout(folder, capkit, library=LIBRARY):
+def checkout(folder, capkit):
     """Makes of the folder a checkout, as far as the set-up needs it, and returns what a shell there is called with."""
     for name in FOLDERS:
         shutil.copytree(ROOT / name, folder / name, ignore=shutil.ignore_patterns("__pycache__"))
     (folder / "capkit").symlink_to(pathlib.Path(capkit).resolve())
     kept = {"PATH": os.environ["PATH"], "TZ": "UTC", "LC_ALL": "C", "HOME": str(folder)}
-    package = {"PYTHONPATH": str(ROOT / "library" / "python" / "src"), "CAPKIT_LIBRARY": str(library)}
+    package = {"PYTHONPATH": str(ROOT / "library" / "python" / "src"), "CAPKIT_LIBRARY": str(LIBRARY)}
     kept.update(package, PYTHONDONTWRITEBYTECODE="1")
     pipes = {"stdin": subprocess.DEVNULL, "stdout": subprocess.PIPE, "stderr": subprocess.STDOUT}
     return {"cwd": folder, "env": kept, **pipes}
 
 
-def run(commands, capkit, library):
+def run(commands, capkit):
     """What each of the commands prints, in one shell and a new folder."""
     script = set_up("in a checkout") + "\n"
     for command in commands:
         script += f"__status=$?; printf '{MARK}\\n'; (exit $__status)\n{command}\n"
     with tempfile.TemporaryDirectory() as temporary:
-        done = subprocess.run(["bash", "-c", script], **checkout(pathlib.Path(temporary), capkit, library))
+        done = subprocess.run(["bash", "-c", script], **checkout(pathlib.Path(temporary), capkit))
     printed = done.stdout.decode(errors="replace").split(MARK + "\n")[1:]
     return [text.rstrip("\n") for text in printed]
 
@@ -87,33 +87,33 @@ def same_set_up(capkit):
     return shown[0] == shown[1] and shown[0][0] == 0
 
 
-def missing_program(commands, library):
-    if NEEDS_LIBRARY.search("\n".join(commands)) and not library.exists():
-        return library.name
+def missing_program(commands):
+    if NEEDS_LIBRARY.search("\n".join(commands)) and not LIBRARY.exists():
+        return LIBRARY.name
     for program in OTHER_PROGRAMS:
         if re.search(rf"(^|[|;(]|\s){program}\s", "\n".join(commands)) and shutil.which(program) is None:
             return program
     return None
 
 
-def check_section(name, heading, examples, capkit, library):
+def check_section(name, heading, examples, capkit):
     """Runs the examples under a heading, and yields those that print something else with what that is."""
     commands = [re.sub("^[$>] ", "", example[1].rstrip("\n"), flags=re.MULTILINE) for example in examples]
-    if missing := missing_program(commands, library):
+    if missing := missing_program(commands):
         print(f"{name}: {heading}: left out, {missing} is not installed")
         return
-    for example, command, printed in zip(examples, commands, run(commands, capkit, library), strict=True):
+    for example, command, printed in zip(examples, commands, run(commands, capkit), strict=True):
         shown = example[2].rstrip("\n")
         if printed != shown:
             print(f"{name}: {heading}: $ {command}\nshown:   {shown!r}\nprinted: {printed!r}")
             yield example, printed
 
 
-def check_page(name, capkit, library, is_update):
+def check_page(name, capkit, is_update):
     """Runs the examples of a page, and returns how many print something else; puts in what they print."""
     page = (ROOT / name).read_text()
     sections = sections_of(page)
-    changes = [change for it in sections.items() for change in check_section(name, *it, capkit, library)]
+    changes = [change for it in sections.items() for change in check_section(name, *it, capkit)]
     print(f"{name}: {sum(map(len, sections.values()))} examples, {len(changes)} print something else", flush=True)
     if is_update and changes:
         for example, printed in sorted(changes, key=lambda change: -change[0].start()):
@@ -127,13 +127,12 @@ def check_page(name, capkit, library, is_update):
 def main():
     parser = argparse.ArgumentParser(description=__doc__.split("\n")[0])
     parser.add_argument("--capkit", default=None)
-    parser.add_argument("--library", type=pathlib.Path, default=LIBRARY)
     parser.add_argument("--update", action="store_true")
     parser.add_argument("pages", nargs="*")
     arguments = parser.parse_args()
     capkit = arguments.capkit or built_program()
     names = arguments.pages or [page for page in PAGES if (ROOT / page).exists()]
-    wrong = sum(check_page(name, capkit, arguments.library.resolve(), arguments.update) for name in names)
+    wrong = sum(check_page(name, capkit, arguments.update) for name in names)
     if not same_set_up(capkit):
         wrong += 1
         print("docs/RECIPES.md: the two lines of the set-up don't leave the same files")

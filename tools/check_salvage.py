@@ -2,7 +2,7 @@
 """Damages captures, and counts what salvage.py, capkit, tcpdump and editcap read of them.
 
 usage: check_salvage.py [--capkit PROGRAM] [--runs N] [--seed N] [--first N] [--kind NAME] [--jobs N]
-                        [--old SCRIPT] [--pcapfix] [--keep FOLDER]
+                        [--keep FOLDER]
 
 RUNS (300) damaged captures of 20 to 3,000 packets, in pcap of all four forms and pcapng in both byte
 orders, of each kind of damage in turn; then each sample whole, and its first 0 to 200 bytes. What a
@@ -16,24 +16,24 @@ the damage is of times, by the last two):
 
 The status is 1 where salvage.py wrote a false packet, fewer true ones than capkit, tcpdump or editcap,
 another text than `capkit edit` of what that reads to its end, took over 10 seconds of processor time, changed its input,
-ended with another status than 0 or 1, or with a traceback. Such files are kept with --keep. --old is
-another salvage script to compare with.
+ended with another status than 0 or 1, or with a traceback. Such files are kept with --keep.
 """
 import argparse
 import collections
+import concurrent.futures
+import itertools
 import multiprocessing
 import os
 import pathlib
 import random
 import re
+import resource
 import shutil
-import signal
 import struct
 import subprocess
 import sys
 import tempfile
 import time
-import traceback
 
 ROOT = pathlib.Path(__file__).resolve().parent.parent
 sys.path.append(str(ROOT / "bench"))
@@ -139,7 +139,11 @@ def replaced(one, begin, end, what):
     return one.data[:begin] + what + one.data[end:], one.packets([(begin, max(end, begin + 1))])
 
 
-def place(chance, one, size=0):
+def whole(one):
+    return one.data, one.packets()
+
+
+def place(chance, one):
     """A place in a capture, for some in its packets' headers."""
     if chance.random() < 0.3:
         return chance.choice(one.units)[0] + chance.randrange(16)
@@ -157,24 +161,6 @@ def fractions(chance):
             part += chance.choice((10**6, 4 * 10**6, 10**9))
         struct.pack_into(one.order + "I", one.data, begin + 4, part)
     return one.data, one.packets()
-
-
-def clocks(chance):
-    one = capture(chance, makers=[jumping])
-    return one.data, one.packets()
-
-
-def clocks_and_hole(chance):
-    return overwritten(chance, capture(chance, makers=[jumping]))
-
-
-def merges(chance):
-    one = capture(chance, makers=[merged])
-    return one.data, one.packets()
-
-
-def merges_and_hole(chance):
-    return overwritten(chance, capture(chance, makers=[merged]))
 
 
 def to_crlf(chance):
@@ -196,31 +182,24 @@ def zeros_at_end(chance):
     return one.data[:end] + zeros, one.packets([(end, len(one.data))])
 
 
-def zero_page(chance):
-    one, size = capture(chance), chance.choice((512, 4096, 16384))
+def page(chance, one):
+    """Where a page of a capture begins and ends."""
+    size = chance.choice((512, 4096, 16384))
     begin = chance.randrange(len(one.data)) // size * size
-    end = min(begin + size, len(one.data))
-    return replaced(one, begin, end, bytes(end - begin))
+    return begin, min(begin + size, len(one.data))
 
 
-def random_page(chance):
-    one, size = capture(chance), chance.choice((512, 4096, 16384))
-    begin = chance.randrange(len(one.data)) // size * size
-    end = min(begin + size, len(one.data))
-    return replaced(one, begin, end, chance.randbytes(end - begin))
+def paged(chance, new):
+    """Other bytes in place of a page."""
+    one = capture(chance)
+    begin, end = page(chance, one)
+    return replaced(one, begin, end, new(end - begin))
 
 
 def page_twice(chance):
-    one, size = capture(chance), chance.choice((512, 4096, 16384))
-    begin = chance.randrange(len(one.data)) // size * size
-    end = min(begin + size, len(one.data))
+    one = capture(chance)
+    begin, end = page(chance, one)
     return one.data[:end] + one.data[begin:], one.packets([(begin, begin + 1), (end, end + 1)])
-
-
-def page_missing(chance):
-    one, size = capture(chance), chance.choice((512, 4096, 16384))
-    begin = chance.randrange(len(one.data)) // size * size
-    return replaced(one, begin, min(begin + size, len(one.data)), b"")
 
 
 def two_writers(chance):
@@ -233,20 +212,12 @@ def two_writers(chance):
     return data, [it for one, them in zip(ones, cuts) for it in one.packets(them)]
 
 
-def bit_flips(chance):
+def changed(chance, most, mask):
+    """Some bytes with other bits."""
     one, ranges = capture(chance), []
-    for _ in range(chance.randrange(1, 21)):
+    for _ in range(chance.randrange(1, most)):
         at = place(chance, one)
-        one.data[at] ^= 1 << chance.randrange(8)
-        ranges.append((at, at + 1))
-    return one.data, one.packets(ranges)
-
-
-def bytes_changed(chance):
-    one, ranges = capture(chance), []
-    for _ in range(chance.randrange(1, 9)):
-        at = place(chance, one)
-        one.data[at] ^= chance.randrange(1, 256)
+        one.data[at] ^= mask()
         ranges.append((at, at + 1))
     return one.data, one.packets(ranges)
 
@@ -318,9 +289,22 @@ def carried(chance):
     return replaced(one, low, high, chance.randbytes(high - low))
 
 
-KINDS = [fractions, clocks, clocks_and_hole, merges, merges_and_hole, to_crlf, to_lf, zeros_at_end, zero_page, random_page,
-         page_twice, page_missing, two_writers, bit_flips, bytes_changed, truncated, length_broken, concatenated,
-         cut_out, overwritten, start_gone, carried]
+KINDS = {
+    "fractions": fractions,
+    "clocks": lambda chance: whole(capture(chance, makers=[jumping])),
+    "clocks_and_hole": lambda chance: overwritten(chance, capture(chance, makers=[jumping])),
+    "merges": lambda chance: whole(capture(chance, makers=[merged])),
+    "merges_and_hole": lambda chance: overwritten(chance, capture(chance, makers=[merged])),
+    "to_crlf": to_crlf, "to_lf": to_lf, "zeros_at_end": zeros_at_end,
+    "zero_page": lambda chance: paged(chance, bytes),
+    "random_page": lambda chance: paged(chance, chance.randbytes),
+    "page_twice": page_twice, "page_missing": lambda chance: paged(chance, lambda size: b""),
+    "two_writers": two_writers,
+    "bit_flips": lambda chance: changed(chance, 21, lambda: 1 << chance.randrange(8)),
+    "bytes_changed": lambda chance: changed(chance, 9, lambda: chance.randrange(1, 256)),
+    "truncated": truncated, "length_broken": length_broken, "concatenated": concatenated,
+    "cut_out": cut_out, "overwritten": overwritten, "start_gone": start_gone, "carried": carried,
+}
 
 
 # ---- comparison
@@ -366,68 +350,51 @@ def counts(read, packets, is_timed):
     return found
 
 
-def commands(given):
+def commands():
     root = ["-Z", "root"] if os.geteuid() == 0 else []
-    fix = ('cd "${2%/*}" && pcapfix -k -o fixed "$1"; test -e fixed || cp "$1" fixed; editcap -F nsecpcap fixed "$2"; '
-           'rm -f fixed')
-    lines = {SCRIPT: [sys.executable, str(ROOT / "examples" / SCRIPT), "-F", "nsecpcap", "IN", "OUT"],
-             "capkit": ["capkit", "edit", "-F", "nsecpcap", "IN", "OUT"],
-             "tcpdump": ["tcpdump", "-r", "IN", "--nano", "-w", "OUT", *root],
-             "editcap": ["editcap", "-F", "nsecpcap", "IN", "OUT"]}
-    if given.old:
-        lines["old"] = [sys.executable, given.old, "-F", "nsecpcap", "IN", "OUT"]
-    if given.pcapfix:
-        lines["pcapfix"] = ["sh", "-c", fix, "sh", "IN", "OUT"]
-    return lines
+    return {SCRIPT: [SCRIPT, "-F", "nsecpcap", "IN", "OUT"],
+            "capkit": ["capkit", "edit", "-F", "nsecpcap", "IN", "OUT"],
+            "tcpdump": ["tcpdump", "-r", "IN", "--nano", "-w", "OUT", *root],
+            "editcap": ["editcap", "-F", "nsecpcap", "IN", "OUT"]}
 
 
-def call(words, source, out, seconds):
-    """Runs a program on a file: its status, what it said, and of a script of Python the processor time that
-    it took; that is run in a copy of this process, which begins at once."""
+def call(words, source, out):
+    """Runs a program on a file: its status, what it said, and of the script the processor time that it
+    took; that is run in a copy of this process, which begins at once."""
     words = [str({"IN": source, "OUT": out}.get(word, word)) for word in words]
-    log, took = source.parent / "log", 0
+    log, before = source.parent / "log", resource.getrusage(resource.RUSAGE_CHILDREN)
     with open(log, "wb") as said:
-        if words[0] == sys.executable:
-            child = os.fork()
-            if not child:
-                run_script(words[1:], said, seconds)
-            _, ended, used = os.wait4(child, 0)
-            status, took = os.waitstatus_to_exitcode(ended), used.ru_utime + used.ru_stime
+        if words[0] == SCRIPT:
+            child = multiprocessing.Process(target=run_script, args=(words, said))
+            child.start()
+            child.join(120)
+            child.kill()
+            child.join()
+            status = child.exitcode
         else:
             status = subprocess.run(words, stdout=said, stderr=said).returncode
+    used = resource.getrusage(resource.RUSAGE_CHILDREN)
+    took = used.ru_utime - before.ru_utime + used.ru_stime - before.ru_stime
     return status, log.read_text(errors="replace"), took
 
 
-def run_script(words, said, seconds):
-    """Runs a script in a child process, which is killed where it takes too long."""
-    signal.signal(signal.SIGALRM, signal.SIG_DFL)
-    signal.alarm(seconds)
+def run_script(words, said):
+    """Runs the script in a child process."""
+    sys.argv = words
     os.dup2(said.fileno(), 1)
     os.dup2(said.fileno(), 2)
-    sys.argv, sys.stdout, sys.stderr = words, open(1, "w", closefd=False), open(2, "w", closefd=False)
-    status = 0
-    try:
-        exec(scripts[words[0]], {"__name__": "__main__", "__doc__": "no text"})
-    except SystemExit as done:
-        status = done.code if isinstance(done.code, int) or done.code is None else 1
-        print(done.code if isinstance(done.code, str) else "", file=sys.stderr)
-    except BaseException:
-        traceback.print_exc()
-        status = 99
-    sys.stdout.flush()
-    sys.stderr.flush()
-    os._exit(status or 0)
+    exec(script[0], {"__name__": "__main__", "__doc__": "no text"})
 
 
-def try_file(data, packets, is_timed, given):
+def try_file(data, packets, is_timed):
     """Runs the programs on one file: their counts, and what salvage.py did wrong."""
     faults, results = [], {}
     with tempfile.TemporaryDirectory() as temporary:
         source = pathlib.Path(temporary) / "damaged"
         source.write_bytes(data)
-        for name, words in commands(given).items():
+        for name, words in commands().items():
             out = source.parent / f"{name}.out"
-            status, said, took = call(words, source, out, 120)
+            status, said, took = call(words, source, out)
             results[name] = counts(packets_of(out), packets, is_timed)
             if name == SCRIPT:
                 faults += [f"status {status}: {said}"] * (status not in (0, 1) or "Traceback" in said)
@@ -455,12 +422,12 @@ def try_file(data, packets, is_timed, given):
 
 def try_one(number, given):
     chance = random.Random(f"{given.seed} {number}")
-    kinds = [it for it in KINDS if given.kind in (None, it.__name__)]
+    kinds = [it for it in KINDS if given.kind in (None, it)]
     kind = kinds[number % len(kinds)]
-    data, packets = kind(chance)
-    results, faults = try_file(bytes(data), packets, kind is not fractions, given)
-    keep(faults, given, f"{number}.{kind.__name__}", data)
-    return number, kind.__name__, len(packets), sum(it for _, it in packets), results, faults
+    data, packets = KINDS[kind](chance)
+    results, faults = try_file(bytes(data), packets, kind != "fractions")
+    keep(faults, given, f"{number}.{kind}", data)
+    return number, kind, len(packets), sum(it for _, it in packets), results, faults
 
 
 def keep(faults, given, name, data):
@@ -478,8 +445,8 @@ def try_sample(name, given):
             forms = ["pcap", "nsecpcap", "pcapng"] if size == len(data) else ["nsecpcap"]
             for form in forms:
                 own.unlink(missing_ok=True)
-                status, said, took = call([sys.executable, str(ROOT / "examples" / SCRIPT), "-F", form, "IN", "OUT"], source, own, 120)
-                edit = call(["capkit", "edit", "-F", form, "IN", "OUT"], source, edited, 120)[0]
+                status, said, took = call([SCRIPT, "-F", form, "IN", "OUT"], source, own)
+                edit = call(["capkit", "edit", "-F", form, "IN", "OUT"], source, edited)[0]
                 whole = edited.read_bytes() if edited.exists() else b""
                 text = own.read_bytes() if own.exists() else b""
                 is_right = status in (0, 1) and "Traceback" not in said and took < 10
@@ -517,31 +484,28 @@ def main():
     parser.add_argument("--jobs", type=int, default=1)
     parser.add_argument("--seed", type=int, default=1)
     parser.add_argument("--first", type=int, default=0, help="the number of the first run")
-    parser.add_argument("--kind", default=None, help="one kind of damage alone")
-    parser.add_argument("--old", default=None)
-    parser.add_argument("--pcapfix", action="store_true")
+    parser.add_argument("--kind", default=None, choices=KINDS, help="only one kind of damage")
     parser.add_argument("--keep", default=None)
-    parser.add_argument("--no-samples", action="store_true")
     given = parser.parse_args()
     program = pathlib.Path(given.capkit or built_program()).resolve()
     os.environ["PATH"] = f"{program.parent}:{os.environ['PATH']}"
-    missing = [it for it in ["tcpdump", "editcap", *["pcapfix"] * given.pcapfix] if shutil.which(it) is None]
+    missing = [it for it in ("tcpdump", "editcap") if shutil.which(it) is None]
     if missing:
         sys.exit(f"not installed: {', '.join(missing)}")
     with tempfile.TemporaryDirectory() as temporary:
         path = pathlib.Path(temporary) / "made.pcap"
-        make_capture.write_capture(str(path), 12_000)
+        make_capture.write_capture(path, make_capture.traffic(12_000))
         pool.extend((when // 10**9 * 10**9 + when % 10**9 * 1000 + number % 1000, original, data)
                     for number, (when, original, data) in enumerate(packets_of(path)))
-    for path in (str(ROOT / "examples" / SCRIPT), given.old):
-        scripts.update({path: compile(pathlib.Path(path).read_text(), path, "exec")} if path else {})
+    script.append(compile((ROOT / "examples" / SCRIPT).read_text(), SCRIPT, "exec"))
     begin = time.monotonic()
-    with multiprocessing.Pool(given.jobs) as workers:
-        done = workers.starmap(try_one, [(it, given) for it in range(given.first, given.first + given.runs)], chunksize=1)
-        samples = [] if given.no_samples else sorted(it.name for it in (ROOT / "samples").glob("*.pcap*"))
-        of_samples = workers.starmap(try_sample, [(it, given) for it in samples], chunksize=1)
+    samples = sorted(it.name for it in (ROOT / "samples").glob("*.pcap*"))
+    with concurrent.futures.ProcessPoolExecutor(given.jobs) as workers:
+        runs = range(given.first, given.first + given.runs)
+        done = list(workers.map(try_one, runs, itertools.repeat(given)))
+        of_samples = list(workers.map(try_sample, samples, itertools.repeat(given)))
     if done:
-        report(done, commands(given))
+        report(done, commands())
     wrong = [it for it in done if it[-1]]
     for number, kind, _, _, results, faults in wrong:
         print(f"run {number}, {kind}: {'; '.join(faults)}: { {name: dict(it) for name, it in results.items()} }")
@@ -553,7 +517,7 @@ def main():
     sys.exit(1 if wrong or bad else 0)
 
 
-pool, scripts = [], {}
+pool, script = [], []
 
 if __name__ == "__main__":
     main()

@@ -16,7 +16,8 @@ import pathlib
 import re
 import sys
 
-ROOT = pathlib.Path(__file__).resolve().parent.parent
+from source_files import ROOT, blanked
+
 PAGES = ["*.md", "docs/**/*.md", "library/*.md", "library/*/*.md", "samples/*.md", "teach/*.md", "packaging/pages/*"]
 CODE = ["library/include/*.h", "crates/*/src/**/*.rt", "crates/*/specs/**/*.antt"]
 # The crates whose texts a user of the program reads.
@@ -100,13 +101,6 @@ def words_of(identifier):
     return [word.lower() for word in re.findall(r"[A-Z]?[a-z]+|[A-Z]+(?![a-z])", identifier)]
 
 
-def identifiers(path):
-    """The numbered lines of a file of code, without comments and texts."""
-    mark = {".rt": "//", ".antt": "--"}.get(path.suffix)
-    for number, line in enumerate(path.read_text().splitlines() if mark else [], 1):
-        yield number, re.sub(r'"[^"]*"', "", line).partition(mark)[0]
-
-
 def of_header(text):
     """The text of a C header's comments, each in its lines; the lines between them are empty."""
     texts = re.split(r"/\*(.*?)\*/", text, flags=re.DOTALL)
@@ -148,7 +142,8 @@ def phrases(path):
 
 def names(path):
     """Yields the identifiers of a file of code that join a word which none is to have."""
-    for number, line in identifiers(path):
+    mark = {".rt": "//", ".antt": "--"}.get(path.suffix)
+    for number, line in enumerate(blanked(path.read_text(), mark).splitlines() if mark else [], 1):
         for name in re.findall(r"[A-Za-z_]\w*", line):
             for word in words_of(name):
                 if word in IDENTIFIERS and name not in ALLOWED:

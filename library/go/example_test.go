@@ -19,18 +19,10 @@ func arp() []byte {
 
 // capture is a pcapng capture of two packets.
 func capture() []byte {
-	var out bytes.Buffer
-	writer := capkit.NewWriter(&out, capkit.Pcapng)
-	for _, data := range [][]byte{arp(), make([]byte, 60)} {
-		packet := capkit.Packet{Time: time.Unix(1700000000, 0), LinkType: capkit.LinkEthernet, Data: data}
-		if err := writer.Write(packet); err != nil {
-			log.Fatal(err)
-		}
-	}
-	if err := writer.Close(); err != nil {
-		log.Fatal(err)
-	}
-	return out.Bytes()
+	packet := capkit.Packet{Time: time.Unix(1700000000, 0), LinkType: capkit.LinkEthernet, Data: arp()}
+	other := packet
+	other.Data = make([]byte, 60)
+	return written(capkit.Pcapng, packet, other)
 }
 
 func ExampleCompile() {

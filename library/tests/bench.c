@@ -1,9 +1,6 @@
-/* Measures libcapkit beside libpcap on the Ethernet packets of captures.
- *
- * usage: bench ROUNDS EXPRESSIONS FILE..       processor time: the least of ROUNDS rounds, in each
- * of which every call is measured in turn bench WHAT TIMES EXPRESSION FILE..    does one thing so
- * often, for a count of instructions; WHAT is compile, pcap_compile, run or bpf_filter
- */
+/* Measures libcapkit beside libpcap on the Ethernet packets of captures: the least CPU time of
+ * ROUNDS rounds, in each of which every call is measured in turn. usage: bench ROUNDS EXPRESSIONS
+ * FILE.. */
 #include "captures.h"
 #include <math.h>
 #include <stdio.h>
@@ -90,12 +87,10 @@ static void table(int rounds, FILE *expressions)
     static char text[1 << 17];
     double sum[2] = {0, 0}, worst[2] = {0, 0}, best[5];
     int k, count = 0;
-    printf("compile us: capkit, libpcap, ratio | instructions | run ns a packet: capkit_run_unchecked, "
+    printf("compile us: capkit, libpcap, ratio | instructions | run ns a packet: "
+           "capkit_run_unchecked, "
            "bpf_filter, ratio; bpf_filter on libpcap's\n");
-    while (fgets(text, sizeof text, expressions)) {
-        text[strcspn(text, "\n")] = 0;
-        if (text[0] == '#' || !text[0])
-            continue;
+    while (next_expression(expressions, text, sizeof text)) {
         if (!measure(text, rounds, best)) {
             printf("refused: %s\n", text);
             continue;
@@ -112,33 +107,22 @@ static void table(int rounds, FILE *expressions)
         }
         count++;
     }
-    printf(
-        "of %d expressions: compile %.2f of pcap_compile's time, at most %.2f; capkit_run_unchecked %.2f of "
-        "bpf_filter's, at most %.2f (%zu packets, %d rounds)\n",
-        count, exp(sum[0] / count), worst[0], exp(sum[1] / count), worst[1], sets[0].count, rounds);
+    printf("of %d expressions: compile %.2f of pcap_compile's time, at most %.2f; "
+           "capkit_run_unchecked %.2f of "
+           "bpf_filter's, at most %.2f (%zu packets, %d rounds)\n",
+           count, exp(sum[0] / count), worst[0], exp(sum[1] / count), worst[1], sets[0].count,
+           rounds);
 }
 
 int main(int argc, char **argv)
 {
-    int rounds = argc > 1 ? atoi(argv[1]) : 0, first = rounds ? 3 : 4, i;
-    FILE *expressions = rounds && argc > 3 ? fopen(argv[2], "r") : NULL;
-    for (i = first; i < argc; i++)
+    FILE *expressions = argc > 3 ? fopen(argv[2], "r") : NULL;
+    int i;
+    for (i = 3; i < argc; i++)
         read_file(argv[i]);
+    if (!expressions || !sets[0].count)
+        return 1;
     dead = pcap_open_dead(sets[0].dlt, 262144);
-    if (!sets[0].count || (rounds && !expressions))
-        return 1;
-    if (rounds)
-        return table(rounds, expressions), 0;
-    if (!compile(argv[3]))
-        return 1;
-    for (i = atoi(argv[2]); i > 0; i--)
-        if (!strcmp(argv[1], "compile"))
-            compile(argv[3]);
-        else if (!strcmp(argv[1], "run"))
-            run();
-        else if (!strcmp(argv[1], "bpf_filter"))
-            filter_own();
-        else if (compile_theirs(argv[3]))
-            pcap_freecode(&theirs);
+    table(atoi(argv[1]), expressions);
     return 0;
 }

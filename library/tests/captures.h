@@ -1,6 +1,7 @@
-/* Packets by link type, as libpcap reads them. */
+/* Packets by link type, as libpcap reads them, and expressions. */
 #include <capkit.h>
 #include <pcap/pcap.h>
+#include <stdio.h>
 #include <stdlib.h>
 #include <string.h>
 
@@ -44,4 +45,13 @@ static size_t read_file(const char *name)
         }
     pcap_close(p);
     return read;
+}
+
+/* The next expression of a file, of which each line is one; 0 at its end. */
+static int next_expression(FILE *file, char *text, size_t room)
+{
+    if (!fgets(text, room, file))
+        return 0;
+    text[strcspn(text, "\n")] = 0;
+    return 1;
 }

@@ -1,5 +1,5 @@
-/* Random instructions, texts, and captures that are damaged or cut, right after a page that can't
- * be touched or right before one. usage: fuzz SEED ROUNDS FILE.. */
+/* Random instructions, and captures that are damaged or cut, right after a page that can't be
+ * touched or right before one. usage: fuzz SEED ROUNDS FILE.. */
 #include <pcap/pcap.h>
 #include <stdio.h>
 #include <stdlib.h>
@@ -14,8 +14,8 @@ static const uint16_t codes[] = {32, 40, 48, 64,  72,  80,  0,   96,  128, 1,   
                                  60, 76, 92, 108, 124, 148, 156, 164, 172, 132, 5,  21,  37,
                                  53, 69, 29, 45,  61,  77,  6,   22,  7,   135};
 
-static size_t valid, runs, wrong, apart, texts, files, packets, other, answered, unchecked,
-    portable, cut_captures;
+static size_t valid, runs, wrong, apart, files, packets, answered, unchecked, portable,
+    cut_captures;
 static size_t steps_seen, printed;
 static uint8_t *first, *second, *third;
 
@@ -34,48 +34,21 @@ static void print(const struct capkit_insn *p, uint32_t index)
     wrong += length != strlen(theirs) || (room && strncmp(buffer, theirs, room - 1));
 }
 
-/* What a program returns that has other instructions at a place and after it, the second a return
- * of A. A run reaches a place once at most, and then to no place before it. */
-static uint32_t returned(const struct capkit_insn *p, size_t n, const uint8_t *packet, size_t len,
-                         size_t at, uint16_t code, uint32_t k)
-{
-    struct capkit_insn changed[16];
-    struct capkit_insn now = {code, 0, 0, k}, then = {22, 0, 0, 0};
-    size_t any;
-    memcpy(changed, p, n * sizeof *p);
-    changed[at] = now;
-    if (at + 1 < n)
-        changed[at + 1] = then;
-    return capkit_run_any(changed, n, packet, len, len, &any);
-}
-
-/* The steps of a run are those of a second interpreter, and of the runs of programs that return
- * what a step shows, and as many are written as there is room for. */
+/* The steps of a run are those of a second interpreter, and as many are written as there is room
+ * for. */
 static void trace(const struct capkit_insn *p, size_t n, const uint8_t *packet, size_t len,
                   size_t count)
 {
-    size_t room = rnd() % 8 ? 16 : rnd() % 16, i, word;
+    size_t room = rnd() % 8 ? 16 : rnd() % 16, written = count < room ? count : room;
     struct bytes bytes = {packet, len, len};
     struct capkit_step *steps = place(third, room * sizeof *steps), again[16];
     memset(steps, 0xa5, room * sizeof *steps);
     wrong += capkit_trace(p, n, packet, len, len, steps, room) != count;
     wrong += states(p, &bytes, again) != count;
-    wrong += memcmp(steps, again, (count < room ? count : room) * sizeof *steps) != 0;
-    for (i = 0; i < room && i < count; i++) {
-        const struct capkit_step *s = steps + i;
-        steps_seen++;
-        wrong += s->index >= n || (i && s->index <= steps[i - 1].index);
-        if (s->index >= n)
-            continue;
-        wrong += returned(p, n, packet, len, s->index, 22, 0) != s->a;
-        if (s->index + 1 == n)
-            continue;
-        wrong += returned(p, n, packet, len, s->index, 135, 0) != s->x;
-        for (word = 0; word < 16; word++)
-            wrong += returned(p, n, packet, len, s->index, 96, word) != s->memory[word];
-    }
-    for (; i < room; i++)
-        wrong += steps[i].index != 0xa5a5a5a5 || steps[i].memory[15] != 0xa5a5a5a5;
+    wrong += memcmp(steps, again, written * sizeof *steps) != 0;
+    steps_seen += written;
+    for (; written < room; written++)
+        wrong += steps[written].index != 0xa5a5a5a5 || steps[written].memory[15] != 0xa5a5a5a5;
 }
 
 static void random_programs(size_t rounds)
@@ -120,40 +93,6 @@ static void random_programs(size_t rounds)
     }
 }
 
-static void random_texts(size_t rounds)
-{
-    size_t r;
-    static const char *words[] = {
-        "tcp", "port", "80",         "and",       "or",       "not", "(",    ")",
-        "[",   "]",    "ip",         "host",      "10.0.0.1", "net", "/",    "8",
-        "len", ">",    "0xffffffff", "ether",     "::1",      "&",   "<<",   "%",
-        "-",   "0",    ":",          "portrange", "1-2",      "?",   "\xff", "icmptype"};
-    for (r = 0; r < rounds / 4; r++) {
-        size_t n = rnd() % 12, len = 0, number, bound, i, room = rnd() % 64;
-        static const uint16_t links[] = {CAPKIT_LINK_ETHERNET, CAPKIT_LINK_RAW, CAPKIT_LINK_COOKED};
-        char written[512], name[64];
-        struct capkit_insn *insns = place(second, room * sizeof *insns);
-        for (i = 0; i < n; i++)
-            len += sprintf(written + len, "%s ", words[rnd() % 32]);
-        char *text = place(first, len);
-        memcpy(text, written, len);
-        uint32_t status = capkit_compile(text, len, links[rnd() % 3], insns, room, &number);
-        texts += status == 0;
-        wrong += status > CAPKIT_NO_ROOM ||
-                 (status == 0 && (number > room || capkit_check(insns, number, &i))) ||
-                 (status == CAPKIT_NO_ROOM && number <= room) ||
-                 (status && !capkit_text(status, name, sizeof name));
-        uint32_t again = capkit_bound(text, len, &bound);
-        wrong += (again == 0) != (status == 0 || status == CAPKIT_NO_ROOM) ||
-                 (again == 0 && number > bound) || (again && (again != status || bound != number));
-        char *buffer = place(third, room);
-        memset(buffer, '?', room);
-        wrong += capkit_explain(text, len, buffer, room, &number) != again ||
-                 (again && (number != bound || memchr(buffer, '?', room) != (room ? buffer : 0))) ||
-                 (again == 0 && room && strlen(buffer) != (number < room ? number : room - 1));
-    }
-}
-
 /* A copy of some bytes, next to a page that can't be touched. */
 static uint8_t *memory_of(const uint8_t *file, size_t size)
 {
@@ -192,106 +131,56 @@ static void batches(const uint8_t *capture, size_t size)
     wrong += next != found || one.offset != many.offset;
 }
 
-/* Puts a packet, of which a part is name and comment too, with a table of one entry or of none. */
-static void put(const struct capkit_packet *p, const uint8_t *bytes)
+/* Reads a capture to its end, and returns how many packets it has. They lie in it, in front of
+ * where it was read to. */
+static size_t seen_in(const uint8_t *capture, size_t size)
 {
-    static struct capkit_interface entry;
-    struct capkit_writer writer = {rnd() % 2 ? rnd() % 2 : rnd(), rnd() % 2};
-    size_t entries = rnd() % 2, room = rnd() % 200, part = p->captured % 300, length = 1;
-    uint32_t status = capkit_writer_put(
-        &writer, entries ? &entry : NULL, entries, p, (const char *)bytes, part, bytes, p->captured,
-        (const char *)bytes, part, place(third, room), room, &length);
-    int is_written = status == CAPKIT_WRITTEN || status == CAPKIT_UNIT_BEFORE;
-    wrong += is_written ? length == 0 || length > room
-                        : (status == CAPKIT_NO_ROOM_IN_BUFFER) != (length > room);
+    static char comment[4096];
+    struct capkit_interface *table = place(second, 256 * sizeof *table);
+    struct capkit_reader reader = {0};
+    struct capkit_packet p;
+    uint32_t found;
+    size_t seen = 0;
+    while ((found = capkit_next_unit(&reader, table, 256, capture, size, &p)) == CAPKIT_PACKET ||
+           found == CAPKIT_NO_PACKET) {
+        wrong += reader.offset > size;
+        if (found == CAPKIT_NO_PACKET)
+            continue;
+        seen++;
+        wrong +=
+            p.options_at + p.options_length > size || p.at + p.captured > reader.offset ||
+            capkit_comment(&reader, capture, size, &p, comment, sizeof comment) > p.options_length;
+    }
+    wrong += found < CAPKIT_NOT_A_CAPTURE_FILE || found > CAPKIT_END ||
+             capkit_text(found, comment, 0) == 0;
+    return seen;
 }
 
-/* A capture as it stands, and damaged. */
+/* A capture as it stands, cut after each of its bytes, which loses no packet before the cut, and
+ * damaged. */
 static void captures(const char *name, size_t rounds)
 {
     static uint8_t file[1 << 20];
-    static char comment[4096];
-    size_t r;
-    for (r = 0; r < 1 + rounds / 20000; r++) {
-        FILE *f = fopen(name, "rb"), *again;
-        size_t size = fread(file, 1, sizeof file, f), i;
-        struct capkit_reader reader = {0};
-        uint32_t found;
-        struct capkit_packet p;
-        char why[PCAP_ERRBUF_SIZE];
-        pcap_t *theirs;
-        fclose(f);
-        if (r) {
-            if (rnd() % 2)
-                size = size ? rnd() % size : 0;
-            for (i = rnd() % 4; size && i; i--)
-                file[rnd() % (rnd() % 2 ? size : size < 60 ? size : 60)] = rnd();
-        }
-        uint8_t *capture = memory_of(file, size);
-        struct capkit_interface *table = place(second, 256 * sizeof *table);
-        files++;
-        again = fmemopen(file, size, "rb");
-        theirs = pcap_fopen_offline_with_tstamp_precision(again, PCAP_TSTAMP_PRECISION_NANO, why);
-        if (!theirs && again)
-            fclose(again);
-        while ((found = capkit_next_unit(&reader, table, 256, capture, size, &p)) == 0 ||
-               found == CAPKIT_NO_PACKET) {
-            if (reader.offset > size)
-                wrong++;
-            if (found == CAPKIT_NO_PACKET)
-                continue;
-            if (p.options_at + p.options_length > size ||
-                capkit_comment(&reader, capture, size, &p, comment, sizeof comment) >
-                    p.options_length)
-                wrong++;
-            struct pcap_pkthdr *h;
-            const u_char *bytes;
-            packets++;
-            put(&p, capture + p.at);
-            if (p.at + p.captured > size || p.at + p.captured > reader.offset)
-                wrong++;
-            if (theirs) {
-                if (pcap_next_ex(theirs, &h, &bytes) != 1) {
-                    pcap_close(theirs);
-                    theirs = 0;
-                    continue;
-                }
-                if (!r && (h->len != p.original || h->caplen > p.captured ||
-                           memcmp(bytes, capture + p.at, h->caplen) ||
-                           (uint64_t)h->ts.tv_sec * 1000000000 + h->ts.tv_usec != p.time))
-                    other++;
-            }
-        }
-        wrong += found < 201 || found > 224 || capkit_text(found, comment, 0) == 0;
-        batches(capture, size);
-        if (theirs)
-            pcap_close(theirs);
-    }
-}
-
-/* A capture cut after each of its bytes: its packets lie before the cut, and none is lost. */
-static void cuts(const char *name)
-{
-    static uint8_t file[1 << 20];
     FILE *f = fopen(name, "rb");
-    size_t size = fread(file, 1, sizeof file, f), cut, most = 0;
+    size_t size = fread(file, 1, sizeof file, f), cut, most = 0, seen, r, i;
     fclose(f);
     for (cut = 0; cut <= size; cut++) {
         uint8_t *capture = memory_of(file, cut);
-        struct capkit_interface *table = place(second, 256 * sizeof *table);
-        struct capkit_reader reader = {0};
-        struct capkit_packet p;
-        size_t seen = 0;
-        uint32_t found;
-        while ((found = capkit_next_unit(&reader, table, 256, capture, cut, &p)) == 0 ||
-               found == CAPKIT_NO_PACKET) {
-            seen += found == 0;
-            wrong += reader.offset > cut || (found == 0 && p.at + p.captured > reader.offset);
-        }
-        wrong += found > CAPKIT_END || seen < most;
+        seen = seen_in(capture, cut);
+        wrong += seen < most;
         most = seen;
         cut_captures++;
         batches(capture, cut);
+    }
+    packets += most;
+    for (r = 0; r < rounds / 20000; r++) {
+        size_t part = rnd() % 2 && size ? rnd() % size : size;
+        uint8_t *capture = memory_of(file, part);
+        for (i = rnd() % 4; part && i; i--)
+            capture[rnd() % (rnd() % 2 ? part : part < 60 ? part : 60)] = rnd();
+        packets += seen_in(capture, part);
+        batches(capture, part);
+        files++;
     }
 }
 
@@ -332,18 +221,13 @@ int main(int argc, char **argv)
     second = guarded();
     third = guarded();
     random_programs(rounds);
-    random_texts(rounds);
     nothing();
-    for (a = 3; a < argc; a++) {
+    for (a = 3; a < argc; a++)
         captures(argv[a], rounds);
-        cuts(argv[a]);
-    }
     printf("%zu runs of random instructions, %zu valid, %zu answered, of these %zu on programs "
            "that the check refuses\n",
            runs, valid, answered, unchecked);
-    printf("%zu texts compiled; %zu captures, %zu packets; other than libpcap's in undamaged "
-           "files: %zu; bpf_filter other on %zu\n",
-           texts, files, packets, other, apart);
+    printf("%zu damaged captures, %zu packets; bpf_filter other on %zu\n", files, packets, apart);
     printf("%zu runs of programs that capkit_is_portable takes\n", portable);
     printf("%zu steps of runs; %zu instructions printed as libpcap prints them\n", steps_seen,
            printed);

@@ -1,24 +1,50 @@
-"""Writes a pcap capture of Ethernet packets, as many as are asked for, half of them random beyond what an expression looks at first."""
+"""Writes a pcap capture, as many packets as are asked for, half of them random beyond what an
+expression looks at first. usage: random_capture.py COUNT [LINK-TYPE (1, 101 or 113)]"""
 import random
 import struct
 import sys
 
-chance = random.Random(1)
-out = sys.stdout.buffer
-out.write(struct.pack("<IHHIIII", 0xA1B2C3D4, 2, 4, 0, 0, 262144, 1))
+COUNT, LINK = int(sys.argv[1]), int(sys.argv[2]) if len(sys.argv) > 2 else 1
 PORTS = (22, 53, 80, 443, 1023, 65535)
-for number in range(int(sys.argv[1])):
-    size = chance.choice((0, 14, 20, 34, 38, 54, 60, 90))
+IPV4, IPV6, ARP, RARP, VLAN = b"\x08\x00", b"\x86\xdd", b"\x08\x06", b"\x80\x35", b"\x81\x00"
+MAC, NET, NET6 = b"\2\0\0\0\0", b"\x0a\0\0", b"\x20\x01\x0d\xb8" + bytes(11)
+COOKED = bytes.fromhex("0000000100060200000000010000")
+chance = random.Random(1)
+
+
+def address(start):
+    """One of the few addresses that expressions ask for."""
+    return start + bytes([chance.randrange(3)])
+
+
+def ports():
+    return struct.pack(">HH", chance.choice(PORTS), chance.choice(PORTS))
+
+
+def frame(size):
+    """An Ethernet packet of some bytes, with what expressions ask for as far as it reaches."""
     packet = bytearray(chance.randbytes(size))
+    kind = chance.choice((IPV4, IPV4, IPV6, ARP, RARP, VLAN))
     if size >= 14:
-        packet[12:14] = chance.choice((b"\x08\x00", b"\x08\x00", b"\x86\xdd", b"\x08\x06", b"\x81\x00"))
-    if size >= 34:
+        packet[:14] = address(MAC) + address(MAC) + kind
+    if kind == IPV6 and size >= 60:
+        packet[14], packet[20] = 0x60, chance.choice((6, 6, 17, 58, 132))
+        packet[22:58] = address(NET6) + address(NET6) + ports()
+    elif kind in (ARP, RARP) and size >= 54:
+        packet[28:32], packet[38:42] = address(NET), address(NET)
+    elif size >= 34:
         packet[14] = 0x40 + chance.choice((5, 5, 5, 6, 15))
         packet[20:22] = chance.choice((b"\x00\x00", b"\x00\x00", b"\x00\x10", b"\x20\x00"))
         packet[23] = chance.choice((1, 6, 6, 17, 132))
-        packet[26:30] = bytes((10, 0, 0, chance.randrange(3)))
-        packet[30:34] = bytes((10, 0, 0, chance.randrange(3)))
-    if size >= 38:
-        packet[34:38] = struct.pack(">HH", chance.choice(PORTS), chance.choice(PORTS))
-    out.write(struct.pack("<IIII", number, 0, size, size + chance.choice((0, 0, 100))))
-    out.write(packet)
+        packet[26:34] = address(NET) + address(NET)
+        packet[34:38] = ports()[: size - 34]
+    return bytes(packet)
+
+
+out = sys.stdout.buffer
+out.write(struct.pack("<IHHIIII", 0xA1B2C3D4, 2, 4, 0, 0, 262144, LINK))
+for number in range(COUNT):
+    packet = frame(chance.choice((0, 14, 20, 34, 38, 54, 60, 90)))
+    packet = {1: packet, 101: packet[14:], 113: COOKED + packet[12:]}[LINK]
+    original = len(packet) + chance.choice((0, 0, 100))
+    out.write(struct.pack("<IIII", number, 0, len(packet), original) + packet)

@@ -1,7 +1,6 @@
-/* Writes units between pages that can't be touched, holds their bytes against a second encoder, and
- * reads files of them back, by capkit_next and by libpcap. usage: writes SEED ROUNDS */
+/* Writes units between pages that can't be touched, and holds their bytes against a second encoder.
+ * usage: writes SEED ROUNDS */
 #include <capkit.h>
-#include <pcap/pcap.h>
 #include <stdio.h>
 #include <stdlib.h>
 #include "guard.h"
@@ -21,7 +20,7 @@ struct unit {
 };
 
 static uint8_t *first, *second, *third, *fourth, want[GUARDED];
-static size_t size, wrong, whole, no_room, refused, files, packets;
+static size_t size, wrong, whole, no_room, refused;
 
 /* What is written before a packet is put, and the packet's interface, whose name has any length. */
 static struct capkit_writer writer;
@@ -310,131 +309,16 @@ static void random_units(size_t rounds)
     }
 }
 
-/* ---- files, read back */
-
-static uint8_t file[1 << 20];
-
-static size_t append(const struct unit *u, size_t at)
-{
-    size_t length;
-    wrong += call(u, file + at, sizeof file - at, &length) != CAPKIT_WRITTEN;
-    return at + length;
-}
-
-static struct unit packet_for(int form, uint32_t nanoseconds, uint32_t interfaces)
-{
-    struct unit u;
-    do {
-        u = some_unit();
-        u.kind = form;
-        u.nanoseconds = nanoseconds;
-        u.interface = rnd() % interfaces;
-        if (form == RECORD)
-            u.comment_length = 0;
-    } while (u.captured > 1000 || u.comment_length > 1000 || refusal(&u));
-    if (form == RECORD && !nanoseconds)
-        u.time -= u.time % 1000;
-    return u;
-}
-
-static void read_packet(const struct unit *u, const struct unit *described, size_t end,
-                        struct capkit_reader *reader, pcap_t *theirs)
-{
-    static struct capkit_interface interfaces[CAPKIT_MOST_INTERFACES];
-    struct capkit_packet p;
-    char comment[1000];
-    uint32_t found;
-    while ((found = capkit_next_unit(reader, interfaces, CAPKIT_MOST_INTERFACES, file, end, &p)) ==
-           CAPKIT_NO_PACKET)
-        ;
-    packets++;
-    wrong += found != CAPKIT_PACKET || p.time != u->time || p.original != u->original ||
-             p.captured != u->captured || p.link_type != described->link_type ||
-             memcmp(file + p.at, u->bytes, u->captured) ||
-             p.snap != (u->kind == RECORD ? 262144 : described->snap) ||
-             capkit_comment(reader, file, end, &p, comment, sizeof comment) != u->comment_length ||
-             memcmp(comment, u->comment, u->comment_length);
-    if (theirs) {
-        struct pcap_pkthdr *h;
-        const u_char *bytes;
-        wrong += pcap_next_ex(theirs, &h, &bytes) != 1 || h->caplen != u->captured ||
-                 h->len != u->original || memcmp(bytes, u->bytes, u->captured) ||
-                 (uint64_t)h->ts.tv_sec != u->time / 1000000000 ||
-                 (uint64_t)h->ts.tv_usec != u->time % 1000000000;
-    }
-}
-
-static void random_file(void)
-{
-    struct unit units[40], described[8];
-    int form = rnd() % 2 ? RECORD : PACKET, nanoseconds = rnd() % 2;
-    uint32_t interfaces = form == RECORD ? 1 : 1 + rnd() % 8, i, count = rnd() % 40;
-    static uint8_t kept[40][2000];
-    static char names[8][300];
-    size_t end = 0;
-    char why[PCAP_ERRBUF_SIZE];
-    struct unit start = {.kind = form == RECORD ? HEADER : SECTION,
-                         .nanoseconds = nanoseconds,
-                         .link_type = rnd() % 200};
-    end = append(&start, end);
-    described[0] = start;
-    for (i = 0; form == PACKET && i < interfaces; i++) {
-        described[i] = some_unit();
-        described[i].kind = INTERFACE;
-        described[i].captured %= 256;
-        if (interfaces == 1)
-            described[i].link_type = 1, described[i].snap = 262144;
-        memcpy(names[i], described[i].bytes, described[i].captured);
-        described[i].bytes = (uint8_t *)names[i];
-        end = append(&described[i], end);
-    }
-    for (i = 0; i < count; i++) {
-        units[i] = packet_for(form, nanoseconds, interfaces);
-        memcpy(kept[i], units[i].bytes, units[i].captured + units[i].comment_length);
-        units[i].bytes = kept[i];
-        units[i].comment = (char *)kept[i] + units[i].captured;
-        /* libpcap reads seconds of pcap as signed numbers */
-        units[i].time %= form == RECORD ? 2000000000000000000u : UINT64_MAX;
-        if (form == RECORD && !nanoseconds)
-            units[i].time -= units[i].time % 1000;
-        end = append(&units[i], end);
-    }
-    FILE *again = fmemopen(file, end, "rb");
-    pcap_t *theirs =
-        interfaces == 1
-            ? pcap_fopen_offline_with_tstamp_precision(again, PCAP_TSTAMP_PRECISION_NANO, why)
-            : NULL;
-    struct capkit_reader reader = {0};
-    struct capkit_packet p;
-    struct capkit_interface interface[8];
-    files++;
-    wrong += interfaces == 1 && !theirs;
-    for (i = 0; i < count; i++)
-        read_packet(&units[i], &described[form == RECORD ? 0 : units[i].interface], end, &reader,
-                    theirs);
-    while (capkit_next_unit(&reader, interface, 8, file, end, &p) == CAPKIT_NO_PACKET)
-        ;
-    wrong += capkit_next_unit(&reader, interface, 8, file, end, &p) != CAPKIT_END ||
-             reader.offset != end;
-    if (theirs)
-        pcap_close(theirs);
-    else
-        fclose(again);
-}
-
 int main(int argc, char **argv)
 {
-    size_t rounds = argc > 2 ? atol(argv[2]) : 1000, i;
+    size_t rounds = argc > 2 ? atol(argv[2]) : 1000;
     seed = (argc > 1 ? atol(argv[1]) : 1) * 0x9e3779b97f4a7c15u + 1;
     first = guarded();
     second = guarded();
     third = guarded();
     fourth = guarded();
     random_units(rounds);
-    for (i = 0; i < rounds / 20; i++)
-        random_file();
-    printf("%zu units written, %zu without room, %zu refused; %zu files with %zu packets read "
-           "back; broken promises: %zu\n",
-           whole, no_room, refused, files, packets, wrong);
+    printf("%zu units written, %zu without room, %zu refused; broken promises: %zu\n", whole,
+           no_room, refused, wrong);
     return wrong != 0;
 }

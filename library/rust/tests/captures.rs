@@ -83,27 +83,11 @@ fn a_packet_of_the_greatest_length() {
     }
 }
 
-/// An output that fails once it has that many bytes.
-struct Full(usize);
-
-impl Write for Full {
-    fn write(&mut self, bytes: &[u8]) -> io::Result<usize> {
-        if bytes.len() > self.0 {
-            return Err(io::ErrorKind::Other.into());
-        }
-        self.0 -= bytes.len();
-        Ok(bytes.len())
-    }
-
-    fn flush(&mut self) -> io::Result<()> {
-        Ok(())
-    }
-}
-
 #[test]
 fn after_a_failed_write_every_call_fails() {
     let packet = Packet::new(TIME, LINK_ETHERNET, [0; 60]);
-    let mut writer = Writer::new(Full(200), Format::Pcapng);
+    let mut room = [0; 200];
+    let mut writer = Writer::new(&mut room[..], Format::Pcapng);
     let results: Vec<_> = (0..4).map(|_| writer.write(&packet).is_ok()).collect();
     assert_eq!(results, [true, false, false, false]);
     assert!(matches!(writer.finish(), Err(WriteError::Io(_))));
@@ -191,8 +175,6 @@ fn filters() {
     let raw = [&[0x45][..], &[0; 19]].concat();
     assert_eq!(ip.matches(&Packet::new(TIME, LINK_RAW, &raw[..])), Ok(true));
     assert_eq!(ip.matches(&Packet::new(TIME, LINK_ETHERNET, &raw[..])), Ok(false));
-    let error = ip.matches(&Packet::new(TIME, 276, &raw[..])).unwrap_err();
-    assert_eq!(error.to_string(), "link type not filtered");
     let long = Filter::new("greater 1000", LINK_ETHERNET).unwrap();
     assert!(long.matches(&[], 1000) && !long.matches(&[], 999) && !long.is_portable());
     let same = Filter::from_instructions(long.instructions().to_vec());
@@ -219,14 +201,6 @@ fn meanings() {
 
 #[test]
 fn errors_as_text() {
-    for (text, status, shown) in [
-        ("tcp ?", Status::UnknownCharacter, "unknown character (at byte 5)"),
-        ("tcp port", Status::NotAnExpression, "not an expression"),
-        (&"tcp ".repeat(20_000), Status::TooLong, "longer than 65536 bytes"),
-    ] {
-        let error = Expression::new(text).unwrap_err();
-        assert_eq!((error.status, &error.to_string()[..]), (status, shown));
-    }
     let back = Instruction { code: 5, k: 9, ..Default::default() };
     let error = Filter::from_instructions(vec![back]).unwrap_err();
     assert_eq!(error.to_string(), "jump out (instruction 0)");
