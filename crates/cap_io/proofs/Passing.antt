@@ -183,6 +183,6 @@ stage_between stage.Between spans buffer phase none holds = refl
 stage_between stage.Current spans buffer phase none holds =
     absurd (omega (arith, holds.some, holds.there, sym (length-take-le spans.size buffer holds.there) ∙ ap length none))
 stage_between stage.Lent spans buffer phase none holds =
-    absurd (omega (arith, holds.0.some, holds.0.there, sym (length-take-le spans.size buffer holds.0.there) ∙ ap length none))
+    absurd (omega (arith, holds.some, holds.there, sym (length-take-le spans.size buffer holds.there) ∙ ap length none))
 stage_between stage.Ended spans buffer phase none holds = (cc)
 stage_between (stage.Failed fault) spans buffer phase none holds = (cc)

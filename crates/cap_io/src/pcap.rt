@@ -5,7 +5,6 @@ ghost use Rattle.cap_pcapng.specs.Frame.{is_section};
 ghost use Rattle.cap_io.specs.Capture.{Nothing};
 ghost use Rattle.cap_io.specs.inside.Reading.{HeaderCame, Moves, ReadsUnit};
 ghost use Rattle.cap_io.specs.inside.Reading.{RecordLent, NoUnitCame, record_spans};
-ghost use Rattle.cap_io.specs.inside.Source.{AreRecordSpans};
 ghost use Rattle.cap_pcap.specs.Record.{most_captured};
 ghost use Rattle.cap_io.specs.declared.file_state.FileState.TheVariants as state;
 
@@ -94,24 +93,6 @@ pub(crate) fn record_spans(found: &RecordHead) -> PacketSpans
         interface: 0,
         time: found.time,
         orig: found.orig,
-    }
-}
-
-/// Makes the spans those of the packet in a record with this header. If they are a record's already,
-/// as `of_record` tells, what all records have alike stays.
-#[inline(always)]
-pub(crate) fn set_record_spans(spans: &mut PacketSpans, found: &RecordHead, of_record: bool)
-    requires short { found.now.captured ≤ most_captured }
-    requires alike { of_record ≡ true → AreRecordSpans spans.old }
-    ensures { spans.new ≡ record_spans found.now }
-{
-    if of_record {
-        spans.size = RECORD_HEADER_LENGTH as u32 + found.captured;
-        spans.bytes.length = found.captured;
-        spans.time = found.time;
-        spans.orig = found.orig;
-    } else {
-        *spans = record_spans(found);
     }
 }
 

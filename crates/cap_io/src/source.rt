@@ -2,7 +2,7 @@
 use crate::file_state::{FileState, NextUnit};
 use crate::lending::Lending;
 use crate::next_unit::UnitReader;
-use crate::pcap::{holds_record, lend_record, set_record_spans};
+use crate::pcap::{holds_record, lend_record, record_spans};
 use crate::pcapng::holds_packet;
 use cap_octet::{Fault, Input, Packet};
 use cap_pcap::Resolution;
@@ -255,8 +255,7 @@ impl<I: Input, A: Allocator> Source<I, A> {
             return false;
         };
         self.offset += u64::from(size);
-        let of_record = matches!(self.stage, Stage::Lent);
-        set_record_spans(&mut self.reader.spans, &found, of_record);
+        self.reader.spans = record_spans(&found);
         self.stage = Stage::Lent;
         true
     }

@@ -15,17 +15,11 @@ use Rattle.cap_io.specs.Reading.{most_in_unit, read_failures, declared_by}
 use Rattle.cap_io.specs.inside.Reading.{HasInterface, FitsBuffer, IsConsistent}
 use Rattle.cap_io.specs.Source.{SourceView, block_at, unit_at, SkipsUnits, FindsPacket, FindsEnd, IsBroken, end_offset, Reading, Ended}
 
--- the spans are those of a record of pcap, but for its size and its header's fields
-pub record AreRecordSpans (spans : PacketSpans) : Type 0 where
-  pub bytes : spans.bytes.start ≡ 16
-  pub options : spans.options ≡ record { start = 16; length = 0 }
-  pub interface : spans.interface ≡ 0
-
--- if a packet is current, its unit is among these bytes; a record is lent
+-- if a packet is current, its unit is among these bytes
 abbrev pub HoldsIfAny : Stage → PacketSpans → List ℕ → Type 0
 HoldsIfAny stage.Between spans bytes = Unit {0}
 HoldsIfAny stage.Current spans bytes = FitsBuffer spans bytes
-HoldsIfAny stage.Lent spans bytes = FitsBuffer spans bytes × AreRecordSpans spans
+HoldsIfAny stage.Lent spans bytes = FitsBuffer spans bytes
 HoldsIfAny stage.Ended spans bytes = Unit {0}
 HoldsIfAny (stage.Failed fault) spans bytes = Unit {0}
 

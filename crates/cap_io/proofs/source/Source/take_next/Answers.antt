@@ -24,7 +24,7 @@ returns-clause-found g c =
     } in
     let between : IsBetween (past_unit c.args.self.now) = record { phase = c.requires; block = refl; packet = refl } in
     let place : c.self.inside.offset + c.from.result ≡ c.args.self.now.offset + length c.args.self.now.block = omega (arith, ap (λ (v : SourceView). v.offset) view, c.from.ensures, c.current_size-size.ensures) in
-    rw c.set_record_spans.ensures (λ is.
+    rw c.record_spans-self-inside.ensures (λ is.
     takes-after g.I.Input.tells c.args.self.now new (takes-next g.I.Input.tells c.in-Pcap.head found held (past_unit c.args.self.now) new between lent.says lent.short lent.there
     (lent.counted ∙ ap (λ (v : SourceView). v.given + (16 + found.captured)) view)
     lent.bounded
