@@ -12,11 +12,11 @@ pub use Rattle.std.proofs.lemmas.Result.{err_from_is_err_and}
 pub use Rattle.cap_io.specs.Capture.{Declared, Nothing, IsUnit, Placed, placed_at, AreUnits, no_unit, unit_then, NoUnit, front_of, Items, End, items, after_packets, PcapFile, Front, a_pcap_record, is_pcapng, PcapngFile, a_pcap_header, a_first_block, a_block, file_after, first_link_after, Whole, ending_by, front_of_block, unit_unless, no_items, items_with, Ending, FaultAt}
 pub use Rattle.cap_io.specs.RoundTrip.{ReadsBack, Back, InRange, IsPlain, IsCarried}
 pub use Rattle.cap_io.specs.Reading.{most_in_unit, block_length, most_taken, stated_length, decisive_length, IsTaken, TakesMemory, declared_by, read_failures, packet_in_unit, FitUnits, no_unit_fits, unit_fits, held_length, length_by_header}
-pub use Rattle.cap_io.specs.inside.Reading.{RestMissing, NoUnitCame, HeaderCame, PacketCame, BeginsBlock, FrontMissing, HasInterface, IsSized, IsConsistent, ReadsUnit, UnitCame, UnitPassed, known_first_link, known_order, section_before, unit_size, record_spans, EndCame}
+pub use Rattle.cap_io.specs.inside.Reading.{RestMissing, NoUnitCame, HeaderCame, PacketCame, BeginsBlock, FrontMissing, FitsBuffer, HasInterface, UnitLent, IsSized, IsConsistent, ReadsUnit, UnitCame, UnitPassed, known_first_link, known_order, section_before, unit_size, record_spans, EndCame}
 pub use Rattle.cap_io.specs.declared.file_state.FileState.{FileState}
 pub use Rattle.cap_io.specs.Laws.{EachHasCut, EachHasOneCut, CutTellsItems, EachPutGoesByPackets, PutExtendsText}
 pub use Rattle.cap_io.specs.Source.{SourceView, Reading, Ended, Failed, SkipsUnits, IsBroken, FindsPacket, FindsEnd, FindsFault, block_at, end_offset, phase_at, Phase, source_at, Advances, Finds, TakesIfAtHand, packet_at, unit_at, view_of}
-pub use Rattle.cap_io.specs.inside.Source.{IsBetween, TakesNext, HoldsIfAny, past_unit}
+pub use Rattle.cap_io.specs.inside.Source.{IsBetween, TakesNext, HoldsIfAny}
 pub use Rattle.cap_io.specs.Text.{Interface, interface_of, is_same, new_among, interfaces_after_packet, kept_interfaces, is_among, number_among, most_output_interfaces, file_start_in, appended_packet, file_start, record_text, has_link, state_after, checks_in, FitFile, added_text, has_room, packets_text, refusal_of, state_after_packet, takes_memory, takes_memory_in, text}
 pub use Rattle.cap_io.specs.Numbering.{interface_in}
 pub use Rattle.cap_io.specs.declared.numbering.InterfaceNumber.{InterfaceNumber}

@@ -10,15 +10,19 @@ use Rattle.cap_io.proofs.Units.{one_unit}
 
 -- ---- no unit is gone over
 
-pub stays : (old new : SourceView) → IsBetween old → new.declared ≡ old.declared → new.offset ≡ old.offset → old.room ≤ new.room → SkipsUnits old new old.unread
-stays old new between declared place room = record { passed = []; splits = refl; units = rw declared no_unit; offset = rw between.block (omega (arith, place)); room = room; fit = rw declared no_unit_fits }
+pub stays : (old new : SourceView) → new.declared ≡ old.declared → new.offset ≡ end_offset old → old.room ≤ new.room → SkipsUnits old new old.unread
+stays old new declared place room = record { passed = []; splits = refl; units = rw declared no_unit; offset = omega (arith, place); room = room; fit = rw declared no_unit_fits }
+
+-- without a current unit it ends at its offset
+pub no-unit-end : (old : SourceView) (offset : ℕ) → IsBetween old → offset ≡ old.offset → offset ≡ end_offset old
+no-unit-end old offset between place = omega (arith, place, ap length between.block)
 
 pub IsBroken-next : (old new : SourceView) (fault : Fault) → IsBetween old → NoUnitCame old.declared old.unread new.unread fault → new.declared ≡ old.declared → new.offset ≡ old.offset → old.room ≤ new.room
     → (fault ≡ NoMemory → TakesMemory new.room old.declared old.unread) → new.given + length new.unread ≡ old.given + length old.unread
     → new.block ≡ [] → new.packet ≡ None → IsBroken old new fault
 IsBroken-next old new fault between refuses declared place room memory counted block packet = record {
   rest = old.unread;
-  passes = stays old new between declared place room;
+  passes = stays old new declared (no-unit-end old new.offset between place) room;
   why = rw declared refuses.why;
   memory = λ e. rw declared (memory e);
   taken = rw declared refuses.taken;
@@ -30,7 +34,7 @@ IsBroken-next old new fault between refuses declared place room memory counted b
 pub FindsEnd-next : (old new : SourceView) → IsBetween old → EndCame old.declared old.unread new.declared new.unread → new.offset ≡ old.offset → old.room ≤ new.room
     → new.block ≡ [] → new.packet ≡ None → new.phase ≡ Ended → FindsEnd old new
 FindsEnd-next old new between came place room block packet phase = record {
-  passes = let P : List ℕ → Type 0 = λ rest. SkipsUnits old new rest in subst P came.over (stays old new between came.same place room);
+  passes = let P : List ℕ → Type 0 = λ rest. SkipsUnits old new rest in subst P came.over (stays old new came.same (no-unit-end old new.offset between place) room);
   ends = rw came.same came.ends;
   unread = came.rest;
   block = block;
@@ -51,12 +55,12 @@ SkipsUnits-next old new size between came place room fits = record {
   room = room;
 }
 
-pub FindsPacket-next : (old new : SourceView) (spans : PacketSpans) (buffer : List ℕ) → IsBetween old → PacketCame old.declared old.unread buffer spans new.declared new.unread
-    → new.block ≡ take spans.size buffer → new.packet ≡ packet_in_unit new.declared spans (take spans.size buffer) → new.offset ≡ old.offset → old.room ≤ new.room → length (take spans.size buffer) ≤ new.room → new.phase ≡ Reading
+pub FindsPacket-next : (old new : SourceView) (spans : PacketSpans) (buffer : List ℕ) → PacketCame old.declared old.unread buffer spans new.declared new.unread
+    → new.block ≡ take spans.size buffer → new.packet ≡ packet_in_unit new.declared spans (take spans.size buffer) → new.offset ≡ end_offset old → old.room ≤ new.room → length (take spans.size buffer) ≤ new.room → new.phase ≡ Reading
     → FindsPacket old new
-FindsPacket-next old new spans buffer between came block packet place room fits phase =
+FindsPacket-next old new spans buffer came block packet place room fits phase =
     let P : List ℕ → Type 0 = λ rest. SkipsUnits old new rest in record {
-      passes = subst P (came.splits ∙ ap (λ (l : List ℕ). l ++ new.unread) (sym block)) (stays old new between came.same place room);
+      passes = subst P (came.splits ∙ ap (λ (l : List ℕ). l ++ new.unread) (sym block)) (stays old new came.same place room);
       packet = came.packet;
       held = packet ∙ ap (λ (d : Declared). packet_in_unit d spans (take spans.size buffer)) came.same ∙ came.is_lent;
       unit = rw (block, came.same) came.unit;

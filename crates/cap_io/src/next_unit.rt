@@ -1,12 +1,15 @@
 //! The next unit of a file of either format.
-ghost use Rattle.std.specs.Prelude.{◌≡◌, ◌++◌, IsTrue, IfOk, IfErr, [], length};
+ghost use Rattle.std.specs.Prelude.{◌≡◌, ◌++◌, IsTrue, IfOk, IfErr, IfSome, IsNone, [], length};
 ghost use Rattle.cap_io.specs.Capture.{Nothing};
+ghost use Rattle.cap_io.specs.Reading.{declared_by};
 ghost use Rattle.cap_io.specs.inside.Reading.{IsConsistent, Moves, ReadsUnit, NoUnitCame};
+ghost use Rattle.cap_io.specs.inside.Reading.{UnitLent};
 ghost use Rattle.cap_io.specs.declared.file_state.FileState.TheVariants as state;
 
 use crate::file_state::{FileState, NextUnit};
-use crate::pcap::read_header;
-use crate::pcapng::BLOCK_FRONT;
+use crate::lending::Lending;
+use crate::pcap::{lend_record, read_header};
+use crate::pcapng::{BLOCK_FRONT, lend_block};
 use crate::unit::read_rest;
 use cap_octet::{Fault, Input, read_full};
 use cap_pcapng::{PacketSpans, Table, begins_section};
@@ -48,6 +51,29 @@ pub(crate) struct UnitReader<I: Input, A: Allocator> {
     pub(crate) table: Table<A>,
     /// The place where the packet of the current unit lies, if it has one.
     pub(crate) spans: PacketSpans,
+}
+
+/// Lends the next unit and returns the place of its packet, if it has one, the device has all of it
+/// at hand and would pass it, it has at most `room` bytes, and it fails no check. `None` if not: then
+/// nothing changes.
+#[inline(always)]
+pub(crate) fn lend_unit<I: Input, A: Allocator>(
+    input: &mut Lending<I>,
+    file: &FileState,
+    table: &Table<A>,
+    room: usize,
+) -> Option<PacketSpans>
+    requires { IsConsistent file.now table.now }
+    ensures lent { IfSome result (λ spans. UnitLent I.Input (declared_by file.now table.now) room
+        input.old spans input.new) }
+    ensures nothing { IsNone result → (input.new.input ≡ input.old.input)
+        × (input.new.lent ≡ input.old.lent) }
+{
+    match file {
+        FileState::Unknown => None,
+        FileState::Pcap(head) => lend_record(input, head, room),
+        FileState::Pcapng(order, _) => lend_block(input, *order, table, room),
+    }
 }
 
 impl<I: Input, A: Allocator> UnitReader<I, A> {

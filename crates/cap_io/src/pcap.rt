@@ -2,9 +2,9 @@
 ghost use Rattle.std.specs.Prelude.{◌≡◌, ℕ, ◌+◌, ◌^◌, ◌<◌, ◌≤◌, ◌++◌, false, true, IsTrue, IfOk, IfErr};
 ghost use Rattle.std.specs.Prelude.{List, [], length, IfSome, IsNone};
 ghost use Rattle.cap_pcapng.specs.Frame.{is_section};
-ghost use Rattle.cap_io.specs.Capture.{Nothing};
+ghost use Rattle.cap_io.specs.Capture.{Nothing, PcapFile};
 ghost use Rattle.cap_io.specs.inside.Reading.{HeaderCame, Moves, ReadsUnit};
-ghost use Rattle.cap_io.specs.inside.Reading.{RecordLent, NoUnitCame, record_spans};
+ghost use Rattle.cap_io.specs.inside.Reading.{NoUnitCame, UnitLent, record_spans};
 ghost use Rattle.cap_pcap.specs.Record.{most_captured};
 ghost use Rattle.cap_io.specs.declared.file_state.FileState.TheVariants as state;
 
@@ -43,16 +43,16 @@ pub(crate) fn read_header<I: Input>(input: &mut I, first: &[u8; 4]) -> Result<He
     read_head(&bytes)
 }
 
-/// The fast way of `next_record`: lends the next record and returns its header, if the device has
-/// all of it at hand and would pass it, it has at most `room` bytes, and it fails no check. `None` if
-/// not: then nothing changes.
+/// Lends the next record and returns the place of its packet, if the device has all of it at hand and
+/// would pass it, it has at most `room` bytes, and it fails no check. `None` if not: then nothing
+/// changes.
 #[inline(always)]
 pub(crate) fn lend_record<I: Input>(
     input: &mut Lending<I>,
     head: &Head,
     room: usize,
-) -> Option<RecordHead>
-    ensures lent { IfSome result (λ found. RecordLent I.Input head.now room input.old found
+) -> Option<PacketSpans>
+    ensures lent { IfSome result (λ spans. UnitLent I.Input (PcapFile head.now) room input.old spans
         input.new) }
     ensures nothing { IsNone result → (input.new.input ≡ input.old.input)
         × (input.new.lent ≡ input.old.lent) }
@@ -66,7 +66,7 @@ pub(crate) fn lend_record<I: Input>(
     if size > room || !input.lend(size) {
         return None;
     }
-    Some(found)
+    Some(record_spans(&found))
 }
 
 /// Whether the next record is wholly among these bytes, by its captured length.

@@ -1,8 +1,8 @@
 //! Packets of a capture, one at a time.
 use crate::file_state::{FileState, NextUnit};
 use crate::lending::Lending;
-use crate::next_unit::UnitReader;
-use crate::pcap::{holds_record, lend_record, record_spans};
+use crate::next_unit::{UnitReader, lend_unit};
+use crate::pcap::holds_record;
 use crate::pcapng::holds_packet;
 use cap_octet::{Fault, Input, Packet};
 use cap_pcap::Resolution;
@@ -37,9 +37,9 @@ pub(crate) enum Stage {
     Failed(Fault),
 }
 
-/// Reads the packets of a capture from a device. A record of pcap that the device has at hand stays
-/// there; other units are read into one buffer. For pcapng there is also the table of a section's
-/// interfaces.
+/// Reads the packets of a capture from a device. A unit with a packet stays in the device's buffer, if
+/// that has all of it; other units are read into one buffer. For pcapng there is also the table of a
+/// section's interfaces.
 #[derive(Drop)]
 pub struct Source<I: Input, A: Allocator> {
     reader: UnitReader<Lending<I>, A>,
@@ -117,8 +117,8 @@ impl<I: Input, A: Allocator> Source<I, A> {
         }
     }
 
-    /// Goes on to the next packet, as `advance` does, if the device has it at hand: if both it and
-    /// the current one are records of pcap that are lent. `false` if not: then nothing changes.
+    /// Goes on to the next packet, as `advance` does, if it follows a current packet that is lent, and
+    /// the device has it at hand too. `false` if not: then nothing changes.
     // It is apart from `advance` so that it is inlined without the rest.
     #[inline(always)]
     pub fn take_at_hand(&mut self) -> bool
@@ -234,11 +234,11 @@ impl<I: Input, A: Allocator> Source<I, A> {
         self.skip_to_packet()
     }
 
-    /// Ends the current unit, if there is one, and lends the next record of a pcap file, if the
-    /// device has it at hand, the buffer has room for it and it fails no check: its packet is the
-    /// current one then. `false` if not: then nothing changes.
-    // A record for which the buffer has no room makes it grow: so memory runs out only at a record
-    // that is longer than all before it.
+    /// Ends the current unit, if there is one, and lends the next one, if it has a packet, the device
+    /// has it at hand, the buffer has room for it and it fails no check: its packet is the current one
+    /// then. `false` if not: then nothing changes.
+    // A unit for which the buffer has no room makes it grow: so memory runs out only at a unit that
+    // is longer than all before it.
     #[inline(always)]
     fn take_next(&mut self) -> bool
         requires { self.old.phase ≡ Reading }
@@ -247,15 +247,13 @@ impl<I: Input, A: Allocator> Source<I, A> {
         ensures declared { self.new.declared ≡ self.old.declared }
     {
         let size = self.current_size();
-        let FileState::Pcap(head) = &self.reader.file else {
+        let reader = &mut self.reader;
+        let room = reader.buffer.len();
+        let Some(spans) = lend_unit(&mut reader.input, &reader.file, &reader.table, room) else {
             return false;
         };
-        let room = self.reader.buffer.len();
-        let Some(found) = lend_record(&mut self.reader.input, head, room) else {
-            return false;
-        };
+        reader.spans = spans;
         self.offset += u64::from(size);
-        self.reader.spans = record_spans(&found);
         self.stage = Stage::Lent;
         true
     }

@@ -1,6 +1,7 @@
 -- What a device lends before it passes it.
 use Rattle.std.specs.Prelude.{◌≡◌, ℕ, ◌+◌, ◌^◌, ◌<◌, ◌≤◌, drop, length}
 use Rattle.std.specs.Io.{StartsWith}
+use Rattle.cap_octet.specs.Device.{HasGiven}
 use Rattle.cap_octet.specs.declared.device.Input.{Ghosts}
 
 -- The device had lent `lent` bytes, and passes them; then it lends the first `count` bytes that it has
@@ -14,4 +15,5 @@ pub record Lends {I : Type 0} (device : Ghosts I) (count : ℕ) (old : I) (lent 
   pub bounded : device.given new + count < 2 ^ 63
   pub failures : device.failures new ≡ device.failures old
   pub sure : device.sure new ≡ device.sure old
+  pub enough : 0 < device.failures new → HasGiven (device.sure new) (device.given new + lent')
   pub rest : device.unread new ≡ drop lent (device.unread old)

@@ -1,16 +1,14 @@
 -- The effect of a call that reads one unit (a file header, a record or a block): on the device, the
 -- buffer and the state of the file. A clause after `IsTrue device.tells` applies only if contracts
 -- know the bytes of the device.
-use Rattle.std.specs.Prelude.{◌≡◌, ℕ, ◌+◌, ◌^◌, ◌<◌, ◌≤◌, ◌⊎◌, Bool, true, false, List, [], ◌∷◌, ◌++◌, length, take, drop, Option, None, Some, Result, Ok, Err, IfOk, IfErr, is_some, IsTrue, OnOk, OnErr}
+use Rattle.std.specs.Prelude.{◌≡◌, ℕ, ◌+◌, ◌^◌, ◌<◌, ◌≤◌, ◌⊎◌, Bool, true, false, List, [], ◌∷◌, ◌++◌, length, take, drop, Option, None, Some, Result, Err, IfOk, IfErr, is_some, IsTrue, OnOk, OnErr}
 use Rattle.std.specs.List.{slice_get}
 use Rattle.cap_octet.specs.Packet.{Captured}
 use Rattle.cap_octet.specs.declared.fault.Fault.{Fault}
 use Rattle.cap_octet.specs.declared.fault.Fault.TheVariants.{NoMemory, ReadFailed, Truncated}
-use Rattle.cap_octet.specs.Checks.{checked, first_failing}
 use Rattle.cap_octet.specs.declared.number.Order.{Order}
 use Rattle.cap_octet.specs.declared.device.Input.{Ghosts}
 use Rattle.cap_pcap.specs.Header.{IsHeader}
-use Rattle.cap_pcap.specs.Record.{field_checks, most_captured, record_header_in}
 use Rattle.cap_octet.specs.Device.{HasGiven}
 use Rattle.cap_pcapng.specs.Frame.{is_section}
 use Rattle.cap_pcapng.specs.Interface.{Described, FitSection}
@@ -139,28 +137,6 @@ record_spans found = record {
   orig = found.orig;
 }
 
--- A whole record is lent, which fails no check and has at most `room` bytes; `found` is its header.
--- The device has it at hand, gave no more, and didn't fail in this call.
-pub record RecordLent {I : Type 0} (device : Ghosts I) (head : Head) (room : ℕ) (old : Lending I device)
-    (found : RecordHead) (new : Lending I device) : Type 0 where
-  pub says : checked (first_failing (field_checks head (take 16 (device.held new.input))))
-      (record_header_in head (take 16 (device.held new.input))) ≡ Ok found
-  pub short : found.captured ≤ most_captured
-  pub in_range : found.time < 2 ^ 63
-  pub there : 16 + found.captured ≤ length (device.held new.input)
-  pub fits : 16 + found.captured ≤ room
-  pub counted : device.given new.input + new.lent
-      ≡ device.given old.input + old.lent + (16 + found.captured)
-  pub bounded : device.given new.input + new.lent < 2 ^ 63
-  pub failed : device.failures new.input ≡ device.failures old.input
-  pub sure : device.sure new.input ≡ device.sure old.input
-  pub enough : 0 < device.failures new.input
-      → HasGiven (device.sure new.input) (device.given new.input + new.lent)
-  pub splits : IsTrue device.tells
-      → drop old.lent (device.unread old.input)
-      ≡ take (16 + found.captured) (device.held new.input)
-      ++ drop new.lent (device.unread new.input)
-
 -- a unit of `size` bytes without a packet was read
 pub record UnitPassed (declared : Declared) (unread : List ℕ) (size : ℕ) (declared' : Declared)
     (unread' : List ℕ) : Type 0 where
@@ -178,6 +154,24 @@ pub record PacketCame (declared : Declared) (unread buffer : List ℕ) (spans : 
   pub unit : IsUnit declared (take spans.size buffer) (packet ∷ []) declared
   pub same : declared' ≡ declared
   pub splits : unread ≡ take spans.size buffer ++ unread'
+
+-- A whole unit with a packet is lent: it is at the start of the bytes at hand, its packet at these
+-- spans, and it has at most `room` bytes. The device gave no more, and didn't fail in this call.
+pub record UnitLent {I : Type 0} (device : Ghosts I) (declared : Declared) (room : ℕ)
+    (old : Lending I device) (spans : PacketSpans) (new : Lending I device) : Type 0 where
+  pub lies : FitsBuffer spans (device.held new.input)
+  pub known : HasInterface declared spans
+  pub fits : spans.size ≤ room
+  pub counted : device.given new.input + new.lent
+      ≡ device.given old.input + old.lent + spans.size
+  pub bounded : device.given new.input + new.lent < 2 ^ 63
+  pub failed : device.failures new.input ≡ device.failures old.input
+  pub sure : device.sure new.input ≡ device.sure old.input
+  pub enough : 0 < device.failures new.input
+      → HasGiven (device.sure new.input) (device.given new.input + new.lent)
+  pub came : IsTrue device.tells
+      → PacketCame declared (drop old.lent (device.unread old.input)) (device.held new.input) spans
+      declared (drop new.lent (device.unread new.input))
 
 -- the clean end: a unit was read before, and no bytes are unread
 pub record EndCame (declared : Declared) (unread : List ℕ) (declared' : Declared)

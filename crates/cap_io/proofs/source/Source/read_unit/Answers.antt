@@ -1,6 +1,6 @@
 use Rattle.cap_io.proofs.Common.{◌+◌, ◌∙◌, Err, arith, length, refl, ap, ap₂, err_from_is_err_and, length-take, declared_by, SourceView, block_at, packet_at, unit_at, view_of}
 use Rattle.cap_io.specs.declared.source.Stage.TheVariants as stage
-use Rattle.cap_io.proofs.Passing.{FindsEnd-next, FindsPacket-next, IsBroken-next, SkipsUnits-next, stage_between}
+use Rattle.cap_io.proofs.Passing.{FindsEnd-next, FindsPacket-next, IsBroken-next, SkipsUnits-next, no-unit-end, stage_between}
 use Rattle.cap_io.proofs.source.Source.read_unit.Goals as goal
 
 pub returns-in_err-unit-clause-packets : goal.returns-in_err-unit-clause-packets
@@ -24,8 +24,8 @@ returns-in-Packet-clause-packets g c = λ t.
     let unread = ap (λ (v : SourceView). v.unread) c.self.view_is in
     let room = ap (λ (v : SourceView). v.room) c.self.view_is in
     let new = view_of g.I.Input stage.Current c.next_unit.new.self c.self.inside.offset in
-    rw c.in-Packet.is (FindsPacket-next c.args.self.now new c.next_unit.new.self.spans c.next_unit.new.self.buffer.items c.requires.between
-    (rw (declared, unread) at (rw c.in-Packet.is at (c.in_ok-unit.ensures.ok t))) refl refl (ap (λ (v : SourceView). v.offset) c.self.view_is) (omega (arith, c.in_ok-unit.ensures.grown, room)) (omega (arith, length-take c.next_unit.new.self.spans.size c.next_unit.new.self.buffer.items)) refl)
+    rw c.in-Packet.is (FindsPacket-next c.args.self.now new c.next_unit.new.self.spans c.next_unit.new.self.buffer.items
+    (rw (declared, unread) at (rw c.in-Packet.is at (c.in_ok-unit.ensures.ok t))) refl refl (no-unit-end c.args.self.now _ c.requires.between (ap (λ (v : SourceView). v.offset) c.self.view_is)) (omega (arith, c.in_ok-unit.ensures.grown, room)) (omega (arith, length-take c.next_unit.new.self.spans.size c.next_unit.new.self.buffer.items)) refl)
 
 pub returns-in-Other-clause-packets : goal.returns-in-Other-clause-packets
 returns-in-Other-clause-packets g c = λ t.

@@ -1,11 +1,11 @@
 use Rattle.std.proofs.Common.{◌∙◌, ap, arith, Ok, refl}
 use Rattle.std.proofs.lemmas.Result.{err_from_is_err_and}
-use Rattle.cap_io.proofs.Passing.{FindsEnd-then, FindsPacket-then, IsBroken-then, SkipsUnits-then, stays}
+use Rattle.cap_io.proofs.Passing.{FindsEnd-then, FindsPacket-then, IsBroken-then, SkipsUnits-then, no-unit-end, stays}
 use Rattle.cap_io.proofs.source.Source.skip_to_packet.Goals as goal
 
 pub loop-init : goal.loop-init
 loop-init g c = record {
-  packets = λ t. stays c.args.self.now c.args.self.now c.requires.between refl refl (omega arith);
+  packets = λ t. stays c.args.self.now c.args.self.now refl (no-unit-end c.args.self.now _ c.requires.between refl) (omega arith);
   between = c.requires.between;
   given = omega arith;
   failures = refl;
