@@ -1,9 +1,7 @@
 //! An input whose bytes are lent before it passes them.
-ghost use Rattle.std.specs.Prelude.{◌≡◌, ℕ, ◌+◌, ◌^◌, ◌<◌, ◌≤◌, IsTrue, IfOk, length, drop, take};
-ghost use Rattle.std.specs.Prelude.{[], false, if◌then◌else◌, true};
+ghost use Rattle.std.specs.Prelude.{◌≡◌, ◌+◌, ◌^◌, ◌<◌, ◌≤◌, IsTrue, drop, false, length, true};
 ghost use Rattle.std.proofs.Common.{rules};
 ghost use Rattle.std.specs.Io.{StartsWith};
-ghost use Rattle.cap_octet.specs.Device.{Reads, count_of, failures_of};
 ghost use Rattle.cap_io.specs.inside.Lending.{Lends};
 
 use cap_octet::{DeviceFault, Input};
@@ -110,34 +108,18 @@ impl<I: Input> Input for Lending<I> {
     ghost sure = { λ s. I.sure s.input };
 
     /// Passes what is lent, and makes a read of the input.
-    fn read(&mut self, buf: &mut [u8]) -> Result<usize, DeviceFault>
-        ensures within { IfOk result (λ n. n ≤ length buf.old) }
-        ensures counted { I.given self.new.input + self.new.lent
-            ≡ I.given self.old.input + self.old.lent + count_of result }
-        ensures bounded { I.given self.new.input + self.new.lent < 2 ^ 63 }
-        ensures failed { I.failures self.new.input
-            ≡ I.failures self.old.input + failures_of result }
-        ensures sure { I.sure self.new.input ≡ I.sure self.old.input }
-        ensures exact { IsTrue I.tells → Reads (drop self.old.lent (I.unread self.old.input))
-            buf.old result (drop self.new.lent (I.unread self.new.input)) buf.new }
-    {
+    fn read(&mut self, buf: &mut [u8]) -> Result<usize, DeviceFault> {
         self.settle();
         self.input.read(buf)
     }
 
     /// Shows none: `Lending` itself lends what is at hand.
-    fn at_hand(&self) -> &[u8]
-        ensures exact { IsTrue I.tells
-            → StartsWith (drop self.now.lent (I.unread self.now.input)) result.now }
-        ensures held { result.now ≡ [] }
-    {
+    fn at_hand(&self) -> &[u8] {
         &[]
     }
 
     /// It passes none.
-    fn can_pass(&self, _count: usize) -> bool
-        ensures { result ≡ false }
-    {
+    fn can_pass(&self, _count: usize) -> bool {
         false
     }
 

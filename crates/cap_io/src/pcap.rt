@@ -12,16 +12,13 @@ use crate::file_state::NextUnit;
 use crate::lending::Lending;
 use crate::next_unit::UnitReader;
 use crate::unit::{make_room, read_front, read_rest};
-use cap_octet::{Fault, Input, u32_at};
+use cap_octet::{Fault, Input};
 use cap_pcap::{Head, RecordHead, read_head, read_magic, read_record};
 use cap_pcapng::{PacketSpans, Span};
 use std::alloc::Allocator;
 
 /// How many bytes of a record are in front of its data.
 const RECORD_HEADER_LENGTH: usize = 16;
-
-/// The place where a record has its captured length.
-const CAPTURED_LENGTH_OFFSET: usize = 8;
 
 /// Reads the file header of pcap, whose first four bytes came already. If these aren't a magic
 /// number, the error is `NotACaptureFile`, and no more is read. Otherwise it is `Truncated` or
@@ -67,17 +64,6 @@ pub(crate) fn lend_record<I: Input>(
         return None;
     }
     Some(record_spans(&found))
-}
-
-/// Whether the next record is wholly among these bytes, by its captured length.
-// No more of its answer is stated: see `Source::has_next_at_hand`.
-pub(crate) fn holds_record(head: &Head, bytes: &[u8]) -> bool
-    ensures { result ≡ true → 12 ≤ length bytes.now }
-{
-    if bytes.len() < RECORD_HEADER_LENGTH {
-        return false;
-    }
-    u32_at(head.order, bytes, CAPTURED_LENGTH_OFFSET) as usize <= bytes.len() - RECORD_HEADER_LENGTH
 }
 
 /// The place where the packet of a record with this header lies: after the header, without options.
