@@ -1,5 +1,5 @@
 -- The view of a job's output.
-use Rattle.std.specs.Prelude.{◌≡◌, ℕ, ◌+◌, List, ◌++◌}
+use Rattle.std.specs.Prelude.{◌≡◌, ℕ, List, ◌++◌}
 use Rattle.cap_octet.specs.Packet.{Captured}
 use Rattle.cap_print.specs.declared.print.Options.{Options}
 use Rattle.cap_io.specs.Sink.{SinkView, HasPackets, sink_at}

@@ -1,13 +1,11 @@
 use Rattle.std.proofs.Common.{rules}
-use Rattle.cap_tools.proofs.Common.{◌≡◌, ◌∙◌, ◌&&◌, Bool, true, false, Result, Ok, Some, refl, sym, ap, arith, subst, Option, None, Fault, OutputView, InputsView, is_clean_end, next-is-of, Policy, SelectorView, policy_state, JobState, StepLeaves, asks_report, Preparing, preparing_of, option_map, state_at, JobView, reads_on, is_fault, IsStep}
+use Rattle.cap_tools.proofs.Common.{◌≡◌, ◌∙◌, true, Ok, refl, sym, ap, arith, subst, Option, None, OutputView, next-is-of, SelectorView, policy_state, JobState, Preparing, preparing_of, option_map, state_at, JobView, reads_on, IsStep}
 use Rattle.cap_inputs.specs.declared.inputs.Next.TheVariants as next
-use Rattle.cap_tools.specs.declared.step.JobEnd.TheVariants as end
 use Rattle.cap_inputs.specs.inside.Inputs as input_spec
 use Rattle.cap_tools.proofs.Preparing.{ready-none}
-use Rattle.cap_tools.proofs.Programs.{have-kept}
-use Rattle.cap_tools.proofs.Fetches.{Follows, FetchLeaves, read_input-leaves}
-use Rattle.cap_tools.proofs.Kept.{counted-kept, counted-turns, few-kept}
-use Rattle.cap_tools.proofs.Lefts.{Goes, read_input-kept, read_input-less, read_input-paid}
+use Rattle.cap_tools.proofs.Fetches.{read_input-leaves}
+use Rattle.cap_tools.proofs.Kept.{counted-kept, few-kept}
+use Rattle.cap_tools.proofs.Lefts.{read_input-kept, read_input-less, read_input-paid}
 use Rattle.cap_tools.proofs.Weights.{read_input-small, is-light}
 use Rattle.cap_tools.proofs.job.Job.take_at_hand.Goals as goal
 
