@@ -152,6 +152,15 @@ impl<I: Input, A: Allocator> InputCursor<I, A> {
         self.waiting = false;
     }
 
+    /// Whether the next packet is at hand, so that no read is made for it; `false` if that isn't
+    /// known.
+    // No more of its answer is stated: see `Source::has_next_at_hand`.
+    fn has_next_at_hand(&self) -> bool
+        ensures comes { IsTrue I.tells → result ≡ true → 12 ≤ length self.now.source.unread }
+    {
+        self.source.has_next_at_hand()
+    }
+
     /// The first link type that the units read so far declare; `None` if none does.
     fn first_link(&self) -> Option<u16>
         ensures { result ≡ first_link_of self.now.source.declared }
@@ -221,6 +230,7 @@ impl<I: Input, A: Allocator> Model for Inputs<I, A> {
 
 impl<I: Input, A: Allocator> Inputs<I, A> {
     ghost use Rattle.cap_inputs.specs.Fresh.{fresh_inputs};
+    ghost use Rattle.std.specs.List.{slice_get};
     ghost use Rattle.cap_inputs.specs.Inputs.{offset_at};
     ghost use Rattle.cap_inputs.specs.Inputs.{InputsView, IsInput, MarksDecided};
     ghost use Rattle.cap_inputs.specs.inside.Inputs.{IsNext};
@@ -309,6 +319,19 @@ impl<I: Input, A: Allocator> Inputs<I, A> {
     {
         self.cursors[input].mark_decided();
         update_after_decision(&mut self.queue, &mut self.schedule, input);
+    }
+
+    /// Whether the next packet of an input is at hand, so that no read is made for it; `false`
+    /// if that isn't known, or there is no such input.
+    // No more of its answer is stated: see `Source::has_next_at_hand`.
+    pub fn has_next_at_hand(&self, input: usize) -> bool
+        ensures comes { IsTrue I.tells → result ≡ true → IfSome
+            (slice_get self.now.cursors input) (λ cursor. 12 ≤ length cursor.source.unread) }
+    {
+        match self.cursors.get(input) {
+            Some(cursor) => cursor.has_next_at_hand(),
+            None => false,
+        }
     }
 
     /// The first link type that the inputs declare so far, in their order; `None` if none does.

@@ -1,5 +1,5 @@
 -- A record that a device had at hand.
-use Rattle.cap_io.proofs.Common.{subst, ◌≡◌, ℕ, Bool, true, IsTrue, is_some, ◌+◌, ◌^◌, ◌<◌, ◌≤◌, List, ◌++◌, length, take, drop, Ok, refl, sym, ap, ◌∙◌, arith, add-zero, length-take, length-take-le, take-take, take-append-drop, append_assoc, HasGiven, checked, first_failing, Head, RecordHead, field_checks, record_header_in, PacketSpans, most_in_unit, packet_in_unit, PacketCame, record_spans, Declared, PcapFile, SourceView, Phase, Reading, Advances, FitsBuffer, HasInterface, Option, Some, None, option_map, Captured, end_offset, TakesIfAtHand, TakesNext, false}
+use Rattle.cap_io.proofs.Common.{rules, subst, ◌≡◌, ℕ, Bool, true, IsTrue, is_some, ◌+◌, ◌^◌, ◌<◌, ◌≤◌, List, ◌++◌, length, take, drop, Ok, refl, sym, ap, ◌∙◌, arith, length-take, length-take-le, take-take, take-append-drop, append_assoc, HasGiven, checked, first_failing, Head, RecordHead, field_checks, record_header_in, PacketSpans, most_in_unit, packet_in_unit, PacketCame, record_spans, Declared, PcapFile, SourceView, Phase, Reading, Advances, FitsBuffer, HasInterface, Option, Some, None, option_map, Captured, end_offset, TakesIfAtHand, TakesNext, false}
 use Rattle.cap_io.specs.Source.{Steps}
 use Rattle.cap_io.proofs.Passing.{FindsPacket-next, time-held}
 use Rattle.cap_io.proofs.Came.{fields_came, record_came}
@@ -50,44 +50,16 @@ takes-next tells spans hand old new lies known fits given bounded failures sure 
     let some : is_some new.packet ≡ true = ap is_some packet ∙ packet-there new.declared spans (take spans.size hand) known in
     record {
       packet = λ t. FindsPacket-next old new spans hand (came t) block packet offset (omega (arith, same)) (omega (arith, ap length block, whole, fits)) phase;
-      bounds = record {
-        given = omega (arith, given);
-        failures = failures ∙ sym (add-zero old.failures);
-        sure = sure;
-        enough = enough;
-        block = omega (arith, whole, fits);
-        held = held;
-        room = omega (arith, same);
-        packet = λ is. (omega (arith, given, lies.some), bounded, some);
-        counted = omega (arith, given, whole, offset);
-        broken = tt;
-        ended = λ is. (cc);
-        found = λ is. phase;
-        passed = λ n is. (cc);
-      };
+      bounds = search rules;
     }
 
 -- what `take_at_hand` returns
 pub if-at-hand : (tells : Bool) (old new : SourceView) (r : Bool) → old.phase ≡ Reading → (IsTrue r → TakesNext tells old new) → (r ≡ false → new ≡ old) → TakesIfAtHand tells old r new
 if-at-hand tells old new true reading found nothing =
     let takes = found refl in
-    let bounds = takes.bounds in
-    let some = bounds.packet refl in (
+    let bounds = takes.bounds in (
       subst (λ (p : Phase). IsTrue tells → Advances p old (Ok true) new) (sym reading) takes.packet,
-      subst (λ (p : Phase). Steps p old (Ok true) new) (sym reading) (record {
-        given = bounds.given;
-        failures = bounds.failures;
-        sure = bounds.sure;
-        enough = bounds.enough;
-        block = bounds.block;
-        held = bounds.held;
-        room = bounds.room;
-        progress = λ is. some.0;
-        bounded = λ is. some.1;
-        packet = λ is. some.2;
-        counted = bounds.counted;
-        broken = tt;
-      }),
+      subst (λ (p : Phase). Steps p old (Ok true) new) (sym reading) (search rules),
       bounds.found refl,
     )
 if-at-hand tells old new false reading found nothing = nothing refl

@@ -12,7 +12,7 @@ use crate::file_state::NextUnit;
 use crate::lending::Lending;
 use crate::next_unit::UnitReader;
 use crate::unit::{make_room, read_front, read_rest};
-use cap_octet::{Fault, Input};
+use cap_octet::{Fault, Input, u32_at};
 use cap_pcap::{Head, RecordHead, read_head, read_magic, read_record};
 use cap_pcapng::{PacketSpans, Span};
 use std::alloc::Allocator;
@@ -64,6 +64,17 @@ pub(crate) fn lend_record<I: Input>(
         return None;
     }
     Some(record_spans(&found))
+}
+
+/// Whether the next record is wholly among these bytes, by its captured length.
+// No more of its answer is stated: see `Source::has_next_at_hand`.
+pub(crate) fn holds_record(head: &Head, bytes: &[u8]) -> bool
+    ensures { result ≡ true → 12 ≤ length bytes.now }
+{
+    if bytes.len() < RECORD_HEADER_LENGTH {
+        return false;
+    }
+    u32_at(head.order, bytes, 8) as usize <= bytes.len() - RECORD_HEADER_LENGTH
 }
 
 /// The place where the packet of a record with this header lies: after the header, without options.

@@ -13,7 +13,7 @@ use crate::lending::Lending;
 use crate::next_unit::UnitReader;
 use crate::unit::{make_room, read_front, read_rest};
 use cap_octet::{Fault, Input, Order};
-use cap_pcapng::{BlockEffect, Frame, PacketSpans, Table, block_effect, frame};
+use cap_pcapng::{BlockEffect, BlockType, Frame, PacketSpans, Table, block_effect, frame};
 use std::alloc::Allocator;
 
 /// How many bytes of a block are read first: the 8 in front of its body, and 4 of that, which in a
@@ -95,6 +95,31 @@ pub(crate) fn lend_block<I: Input, A: Allocator>(
         return None;
     }
     Some(spans)
+}
+
+/// Whether the next block with a packet, and all blocks before it, are wholly among these bytes.
+/// `false` even if a block among them fails a check of its frame.
+// No more of its answer is stated: see `Source::has_next_at_hand`.
+pub(crate) fn holds_packet(order: Order, bytes: &[u8]) -> bool
+    ensures { result ≡ true → 12 ≤ length bytes.now }
+{
+    let mut order = order;
+    let mut rest = bytes;
+    while let Some(front) = rest.first_chunk::<BLOCK_FRONT>() {
+        let Ok(frame) = frame(Some(order), front) else {
+            return false;
+        };
+        let size = frame.length as usize;
+        if size > rest.len() {
+            return false;
+        }
+        if let BlockType::SimplePacket | BlockType::EnhancedPacket = frame.block_type {
+            return true;
+        }
+        order = frame.order;
+        rest = &rest[size..];
+    }
+    false
 }
 
 impl<I: Input, A: Allocator> UnitReader<I, A> {

@@ -2,6 +2,8 @@
 use crate::file_state::{FileState, NextUnit};
 use crate::lending::Lending;
 use crate::next_unit::{UnitReader, lend_unit};
+use crate::pcap::holds_record;
+use crate::pcapng::holds_packet;
 use cap_octet::{Fault, Input, Packet};
 use cap_pcap::Resolution;
 use cap_pcapng::{PacketSpans, Table};
@@ -126,6 +128,21 @@ impl<I: Input, A: Allocator> Source<I, A> {
         match self.stage {
             Stage::Lent => self.take_next(),
             Stage::Between | Stage::Current | Stage::Ended | Stage::Failed(_) => false,
+        }
+    }
+
+    /// Whether the device has all bytes up to the end of the next packet at hand, so that `advance`
+    /// makes it read nothing. `false` if they don't show that, as before the first unit.
+    // The clause states no more than that something comes: a job only asks whether to release its
+    // output before a read that may wait.
+    pub fn has_next_at_hand(&self) -> bool
+        ensures comes { IsTrue I.tells → result ≡ true → 12 ≤ length self.now.unread }
+    {
+        let hand = self.reader.input.next_bytes();
+        match &self.reader.file {
+            FileState::Unknown => false,
+            FileState::Pcap(head) => holds_record(head, hand),
+            FileState::Pcapng(order, _) => holds_packet(*order, hand),
         }
     }
 

@@ -8,8 +8,7 @@ ghost use Rattle.cap_io.specs.inside.Reading.{FrontCame, FrontMissing, Moves, Re
 use cap_octet::{Fault, Input, read_full};
 use std::alloc::Allocator;
 
-/// Of a unit of at most this many bytes, as most are, this many bytes are copied at once, with what
-/// follows the unit. Each buffer that was grown has room for as many.
+/// A buffer that grows has room for as many bytes at least, as most units have.
 const SHORT_UNIT: usize = 256;
 
 /// Fills `front` with the first bytes of a unit that follows others; `false` if the file ends

@@ -443,20 +443,21 @@ impl<I: Input, O: Output, E: Output, A: Allocator + Copy + Drop> Job<I, O, E, A>
         requires within { input < length self.old.state.inputs.cursors }
         ensures { IsStep I.tells O.tells self.old result self.new }
     {
-        if self.is_awaited && !self.release() {
+        if self.is_awaited && !self.release_before(input) {
             return Some(JobEnd::OutputFailed);
         }
         self.read_input(input)
     }
 
-    /// Makes the output's device write its buffered bytes. It returns false if the device couldn't.
+    /// Before an input is read on, makes the output's device write its buffered bytes, unless the
+    /// input's next packet is at hand. It returns false if the device couldn't.
     // Out of line, since few jobs have an output that is awaited.
     #[inline(never)]
-    fn release(&mut self) -> bool
+    fn release_before(&mut self, input: usize) -> bool
         ensures kept { self.new ≡ self.old }
         ensures sure { IsTrue O.tells → result ≡ true }
     {
-        self.output.release()
+        self.inputs.has_next_at_hand(input) || self.output.release()
     }
 
     /// Reads an input on: to its next packet, a fault, or its clean end, at which it is reported if

@@ -10,7 +10,7 @@ use std::cell::Cell;
 pub struct Asked {
     /// The calls that take bytes, or would.
     pub calls: u64,
-    /// The bytes that it gave.
+    /// The bytes that it gave, with those that it may pass after them, since they are lent.
     pub bytes: usize,
 }
 
@@ -31,11 +31,18 @@ pub struct Watched<'a> {
 }
 
 impl Watched<'_> {
-    /// Counts a call that took `bytes` bytes.
-    fn count(&self, bytes: usize) {
+    /// Counts a call that takes bytes, or would.
+    fn count(&self) {
         let mut new = self.asked.get();
         new.calls = new.calls.saturating_add(1);
-        new.bytes = new.bytes.saturating_add(bytes);
+        self.asked.set(new);
+        self.count_bytes(0);
+    }
+
+    /// Counts the bytes that it gave, and as many after them.
+    fn count_bytes(&self, more: usize) {
+        let mut new = self.asked.get();
+        new.bytes = new.bytes.max(self.inner.given().saturating_add(more));
         self.asked.set(new);
     }
 }
@@ -53,7 +60,7 @@ impl Input for Watched<'_> {
 
     fn read(&mut self, buf: &mut [u8]) -> Result<usize, DeviceFault> {
         let returned = self.inner.read(buf);
-        self.count(returned.unwrap_or(0));
+        self.count();
         returned
     }
 
@@ -66,16 +73,17 @@ impl Input for Watched<'_> {
     }
 
     fn can_pass(&self, count: usize) -> bool {
-        self.lends && self.inner.can_pass(count)
+        let can_pass = self.lends && self.inner.can_pass(count);
+        if can_pass {
+            self.count_bytes(count);
+        }
+        can_pass
     }
 
     fn pass(&mut self, count: usize) -> bool {
-        if !self.lends || !self.inner.pass(count) {
-            self.count(0);
-            return false;
-        }
-        self.count(count);
-        true
+        let passes = self.lends && self.inner.pass(count);
+        self.count();
+        passes
     }
 
     ghost unfailed = { Prim.search rules };

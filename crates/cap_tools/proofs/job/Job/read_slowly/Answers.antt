@@ -3,16 +3,16 @@ use Rattle.cap_tools.specs.declared.step.JobEnd.TheVariants as end
 use Rattle.cap_tools.proofs.Weights.{is-light}
 use Rattle.cap_tools.proofs.job.Job.read_slowly.Goals as goal
 
-pub returns-then-not-release : goal.returns-then-not-release
-returns-then-not-release g c =
+pub returns-then-not-release_before : goal.returns-then-not-release_before
+returns-then-not-release_before g c =
     let preparing : Option Preparing = option_map preparing_of c.self.inside.preparation in
     let m : JobState = state_at c.self.inside.messages.names c.self.inside.inputs c.self.inside.selector c.self.inside.output c.self.inside.decided in
     let err : OutputView = c.self.inside.messages.device in
     let now : JobView = record { preparing = preparing; state = m; programs = c.self.inside.selector.programs; err = err; turns = c.self.inside.turns; done = c.self.inside.done } in
     let S : JobView → Type 0 = λ v. IsStep g.I.Input.tells g.O.Output.tells v (Some end.OutputFailed) v in
     let P : JobView → Type 0 = λ v. IsStep g.I.Input.tells g.O.Output.tells c.args.self.now (Some end.OutputFailed) v in
-    subst P (sym c.release.ensures.kept) (subst S c.self.view_is (record {
-      exact = λ ti to. absurd (let sure = c.release.ensures.sure to in cc (sure, c.if-not-release.true));
+    subst P (sym c.release_before.ensures.kept) (subst S c.self.view_is (record {
+      exact = λ ti to. absurd (let sure = c.release_before.ensures.sure to in cc (sure, c.if-not-release_before.true));
       reads = reads_nothing refl (record { inputs = refl; decided = refl; programs = refl });
       progress = λ more. (cc);
       paid = λ more. (cc);
