@@ -113,17 +113,15 @@ impl<I: Input> Input for Lending<I> {
         self.input.read(buf)
     }
 
-    /// Shows none: `Lending` itself lends what is at hand.
+    // `Lending` itself lends what is at hand.
     fn at_hand(&self) -> &[u8] {
         &[]
     }
 
-    /// It passes none.
     fn can_pass(&self, _count: usize) -> bool {
         false
     }
 
-    /// Passes none.
     fn pass(&mut self, _count: usize) -> bool {
         false
     }

@@ -1,5 +1,5 @@
 //! The next unit of a file of either format.
-ghost use Rattle.std.specs.Prelude.{◌≡◌, ◌++◌, IsTrue, IfOk, IfErr, IfSome, IsNone, [], length};
+ghost use Rattle.std.specs.Prelude.{◌≡◌, ◌++◌, IsTrue, IfOk, IfErr, [], false, length, true};
 ghost use Rattle.cap_io.specs.Capture.{Nothing};
 ghost use Rattle.cap_io.specs.Reading.{declared_by};
 ghost use Rattle.cap_io.specs.inside.Reading.{IsConsistent, Moves, ReadsUnit, NoUnitCame};
@@ -53,27 +53,28 @@ pub(crate) struct UnitReader<I: Input, A: Allocator> {
     pub(crate) spans: PacketSpans,
 }
 
-/// Lends the next unit and returns the place of its packet, if it has one, the device has all of it
-/// at hand and would pass it, it has at most `room` bytes, and it fails no check. `None` if not: then
-/// nothing changes.
+/// Lends the next unit, and puts the place of its packet into `spans`, if it has one, the device has
+/// all of it at hand and would pass it, it has at most `room` bytes, and it fails no check. `false` if
+/// not: then nothing changes.
 #[inline(always)]
 pub(crate) fn lend_unit<I: Input, A: Allocator>(
     input: &mut Lending<I>,
     file: &FileState,
     table: &Table<A>,
     room: usize,
-) -> Option<PacketSpans>
+    spans: &mut PacketSpans,
+) -> bool
     requires { IsConsistent file.now table.now }
-    ensures lent { IfSome result (λ spans. UnitLent I.Input (declared_by file.now table.now) room
-        input.old spans input.new) }
-    ensures nothing { IsNone result → (input.new.input ≡ input.old.input)
-        × (input.new.lent ≡ input.old.lent) }
+    ensures lent { result ≡ true → UnitLent I.Input (declared_by file.now table.now) room input.old
+        spans.new input.new }
+    ensures nothing { result ≡ false → (input.new.input ≡ input.old.input)
+        × (input.new.lent ≡ input.old.lent) × (spans.new ≡ spans.old) }
 {
-    match file {
-        FileState::Unknown => None,
-        FileState::Pcap(head) => lend_record(input, head, room),
-        FileState::Pcapng(order, _) => lend_block(input, *order, table, room),
+    // For pcap one test of the file.
+    if let FileState::Pcap(head) = file {
+        return lend_record(input, head, room, spans);
     }
+    lend_block(input, file, table, room, spans)
 }
 
 impl<I: Input, A: Allocator> UnitReader<I, A> {

@@ -40,30 +40,34 @@ pub(crate) fn read_header<I: Input>(input: &mut I, first: &[u8; 4]) -> Result<He
     read_head(&bytes)
 }
 
-/// Lends the next record and returns the place of its packet, if the device has all of it at hand and
-/// would pass it, it has at most `room` bytes, and it fails no check. `None` if not: then nothing
-/// changes.
+/// Lends the next record, and puts the place of its packet into `spans`, if the device has all of it
+/// at hand and would pass it, it has at most `room` bytes, and it fails no check. `false` if not: then
+/// nothing changes.
 #[inline(always)]
 pub(crate) fn lend_record<I: Input>(
     input: &mut Lending<I>,
     head: &Head,
     room: usize,
-) -> Option<PacketSpans>
-    ensures lent { IfSome result (λ spans. UnitLent I.Input (PcapFile head.now) room input.old spans
-        input.new) }
-    ensures nothing { IsNone result → (input.new.input ≡ input.old.input)
-        × (input.new.lent ≡ input.old.lent) }
+    spans: &mut PacketSpans,
+) -> bool
+    ensures lent { result ≡ true → UnitLent I.Input (PcapFile head.now) room input.old spans.new
+        input.new }
+    ensures nothing { result ≡ false → (input.new.input ≡ input.old.input)
+        × (input.new.lent ≡ input.old.lent) × (spans.new ≡ spans.old) }
 {
     let hand = input.next_bytes();
-    let front = hand.first_chunk::<RECORD_HEADER_LENGTH>()?;
+    let Some(front) = hand.first_chunk::<RECORD_HEADER_LENGTH>() else {
+        return false;
+    };
     let Ok(found) = read_record(head, front) else {
-        return None;
+        return false;
     };
     let size = RECORD_HEADER_LENGTH + found.captured as usize;
     if size > room || !input.lend(size) {
-        return None;
+        return false;
     }
-    Some(record_spans(&found))
+    *spans = record_spans(&found);
+    true
 }
 
 /// Whether the next record is wholly among these bytes, by its captured length.

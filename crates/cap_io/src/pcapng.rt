@@ -1,10 +1,11 @@
 //! The blocks of a pcapng file, read from a device.
 ghost use Rattle.std.specs.Prelude.{◌≡◌, ℕ, ◌+◌, ◌^◌, ◌<◌, ◌≤◌, ◌++◌, ◌∷◌, ◌⊎◌, IfOk, IfErr, true};
-ghost use Rattle.std.specs.Prelude.{IsTrue, OnErr, [], IfSome, IsNone, Option, is_some, length};
+ghost use Rattle.std.specs.Prelude.{IsTrue, OnErr, [], Option, false, is_some, length};
 ghost use Rattle.cap_pcapng.specs.Interface.{FitSection};
 ghost use Rattle.cap_pcapng.specs.Effect.{Enters, section_of};
 ghost use Rattle.cap_pcapng.specs.inside.Effect.{IsEntryFault};
-ghost use Rattle.cap_io.specs.Capture.{PcapngFile, first_link_after};
+ghost use Rattle.cap_io.specs.Capture.{first_link_after};
+ghost use Rattle.cap_io.specs.Reading.{declared_by};
 ghost use Rattle.cap_io.specs.inside.Reading.{BeginsBlock, IsConsistent, ReadsUnit, UnitLent};
 ghost use Rattle.cap_io.specs.inside.Reading.{known_order};
 
@@ -63,38 +64,45 @@ fn first_link_type<A: Allocator>(first: Option<u16>, table: &Table<A>) -> Option
     }
 }
 
-/// Lends the next block and returns the place of its packet, if it has one, the device has all of it
-/// at hand and would pass it, it has at most `room` bytes, and it fails no check. `None` if not: then
-/// nothing changes.
+/// Lends the next block of a pcapng file, and puts the place of its packet into `spans`, if it has
+/// one, the device has all of it at hand and would pass it, it has at most `room` bytes, and it
+/// fails no check. `false` if not: then nothing changes.
 #[inline(never)]
 pub(crate) fn lend_block<I: Input, A: Allocator>(
     input: &mut Lending<I>,
-    order: Order,
+    file: &FileState,
     table: &Table<A>,
     room: usize,
-) -> Option<PacketSpans>
-    ensures lent { (first : Option ℕ) → first_link_after first (section_of order table.now) ≡ first
-        → FitSection table.now → IfSome result (λ spans. UnitLent I.Input
-        (PcapngFile first (section_of order table.now)) room input.old spans input.new) }
-    ensures nothing { IsNone result → (input.new.input ≡ input.old.input)
-        × (input.new.lent ≡ input.old.lent) }
+    spans: &mut PacketSpans,
+) -> bool
+    requires { IsConsistent file.now table.now }
+    ensures lent { result ≡ true → UnitLent I.Input (declared_by file.now table.now) room input.old
+        spans.new input.new }
+    ensures nothing { result ≡ false → (input.new.input ≡ input.old.input)
+        × (input.new.lent ≡ input.old.lent) × (spans.new ≡ spans.old) }
 {
+    let FileState::Pcapng(order, _) = *file else {
+        return false;
+    };
     let hand = input.next_bytes();
-    let front = hand.first_chunk::<BLOCK_FRONT>()?;
+    let Some(front) = hand.first_chunk::<BLOCK_FRONT>() else {
+        return false;
+    };
     let Ok(found) = frame(Some(order), front) else {
-        return None;
+        return false;
     };
     let size = found.length as usize;
     if size > room || size > hand.len() {
-        return None;
+        return false;
     }
-    let Ok(BlockEffect::Packet(spans)) = block_effect(table, &found, &hand[..size]) else {
-        return None;
+    let Ok(BlockEffect::Packet(packet)) = block_effect(table, &found, &hand[..size]) else {
+        return false;
     };
     if !input.lend(size) {
-        return None;
+        return false;
     }
-    Some(spans)
+    *spans = packet;
+    true
 }
 
 /// Whether the next block with a packet, and all blocks before it, are wholly among these bytes.

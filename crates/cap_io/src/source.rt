@@ -61,8 +61,7 @@ impl<I: Input, A: Allocator> Model for Source<I, A> {
 
 impl<I: Input, A: Allocator> Source<I, A> {
     ghost use Rattle.std.specs.Prelude.{◌≡◌, ◌+◌, ◌≤◌, IsTrue, OnOk, OnErr, IfErr, [], false};
-    ghost use Rattle.std.specs.Prelude.{true};
-    ghost use Rattle.std.specs.Prelude.{length};
+    ghost use Rattle.std.specs.Prelude.{length, true};
     ghost use Rattle.std.specs.Option.{IfSome, option_map};
     ghost use Rattle.cap_octet.specs.Packet.{captured};
     ghost use Rattle.cap_io.specs.Capture.{kind_of, first_link_of};
@@ -119,7 +118,6 @@ impl<I: Input, A: Allocator> Source<I, A> {
 
     /// Goes on to the next packet, as `advance` does, if it follows a current packet that is lent, and
     /// the device has it at hand too. `false` if not: then nothing changes.
-    // It is apart from `advance` so that it is inlined without the rest.
     #[inline(always)]
     pub fn take_at_hand(&mut self) -> bool
         ensures takes { TakesIfAtHand I.tells self.old result self.new }
@@ -249,10 +247,10 @@ impl<I: Input, A: Allocator> Source<I, A> {
         let size = self.current_size();
         let reader = &mut self.reader;
         let room = reader.buffer.len();
-        let Some(spans) = lend_unit(&mut reader.input, &reader.file, &reader.table, room) else {
+        let (input, spans) = (&mut reader.input, &mut reader.spans);
+        if !lend_unit(input, &reader.file, &reader.table, room, spans) {
             return false;
-        };
-        reader.spans = spans;
+        }
         self.offset += u64::from(size);
         self.stage = Stage::Lent;
         true

@@ -3,7 +3,7 @@ use Rattle.cap_io.proofs.Hands.{begins-long, begins-same, lent-first, record-tak
 use Rattle.cap_io.proofs.pcap.lend_record.Goals as goal
 
 pub returns-clause-lent : goal.returns-clause-lent
-returns-clause-lent g c =
+returns-clause-lent g c = λ is.
     let size : ℕ = 16 + c.in-Ok.found.captured in
     let old = c.args.input.now in
     let new = c.lend.new.self in
@@ -16,7 +16,7 @@ returns-clause-lent g c =
     ap (take 16) same ∙ begins-same (g.I.Input.held new.input) hand 16 lends.stays (omega (arith, lends.there)) in
     let F : List ℕ → Type 0 = λ l. checked (first_failing (field_checks c.args.head.now l)) (record_header_in c.args.head.now l) ≡ Ok c.in-Ok.found in
     let says = subst F front (
-    ap (λ (l : List ℕ). checked (first_failing (field_checks c.args.head.now l)) (record_header_in c.args.head.now l)) (sym c.in_ok-front.ensures.cases.same)
+    ap (λ (l : List ℕ). checked (first_failing (field_checks c.args.head.now l)) (record_header_in c.args.head.now l)) (sym c.in-Some.ensures.cases.same)
     ∙ sym c.in-Ok.ensures.answer) in
     let there : size ≤ length (g.I.Input.held new.input) = begins-long (g.I.Input.held new.input) hand size lends.stays lends.there in
     rw c.record_spans.ensures (record {

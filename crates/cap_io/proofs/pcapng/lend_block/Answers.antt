@@ -6,11 +6,14 @@ use Rattle.cap_io.proofs.Hands.{begins-long, begins-same, lent-first}
 use Rattle.cap_io.proofs.pcapng.lend_block.Goals as goal
 
 pub returns-clause-lent : goal.returns-clause-lent
-returns-clause-lent g c = λ first again fit.
+returns-clause-lent g c = λ is.
+    let order = c.in-Pcapng.order in
+    let first = c.in-Pcapng.field-1 in
+    let consistent = rw c.in-Pcapng.is at c.requires in
     let frame = c.in-Ok.found in
     let size : ℕ = frame.length in
     let table = c.args.table.now in
-    let spans = c.in-Ok-Packet.spans in
+    let spans = c.in-Ok-Packet.packet in
     let old = c.args.input.now in
     let new = c.lend.new.self in
     let lends = c.lend.ensures.lends (search rules) in
@@ -26,19 +29,18 @@ returns-clause-lent g c = λ first again fit.
     let short : spans.size ≡ size = enters.fits.0 in
     let block : List ℕ = take size held in
     let front : List ℕ = take 12 held in
-    let front_is : c.in_ok-front.front.now ≡ front = c.in_ok-front.ensures.cases.same ∙ ap (take 12) same ∙ begins-same held hand 12 lends.stays (omega (arith, least, lends.there)) in
-    let S : List ℕ → Type 0 = λ l. FrontSays (Some c.args.order) l frame in
-    let says = subst S front_is (front_says (Some c.args.order) c.in_ok-front.front.now _ frame c.frame.ensures.answer c.in-Ok.is) in
+    let front_is : c.in-Some.front.now ≡ front = c.in-Some.ensures.cases.same ∙ ap (take 12) same ∙ begins-same held hand 12 lends.stays (omega (arith, least, lends.there)) in
+    let says = subst (λ (l : List ℕ). FrontSays (Some order) l frame) front_is (front_says (Some order) c.in-Some.front.now _ frame c.frame.ensures.answer c.in-Ok.is) in
     let twelve : length front ≡ 12 = length-take-le 12 held (omega (arith, least, there)) in
     let first_12 : take 12 block ≡ front = take-take 12 size held (omega (arith, least)) in
     let joined : front ++ drop 12 block ≡ block = ap (λ (l : List ℕ). l ++ drop 12 block) (sym first_12) ∙ take-append-drop 12 block in
-    let came = whole_came (Some c.args.order) front (drop 12 block ++ left) left block held frame twelve says refl
+    let came = whole_came (Some order) front (drop 12 block ++ left) left block held frame twelve says refl
     (ap (λ n. take n block) twelve ∙ first_12) (ap (λ n. drop n block ++ left) (sym twelve)) in
     let splits : IsTrue g.I.Input.tells → unread ≡ block ++ left = λ t.
     lent-first unread hand size (let H : List ℕ → Type 0 = λ l. take (length l) unread ≡ l in subst H same (c.next_bytes-hand.ensures.exact t)) lends.there
     ∙ ap₂ (λ (x y : List ℕ). x ++ y) unit (ap₂ drop (sym lends.is) (sym lends.rest)) in
-    let P : List ℕ → Type 0 = λ l. PacketCame (PcapngFile first (section_of c.args.order table)) l held spans (PcapngFile first (section_of c.args.order table)) left in
-    record {
+    let P : List ℕ → Type 0 = λ l. PacketCame (PcapngFile first (section_of order table)) l held spans (PcapngFile first (section_of order table)) left in
+    rw c.in-Pcapng.is (record {
       lies = record { bytes = omega (arith, short, enters.fits.1); options = omega (arith, short, enters.fits.3); there = omega (arith, short, there); some = omega (arith, short, least); small = omega (arith, short, c.in-Ok.ensures.longest); time = enters.fits.2 };
       known = enters.known;
       fits = omega (arith, short, c.if-size-room.false);
@@ -48,7 +50,7 @@ returns-clause-lent g c = λ first again fit.
       sure = lends.sure;
       enough = lends.enough;
       came = λ t. subst P (sym (append_assoc front (drop 12 block) left) ∙ ap (λ (l : List ℕ). l ++ left) joined ∙ sym (splits t))
-          (packet-block (state.Pcapng c.args.order first) table table [] (front ++ (drop 12 block ++ left)) held left frame.order size spans tt there (again, fit) short refl
-          (block_came (Some (section_of c.args.order table)) (Some c.args.order) table table (front ++ (drop 12 block ++ left)) left _ held frame (Some spans) refl refl least there came
+          (packet-block (state.Pcapng order first) table table [] (front ++ (drop 12 block ++ left)) held left frame.order size spans tt there consistent short refl
+          (block_came (Some (section_of order table)) (Some order) table table (front ++ (drop 12 block ++ left)) left _ held frame (Some spans) refl refl least there came
           (ap (take size) same ∙ unit) enters));
-    }
+    })

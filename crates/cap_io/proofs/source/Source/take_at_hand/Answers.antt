@@ -1,5 +1,4 @@
-use Rattle.cap_io.proofs.Common.{◌≡◌, sym, subst, rules, Declared, Reading}
-use Rattle.cap_io.specs.Source.{SectionFits}
+use Rattle.cap_io.proofs.Common.{◌≡◌, rules, Reading}
 use Rattle.cap_io.proofs.Hands.{if-at-hand}
 use Rattle.cap_io.proofs.source.Source.take_at_hand.Goals as goal
 
@@ -7,8 +6,3 @@ pub returns-in-Lent-clause-takes : goal.returns-in-Lent-clause-takes
 returns-in-Lent-clause-takes g c =
     let reading : c.args.self.now.phase ≡ Reading = search rules in
     if-at-hand g.I.Input.tells c.args.self.now c.take_next.new.self c.take_next.result reading c.take_next.ensures.found c.take_next.ensures.nothing
-
-pub returns-in-Lent-clause-interfaces : goal.returns-in-Lent-clause-interfaces
-returns-in-Lent-clause-interfaces g c =
-    let P : Declared → Type 0 = λ d. SectionFits d in
-    subst P (sym c.take_next.ensures.declared) (search rules)

@@ -1,11 +1,12 @@
-use Rattle.cap_io.proofs.Common.{rules, ◌≡◌, ◌+◌, ℕ, List, length, take, drop, refl, ap, ◌∙◌, subst, arith, PacketCame, Declared, declared_by, packet_in_unit, Reading, SourceView, end_offset}
+use Rattle.cap_io.proofs.Common.{rules, true, ◌≡◌, ◌+◌, ℕ, List, length, take, drop, refl, ap, ◌∙◌, subst, arith, PacketCame, Declared, declared_by, packet_in_unit, Reading, SourceView, end_offset}
 use Rattle.cap_io.proofs.Hands.{takes-next}
 use Rattle.cap_io.proofs.source.Source.take_next.Goals as goal
 
 pub returns-clause-found : goal.returns-clause-found
 returns-clause-found g c =
-    let lent = c.in-Some.ensures.lent in
-    let spans = c.in-Some.spans in
+    let took : c.lend_unit.result ≡ true = search rules in
+    let lent = c.lend_unit.ensures.lent took in
+    let spans = c.lend_unit.new.spans in
     let hand : List ℕ = g.I.Input.held c.lend_unit.new.input.input in
     let view = c.self.view_is in
     let known : Declared = declared_by c.self.inside.reader.file c.self.inside.reader.table in
