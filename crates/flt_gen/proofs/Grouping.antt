@@ -151,7 +151,7 @@ ready at b group ms h some fit reached = record {
     is = joined_all group.all
 
     last : ℕ
-    last = if b then left_out group.first is else 0
+    last = left_out b group.first is
 
     idle : Idle last group.first is
     idle = idle_sought b group.first is
@@ -159,7 +159,7 @@ ready at b group ms h some fit reached = record {
     up : Searchable is
     up = searchable_joined group.all (let c = h.all_count in omega arith) h.ascends
 
-    no_mask : (c : Bool) → c ≡ false → high_mask (if c then left_out group.first is else 0) ≡ None
+    no_mask : (c : Bool) → c ≡ false → high_mask (left_out c group.first is) ≡ None
     no_mask true e = cc
     no_mask false e = refl
 
@@ -192,7 +192,7 @@ group_bare_several link group ms h e = by group.is_plain refl e
         few two)
 
     length_cut : (b : Bool) → length (sought b group.first group.all).all ≡ length (joined_all group.all)
-    length_cut b = length-map (joined_all group.all) (cut (if b then left_out group.first (joined_all group.all) else 0))
+    length_cut b = length-map (joined_all group.all) (cut (left_out b group.first (joined_all group.all)))
 
     by : (b : Bool) → group.is_plain ≡ b → nat_le (if b then 2 else FEWEST_RANGES) n ≡ true → Bare (several_formula link group.qualifiers k (numbers_of group)) (group_tests group)
     by true plain e =

@@ -77,7 +77,7 @@ idle_by (suc k) first is l =
     record { bits = suc k; few = l; last_is = refl; first_aligned = t.0; all_aligned = t.1 })
     (λ e. idle_by k first is (omega arith))
 
-pub idle_sought : (b : Bool) (first : Interval) (is : List Interval) → Idle (if b then left_out first is else 0) first is
+pub idle_sought : (b : Bool) (first : Interval) (is : List Interval) → Idle (left_out b first is) first is
 idle_sought false first is = idle_none first is
 idle_sought true first is = if_case (λ last. Idle last first is) _ (idle_bits 31 first is) 0 (λ e. idle_by 31 first is (omega arith)) (λ e. idle_none first is)
 

@@ -1,5 +1,5 @@
 -- The code of a formula goes on where the formula's reading says.
-use Rattle.flt_gen.proofs.Common.{◌≡◌, ℕ, zero, suc, ◌+◌, ◌-◌, ◌/◌, ◌%◌, ◌^◌, ◌<◌, ◌≤◌, List, [], ◌∷◌, length, take, drop, Bool, true, false, Option, Some, None, refl, sym, ap, ◌∙◌, subst, arith, nat_le, nat_lt, ◌==◌, not, ◌&&◌, ◌||◌, if◌then◌else◌, bit_and, option_map, nat_tests, Insn, State, Width, Byte, Test, Operand, Constant, IndexRegister, LoadAbsolute, LoadIndirect, Load, Immediate, LoadHeaderLength, Compute, JumpIf, Accumulator, Index, answer_of, answer_after, field, test_holds, operand_value, into, header_length, Comparison, Equal, NotEqual, Less, AtMost, Greater, AtLeast, number_words, NumberTree, Link, Offset, Fixed, AfterHeader, Interval, Sides, Direction, Source, Destination, And, Or, without, ap₂, Elementary, Outcome, Field, MatchResult, Yes, No, Rejected, reading_of, with, compares, field_at, under_mask, field_reads, elementary_reads, number, plain, constant, branch_insn, emit_elementary, emit_branch, emit_comparison, emit_field, emit_mask, emit_test, emit_relation, Block, at_top, emit_interval, emit_chain, are_few, low_of, MOST_HALVINGS, emit_masked, emit_side, emit_others, emit_few, emit_many, are_at_index, emit_among, emit_formula, words}
+use Rattle.flt_gen.proofs.Common.{◌≡◌, ℕ, zero, suc, ◌+◌, ◌-◌, ◌/◌, ◌%◌, ◌^◌, ◌<◌, ◌≤◌, List, [], ◌∷◌, length, take, drop, Bool, true, false, Option, Some, None, refl, sym, ap, ◌∙◌, subst, arith, nat_le, nat_lt, ◌==◌, not, ◌&&◌, ◌||◌, if◌then◌else◌, bit_and, option_map, nat_tests, Insn, State, Width, Byte, Test, Operand, Constant, IndexRegister, LoadAbsolute, LoadIndirect, Load, Immediate, LoadHeaderLength, Compute, JumpIf, Accumulator, Index, answer_of, answer_after, field, test_holds, operand_value, into, header_length, Comparison, Equal, NotEqual, Less, AtMost, Greater, AtLeast, number_words, NumberTree, Link, Offset, Fixed, AfterHeader, Interval, Sides, Direction, Source, Destination, And, Or, without, ap₂, Elementary, Outcome, Field, MatchResult, Yes, No, Rejected, reading_of, with, compares, field_at, under_mask, field_reads, elementary_reads, number, plain, constant, branch_insn, emit_elementary, emit_branch, emit_comparison, emit_field, emit_mask, emit_test, emit_relation, Block, at_top, emit_interval, emit_chain, are_few, low_of, MOST_HALVINGS, emit_masked, emit_side, emit_others, emit_few, emit_second, emit_at_sides, emit_many, are_at_index, emit_among, emit_formula, words}
 use Rattle.std.proofs.Math.Nat.{mod-eq_of_lt}
 use Rattle.flt_ast.specs.declared.qualifiers.Direction.TheVariants as direction
 use Rattle.flt_bpf.specs.declared.operation.Test.TheVariants as test
@@ -266,38 +266,28 @@ module _ (p : List ℕ) (n : ℕ) where
   -- whether the destination is in all
   few_picks : (numbers : Numbers) (s d : Option ℕ) (v w : ℕ) → ((x : ℕ) → s ≡ Some x → is_in (under_mask numbers.mask x) numbers.first ≡ true → is_within (under_mask numbers.mask x) numbers.all ≡ true) → numbers.others ≡ without numbers.first numbers.all → pick (among_reads numbers.mask (numbers.first ∷ []) s) v (pick (among_reads numbers.mask numbers.all d) v (others_value numbers.mask numbers.others s v w)) ≡ pick (either_reads numbers s d) v w
   few_picks numbers None d v w sub others = refl
-  few_picks numbers (Some x) d v w sub others = by (is_in (under_mask numbers.mask x) numbers.first) refl d
+  few_picks numbers (Some x) d v w sub others =
+      by (is_in u numbers.first) (is_within u numbers.all) d (others_value numbers.mask numbers.others (Some x) v w) (sub x refl)
+      (λ out. others_are numbers.mask numbers.others x v w
+      ∙ ap (λ (is : List Interval). if is_within u is then v else w) others
+      ∙ ap (λ b. if b then v else w) (within_without u numbers.first numbers.all out))
     where
       u : ℕ
       u = under_mask numbers.mask x
 
-      inside : Bool
-      inside = is_within u numbers.all
+      either_way : (b : Bool) → pick (reading_of (Some b)) v v ≡ v
+      either_way true = refl
+      either_way false = refl
 
-      rest : is_in u numbers.first ≡ false → others_value numbers.mask numbers.others (Some x) v w ≡ (if inside then v else w)
-      rest out =
-          others_are numbers.mask numbers.others x v w
-          ∙ ap (λ (is : List Interval). if is_within u is then v else w) others
-          ∙ ap (λ b. if b then v else w) (within_without u numbers.first numbers.all out)
-
-      first : (b : Bool) → (d : Option ℕ) → (b ≡ true → inside ≡ true) → (b ≡ false → others_value numbers.mask numbers.others (Some x) v w ≡ (if inside then v else w)) → pick (reading_of (Some (b || false))) v (pick (among_reads numbers.mask numbers.all d) v (others_value numbers.mask numbers.others (Some x) v w)) ≡ pick (either (both (reading_of (Some inside)) (either (reading_of (Some (b || false))) (captured_reads d))) (among_reads numbers.mask numbers.all d)) v w
-      first true d all some = ap (λ c. pick (either (both (reading_of (Some c)) Yes) (among_reads numbers.mask numbers.all d)) v w) (sym (all refl))
-      first false None all some = none inside
-        where
-          none : (c : Bool) → 0 ≡ pick (either (both (reading_of (Some c)) Rejected) Rejected) v w
-          none true = refl
-          none false = refl
-      first false (Some y) all some =
-          ap (λ z. pick (reading_of (Some (is_within (under_mask numbers.mask y) numbers.all))) v z) (some refl)
-          ∙ last inside (is_within (under_mask numbers.mask y) numbers.all)
-        where
-          last : (c e : Bool) → pick (reading_of (Some e)) v (if c then v else w) ≡ pick (either (both (reading_of (Some c)) Yes) (reading_of (Some e))) v w
-          last true true = refl
-          last true false = refl
-          last false e = refl
-
-      by : (b : Bool) → is_in u numbers.first ≡ b → (d : Option ℕ) → pick (among_reads numbers.mask (numbers.first ∷ []) (Some x)) v (pick (among_reads numbers.mask numbers.all d) v (others_value numbers.mask numbers.others (Some x) v w)) ≡ pick (either_reads numbers (Some x) d) v w
-      by b e d = first (is_in u numbers.first) d (sub x refl) rest
+      by : (b c : Bool) (d : Option ℕ) (z : ℕ) → (b ≡ true → c ≡ true) → (b ≡ false → z ≡ (if c then v else w)) → pick (reading_of (Some (b || false))) v (pick (among_reads numbers.mask numbers.all d) v z) ≡ pick (either (both (reading_of (Some c)) (either (reading_of (Some (b || false))) (captured_reads d))) (among_reads numbers.mask numbers.all d)) v w
+      by true true d z all rest = refl
+      by true false d z all rest = absurd (let e = all refl in cc)
+      by false true None z all rest = refl
+      by false true (Some y) z all rest =
+          let here = is_within (under_mask numbers.mask y) numbers.all in
+          ap (λ t. pick (reading_of (Some here)) v t) (rest refl) ∙ either_way here
+      by false false None z all rest = refl
+      by false false (Some y) z all rest = ap (λ t. pick (reading_of (Some (is_within (under_mask numbers.mask y) numbers.all))) v t) (rest refl)
 
   few_leads : (at : Sides) (numbers : Numbers) (hit miss v w : ℕ) (c : List Insn) → Ready at numbers → Leads p n HasWords c hit v → Leads p n HasWords c miss w → let e = emit_few at numbers hit miss c in Leads p n HasWords e.code e.entry (pick (either_reads numbers (field_at at.source at.width p) (field_at at.destination at.width p)) v w)
   few_leads at numbers hit miss v w c r h m =
@@ -334,78 +324,60 @@ module _ (p : List ℕ) (n : ℕ) where
       by b false (Some y) = picked (is_within (under_mask numbers.mask y) numbers.all) v w
 
   -- both are read at so many bytes past X
-  abbrev second : Sides → ℕ → List Insn → List Insn
-  second at k c = plain (LoadIndirect at.width) k ∷ c
-
-  abbrev many_none : Sides → Numbers → ℕ → ℕ → ℕ → List Insn → List Insn
-  many_none at numbers hit miss k c = second at k (emit_masked numbers.mask numbers.all hit miss c)
-
-  abbrev many_later : Sides → Numbers → ℕ → ℕ → ℕ → List Insn → List Insn
-  many_later at numbers hit miss k c =
-      second at k (emit_branch test.AtLeast Constant 0 hit miss (many_none at numbers hit miss k c))
-
-  abbrev many_one : Sides → Numbers → ℕ → ℕ → ℕ → List Insn → Block
-  many_one at numbers hit miss k c =
-      let later = many_later at numbers hit miss k c in emit_interval false numbers.first hit (length later) later
-
-  abbrev many_code : Sides → Numbers → ℕ → ℕ → ℕ → ℕ → List Insn → List Insn
-  many_code at numbers hit miss j k c =
-      let one = many_one at numbers hit miss k c in
-      second at j (emit_masked numbers.mask numbers.all one.entry (length (many_none at numbers hit miss k c)) one.code)
+  abbrev at_bytes : Sides → ℕ → ℕ → Sides
+  at_bytes at j k = record at { source = AfterHeader 0 j; destination = AfterHeader 0 k }
 
   zero_low : (x : ℕ) → nat_le 0 x ≡ true
   zero_low x = grind (arith, nat_tests)
 
-  many_tops : (at : Sides) (numbers : Numbers) (hit miss v w i j k : ℕ) (c : List Insn) → numbers.first.low ≤ numbers.first.high → Searchable numbers.all → ((x : ℕ) → field p ((i + j) % 2 ^ 32) at.width ≡ Some x → is_in (under_mask numbers.mask x) numbers.first ≡ true → is_within (under_mask numbers.mask x) numbers.all ≡ true) → Leads p n HasWords c hit v → Leads p n HasWords c miss w → Tops p n (AtIndex i) (many_code at numbers hit miss j k c) (pick (either_reads numbers (field p ((i + j) % 2 ^ 32) at.width) (field p ((i + k) % 2 ^ 32) at.width)) v w)
+  many_tops : (at : Sides) (numbers : Numbers) (hit miss v w i j k : ℕ) (c : List Insn) → numbers.first.low ≤ numbers.first.high → Searchable numbers.all → ((x : ℕ) → field p ((i + j) % 2 ^ 32) at.width ≡ Some x → is_in (under_mask numbers.mask x) numbers.first ≡ true → is_within (under_mask numbers.mask x) numbers.all ≡ true) → Leads p n HasWords c hit v → Leads p n HasWords c miss w → Tops p n (AtIndex i) (emit_at_sides (at_bytes at j k) numbers hit miss c) (pick (either_reads numbers (field p ((i + j) % 2 ^ 32) at.width) (field p ((i + k) % 2 ^ 32) at.width)) v w)
   many_tops at numbers hit miss v w i j k c order up sub h m =
-      λ s q. index_loaded i j at.width (emit_masked numbers.mask numbers.all one.entry (length none) one.code) _ found s q ∙ ap Some (many_picks numbers source destination v w sub)
+      λ s q. index_loaded i j at.width (emit_masked numbers.mask numbers.all one.entry (length none) one.code) _ found s q ∙ ap Some (many_picks numbers (field p ((i + j) % 2 ^ 32) at.width) destination v w sub)
     where
-      source : Option ℕ
-      source = field p ((i + j) % 2 ^ 32) at.width
+      sides : Sides
+      sides = at_bytes at j k
 
       destination : Option ℕ
       destination = field p ((i + k) % 2 ^ 32) at.width
 
+      all_value : ℕ → ℕ
+      all_value y = if is_within (under_mask numbers.mask y) numbers.all then v else w
+
       none : List Insn
-      none = many_none at numbers hit miss k c
+      none = emit_second sides (emit_masked numbers.mask numbers.all hit miss c)
 
       later : List Insn
-      later = many_later at numbers hit miss k c
+      later = emit_second sides (emit_branch test.AtLeast Constant 0 hit miss none)
 
       one : Block
-      one = many_one at numbers hit miss k c
-
-      here : Leads p n (AtIndex i) c hit v
-      here = leads_in p n (λ s q. q.0) h
-
-      there : Leads p n (AtIndex i) c miss w
-      there = leads_in p n (λ s q. q.0) m
-
-      none_leads : Leads p n (AtIndex i) none (length none) (answer_for destination (λ y. if is_within (under_mask numbers.mask y) numbers.all then v else w))
-      none_leads =
-          leads_top p n none _
-          (index_loaded i k at.width (emit_masked numbers.mask numbers.all hit miss c) (λ y. if is_within (under_mask numbers.mask y) numbers.all then v else w)
-          (λ y. looked_for (AtIndex i) (λ s a q. q) numbers.mask numbers.all hit miss v w c y up (leads_in p n (λ s q. q.0) here) (leads_in p n (λ s q. q.0) there)))
+      one = emit_interval false numbers.first hit (length later) later
 
       none_longer : Extends c none
-      none_longer = at_index_extends (AfterHeader 0 k) at.width 0 c _ (masked_extends numbers.mask numbers.all hit miss c)
+      none_longer = at_index_extends sides.destination at.width at.index c _ (masked_extends numbers.mask numbers.all hit miss c)
+
+      later_longer : Extends none later
+      later_longer = at_index_extends sides.destination at.width at.index none _ (branch_extends test.AtLeast Constant 0 hit miss none)
+
+      here : (x : ℕ) → Leads p n (With (AtIndex i) x) none hit v
+      here x = leads_on p n none_longer (leads_in p n (λ s q. q.0.0) h)
+
+      none_leads : Leads p n (AtIndex i) none (length none) (answer_for destination all_value)
+      none_leads =
+          leads_top p n none _ (index_loaded i k at.width (emit_masked numbers.mask numbers.all hit miss c) all_value
+          (λ y. looked_for (AtIndex i) (λ s a q. q) numbers.mask numbers.all hit miss v w c y up (leads_in p n (λ s q. q.0.0) h) (leads_in p n (λ s q. q.0.0) m)))
 
       later_leads : Leads p n (AtIndex i) later (length later) (answer_for destination (λ y. v))
       later_leads =
-          leads_top p n later _
-          (index_loaded i k at.width (emit_branch test.AtLeast Constant 0 hit miss none) (λ y. v)
-          (λ y s q. branch_tops {P = With (AtIndex i) y} test.AtLeast Constant 0 y 0 hit miss v w none (λ t r. r.1) (λ t r. refl) (leads_in p n (λ t r. r.0) (leads_on p n none_longer here)) (leads_in p n (λ t r. r.0) (leads_on p n none_longer there)) s q
+          leads_top p n later _ (index_loaded i k at.width (emit_branch test.AtLeast Constant 0 hit miss none) (λ y. v)
+          (λ y s q. branch_tops {P = With (AtIndex i) y} test.AtLeast Constant 0 y 0 hit miss v w none (λ t r. r.1) (λ t r. refl) (here y) (leads_on p n none_longer (leads_in p n (λ t r. r.0.0) m)) s q
           ∙ ap (λ b. Some (if b then v else w)) (zero_low y)))
 
-      later_longer : Extends none later
-      later_longer = at_index_extends (AfterHeader 0 k) at.width 0 none _ (branch_extends test.AtLeast Constant 0 hit miss none)
-
-      found : (x : ℕ) → Tops p n (With (AtIndex i) x) (emit_masked numbers.mask numbers.all one.entry (length none) one.code) (if is_within (under_mask numbers.mask x) numbers.all then (if is_in (under_mask numbers.mask x) numbers.first then v else answer_for destination (λ y. v)) else answer_for destination (λ y. if is_within (under_mask numbers.mask y) numbers.all then v else w))
+      found : (x : ℕ) → Tops p n (With (AtIndex i) x) (emit_masked numbers.mask numbers.all one.entry (length none) one.code) (if is_within (under_mask numbers.mask x) numbers.all then (if is_in (under_mask numbers.mask x) numbers.first then v else answer_for destination (λ y. v)) else answer_for destination all_value)
       found x =
           let u = under_mask numbers.mask x in
-          let f = interval_found (AtIndex i) u false numbers.first hit (length later) v _ later order (leads_in p n (λ s q. q.0) (leads_on p n later_longer (leads_on p n none_longer here))) (leads_in p n (λ s q. q.0) later_leads) in
+          let f = interval_found (AtIndex i) u false numbers.first hit (length later) v _ later order (leads_on p n later_longer (here u)) (leads_in p n (λ s q. q.0) later_leads) in
           λ s q. looked_for (AtIndex i) (λ t a r. r) numbers.mask numbers.all one.entry (length none) f.value _ one.code x up f.leads (leads_in p n (λ t r. r.0) (leads_on p n (interval_extends false numbers.first hit (length later) later) (leads_on p n later_longer none_leads))) s q
-          ∙ ap (λ z. Some (if is_within u numbers.all then z else answer_for destination (λ y. if is_within (under_mask numbers.mask y) numbers.all then v else w))) (f.right (λ z. cc))
+          ∙ ap (λ z. Some (if is_within u numbers.all then z else answer_for destination all_value)) (f.right (λ z. cc))
 
   -- the number in X and that in the instruction are the place
   counted : (index k : ℕ) → index ≤ k → k < 2 ^ 32 → (index + (k - index)) % 2 ^ 32 ≡ k
@@ -421,15 +393,15 @@ module _ (p : List ℕ) (n : ℕ) where
       by (Fixed a) (Fixed b) l sub =
           let ea = counted at.index a l.0 l.2 in
           let eb = counted at.index b l.1 l.3 in
-          λ s q. run_plain p n (Load Index Immediate) at.index (many_code (sides (Fixed a) (Fixed b)) numbers hit miss (a - at.index) (b - at.index) c) s
+          λ s q. run_plain p n (Load Index Immediate) at.index (emit_at_sides (sides (Fixed a) (Fixed b)) numbers hit miss c) s
           ∙ many_tops (sides (Fixed a) (Fixed b)) numbers hit miss v w at.index (a - at.index) (b - at.index) c r.order r.all
           (λ x e. sub x (sym (ap (λ z. field p z at.width) ea) ∙ e)) h m (record s { index = at.index }) (q, refl)
           ∙ ap₂ (λ y z. Some (pick (either_reads numbers (field p y at.width) (field p z at.width)) v w)) ea eb
       by (AfterHeader g a) (AfterHeader k b) l sub =
           subst (λ z. Tops p n HasWords (emit_many (sides (AfterHeader g a) (AfterHeader z b)) numbers hit miss c).code (pick (either_reads numbers (field_at (AfterHeader g a) at.width p) (field_at (AfterHeader z b) at.width p)) v w)) (sym l.1)
-          (λ s q. run_plain p n LoadHeaderLength g (many_code (sides (AfterHeader g a) (AfterHeader g b)) numbers hit miss a b c) s ∙ after (field p g Byte) refl s q)
+          (λ s q. run_plain p n LoadHeaderLength g (emit_at_sides (sides (AfterHeader g a) (AfterHeader g b)) numbers hit miss c) s ∙ after (field p g Byte) refl s q)
         where
-          after : (o : Option ℕ) → field p g Byte ≡ o → (s : State) → HasWords s → answer_after (answer_of (many_code (sides (AfterHeader g a) (AfterHeader g b)) numbers hit miss a b c) p n) (into Index (option_map header_length o) s) ≡ Some (pick (either_reads numbers (with (with o (λ y. Some (header_length y))) (λ x. field p ((x + a) % 2 ^ 32) at.width)) (with (with o (λ y. Some (header_length y))) (λ x. field p ((x + b) % 2 ^ 32) at.width))) v w)
+          after : (o : Option ℕ) → field p g Byte ≡ o → (s : State) → HasWords s → answer_after (answer_of (emit_at_sides (sides (AfterHeader g a) (AfterHeader g b)) numbers hit miss c) p n) (into Index (option_map header_length o) s) ≡ Some (pick (either_reads numbers (with (with o (λ y. Some (header_length y))) (λ x. field p ((x + a) % 2 ^ 32) at.width)) (with (with o (λ y. Some (header_length y))) (λ x. field p ((x + b) % 2 ^ 32) at.width))) v w)
           after None e s q = refl
           after (Some y) e s q =
               many_tops (sides (AfterHeader g a) (AfterHeader g b)) numbers hit miss v w (header_length y) a b c r.order r.all

@@ -49,7 +49,7 @@ words_put (Ok t) ts other s0 s1 s2 s3 l e first others join =
 words_put (Err t) ts other s0 s1 s2 s3 l e first others join = tt
 
 -- numbers, from intervals that are joined, cut and put
-pub numbers_put : {T : Type 0} (r : Result T AllocError) (is_masked : Bool) (first one : Interval) (all is js ks : List Interval) (last : ℕ) (mask : Option ℕ) (ss : List Step) → is ≡ joined_all all → last ≡ (if is_masked then left_out first is else 0) → mask ≡ high_mask last → one ≡ cut last first → js ≡ map (cut last) is → ss ≡ [] → OnOk r (ks ≡ without one js) → OnOk r (record { numbers = record { mask = mask; first = one; all = js; others = ks }; steps = ss } ≡ no_steps (sought is_masked first all))
+pub numbers_put : {T : Type 0} (r : Result T AllocError) (is_masked : Bool) (first one : Interval) (all is js ks : List Interval) (last : ℕ) (mask : Option ℕ) (ss : List Step) → is ≡ joined_all all → last ≡ (left_out is_masked first is) → mask ≡ high_mask last → one ≡ cut last first → js ≡ map (cut last) is → ss ≡ [] → OnOk r (ks ≡ without one js) → OnOk r (record { numbers = record { mask = mask; first = one; all = js; others = ks }; steps = ss } ≡ no_steps (sought is_masked first all))
 numbers_put (Err t) is_masked first one all is js ks last mask ss e_is e_last e_mask e_one e_js e_ss e_ks = tt
 numbers_put (Ok t) is_masked first one all is js ks last mask ss e_is e_last e_mask e_one e_js e_ss e_ks =
     ap (λ xs. steps_of mask one js xs ss) e_ks
@@ -57,7 +57,7 @@ numbers_put (Ok t) is_masked first one all is js ks last mask ss e_is e_last e_m
     ∙ ap (λ i. steps_of mask i (map (cut last) is) (without i (map (cut last) is)) ss) e_one
     ∙ ap (λ o. steps_of o (cut last first) (map (cut last) is) (without (cut last first) (map (cut last) is)) ss) e_mask
     ∙ ap (λ n. with_steps (numbers_by n first is) ss) e_last
-    ∙ ap (λ xs. with_steps (numbers_by (if is_masked then left_out first xs else 0) first xs) ss) e_is
+    ∙ ap (λ xs. with_steps (numbers_by (left_out is_masked first xs) first xs) ss) e_is
     ∙ ap (with_steps (sought is_masked first all)) e_ss
   where
     with_steps : Numbers → List Step → Steps

@@ -17,7 +17,7 @@ use Rattle.flt_gen.proofs.Runs.{one_number}
 abbrev pub Fitting : Bool → Sides → Type 0
 Fitting b at = b ≡ true → (p : List ℕ) (x : ℕ) → (field_at at.source at.width p ≡ Some x) ⊎ (field_at at.destination at.width p ≡ Some x) → x < 2 ^ 32
 
-pub fitting_small : (b : Bool) (at : Sides) (m : Interval) (is : List Interval) → Fitting b at → (p : List ℕ) (x : ℕ) → (field_at at.source at.width p ≡ Some x) ⊎ (field_at at.destination at.width p ≡ Some x) → Small (if b then left_out m is else 0) x
+pub fitting_small : (b : Bool) (at : Sides) (m : Interval) (is : List Interval) → Fitting b at → (p : List ℕ) (x : ℕ) → (field_at at.source at.width p ≡ Some x) ⊎ (field_at at.destination at.width p ≡ Some x) → Small (left_out b m is) x
 fitting_small true at m is fit p x e = λ l. fit refl p x e
 fitting_small false at m is fit p x e = λ l. absurd (omega arith)
 
@@ -290,7 +290,7 @@ module _ (link : Link) (p : List ℕ) (n : ℕ) where
   sides_are at d b m ms all h fit o w = by d h ∙ sides_seen d (source_of at) (destination_of at) _ _ _ _ (λ x e. one x (small x (inl e))) (λ x e. one x (small x (inr e))) (λ x e. some x (small x (inl e))) (λ x e. some x (small x (inr e)))
     where
       last : ℕ
-      last = if b then left_out m (joined_all all) else 0
+      last = left_out b m (joined_all all)
 
       idle : Idle last m (joined_all all)
       idle = idle_sought b m (joined_all all)

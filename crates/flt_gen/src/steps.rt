@@ -9,7 +9,7 @@
 //! `put_..` adds the steps of the formula that its clause names. The walk emits their code, from
 //! the last one to the first.
 
-ghost use Rattle.std.specs.Prelude.{◌≡◌, ◌≤◌, [], map, if◌then◌else◌, OnOk, MatchOption};
+ghost use Rattle.std.specs.Prelude.{◌≡◌, ◌≤◌, [], map, OnOk, MatchOption};
 ghost use Rattle.std.specs.List.{list_all};
 ghost use Rattle.flt_gen.specs.Formula.{Single, Sought, all_of, sides, no_numbers};
 ghost use Rattle.flt_gen.specs.inside.Intervals.{is_gap, joined_all, sought, is_aligned};
@@ -138,24 +138,17 @@ fn is_block(last: u32, item: Interval) -> bool
     item.high.saturating_sub(item.low) == last
 }
 
-/// The last bits that aren't looked at: none, if that doesn't make single numbers of two intervals,
-/// which are one test each then.
-fn left_out(first: Interval, items: &[Interval]) -> u32
-    ensures { result ≡ left_out first items.now }
+/// The last bits that aren't looked at, if any may be left out: none, if that doesn't make single
+/// numbers of two intervals, which are one test each then.
+fn left_out(is_masked: bool, first: Interval, items: &[Interval]) -> u32
+    ensures { result ≡ left_out is_masked first items.now }
 {
     let last = idle_bits(31, first, items);
-    if items.iter().filter(|item| is_block(last, **item)).count() > 1 {
+    if is_masked && items.iter().filter(|item| is_block(last, **item)).count() > 1 {
         last
     } else {
         0
     }
-}
-
-/// The last bits that aren't looked at, if any may be left out.
-fn left_out_if(is_masked: bool, first: Interval, items: &[Interval]) -> u32
-    ensures { result ≡ (if is_masked then left_out first items.now else 0) }
-{
-    if is_masked { left_out(first, items) } else { 0 }
 }
 
 /// The mask without the last bits, or `None` if there are none of these.
@@ -245,7 +238,7 @@ impl<A: Allocator> Steps<A> {
     {
         self.steps.clear();
         join_touching(all, &mut self.joined)?;
-        let last = left_out_if(is_masked, first, &self.joined);
+        let last = left_out(is_masked, first, &self.joined);
         self.mask = high_mask(last);
         self.first = cut(last, first);
         put_cut(last, &self.joined, &mut self.all)?;

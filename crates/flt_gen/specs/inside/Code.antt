@@ -268,17 +268,25 @@ abbrev pub emit_at_index : Offset → Width → ℕ → List Insn → List Insn
 emit_at_index (Fixed k) width index c = plain (LoadIndirect width) (k - index) ∷ c
 emit_at_index (AfterHeader header k) width index c = plain (LoadIndirect width) k ∷ c
 
--- either side, of many numbers, at X, so that the same code may serve for headers of each kind: if
--- the source is one of them, but not of the first member, whether the destination is captured; if
--- it is none, the destination
+-- the destination, counted from X, goes into A
+abbrev pub emit_second : Sides → List Insn → List Insn
+emit_second at c = emit_at_index at.destination at.width at.index c
+
+-- either side, if X holds the number from which both are counted: if the source is one of the
+-- numbers, but not of the first member, whether the destination is captured; if it is none, whether
+-- the destination is one
+abbrev pub emit_at_sides : Sides → Numbers → ℕ → ℕ → List Insn → List Insn
+emit_at_sides at numbers hit miss c =
+    let none = emit_second at (emit_masked numbers.mask numbers.all hit miss c) in
+    let later = emit_second at (emit_branch test.AtLeast Constant 0 hit miss none) in
+    let one = emit_interval false numbers.first hit (length later) later in
+    emit_at_index at.source at.width at.index
+    (emit_masked numbers.mask numbers.all one.entry (length none) one.code)
+
+-- either side, of many numbers, at X, so that the same code may serve for headers of each kind
 abbrev pub emit_many : Sides → Numbers → ℕ → ℕ → List Insn → Block
 emit_many at numbers hit miss c =
-    let second = emit_at_index at.destination at.width at.index in
-    let none = second (emit_masked numbers.mask numbers.all hit miss c) in
-    let later = second (emit_branch test.AtLeast Constant 0 hit miss none) in
-    let one = emit_interval false numbers.first hit (length later) later in
-    at_top (emit_index at.source at.index (emit_at_index at.source at.width at.index
-    (emit_masked numbers.mask numbers.all one.entry (length none) one.code)))
+    at_top (emit_index at.source at.index (emit_at_sides at numbers hit miss c))
 
 -- the fewest intervals that are looked for at X on either side
 abbrev pub FEWEST_AT_INDEX : ℕ

@@ -43,10 +43,12 @@ idle_bits (suc k) first is =
 abbrev pub is_block : ℕ → Interval → Bool
 is_block last i = i.high - i.low == last
 
--- the last bits that aren't looked at: none, if that doesn't make single numbers of two intervals
-abbrev pub left_out : Interval → List Interval → ℕ
-left_out first is =
-    let last = idle_bits 31 first is in if nat_lt 1 (count_by (is_block last) is) then last else 0
+-- the last bits that aren't looked at, if any may be left out: none, if that doesn't make single
+-- numbers of two intervals
+abbrev pub left_out : Bool → Interval → List Interval → ℕ
+left_out is_masked first is =
+    let last = idle_bits 31 first is in
+    if is_masked && nat_lt 1 (count_by (is_block last) is) then last else 0
 
 -- the mask without the last bits, or none if there are none of these
 abbrev pub high_mask : ℕ → Option ℕ
@@ -77,4 +79,4 @@ numbers_by last first is = record {
 -- the numbers that are looked for, by the first member's and all; last bits may be left out
 abbrev pub sought : Bool → Interval → List Interval → Numbers
 sought is_masked first all =
-    let is = joined_all all in numbers_by (if is_masked then left_out first is else 0) first is
+    let is = joined_all all in numbers_by (left_out is_masked first is) first is
