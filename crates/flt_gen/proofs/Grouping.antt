@@ -17,6 +17,7 @@ use Rattle.flt_gen.proofs.Ascending.{if_case, Searchable, Reached, Ready, Search
 use Rattle.flt_gen.proofs.Counted.{Bare, bare_within, bare_some, bare_either, bare_after, bare_sought, bare_check, bare_cast, of_kinds, bare_hosts, bare_ports}
 use Rattle.flt_gen.proofs.Needed.{bare_needed, value_same}
 use Rattle.flt_gen.proofs.Once.{same_sizes, relation_tests, relation_same}
+use Rattle.flt_gen.proofs.IdleBits.{uncut}
 use Rattle.flt_gen.proofs.Prefixes.{Idle, idle_sought, cut_in, cut_within, cut_order, cut_apart}
 use Rattle.flt_gen.proofs.Together.{Fitting, fitting_small, unmasked_fitting, address_fitting, Merged, members_read, members_more, members_alone, several_are, member_is}
 
@@ -127,10 +128,6 @@ bare_several link q k numbers n hosts_ready ports_ready h two = by k hosts_ready
     by _ r s = bare_some _ (omega arith)
 
 -- the numbers of a group
-map_same : (is : List Interval) → map (cut 0) is ≡ is
-map_same [] = refl
-map_same (i ∷ is) = (let e : i.high - 0 ≡ i.high = omega arith in ap (λ h. record { low = i.low; high = h } ∷ map (cut 0) is) e) ∙ ap (λ js. i ∷ js) (map_same is)
-
 searchable_cut : (last : ℕ) (first : Interval) (is : List Interval) → Idle last first is → Searchable is → Searchable (map (cut last) is)
 searchable_cut last first [] h up = absurd up
 searchable_cut last first (i ∷ is) h up = cut_apart last 0 first (i ∷ is) h up
@@ -204,7 +201,7 @@ group_bare_several link group ms h e = by group.is_plain refl e
         let point : first_ends (cut 0 group.first ∷ []) ≡ 0 = one_point (cut 0 group.first) (let e = pts.0 in omega arith) in
         with_numbers
         (subst (λ b. Numbered (sought b group.first group.all) n) (sym off)
-        (inl (subst (λ (is : List Interval). max 1 (length is) + first_ends is ≤ n) (sym (map_same (joined_all group.all))) (omega arith), point, two)))
+        (inl (subst (λ (is : List Interval). max 1 (length is) + first_ends is ≤ n) (sym (uncut 0 (joined_all group.all) refl)) (omega arith), point, two)))
         two
     by false plain e =
         let three : 3 ≤ n = grind (arith, nat_tests) in

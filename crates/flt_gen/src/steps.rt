@@ -22,6 +22,7 @@ use flt_ast::Direction;
 use flt_words::{Join, Side};
 use std::alloc::{AllocError, Allocator};
 use std::marker::Model;
+use std::mem::swap;
 
 /// A step of a formula.
 #[derive(Clone, Copy)]
@@ -172,14 +173,20 @@ fn cut(last: u32, item: Interval) -> Interval
     }
 }
 
-/// Puts intervals into a list, each cut to the numbers of its blocks. What was in the list goes.
+/// Puts intervals, each cut to the numbers of its blocks, from a list into another one. What was in
+/// that goes, and what is in the first list then isn't stated.
+#[tactic(auto, using(crate::proofs::IdleBits::uncut))]
 fn put_cut<A: Allocator>(
     last: u32,
-    items: &[Interval],
+    items: &mut Vec<Interval, A>,
     all: &mut Vec<Interval, A>,
 ) -> Result<(), AllocError>
-    ensures { OnOk result (all.new.items ≡ map (cut last) items.now) }
+    ensures { OnOk result (all.new.items ≡ map (cut last) items.old.items) }
 {
+    if last == 0 {
+        swap(items, all);
+        return Ok(());
+    }
     all.clear();
     let mut at = 0;
     // The label names the loop in its proof.
@@ -241,7 +248,7 @@ impl<A: Allocator> Steps<A> {
         let last = left_out(is_masked, first, &self.joined);
         self.mask = high_mask(last);
         self.first = cut(last, first);
-        put_cut(last, &self.joined, &mut self.all)?;
+        put_cut(last, &mut self.joined, &mut self.all)?;
         put_others(self.first, &self.all, &mut self.others)
     }
 

@@ -5,9 +5,9 @@ use Rattle.flt_gen.proofs.steps.put_cut.Given as goal
 
 abbrev pub invariant-cut : goal.invariant-cut
 invariant-cut g l = record {
-  within : l.at ≤ length l.items;
-  parts : l.all.items ++ map (cut l.last) (drop l.at l.items) ≡ map (cut l.last) l.items;
+  within : l.at ≤ length l.items.items;
+  parts : l.all.items ++ map (cut l.last) (drop l.at l.items.items) ≡ map (cut l.last) l.items.items;
 }
 
 abbrev pub decreases-cut : goal.decreases-cut
-decreases-cut g l = length l.items - l.at
+decreases-cut g l = length l.items.items - l.at

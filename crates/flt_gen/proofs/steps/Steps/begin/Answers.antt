@@ -14,5 +14,5 @@ returns g c =
     c.in_ok-join_touching.ensures
     (c.left_out-last.ensures ∙ ap (λ is. left_out a.is_masked a.first is) c.deref.ensures.value)
     c.high_mask-self-inside.ensures c.cut-self-inside.ensures
-    (c.in_ok-put_cut.ensures ∙ ap (map (cut last)) c.deref-2.ensures.value)
-    c.clear.ensures (subst (λ is. OnOk r (others ≡ without one is)) c.deref-3.ensures.value c.put_others.ensures)
+    c.in_ok-put_cut.ensures
+    c.clear.ensures (subst (λ is. OnOk r (others ≡ without one is)) c.deref-2.ensures.value c.put_others.ensures)
