@@ -1,5 +1,5 @@
 -- The intervals are joined, cut and put.
-use Rattle.flt_gen.proofs.Common.{◌≡◌, ◌∙◌, ap, subst, map, OnOk, left_out, cut, without}
+use Rattle.flt_gen.proofs.Common.{◌≡◌, ◌∙◌, ap, subst, OnOk, left_out, without}
 use Rattle.flt_gen.proofs.StepsEmitted.{numbers_put}
 use Rattle.flt_gen.proofs.steps.Steps.begin.Goals as goal
 
