@@ -21,3 +21,4 @@ pub mod Wrong
 pub mod Written
 pub mod Outcome
 pub mod Assembling
+pub mod Bytes

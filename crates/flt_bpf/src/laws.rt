@@ -1,11 +1,14 @@
-//! Laws over the definitions of codes and listings: each is a theorem, and its function does
-//! nothing.
+//! Laws over the definitions of codes, listings and fields: each is a theorem, and its function
+//! does nothing.
 
-ghost use Rattle.std.specs.Prelude.{◌≡◌, ℕ, ◌≤◌, List, length, All, Some};
+ghost use Rattle.std.specs.Prelude.{◌≡◌, ℕ, ◌+◌, ◌*◌, ◌<◌, ◌≤◌, List, length, All, Some};
+ghost use Rattle.std.specs.Prelude.{slice_index};
 ghost use Rattle.flt_bpf.specs.declared.insn.Insn.{Insn};
 ghost use Rattle.flt_bpf.specs.declared.operation.Operation.{Operation};
 ghost use Rattle.flt_bpf.specs.Instructions.{code_of, operation_of};
 ghost use Rattle.flt_bpf.specs.Listing.{listing, HasFieldsInRange, IsListing, IsRefusedAt};
+ghost use Rattle.flt_bpf.specs.Machine.{big_endian_at};
+ghost use Rattle.flt_bpf.specs.declared.operation.Width.TheVariants.{Word};
 
 /// An operation that a code gives has this code. The other way round is in the contract of
 /// `Operation::code`.
@@ -35,4 +38,11 @@ pub fn one_reading()
         → IsRefusedAt text other → line ≡ other }
     ensures not_both { (text : List ℕ) (is : List Insn) (line : ℕ) → IsListing text is
         → ¬ IsRefusedAt text line }
+{}
+
+/// The word of four bytes is their big-endian number: it is below 2^32 by itself.
+pub fn word_of_bytes()
+    ensures { (p : List ℕ) (at : ℕ) → All (λ b. b < 256) p → big_endian_at p at Word
+        ≡ slice_index p at * 0x100_0000 + slice_index p (at + 1) * 0x1_0000
+        + slice_index p (at + 2) * 0x100 + slice_index p (at + 3) }
 {}

@@ -1,5 +1,5 @@
 -- Intervals that ascend.
-use Rattle.flt_gen.proofs.Common.{◌≡◌, ℕ, zero, suc, ◌+◌, ◌-◌, ◌<◌, ◌≤◌, List, [], ◌∷◌, length, take, drop, get_or, Bool, true, false, refl, ap, ◌∙◌, arith, nat_lt, nat_le, ◌==◌, ◌&&◌, ◌||◌, max, if◌then◌else◌, nat_tests, and-false, or_assoc, Interval, low_of, Formula, Single, Compare, Both, Either, Except, Among, is_in, is_within, no_interval, first_ends, insert_ascending, is_gap, extended, joined_from, joined_all}
+use Rattle.flt_gen.proofs.Common.{◌≡◌, ℕ, zero, suc, ◌+◌, ◌-◌, ◌^◌, ◌<◌, ◌≤◌, List, [], ◌∷◌, length, take, drop, get_or, Bool, true, false, Option, Some, None, refl, sym, ap, ap₂, ◌∙◌, arith, nat_lt, nat_le, ◌==◌, ◌&&◌, ◌||◌, max, if◌then◌else◌, nat_tests, and-false, and_parts, or_assoc, Interval, Sides, Offset, Fixed, AfterHeader, field_at, under_mask, low_of, Formula, Single, Compare, Both, Either, Except, Sought, Numbers, is_in, is_within, no_interval, first_ends, insert_ascending, is_gap, extended, joined_from, joined_all, same_interval, without}
 use Rattle.std.specs.List.{insert}
 
 -- by a test
@@ -29,20 +29,34 @@ abbrev pub Searchable : List Interval → Type 0
 Searchable [] = ⊥
 Searchable (i ∷ is) = Apart 0 (i ∷ is)
 
--- all intervals that a formula searches
+-- both fields are counted from the same number in X
+abbrev pub Reached : ℕ → Option ℕ → Offset → Offset → Type 0
+Reached index mask (Fixed a) (Fixed b) = (index ≤ a) × (index ≤ b) × (a < 2 ^ 32) × (b < 2 ^ 32)
+Reached index mask (AfterHeader h a) (AfterHeader g b) = (mask ≡ None) × (g ≡ h)
+Reached index mask _ _ = ⊥
+
+-- numbers that are searched in fields: those of the first member are among them
+pub record Ready (at : Sides) (numbers : Numbers) : Type 0 where
+  pub order : numbers.first.low ≤ numbers.first.high
+  pub all : Searchable numbers.all
+  pub others_are : numbers.others ≡ without numbers.first numbers.all
+  pub first_in : (p : List ℕ) (x : ℕ) → field_at at.source at.width p ≡ Some x → is_in (under_mask numbers.mask x) numbers.first ≡ true → is_within (under_mask numbers.mask x) numbers.all ≡ true
+  pub reached : Reached at.index numbers.mask at.source at.destination
+
+-- all numbers that a formula searches
 abbrev pub Searches : Formula → Type 0
 Searches (Single t) = Unit {0}
 Searches (Compare c l r) = Unit {0}
 Searches (Both a b) = Searches a × Searches b
 Searches (Either a b) = Searches a × Searches b
 Searches (Except a) = Searches a
-Searches (Among f is) = Searchable is
+Searches (Sought d at numbers) = Ready at numbers
 
 pub searchable_apart : (is : List Interval) → Searchable is → Apart 0 is
 searchable_apart [] h = absurd h
 searchable_apart (i ∷ is) h = h
 
-apart_less : (a b : ℕ) (is : List Interval) → a ≤ b → Apart b is → Apart a is
+pub apart_less : (a b : ℕ) (is : List Interval) → a ≤ b → Apart b is → Apart a is
 apart_less a b [] l h = tt
 apart_less a b (i ∷ is) l h = (let k = h.0 in omega arith, h.1, h.2)
 
@@ -55,6 +69,31 @@ apart_drop a zero [] l = tt
 apart_drop a zero (i ∷ is) l = l
 apart_drop a (suc h) [] l = tt
 apart_drop a (suc h) (i ∷ is) l = let m = l.0 in let n = l.1 in apart_less a (i.high + 1) (drop h is) (omega arith) (apart_drop (i.high + 1) h is l.2)
+
+-- intervals without one
+pub apart_without : (a : ℕ) (i : Interval) (is : List Interval) → Apart a is → Apart a (without i is)
+apart_without a i [] h = tt
+apart_without a i (j ∷ js) h =
+    if_case (Apart a) (same_interval i j) (without i js) (j ∷ without i js)
+    (λ e. let k = h.0 in let l = h.1 in apart_without a i js (apart_less a (j.high + 1) js (omega arith) h.2))
+    (λ e. (h.0, h.1, apart_without (j.high + 1) i js h.2))
+
+pub length_without : (i : Interval) (is : List Interval) → length (without i is) ≤ length is
+length_without i [] = omega arith
+length_without i (j ∷ js) =
+    let h = length_without i js in
+    if_case (λ xs. length xs ≤ length (j ∷ js)) (same_interval i j) (without i js) (j ∷ without i js) (λ e. omega arith) (λ e. omega arith)
+
+pub within_without : (x : ℕ) (i : Interval) (is : List Interval) → is_in x i ≡ false → is_within x (without i is) ≡ is_within x is
+within_without x i [] out = refl
+within_without x i (j ∷ js) out =
+    if_case (λ xs. is_within x xs ≡ is_within x (j ∷ js)) (same_interval i j) (without i js) (j ∷ without i js)
+    (λ e. let t = and_parts (i.low == j.low) (i.high == j.high) e in
+    let low : i.low ≡ j.low = (let u = t.0 in grind (arith, nat_tests)) in
+    let high : i.high ≡ j.high = (let u = t.1 in grind (arith, nat_tests)) in
+    let none : is_in x j ≡ false = ap₂ (λ a b. nat_le a x && nat_le x b) (sym low) (sym high) ∙ out in
+    within_without x i js out ∙ ap (λ b. b || is_within x js) (sym none))
+    (λ e. ap (λ b. is_in x j || b) (within_without x i js out))
 
 -- which half a number can be in
 under_interval : (x : ℕ) (i : Interval) → x < i.low → is_in x i ≡ false
@@ -163,7 +202,7 @@ length_from i (j ∷ js) =
 abbrev ends : Interval → ℕ
 ends i = if i.low == i.high then 0 else 1
 
-ends_few : (is : List Interval) → first_ends is ≤ 1
+pub ends_few : (is : List Interval) → first_ends is ≤ 1
 ends_few [] = omega arith
 ends_few (i ∷ is) = if_case (λ n. n ≤ 1) (i.low == i.high) 0 1 (λ e. omega arith) (λ e. omega arith)
 
@@ -186,10 +225,10 @@ pub within_joined : (x : ℕ) (is : List Interval) → Ordered 0 is → is_withi
 within_joined x [] h = refl
 within_joined x (i ∷ is) h = within_from x i is h.1 h.2
 
--- what is counted of them: no more than there were, where they were single numbers, or one more
-pub joined_tests : (is : List Interval) → 1 ≤ length is → max 1 (length (joined_all is)) + first_ends (joined_all is) ≤ length is + 1
-joined_tests [] l = absurd (omega arith)
-joined_tests (i ∷ is) l = let h = length_from i is in let a = h.0 in let b = h.1 in let k = ends_few (joined_from i is) in omega arith
+-- no more than there were, and where they were single numbers, one less if the first one is more
+pub joined_few : (is : List Interval) → 1 ≤ length is → max 1 (length (joined_all is)) ≤ length is
+joined_few [] l = absurd (omega arith)
+joined_few (i ∷ is) l = let h = length_from i is in let a = h.0 in let b = h.1 in omega arith
 
 pub joined_points : (is : List Interval) → 1 ≤ length is → Points is → max 1 (length (joined_all is)) + first_ends (joined_all is) ≤ length is
 joined_points [] l h = absurd (omega arith)

@@ -41,30 +41,28 @@ pub use Rattle.flt_bpf.specs.Check.{fault_if_known, operation_fault, unless, end
 pub use Rattle.flt_bpf.specs.Layout.{is_branch, JUMP, HasNoJump, IsShort, JumpsAreNeeded}
 pub use Rattle.flt_bpf.proofs.Suffix.{answer_drop, valid_if_short, faultless_drop, ends_drop, machine_answers}
 pub use Rattle.flt_gen.specs.Numbers.{accessor_tests, width_of, base, number, result_of, accessors}
-pub use Rattle.flt_gen.specs.inside.Code.{Block, block, emit_all, low_of, plain, constant, computation, takes_constant, constant_operand, branch_insn, emit_branch, emit_comparison, emit_field, emit_mask, emit_accessor, emit_number, at_top, emit_interval, emit_chain, are_few, MOST_HALVINGS, emit_elementary, emit_formula, alu_operation, emit_base, emit_transport, emit_operands, emit_test, emit_relation, emit_among, emit_right}
+pub use Rattle.flt_gen.specs.inside.Code.{Block, block, emit_all, low_of, plain, constant, computation, takes_constant, constant_operand, branch_insn, emit_branch, emit_comparison, emit_field, emit_mask, emit_accessor, emit_number, at_top, emit_interval, emit_chain, are_few, MOST_HALVINGS, emit_elementary, emit_formula, alu_operation, emit_base, emit_transport, emit_operands, emit_test, emit_relation, emit_masked, emit_side, emit_others, emit_few, emit_index, emit_at_index, emit_second, emit_at_sides, emit_many, are_at_index, emit_among, emit_right}
 pub use Rattle.flt_gen.specs.declared.elementary.Interval.{Interval}
-pub use Rattle.flt_gen.specs.Formula.{Formula, Single, Compare, Both, Either, Except, Among, is_in, is_within, no_interval, all_of, sides, Numbers, no_numbers, any_sides, both, either, negation, reads, relation_reads, guarded_formula, checked_formula}
+pub use Rattle.flt_gen.specs.Formula.{Formula, Single, Compare, Both, Either, Except, Sought, is_in, is_within, no_interval, all_of, sides, Numbers, no_numbers, both, either, negation, reads, relation_reads, guarded_formula, checked_formula}
 pub use Rattle.flt_gen.specs.declared.elementary.FrameKind.{FrameKind}
 pub use Rattle.flt_gen.specs.declared.elementary.Elementary.{Elementary}
-pub use Rattle.flt_gen.specs.declared.elementary.MaskedField.{MaskedField}
 pub use Rattle.flt_gen.specs.declared.elementary.Sides.{Sides}
 pub use Rattle.flt_gen.specs.Elementary.{Yes, No, reading_of, with, under_mask, elementary_reads, type_test, MatchResult, compares, kind_test, Rejected, is_at, field_at, field_reads}
 pub use Rattle.flt_gen.specs.declared.elementary.Elementary.TheVariants.{Outcome, Field}
 pub use Rattle.flt_gen.specs.declared.elementary.Offset.{Offset}
 pub use Rattle.flt_gen.specs.declared.elementary.Offset.TheVariants.{Fixed, AfterHeader}
 pub use Rattle.flt_gen.specs.inside.ProgramCode.{emit_accessor_tests, expression_code, program_code, returns_code}
-pub use Rattle.flt_gen.specs.inside.Counts.{first_ends, tests, nodes, words}
-pub use Rattle.flt_gen.specs.inside.Intervals.{insert_ascending, is_gap, extended, joined_from, joined_all, sought}
+pub use Rattle.flt_gen.specs.inside.Counts.{first_ends, sought_tests, tests, nodes, words}
+pub use Rattle.flt_gen.specs.inside.Intervals.{insert_ascending, is_gap, extended, joined_from, joined_all, is_aligned, idle_bits, left_out, high_mask, cut, same_interval, without, numbers_by, sought}
 pub use Rattle.flt_gen.specs.declared.port.Ports.TheVariants.{One, Between, Several}
 pub use Rattle.flt_gen.specs.declared.port.Transport.{Transport}
 pub use Rattle.flt_gen.specs.Primitives.{after, any_proto, mac_tests, check_formula, cast_formula, proto_formula, hosts_of_kind, hosts_formula, net_formula, net_test, ip6_formula, ether_host, port_formula, port_test, port_sides, transport, value_formula, sized_formula, qualified_formula, partial_mask, ip6_tests, address_test, ip6_test, address_places, port_is, port_between, port_places, following, ip_transport, ip6_transport}
 pub use Rattle.flt_gen.specs.Reading.{formula, holds}
 pub use Rattle.flt_gen.specs.Counts.{short_bound_of}
 pub use Rattle.flt_gen.specs.inside.Folding.{negated_constant, applied_constant, number_or, negated_number, applied_number, folded_number, and_denied, joined_truth, folded_truth, folded_expression, node_or, with_negation, with_operator, Held, with_held, with_folded, hold, put_back}
-pub use Rattle.flt_gen.specs.declared.group.Member.{Member}
 pub use Rattle.flt_gen.specs.declared.group.Entry.{Entry}
 pub use Rattle.flt_gen.specs.inside.Emitted.{protocols_of, relation_formula, qualified_needed, is_empty, is_idle, capture_test, last_test, needed_tests, ip6_needed, value_needed, equals, without_protocol}
-pub use Rattle.flt_gen.specs.inside.Group.{Group, no_group, entry, found_member, others_with, with_member, same_type, same_protocol, same_direction, agree, goes_with, net_numbers, member_of, group_and, larger_group, is_searched, numbers_of, mask_of, several_formula, rows_formula, group_formula, or_any, or_group, truth_member, choice, grouped_formula, MOST_TOGETHER, FEWEST_RANGES}
+pub use Rattle.flt_gen.specs.inside.Group.{Group, no_group, entry, interval, with_member, same_type, same_protocol, same_direction, goes_with, net_numbers, member_of, group_and, larger_group, is_searched, is_address, numbers_of, several_formula, rows_formula, group_formula, or_any, or_group, truth_member, choice, grouped_formula, MOST_TOGETHER, FEWEST_RANGES}
 pub use Rattle.flt_gen.specs.Laws.{word_mask, frame_kind, carries_kind, carries}
 pub use Rattle.flt_gen.specs.inside.Steps.{Steps, Part, Joint, Meaning, meaning, with_parts, with_formula, no_steps, IsPut, IsJoined}
 pub use Rattle.flt_gen.specs.inside.Walk.{Walk, finish_formula, emit_part, emit_parts, emit_node, emit_both_nodes, or_walk, emit_nodes, start_walk, insns_of, targets, finish_truth, finish_number, with_insns, flush_members, flush_group, emit_value, emit_truth_node}

@@ -1,5 +1,5 @@
 -- The counts of the table's formulas are at most those of the tree.
-use Rattle.flt_gen.proofs.Common.{◌≡◌, ℕ, ◌+◌, ◌-◌, ◌≤◌, max, min, List, [], ◌∷◌, length, Option, Some, None, refl, arith, Protocol, Source, Destination, And, Or, ValueType, Host, Net, Port, PortRange, Proto, Direction, Value, Link, FrameKind, Elementary, Interval, MaskedField, Sides, One, Between, Transport, Formula, Single, Both, Either, Among, all_of, sides, Numbers, no_numbers, any_sides, after, any_proto, mac_tests, check_formula, cast_formula, proto_formula, hosts_of_kind, hosts_formula, net_formula, net_test, ip6_formula, ether_host, port_formula, port_test, port_sides, transport, value_formula, first_ends, tests, nodes, words}
+use Rattle.flt_gen.proofs.Common.{◌≡◌, ℕ, ◌+◌, ◌-◌, ◌≤◌, max, min, List, [], ◌∷◌, length, Option, Some, None, refl, arith, Protocol, Source, Destination, And, Or, ValueType, Host, Net, Port, PortRange, Proto, Direction, Value, Link, FrameKind, Elementary, Sides, One, Between, ip_transport, ip6_transport, Formula, Single, Both, Either, Sought, all_of, sides, Numbers, no_numbers, after, any_proto, mac_tests, check_formula, cast_formula, proto_formula, hosts_of_kind, hosts_formula, net_formula, net_test, ip6_formula, ether_host, port_formula, port_test, port_sides, transport, value_formula, sought_tests, tests, nodes, words}
 use Rattle.flt_words.specs.declared.token.Protocol.TheVariants as protocol
 use Rattle.flt_words.specs.declared.token.Cast.{Cast}
 use Rattle.flt_words.specs.declared.token.Cast.TheVariants.{Broadcast, Multicast}
@@ -11,7 +11,7 @@ use Rattle.flt_gen.specs.declared.address.Hosts.{Hosts}
 use Rattle.flt_gen.specs.declared.address.Hosts.TheVariants as hosts
 use Rattle.flt_gen.specs.declared.address.NetTest.{NetTest}
 use Rattle.flt_gen.specs.declared.port.PortTest.{PortTest}
-use Rattle.flt_gen.proofs.Ascending.{Searchable, Searches}
+use Rattle.flt_gen.proofs.Ascending.{Ready, Searches}
 
 -- a formula without comparisons, with at most n tests, in which all numbers that are searched
 -- ascend
@@ -64,33 +64,9 @@ bare_sides (direction.One Destination) s t n l m some = bare_all t n m some
 bare_sides (direction.Both Or) s t n l m some = bare_either (bare_all s n l some) (bare_all t n m some)
 bare_sides (direction.Both And) s t n l m some = bare_both (bare_all s n l some) (bare_all t n m some)
 
--- numbers that are looked for on a side, or on either
-abbrev among_tests : List Interval → ℕ
-among_tests is = max 1 (length is) + first_ends is
-
-bare_among : (f : MaskedField) (is : List Interval) (n : ℕ) → Searchable is → among_tests is ≤ n → Bare (Among f is) n
-bare_among f is n h l = record { no_nodes = refl; no_words = refl; searches = h; few = l }
-
-abbrev pub any_tests : Direction → ℕ → ℕ → ℕ → ℕ
-any_tests (direction.Both Or) f a o = f + (a + o)
-any_tests (direction.Both And) f a o = 1
-any_tests _ f a o = a
-
--- the tests of all and of the others
-pub record Sought (numbers : Numbers) (f a o : ℕ) : Type 0 where
-  pub first : Searchable (numbers.first ∷ [])
-  pub all : Searchable numbers.all
-  pub others : Searchable numbers.others
-  pub first_few : among_tests (numbers.first ∷ []) ≤ f
-  pub all_few : among_tests numbers.all ≤ a
-  pub others_few : among_tests numbers.others ≤ o
-
-pub bare_any : (d : Direction) (at : Sides) (mask : Option ℕ) (numbers : Numbers) (f a o : ℕ) → Sought numbers f a o → Bare (any_sides d at mask numbers) (any_tests d f a o)
-bare_any (direction.One Source) at mask numbers f a o h = bare_among _ numbers.all a h.all h.all_few
-bare_any (direction.One Destination) at mask numbers f a o h = bare_among _ numbers.all a h.all h.all_few
-bare_any (direction.Both Or) at mask numbers f a o h =
-    bare_either (bare_among _ (numbers.first ∷ []) f h.first h.first_few) (bare_either (bare_among _ numbers.all a h.all h.all_few) (bare_among _ numbers.others o h.others h.others_few))
-bare_any (direction.Both And) at mask numbers f a o h = bare_some _ (omega arith)
+-- numbers that are looked for
+pub bare_sought : (d : Direction) (at : Sides) (numbers : Numbers) → Ready at numbers → Bare (Sought d at numbers) (sought_tests d numbers)
+bare_sought d at numbers r = record { no_nodes = refl; no_words = refl; searches = r; few = omega arith }
 
 -- protocols and Ethernet addresses
 bare_proto : (link : Link) (n : ℕ) → Bare (any_proto link n) 4
@@ -153,16 +129,16 @@ bare_transport (Some protocol.Tcp) s t f n h = bare_after h
 bare_transport (Some protocol.Udp) s t f n h = bare_after h
 bare_transport (Some _) s t f n h = bare_some _ (omega arith)
 
-pub bare_ports : (link : Link) (wanted : PortTest) (bs : Numbers) (n : ℕ) → ((header : Transport) → Bare (port_sides wanted.ports wanted.direction header bs) n) → Bare (port_formula link wanted bs) (1 + count.transport_tests wanted.protocol + 1 + n + (1 + count.transport_tests wanted.protocol + n))
-bare_ports link wanted bs n each =
+pub bare_ports : (link : Link) (wanted : PortTest) (bs : Numbers) (n : ℕ) → Bare (port_sides wanted.ports wanted.direction (ip_transport link) bs) n → Bare (port_sides wanted.ports wanted.direction (ip6_transport link) bs) n → Bare (port_formula link wanted bs) (1 + count.transport_tests wanted.protocol + 1 + n + (1 + count.transport_tests wanted.protocol + n))
+bare_ports link wanted bs n ip ip6 =
     bare_within _ (omega arith)
-    (bare_either (bare_after (bare_transport wanted.protocol _ _ _ _ (bare_after (each _)))) (bare_after (bare_transport wanted.protocol _ _ _ n (each _))))
+    (bare_either (bare_after (bare_transport wanted.protocol _ _ _ _ (bare_after ip))) (bare_after (bare_transport wanted.protocol _ _ _ n ip6)))
 
 pub bare_port : (link : Link) (p : Option Protocol) (d : Direction) (n : ℕ) → Bare (port_formula link (port_test p d (One n)) no_numbers) (count.port_tests p d 1)
-bare_port link p d n = bare_ports link (port_test p d (One n)) no_numbers _ (λ header. bare_sides d _ _ 1 (omega arith) (omega arith) (omega arith))
+bare_port link p d n = bare_ports link (port_test p d (One n)) no_numbers _ (bare_sides d _ _ 1 (omega arith) (omega arith) (omega arith)) (bare_sides d _ _ 1 (omega arith) (omega arith) (omega arith))
 
 bare_range : (link : Link) (p : Option Protocol) (d : Direction) (a b : ℕ) → Bare (port_formula link (port_test p d (Between a b)) no_numbers) (count.port_tests p d 2)
-bare_range link p d a b = bare_ports link (port_test p d (Between a b)) no_numbers _ (λ header. bare_sides d _ _ 2 (omega arith) (omega arith) (omega arith))
+bare_range link p d a b = bare_ports link (port_test p d (Between a b)) no_numbers _ (bare_sides d _ _ 2 (omega arith) (omega arith) (omega arith)) (bare_sides d _ _ 2 (omega arith) (omega arith) (omega arith))
 
 -- values
 some_ip4 : (p : Option Protocol) (d : Direction) → 1 ≤ count.ip4_tests p d

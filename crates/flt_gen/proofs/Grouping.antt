@@ -1,6 +1,11 @@
 -- The formula of a truth in which hosts or ports are looked for together reads as the truth's own,
 -- and has no more tests.
-use Rattle.flt_gen.proofs.Common.{◌≡◌, ℕ, suc, ◌+◌, ◌-◌, ◌*◌, ◌^◌, ◌<◌, ◌≤◌, max, min, List, [], ◌∷◌, length, Bool, true, false, Option, Some, None, refl, sym, ap, ap₂, ◌∙◌, subst, arith, ◌==◌, ◌||◌, ◌&&◌, nat_lt, nat_le, bit_and, if◌then◌else◌, suc-mul, nat_tests, and_parts, or_parts, Protocol, Ip, Tcp, Udp, Source, Destination, And, Or, ValueType, Host, Net, Port, PortRange, Direction, CompleteQualifiers, Value, first_bits, Interval, Sides, Member, Entry, Comparison, NumberTree, TruthTree, check, cast, sized, bare, valued, qualified, compared, denied, joined, is_unfilled, any_primitive, Link, MatchResult, Yes, Several, Formula, Compare, Both, Either, Except, is_in, is_within, both, either, negation, Numbers, any_sides, reads, check_formula, cast_formula, sized_formula, hosts_formula, port_test, port_formula, qualified_formula, protocols_of, relation_formula, qualified_needed, formula, first_ends, tests, nodes, words, insert_ascending, sought, Group, no_group, entry, found_member, others_with, with_member, same_type, same_protocol, same_direction, agree, goes_with, net_numbers, member_of, group_and, larger_group, is_searched, numbers_of, mask_of, several_formula, rows_formula, group_formula, or_any, or_group, truth_member, choice, grouped_formula, MOST_TOGETHER, FEWEST_RANGES}
+use Rattle.flt_gen.proofs.Common.{◌≡◌, ℕ, suc, ◌+◌, ◌-◌, ◌*◌, ◌^◌, ◌<◌, ◌≤◌, max, min, List, [], ◌∷◌, length, Bool, true, false, Option, Some, None, refl, sym, ap, ap₂, ◌∙◌, subst, arith, ◌==◌, ◌||◌, ◌&&◌, nat_lt, nat_le, bit_and, if◌then◌else◌, suc-mul, nat_tests, and_parts, or_parts, Protocol, Ip, Tcp, Udp, Source, Destination, And, Or, ValueType, Host, Net, Port, PortRange, Direction, CompleteQualifiers, Value, Interval, Sides, FrameKind, network_offset, not, map, and-false, inl, inr, Sought, sought_tests, interval, is_address, joined_all, left_out, high_mask, cut, address_places, port_places, ip_transport, ip6_transport, are_at_index, sought, Entry, Comparison, NumberTree, TruthTree, check, cast, sized, bare, valued, qualified, compared, denied, joined, is_unfilled, any_primitive, Link, MatchResult, Yes, Several, Formula, Compare, Both, Either, Except, is_in, is_within, both, either, negation, Numbers, reads, check_formula, cast_formula, sized_formula, hosts_formula, port_test, port_formula, qualified_formula, protocols_of, relation_formula, qualified_needed, formula, first_ends, tests, nodes, words, insert_ascending, Group, no_group, entry, with_member, same_type, same_protocol, same_direction, goes_with, net_numbers, member_of, group_and, larger_group, is_searched, numbers_of, several_formula, rows_formula, group_formula, or_any, or_group, truth_member, choice, grouped_formula, MOST_TOGETHER, FEWEST_RANGES}
+use Rattle.std.specs.Prelude.{◌⊎◌}
+use Rattle.std.proofs.lemmas.List.{length-map}
+use Rattle.cap_octet.specs.declared.link.Link.TheVariants as link
+use Rattle.flt_ast.specs.declared.value.Ip4Net.{Ip4Net}
+use Rattle.flt_gen.specs.declared.elementary.FrameKind.TheVariants as kind
 use Rattle.flt_words.specs.declared.token.Size.{Size}
 use Rattle.flt_words.specs.declared.token.Size.TheVariants as size
 use Rattle.flt_ast.specs.declared.qualifiers.Direction.TheVariants as direction
@@ -8,12 +13,13 @@ use Rattle.flt_ast.specs.declared.value.Value.TheVariants as value
 use Rattle.flt_ast.specs.declared.value.NetMask.TheVariants as mask
 use Rattle.flt_ast.specs.Counts as count
 use Rattle.flt_gen.specs.declared.address.Hosts.TheVariants as hosts
-use Rattle.flt_gen.proofs.Ascending.{if_case, Searchable, Searches, Ordered, Points, ordered_inserted, points_inserted, length_inserted, within_inserted, searchable_joined, joined_tests, joined_points}
-use Rattle.flt_gen.proofs.Counted.{Bare, bare_within, bare_some, bare_either, bare_after, any_tests, Sought, bare_any, bare_check, bare_cast, of_kinds, bare_hosts, bare_ports}
+use Rattle.flt_gen.proofs.Ascending.{if_case, Searchable, Reached, Ready, Searches, Ordered, Points, ordered_inserted, points_inserted, length_inserted, within_inserted, within_joined, searchable_joined, ends_few, joined_few, joined_points}
+use Rattle.flt_gen.proofs.Counted.{Bare, bare_within, bare_some, bare_either, bare_after, bare_sought, bare_check, bare_cast, of_kinds, bare_hosts, bare_ports}
 use Rattle.flt_gen.proofs.Needed.{bare_needed, value_same}
 use Rattle.flt_gen.proofs.Once.{same_sizes, relation_tests, relation_same}
-use Rattle.flt_gen.proofs.Prefixes.{Good}
-use Rattle.flt_gen.proofs.Together.{is_port, Merged, Goods, raw_any, members_read, members_more, members_alone, several_are, member_is}
+use Rattle.flt_gen.proofs.IdleBits.{uncut}
+use Rattle.flt_gen.proofs.Prefixes.{Idle, idle_sought, cut_in, cut_within, cut_order, cut_apart}
+use Rattle.flt_gen.proofs.Together.{Fitting, fitting_small, unmasked_fitting, address_fitting, Merged, members_read, members_more, members_alone, several_are, member_is}
 
 -- how many tests a member has at least by itself
 abbrev member_tests : ValueType → Option Protocol → Direction → ℕ
@@ -31,30 +37,25 @@ entries_tests (e ∷ es) = count.value_tests e.qualifiers e.value + entries_test
 abbrev group_tests : Group → ℕ
 group_tests group = entries_tests group.entries
 
--- a group with members, the first of which looks for m: what its lists are, and how its members
--- read
-pub record Held (group : Group) (m : Member) (ms : List Member) : Type 0 where
-  pub first_is : group.first ≡ m.numbers
-  pub good : Goods (m ∷ ms) group.bits
-  pub whole : is_port group.qualifiers.value_type ≡ true → 32 ≤ group.bits
+-- a group with members: what its lists are, and how its members, of which all but the first look
+-- for ms, read
+pub record Held (group : Group) (ms : List Interval) : Type 0 where
+  pub order : group.first.low ≤ group.first.high
   pub merged : 2 ≤ length group.entries → Merged group.qualifiers.direction
-  pub all_ascend : Ordered 0 group.all
-  pub others_ascend : Ordered 0 group.others
-  pub all_within : (y : ℕ) → is_within y group.all ≡ raw_any (m ∷ ms) y
-  pub others_within : (y : ℕ) → is_within y group.others ≡ raw_any ms y
+  pub ascends : Ordered 0 group.all
+  pub all_within : (y : ℕ) → is_within y group.all ≡ is_within y (group.first ∷ ms)
   pub all_count : length group.all ≡ length group.entries
-  pub others_count : length group.others + 1 ≡ length group.entries
-  pub points : group.is_plain ≡ true → (m.numbers.low ≡ m.numbers.high) × Points group.all × Points group.others
+  pub points : group.is_plain ≡ true → (group.first.low ≡ group.first.high) × Points group.all
   pub counted : length group.entries * member_tests group.qualifiers.value_type group.qualifiers.protocol group.qualifiers.direction ≤ group_tests group
-  pub rows : (link : Link) (p : List ℕ) (n : ℕ) → reads link (rows_formula link group.entries) p n ≡ members_read link p n group.qualifiers.value_type group.qualifiers.protocol group.qualifiers.direction m ms
+  pub rows : (link : Link) (p : List ℕ) (n : ℕ) → reads link (rows_formula link group.entries) p n ≡ members_read link p n group.qualifiers.value_type group.qualifiers.protocol group.qualifiers.direction group.first ms
 
 -- a group that waits
 pub record Kept (group : Group) : Type 0 where
-  pub none : length group.entries ≡ 0 → (group.all ≡ []) × (group.others ≡ []) × (group.is_plain ≡ true) × (group.bits ≡ 0)
-  pub some : 0 < length group.entries → (m : Member) × (ms : List Member) × Held group m ms
+  pub none : length group.entries ≡ 0 → group.all ≡ []
+  pub some : 0 < length group.entries → (ms : List Interval) × Held group ms
 
 pub kept_none : Kept no_group
-kept_none = record { none = λ e. (refl, refl, refl, refl); some = λ l. absurd (omega arith) }
+kept_none = record { none = λ e. refl; some = λ l. absurd (omega arith) }
 
 -- several members' formula has no more tests
 several_hosts_few : (protocol : Option Protocol) (d : Direction) (n x : ℕ) → 1 + x ≤ n → of_kinds protocol (1 + (n * count.side_tests d 1 + x)) ≤ n * count.ip4_tests protocol d
@@ -67,83 +68,147 @@ several_ports_few None (direction.One s) n x l m = omega arith
 several_ports_few _ (direction.One s) n x l m = omega arith
 several_ports_few _ _ n x l m = omega arith
 
-any_few : (d : Direction) (n x f a o : ℕ) → 1 ≤ n → a ≤ n + x → f + (a + o) ≤ n + n + x → any_tests d f a o ≤ n * count.side_tests d 1 + x
-any_few (direction.One Source) n x f a o l m k = omega arith
-any_few (direction.Both Or) n x f a o l m k = omega arith
-any_few _ n x f a o l m k = omega arith
+-- numbers of a group with members that are one number each, of which there are two at least, or of
+-- three others
+abbrev Numbered : Numbers → ℕ → Type 0
+Numbered numbers n =
+    ((max 1 (length numbers.all) + first_ends numbers.all ≤ n) × (first_ends (numbers.first ∷ []) ≡ 0) × (2 ≤ n))
+    ⊎ ((max 1 (length numbers.all) ≤ n) × (3 ≤ n))
 
-bare_several : (link : Link) (q : CompleteQualifiers) (t : ℕ) (k : ValueType) (numbers : Numbers) (n x f a o : ℕ) → Sought numbers f a o → 2 ≤ n → 1 + x ≤ n → a ≤ n + x → f + (a + o) ≤ n + n + x → Bare (several_formula link q t k numbers) (n * member_tests k q.protocol q.direction)
-bare_several link q t k numbers n x f a o h two room am fm = by k
+sought_few : (d : Direction) (numbers : Numbers) (n : ℕ) → Numbered numbers n → sought_tests d numbers ≤ n * count.side_tests d 1 + (n - 1)
+sought_few (direction.One Source) numbers n (inl h) = let k = h.0 in let l = h.2 in omega arith
+sought_few (direction.One Source) numbers n (inr h) = let k = h.0 in let l = h.1 in let few = ends_few numbers.all in omega arith
+sought_few (direction.One Destination) numbers n (inl h) = let k = h.0 in let l = h.2 in omega arith
+sought_few (direction.One Destination) numbers n (inr h) = let k = h.0 in let l = h.1 in let few = ends_few numbers.all in omega arith
+sought_few (direction.Both And) numbers n (inl h) = let l = h.2 in omega arith
+sought_few (direction.Both And) numbers n (inr h) = let l = h.1 in omega arith
+sought_few (direction.Both Or) numbers n h = by (are_at_index numbers) refl h
+  where
+    f : ℕ
+    f = first_ends numbers.all
+
+    g : ℕ
+    g = first_ends (numbers.first ∷ [])
+
+    by : (b : Bool) → are_at_index numbers ≡ b → Numbered numbers n → 2 * max 1 (length numbers.all) + max f g + (if b then 2 else 1) ≤ n * count.side_tests (direction.Both Or) 1 + (n - 1)
+    by true e (inl h) = let k = h.0 in let l = h.1 in let m = h.2 in let five : 5 ≤ length numbers.all = grind (arith, nat_tests) in omega arith
+    by true e (inr h) = let k = h.0 in let l = h.1 in let few = ends_few numbers.all in let one = ends_few (numbers.first ∷ []) in let five : 5 ≤ length numbers.all = grind (arith, nat_tests) in omega arith
+    by false e (inl h) = let k = h.0 in let l = h.1 in let m = h.2 in omega arith
+    by false e (inr h) = let k = h.0 in let l = h.1 in let few = ends_few numbers.all in let one = ends_few (numbers.first ∷ []) in omega arith
+
+offset_few : (link : Link) → network_offset link ≤ 16
+offset_few link.Ether = omega arith
+offset_few link.Raw = omega arith
+offset_few link.Cooked = omega arith
+
+address_reached : (link : Link) (k : FrameKind) (mask : Option ℕ) → let at = address_places link k in Reached at.index mask at.source at.destination
+address_reached link kind.Ip mask = let l = offset_few link in (omega arith, omega arith, omega arith, omega arith)
+address_reached link _ mask = let l = offset_few link in (omega arith, omega arith, omega arith, omega arith)
+
+bare_several : (link : Link) (q : CompleteQualifiers) (k : ValueType) (numbers : Numbers) (n : ℕ) → ((link : Link) (f : FrameKind) → is_address k ≡ true → Ready (address_places link f) numbers) → (is_address k ≡ false → Ready (port_places (ip_transport link)) numbers × Ready (port_places (ip6_transport link)) numbers) → Numbered numbers n → 2 ≤ n → Bare (several_formula link q k numbers) (n * member_tests k q.protocol q.direction)
+bare_several link q k numbers n hosts_ready ports_ready h two = by k hosts_ready ports_ready
   where
     d : Direction
     d = q.direction
 
-    each : (at : Sides) (mask : Option ℕ) → Bare (any_sides d at mask numbers) (n * count.side_tests d 1 + x)
-    each at mask = bare_within _ (any_few d n x f a o (omega arith) am fm) (bare_any d at mask numbers f a o h)
+    each : (at : Sides) → Ready at numbers → Bare (Sought d at numbers) (n * count.side_tests d 1 + (n - 1))
+    each at r = bare_within _ (sought_few d numbers n h) (bare_sought d at numbers r)
 
-    hosts_bare : Bare (hosts_formula link q.protocol (hosts.Several d (mask_of t)) numbers) (n * count.ip4_tests q.protocol d)
-    hosts_bare = bare_within _ (several_hosts_few q.protocol d n x room) (bare_hosts link q.protocol (hosts.Several d (mask_of t)) numbers (1 + (n * count.side_tests d 1 + x)) (omega arith) (λ k. bare_after (each _ _)))
+    hosts_bare : ((f : FrameKind) → Ready (address_places link f) numbers) → Bare (hosts_formula link q.protocol (hosts.Several d) numbers) (n * count.ip4_tests q.protocol d)
+    hosts_bare r = bare_within _ (several_hosts_few q.protocol d n (n - 1) (omega arith)) (bare_hosts link q.protocol (hosts.Several d) numbers (1 + (n * count.side_tests d 1 + (n - 1))) (omega arith) (λ f. bare_after (each _ (r f))))
 
-    ports_bare : Bare (port_formula link (port_test q.protocol d Several) numbers) (n * count.port_tests q.protocol d 1)
-    ports_bare = bare_within _ (several_ports_few q.protocol d n x two room) (bare_ports link (port_test q.protocol d Several) numbers _ (λ header. each _ _))
+    ports_bare : Ready (port_places (ip_transport link)) numbers × Ready (port_places (ip6_transport link)) numbers → Bare (port_formula link (port_test q.protocol d Several) numbers) (n * count.port_tests q.protocol d 1)
+    ports_bare r = bare_within _ (several_ports_few q.protocol d n (n - 1) two (omega arith)) (bare_ports link (port_test q.protocol d Several) numbers _ (each _ r.0) (each _ r.1))
 
-    by : (k : ValueType) → Bare (several_formula link q t k numbers) (n * member_tests k q.protocol q.direction)
-    by Host = hosts_bare
-    by Net = hosts_bare
-    by Port = ports_bare
-    by PortRange = ports_bare
-    by _ = bare_some _ (omega arith)
+    by : (k : ValueType) → ((link : Link) (f : FrameKind) → is_address k ≡ true → Ready (address_places link f) numbers) → (is_address k ≡ false → Ready (port_places (ip_transport link)) numbers × Ready (port_places (ip6_transport link)) numbers) → Bare (several_formula link q k numbers) (n * member_tests k q.protocol q.direction)
+    by Host r s = hosts_bare (λ f. r link f refl)
+    by Net r s = hosts_bare (λ f. r link f refl)
+    by Port r s = ports_bare (s refl)
+    by PortRange r s = ports_bare (s refl)
+    by _ r s = bare_some _ (omega arith)
 
--- the numbers of a group with two members at least, in which each is one number, or with eight
-one_few : (i : Interval) → max 1 (length (i ∷ [])) + first_ends (i ∷ []) ≤ 2
-one_few i = if_case (λ n. max 1 1 + n ≤ 2) (i.low == i.high) 0 1 (λ e. omega arith) (λ e. omega arith)
+-- the numbers of a group
+searchable_cut : (last : ℕ) (first : Interval) (is : List Interval) → Idle last first is → Searchable is → Searchable (map (cut last) is)
+searchable_cut last first [] h up = absurd up
+searchable_cut last first (i ∷ is) h up = cut_apart last 0 first (i ∷ is) h up
 
-one_point : (i : Interval) → i.low ≡ i.high → max 1 (length (i ∷ [])) + first_ends (i ∷ []) ≤ 1
-one_point i e = let same : (i.low == i.high) ≡ true = grind (arith, nat_tests) in let none : first_ends (i ∷ []) ≡ 0 = ap (λ b. if b then 0 else 1) same in omega arith
+ready : (at : Sides) (b : Bool) (group : Group) (ms : List Interval) → Held group ms → 1 ≤ length group.entries → Fitting b at → ((mask : Option ℕ) → (b ≡ false → mask ≡ None) → Reached at.index mask at.source at.destination) → Ready at (sought b group.first group.all)
+ready at b group ms h some fit reached = record {
+  order = cut_order last group.first group.first is idle idle.first_aligned h.order;
+  all = searchable_cut last group.first is idle up;
+  others_are = refl;
+  first_in = λ p x e inside.
+      let small = fitting_small b at group.first is fit p x (inl e) in
+      let here : is_in x group.first ≡ true = sym (cut_in last x group.first group.first is idle idle.first_aligned small) ∙ inside in
+      cut_within last x group.first is idle small ∙ within_joined x group.all h.ascends ∙ h.all_within x ∙ ap (λ c. c || is_within x ms) here;
+  reached = reached (high_mask last) (no_mask b);
+}
+  where
+    is : List Interval
+    is = joined_all group.all
 
-group_bare_several : (link : Link) (group : Group) (m : Member) (ms : List Member) → Held group m ms → is_searched group ≡ true → Bare (several_formula link group.qualifiers group.bits group.qualifiers.value_type (numbers_of group)) (group_tests group)
-group_bare_several link group m ms h e = by group.is_plain refl e
+    last : ℕ
+    last = left_out b group.first is
+
+    idle : Idle last group.first is
+    idle = idle_sought b group.first is
+
+    up : Searchable is
+    up = searchable_joined group.all (let c = h.all_count in omega arith) h.ascends
+
+    no_mask : (c : Bool) → c ≡ false → high_mask (left_out c group.first is) ≡ None
+    no_mask true e = cc
+    no_mask false e = refl
+
+one_point : (i : Interval) → i.low ≡ i.high → first_ends (i ∷ []) ≡ 0
+one_point i e = let same : (i.low == i.high) ≡ true = grind (arith, nat_tests) in ap (λ b. if b then 0 else 1) same
+
+group_bare_several : (link : Link) (group : Group) (ms : List Interval) → Held group ms → is_searched group ≡ true → Bare (several_formula link group.qualifiers group.qualifiers.value_type (numbers_of group)) (group_tests group)
+group_bare_several link group ms h e = by group.is_plain refl e
   where
     n : ℕ
     n = length group.entries
 
-    order : group.first.low ≤ group.first.high
-    order = subst (λ (i : Interval). i.low ≤ i.high) (sym h.first_is) h.good.0.order
+    k : ValueType
+    k = group.qualifiers.value_type
 
-    first_searchable : Searchable (group.first ∷ [])
-    first_searchable = (omega arith, order, tt)
+    none : (c : Bool) → c ≡ false → (c && not group.is_plain) ≡ false
+    none true e = cc
+    none false e = refl
 
-    by : (b : Bool) → group.is_plain ≡ b → nat_le (if b then 2 else FEWEST_RANGES) n ≡ true → Bare (several_formula link group.qualifiers group.bits group.qualifiers.value_type (numbers_of group)) (group_tests group)
+    with_numbers : Numbered (numbers_of group) n → 2 ≤ n → Bare (several_formula link group.qualifiers k (numbers_of group)) (group_tests group)
+    with_numbers few two =
+        bare_within _ h.counted
+        (bare_several link group.qualifiers k (numbers_of group) n
+        (λ link f e. ready (address_places link f) (is_address k && not group.is_plain) group ms h (omega arith) (address_fitting (is_address k && not group.is_plain) link f) (λ mask _. address_reached link f mask))
+        (λ e. let no = none (is_address k) e in
+        let l = offset_few link in (
+          ready (port_places (ip_transport link)) (is_address k && not group.is_plain) group ms h (omega arith) (unmasked_fitting (is_address k && not group.is_plain) (port_places (ip_transport link)) no) (λ mask f. (f no, refl)),
+          ready (port_places (ip6_transport link)) (is_address k && not group.is_plain) group ms h (omega arith) (unmasked_fitting (is_address k && not group.is_plain) (port_places (ip6_transport link)) no) (λ mask f. (omega arith, omega arith, omega arith, omega arith)),
+        ))
+        few two)
+
+    length_cut : (b : Bool) → length (sought b group.first group.all).all ≡ length (joined_all group.all)
+    length_cut b = length-map (joined_all group.all) (cut (left_out b group.first (joined_all group.all)))
+
+    by : (b : Bool) → group.is_plain ≡ b → nat_le (if b then 2 else FEWEST_RANGES) n ≡ true → Bare (several_formula link group.qualifiers k (numbers_of group)) (group_tests group)
     by true plain e =
         let two : 2 ≤ n = grind (arith, nat_tests) in
         let c = h.all_count in
-        let o = h.others_count in
         let pts = h.points plain in
-        let point = subst (λ (i : Interval). i.low ≡ i.high) (sym h.first_is) pts.0 in
-        bare_within _ h.counted
-        (bare_several link group.qualifiers group.bits group.qualifiers.value_type (numbers_of group) n 0 1 (length group.all) (length group.others)
-        (record {
-          first = first_searchable;
-          all = searchable_joined group.all (omega arith) h.all_ascend;
-          others = searchable_joined group.others (omega arith) h.others_ascend;
-          first_few = one_point group.first point;
-          all_few = joined_points group.all (omega arith) pts.1;
-          others_few = joined_points group.others (omega arith) pts.2;
-        }) two (omega arith) (omega arith) (omega arith))
+        let few = joined_points group.all (omega arith) pts.1 in
+        let off : (is_address k && not group.is_plain) ≡ false = ap (λ b. is_address k && not b) plain ∙ and-false (is_address k) in
+        let point : first_ends (cut 0 group.first ∷ []) ≡ 0 = one_point (cut 0 group.first) (let e = pts.0 in omega arith) in
+        with_numbers
+        (subst (λ b. Numbered (sought b group.first group.all) n) (sym off)
+        (inl (subst (λ (is : List Interval). max 1 (length is) + first_ends is ≤ n) (sym (uncut 0 (joined_all group.all) refl)) (omega arith), point, two)))
+        two
     by false plain e =
-        let eight : 8 ≤ n = grind (arith, nat_tests) in
+        let three : 3 ≤ n = grind (arith, nat_tests) in
         let c = h.all_count in
-        let o = h.others_count in
-        bare_within _ h.counted
-        (bare_several link group.qualifiers group.bits group.qualifiers.value_type (numbers_of group) n 3 2 (length group.all + 1) (length group.others + 1)
-        (record {
-          first = first_searchable;
-          all = searchable_joined group.all (omega arith) h.all_ascend;
-          others = searchable_joined group.others (omega arith) h.others_ascend;
-          first_few = one_few group.first;
-          all_few = joined_tests group.all (omega arith);
-          others_few = joined_tests group.others (omega arith);
-        }) (omega arith) (omega arith) (omega arith) (omega arith))
+        let few = joined_few group.all (omega arith) in
+        let same = length_cut (is_address k && not group.is_plain) in
+        with_numbers (inr (omega arith, three)) (omega arith)
 
 rows_bare : (link : Link) (es : List Entry) → 0 < length es → Bare (rows_formula link es) (entries_tests es)
 rows_bare link [] l = absurd (omega arith)
@@ -153,9 +218,8 @@ rows_bare link (e ∷ f ∷ es) l =
 
 group_bare : (link : Link) (group : Group) → Kept group → 0 < length group.entries → Bare (group_formula link group) (group_tests group)
 group_bare link group k l =
-    let h = (k.some l).2 in
     if_case (λ (f : Formula). Bare f (group_tests group)) (is_searched group) _ _
-    (λ e. group_bare_several link group (k.some l).0 (k.some l).1 h e)
+    (λ e. group_bare_several link group (k.some l).0 (k.some l).1 e)
     (λ e. rows_bare link group.entries l)
 
 -- members that are looked for together read as one after the other
@@ -167,12 +231,11 @@ searched_two group e = by group.is_plain e
 
 group_rows : (link : Link) (p : List ℕ) (n : ℕ) (group : Group) → Kept group → 0 < length group.entries → reads link (group_formula link group) p n ≡ reads link (rows_formula link group.entries) p n
 group_rows link p n group k l =
-    let m = (k.some l).0 in
-    let ms = (k.some l).1 in
-    let h = (k.some l).2 in
+    let ms = (k.some l).0 in
+    let h = (k.some l).1 in
     if_case (λ (f : Formula). reads link f p n ≡ reads link (rows_formula link group.entries) p n) (is_searched group) _ _
-    (λ e. ap (λ i. reads link (several_formula link group.qualifiers group.bits group.qualifiers.value_type (sought i group.all group.others)) p n) h.first_is
-    ∙ several_are link p n group.qualifiers group.bits group.qualifiers.value_type m ms group.all group.others h.whole (h.merged (searched_two group e)) h.good h.all_ascend h.others_ascend h.all_within h.others_within
+    (λ e. several_are link p n group.qualifiers group.qualifiers.value_type (is_address group.qualifiers.value_type && not group.is_plain) group.first ms group.all
+    (λ t. (and_parts (is_address group.qualifiers.value_type) (not group.is_plain) t).0) (h.merged (searched_two group e)) h.ascends h.all_within
     ∙ sym (h.rows link p n))
     (λ e. refl)
 
@@ -228,7 +291,7 @@ directions_are (direction.Both Or) (direction.Both Or) e = (refl, tt)
 directions_are _ _ e = cc
 
 -- which types go together
-alike_sides : (link : Link) (p : List ℕ) (n : ℕ) (a b : ValueType) (protocol : Option Protocol) (d : Direction) (m : Member) (ms : List Member) → same_type a b ≡ true → members_read link p n b protocol d m ms ≡ members_read link p n a protocol d m ms
+alike_sides : (link : Link) (p : List ℕ) (n : ℕ) (a b : ValueType) (protocol : Option Protocol) (d : Direction) (m : Interval) (ms : List Interval) → same_type a b ≡ true → members_read link p n b protocol d m ms ≡ members_read link p n a protocol d m ms
 alike_sides link p n Host Host protocol d m ms e = cc
 alike_sides link p n _ Host protocol d m ms e = cc
 alike_sides link p n _ _ protocol d m ms e = cc
@@ -238,40 +301,31 @@ alike_tests Host Host protocol d e = cc
 alike_tests _ Host protocol d e = cc
 alike_tests _ _ protocol d e = cc
 
-some_member : (l m : Member) → Some l ≡ Some m → l ≡ m
+some_member : (l m : Interval) → Some l ≡ Some m → l ≡ m
 some_member l m e = cc
 
--- what a member's numbers are
-record IsMember (k : ValueType) (m : Member) : Type 0 where
-  order : m.numbers.low ≤ m.numbers.high
-  whole : is_port k ≡ true → 32 ≤ m.bits
-  masked : m.bits < 32 → bit_and m.numbers.low (first_bits 32 m.bits) ≡ m.numbers.low
-  end : m.bits < 32 → m.numbers.high ≡ m.numbers.low + (2 ^ 32 - 1 - first_bits 32 m.bits)
+-- a member's numbers have an order
+abbrev Order : Interval → Type 0
+Order i = i.low ≤ i.high
 
-whole_member : (k : ValueType) (low high : ℕ) → low ≤ high → IsMember k (found_member 32 low high)
-whole_member k low high l = record { order = l; whole = λ e. omega arith; masked = λ l. absurd (omega arith); end = λ l. absurd (omega arith) }
-
-net_is : (b a : ℕ) (m : Member) → net_numbers b (record { address = a; mask = first_bits 32 b }) ≡ Some m → IsMember Net m
-net_is b a m e = by (bit_and a (first_bits 32 b) == a) refl e
+net_order : (net : Ip4Net) (m : Interval) → net_numbers net ≡ Some m → Order m
+net_order net m e = by (bit_and net.address net.mask == net.address) e
   where
-    by : (t : Bool) → (bit_and a (first_bits 32 b) == a) ≡ t → (if t then Some (found_member b a (a + (2 ^ 32 - 1 - first_bits 32 b))) else None) ≡ Some m → IsMember Net m
-    by true t h =
-        let inside : bit_and a (first_bits 32 b) ≡ a = grind (arith, nat_tests) in
-        subst (λ (z : Member). IsMember Net z) (some_member (found_member b a (a + (2 ^ 32 - 1 - first_bits 32 b))) m h)
-        (record { order = omega arith; whole = λ e. cc; masked = λ l. inside; end = λ l. refl })
-    by false t h = cc
+    by : (t : Bool) → (if t then Some (interval net.address (net.address + (2 ^ 32 - 1 - net.mask))) else None) ≡ Some m → Order m
+    by true h = subst Order (some_member (interval net.address (net.address + (2 ^ 32 - 1 - net.mask))) m h) (omega arith)
+    by false h = cc
 
-is_member : (k : ValueType) (v : Value) (m : Member) → member_of k v ≡ Some m → IsMember k m
-is_member Host (value.Dotted x z) m e = subst (λ (w : Member). IsMember Host w) (some_member (found_member 32 x.address x.address) m e) (whole_member Host x.address x.address (omega arith))
-is_member Net (value.Number x mask.Unwritten) m e = net_is 8 _ m e
-is_member Net (value.Number x (mask.Prefix b)) m e = net_is b _ m e
-is_member Net (value.Dotted x mask.Unwritten) m e = net_is (8 * x.parts) x.address m e
-is_member Net (value.Dotted x (mask.Prefix b)) m e = net_is b x.address m e
-is_member Port (value.Number x z) m e = subst (λ (w : Member). IsMember Port w) (some_member (found_member 32 x x) m e) (whole_member Port x x (omega arith))
-is_member PortRange (value.Range a b) m e = subst (λ (w : Member). IsMember PortRange w) (some_member (found_member 32 (min a b) (max a b)) m e) (whole_member PortRange (min a b) (max a b) (omega arith))
-is_member _ _ m e = cc
+member_order : (k : ValueType) (v : Value) (m : Interval) → member_of k v ≡ Some m → Order m
+member_order Host (value.Dotted x z) m e = subst Order (some_member (interval x.address x.address) m e) (omega arith)
+member_order Net (value.Number x mask.Unwritten) m e = net_order _ m e
+member_order Net (value.Number x (mask.Prefix b)) m e = net_order _ m e
+member_order Net (value.Dotted x mask.Unwritten) m e = net_order _ m e
+member_order Net (value.Dotted x (mask.Prefix b)) m e = net_order _ m e
+member_order Port (value.Number x z) m e = subst Order (some_member (interval x x) m e) (omega arith)
+member_order PortRange (value.Range a b) m e = subst Order (some_member (interval (min a b) (max a b)) m e) (omega arith)
+member_order _ _ m e = cc
 
-member_tests_few : (k : ValueType) (p : Option Protocol) (d : Direction) (v : Value) (m : Member) → member_of k v ≡ Some m → member_tests k p d ≤ count.typed_tests k p d v
+member_tests_few : (k : ValueType) (p : Option Protocol) (d : Direction) (v : Value) (m : Interval) → member_of k v ≡ Some m → member_tests k p d ≤ count.typed_tests k p d v
 member_tests_few Host p d (value.Dotted x z) m e = omega arith
 member_tests_few Net p d (value.Number x z) m e = omega arith
 member_tests_few Net p d (value.Dotted x z) m e = omega arith
@@ -281,131 +335,88 @@ member_tests_few PortRange _ (direction.One s) v m e = omega arith
 member_tests_few PortRange _ _ v m e = omega arith
 member_tests_few _ p d _ m e = cc
 
-good_is : (k : ValueType) (m : Member) (t : ℕ) → IsMember k m → m.bits ≤ t → agree (nat_lt m.bits 32) (nat_lt t 32) ≡ true → Good m t
-good_is k m t h l a = record { order = h.order; fewer = l; alike = a; masked = h.masked; end = h.end }
-
-agree_same : (a : Bool) → agree a a ≡ true
-agree_same a = grind (arith, nat_tests)
-
-goods_more : (ms : List Member) (t u : ℕ) → t ≤ u → agree (nat_lt t 32) (nat_lt u 32) ≡ true → Goods ms t → Goods ms u
-goods_more [] t u l a h = tt
-goods_more (m ∷ ms) t u l a h =
-    let g = h.0 in
-    (record { order = g.order; fewer = omega (arith, g.fewer); alike = agree_on (nat_lt m.bits 32) (nat_lt t 32) (nat_lt u 32) g.alike a; masked = g.masked; end = g.end }, goods_more ms t u l a h.1)
-  where
-    agree_on : (a b c : Bool) → agree a b ≡ true → agree b c ≡ true → agree a c ≡ true
-    agree_on a b c e f = grind (arith, nat_tests)
-
-agree_max : (a b : ℕ) → agree (nat_lt b 32) (nat_lt a 32) ≡ true → (agree (nat_lt a 32) (nat_lt (max a b) 32) ≡ true) × (agree (nat_lt b 32) (nat_lt (max a b) 32) ≡ true)
-agree_max a b e = (grind (arith, nat_tests), grind (arith, nat_tests))
-
 -- what is known where a value goes with members
-record Fits_in (q : CompleteQualifiers) (bits : ℕ) (group : Group) : Type 0 where
+record Fits_in (q : CompleteQualifiers) (group : Group) : Type 0 where
   types : same_type q.value_type group.qualifiers.value_type ≡ true
   protocols : group.qualifiers.protocol ≡ q.protocol
   directions : group.qualifiers.direction ≡ q.direction
   merged : Merged q.direction
-  widths : agree (nat_lt bits 32) (nat_lt group.bits 32) ≡ true
 
-fits_in : (q : CompleteQualifiers) (bits : ℕ) (group : Group) (es : List Entry) → 0 < length es → goes_with q bits group es ≡ true → Fits_in q bits group
-fits_in q bits group [] l g = absurd (omega arith)
-fits_in q bits group (e ∷ es) l g =
+fits_in : (q : CompleteQualifiers) (group : Group) (es : List Entry) → 0 < length es → goes_with q group es ≡ true → Fits_in q group
+fits_in q group [] l g = absurd (omega arith)
+fits_in q group (e ∷ es) l g =
     let room = nat_lt (length (e ∷ es)) MOST_TOGETHER in
-    let widths = agree (nat_lt bits 32) (nat_lt group.bits 32) in
     let o = group.qualifiers in
-    let b = and_parts (same_type q.value_type o.value_type) (same_protocol q.protocol o.protocol && (same_direction q.direction o.direction && (widths && room))) g in
-    let c = and_parts (same_protocol q.protocol o.protocol) (same_direction q.direction o.direction && (widths && room)) b.1 in
-    let d = and_parts (same_direction q.direction o.direction) (widths && room) c.1 in
+    let b = and_parts (same_type q.value_type o.value_type) (same_protocol q.protocol o.protocol && (same_direction q.direction o.direction && room)) g in
+    let c = and_parts (same_protocol q.protocol o.protocol) (same_direction q.direction o.direction && room) b.1 in
+    let d = and_parts (same_direction q.direction o.direction) room c.1 in
     let sd = directions_are q.direction o.direction d.0 in
-    record { types = b.0; protocols = protocols_are q.protocol o.protocol c.0; directions = sd.0; merged = sd.1; widths = (and_parts widths room d.1).0 }
+    record { types = b.0; protocols = protocols_are q.protocol o.protocol c.0; directions = sd.0; merged = sd.1 }
 
 -- the row of a value that is a member
-row_is : (link : Link) (p : List ℕ) (n : ℕ) (q : CompleteQualifiers) (v : Value) (m : Member) → member_of q.value_type v ≡ Some m → reads link (qualified_needed link q v) p n ≡ members_read link p n q.value_type q.protocol q.direction m []
+row_is : (link : Link) (p : List ℕ) (n : ℕ) (q : CompleteQualifiers) (v : Value) (m : Interval) → member_of q.value_type v ≡ Some m → reads link (qualified_needed link q v) p n ≡ members_read link p n q.value_type q.protocol q.direction m []
 row_is link p n q v m e =
     value_same link p n q.value_type q.protocol q.direction v
     ∙ member_is link p n q.value_type q.protocol q.direction v m e
     ∙ sym (members_alone link p n q.value_type q.protocol q.direction m)
 
 -- one alone, and one more
-held_one : (q : CompleteQualifiers) (v : Value) (m : Member) (group : Group) → Kept group → group.entries ≡ [] → member_of q.value_type v ≡ Some m → Held (with_member q v m group) m []
+held_one : (q : CompleteQualifiers) (v : Value) (m : Interval) (group : Group) → Kept group → group.entries ≡ [] → member_of q.value_type v ≡ Some m → Held (with_member q v m group) []
 held_one q v m group k none e = record {
-  first_is = refl;
-  good = (good_is q.value_type m (max group.bits m.bits) i (omega arith) alike, tt);
-  whole = λ w. let l = i.whole w in omega arith;
+  order = order;
   merged = λ l. absurd (let z : length group.entries ≡ 0 = ap length none in omega arith);
-  all_ascend = subst (λ zs. Ordered 0 (insert_ascending m.numbers zs)) (sym empty.0) (omega arith, i.order, tt);
-  others_ascend = subst (Ordered 0) (sym others) tt;
-  all_within = λ y. ap (λ zs. is_within y (insert_ascending m.numbers zs)) empty.0;
-  others_within = λ y. ap (is_within y) others;
-  all_count = length_inserted m.numbers group.all ∙ (let z : length group.all ≡ 0 = ap length empty.0 in let y : length group.entries ≡ 0 = ap length none in omega arith);
-  others_count = let z : length (others_with group.entries group.first group.others) ≡ 0 = ap length others in let y : length group.entries ≡ 0 = ap length none in omega arith;
+  ascends = subst (λ zs. Ordered 0 (insert_ascending m zs)) (sym empty) (omega arith, order, tt);
+  all_within = λ y. ap (λ zs. is_within y (insert_ascending m zs)) empty;
+  all_count = length_inserted m group.all ∙ (let z : length group.all ≡ 0 = ap length empty in let y : length group.entries ≡ 0 = ap length none in omega arith);
   points = λ plain.
-      let t = and_parts (m.numbers.low == m.numbers.high) group.is_plain plain in
-      let point : m.numbers.low ≡ m.numbers.high = (let u = t.0 in grind (arith, nat_tests)) in
-      (point, subst (λ zs. Points (insert_ascending m.numbers zs)) (sym empty.0) (point, tt), subst Points (sym others) tt);
+      let t = and_parts (m.low == m.high) group.is_plain plain in
+      let point : m.low ≡ m.high = (let u = t.0 in grind (arith, nat_tests)) in
+      (point, subst (λ zs. Points (insert_ascending m zs)) (sym empty) (point, tt));
   counted = let few = member_tests_few q.value_type q.protocol q.direction v m e in let z : length group.entries ≡ 0 = ap length none in
       ap_less (length (entry q v ∷ group.entries)) (member_tests q.value_type q.protocol q.direction) _ (omega arith) (omega arith);
   rows = λ link p n. ap (λ es. reads link (rows_formula link (entry q v ∷ es)) p n) none ∙ row_is link p n q v m e;
 }
   where
-    i : IsMember q.value_type m
-    i = is_member q.value_type v m e
+    order : m.low ≤ m.high
+    order = member_order q.value_type v m e
 
-    empty : (group.all ≡ []) × (group.others ≡ []) × (group.is_plain ≡ true) × (group.bits ≡ 0)
+    empty : group.all ≡ []
     empty = k.none (ap length none)
-
-    others : others_with group.entries group.first group.others ≡ []
-    others = ap (λ es. others_with es group.first group.others) none ∙ empty.1
-
-    alike : agree (nat_lt m.bits 32) (nat_lt (max group.bits m.bits) 32) ≡ true
-    alike = let same : m.bits ≡ max group.bits m.bits = (let z = empty.3 in omega arith) in ap (λ b. agree (nat_lt m.bits 32) (nat_lt b 32)) (sym same) ∙ agree_same (nat_lt m.bits 32)
 
     ap_less : (a b c : ℕ) → a ≡ 1 → b ≤ c → a * b ≤ c
     ap_less a b c e l = let same : a * b ≡ 1 * b = ap (λ x. x * b) e in omega arith
 
-held_more : (q : CompleteQualifiers) (v : Value) (m : Member) (group : Group) (l : Member) (ls : List Member) (e : Entry) (es : List Entry) → group.entries ≡ e ∷ es → Held group l ls → Fits_in q m.bits group → member_of q.value_type v ≡ Some m → Held (with_member q v m group) m (l ∷ ls)
-held_more q v m group l ls e es is h f w = record {
-  first_is = refl;
-  good = (good_is q.value_type m (max group.bits m.bits) i (omega arith) widths.1, goods_more (l ∷ ls) group.bits (max group.bits m.bits) (omega arith) widths.0 h.good);
-  whole = λ x. let y = i.whole x in omega arith;
+held_more : (q : CompleteQualifiers) (v : Value) (m : Interval) (group : Group) (ls : List Interval) (e : Entry) (es : List Entry) → group.entries ≡ e ∷ es → Held group ls → Fits_in q group → member_of q.value_type v ≡ Some m → Held (with_member q v m group) (group.first ∷ ls)
+held_more q v m group ls e es is h f w = record {
+  order = order;
   merged = λ _. f.merged;
-  all_ascend = ordered_inserted 0 m.numbers group.all (omega arith) i.order h.all_ascend;
-  others_ascend = subst (Ordered 0) (sym others) (ordered_inserted 0 l.numbers group.others (omega arith) h.good.0.order h.others_ascend);
-  all_within = λ y. within_inserted y m.numbers group.all ∙ ap (λ b. is_in y m.numbers || b) (h.all_within y);
-  others_within = λ y. ap (is_within y) others ∙ within_inserted y l.numbers group.others ∙ ap (λ b. is_in y l.numbers || b) (h.others_within y);
-  all_count = length_inserted m.numbers group.all ∙ (let z = h.all_count in omega arith);
-  others_count = let z = h.others_count in let y : length (others_with group.entries group.first group.others) ≡ length group.others + 1 = ap length others ∙ length_inserted l.numbers group.others in omega arith;
+  ascends = ordered_inserted 0 m group.all (omega arith) order h.ascends;
+  all_within = λ y. within_inserted y m group.all ∙ ap (λ b. is_in y m || b) (h.all_within y);
+  all_count = length_inserted m group.all ∙ (let z = h.all_count in omega arith);
   points = λ plain.
-      let t = and_parts (m.numbers.low == m.numbers.high) group.is_plain plain in
-      let point : m.numbers.low ≡ m.numbers.high = (let u = t.0 in grind (arith, nat_tests)) in
-      let pts = h.points t.1 in
-      (point, points_inserted m.numbers group.all point pts.1, subst Points (sym others) (points_inserted l.numbers group.others pts.0 pts.2));
+      let t = and_parts (m.low == m.high) group.is_plain plain in
+      let point : m.low ≡ m.high = (let u = t.0 in grind (arith, nat_tests)) in
+      (point, points_inserted m group.all point (h.points t.1).1);
   counted = more_times (length group.entries) (member_tests q.value_type q.protocol q.direction) (member_tests group.qualifiers.value_type group.qualifiers.protocol group.qualifiers.direction) _ (group_tests group) tests_same (member_tests_few q.value_type q.protocol q.direction v m w) h.counted;
   rows = λ link p n.
       ap (λ zs. reads link (rows_formula link (entry q v ∷ zs)) p n) is
       ∙ ap (λ zs. either (reads link (qualified_needed link q v) p n) (reads link (rows_formula link zs) p n)) (sym is)
       ∙ ap₂ either (row_is link p n q v m w ∙ members_alone link p n q.value_type q.protocol q.direction m) (h.rows link p n ∙ qualified link p n)
-      ∙ sym (members_more link p n q.value_type q.protocol q.direction m l ls f.merged);
+      ∙ sym (members_more link p n q.value_type q.protocol q.direction m group.first ls f.merged);
 }
   where
-    i : IsMember q.value_type m
-    i = is_member q.value_type v m w
-
-    widths : (agree (nat_lt group.bits 32) (nat_lt (max group.bits m.bits) 32) ≡ true) × (agree (nat_lt m.bits 32) (nat_lt (max group.bits m.bits) 32) ≡ true)
-    widths = agree_max group.bits m.bits f.widths
-
-    others : others_with group.entries group.first group.others ≡ insert_ascending l.numbers group.others
-    others = ap (λ zs. others_with zs group.first group.others) is ∙ ap (λ x. insert_ascending x group.others) h.first_is
+    order : m.low ≤ m.high
+    order = member_order q.value_type v m w
 
     tests_same : member_tests group.qualifiers.value_type group.qualifiers.protocol group.qualifiers.direction ≡ member_tests q.value_type q.protocol q.direction
     tests_same =
         ap₂ (λ x y. member_tests group.qualifiers.value_type x y) f.protocols f.directions
         ∙ alike_tests q.value_type group.qualifiers.value_type q.protocol q.direction f.types
 
-    qualified : (link : Link) (p : List ℕ) (n : ℕ) → members_read link p n group.qualifiers.value_type group.qualifiers.protocol group.qualifiers.direction l ls ≡ members_read link p n q.value_type q.protocol q.direction l ls
+    qualified : (link : Link) (p : List ℕ) (n : ℕ) → members_read link p n group.qualifiers.value_type group.qualifiers.protocol group.qualifiers.direction group.first ls ≡ members_read link p n q.value_type q.protocol q.direction group.first ls
     qualified link p n =
-        ap₂ (λ x y. members_read link p n group.qualifiers.value_type x y l ls) f.protocols f.directions
-        ∙ alike_sides link p n q.value_type group.qualifiers.value_type q.protocol q.direction l ls f.types
+        ap₂ (λ x y. members_read link p n group.qualifiers.value_type x y group.first ls) f.protocols f.directions
+        ∙ alike_sides link p n q.value_type group.qualifiers.value_type q.protocol q.direction group.first ls f.types
 
     more_times : (n a b c t : ℕ) → b ≡ a → a ≤ c → n * b ≤ t → suc n * a ≤ c + t
     more_times n a b c t e l h = let same : n * b ≡ n * a = ap (λ x. n * x) e in let one : suc n * a ≡ n * a + a = suc-mul n a in omega arith
@@ -417,12 +428,12 @@ record Taken (link : Link) (q : CompleteQualifiers) (v : Value) (group more : Gr
   tests_fit : group_tests more ≤ count.value_tests q v + group_tests group
   reads_are : (p : List ℕ) (n : ℕ) → reads link (group_formula link more) p n ≡ or_reads group.entries (reads link (qualified_formula link q v) p n) (reads link (group_formula link group) p n)
 
-kept_with : (q : CompleteQualifiers) (v : Value) (m : Member) (group : Group) (es : List Entry) → group.entries ≡ es → Kept group → goes_with q m.bits group es ≡ true → member_of q.value_type v ≡ Some m → Kept (with_member q v m group)
-kept_with q v m group [] is k g w = record { none = λ e. absurd (omega arith); some = λ _. (m, [], held_one q v m group k is w) }
+kept_with : (q : CompleteQualifiers) (v : Value) (m : Interval) (group : Group) (es : List Entry) → group.entries ≡ es → Kept group → goes_with q group es ≡ true → member_of q.value_type v ≡ Some m → Kept (with_member q v m group)
+kept_with q v m group [] is k g w = record { none = λ e. absurd (omega arith); some = λ _. ([], held_one q v m group k is w) }
 kept_with q v m group (e ∷ es) is k g w =
     let l : 0 < length group.entries = (let z : length group.entries ≡ length (e ∷ es) = ap length is in omega arith) in
     let old = k.some l in
-    record { none = λ e. absurd (omega arith); some = λ _. (m, old.0 ∷ old.1, held_more q v m group old.0 old.1 e es is old.2 (fits_in q m.bits group (e ∷ es) (omega arith) g) w) }
+    record { none = λ e. absurd (omega arith); some = λ _. (group.first ∷ old.0, held_more q v m group old.0 e es is old.1 (fits_in q group (e ∷ es) (omega arith) g) w) }
 
 rows_read : (link : Link) (p : List ℕ) (n : ℕ) (q : CompleteQualifiers) (v : Value) (group : Group) (es : List Entry) → group.entries ≡ es → Kept group → reads link (rows_formula link (entry q v ∷ es)) p n ≡ or_reads es (reads link (qualified_formula link q v) p n) (reads link (group_formula link group) p n)
 rows_read link p n q v group [] is k = value_same link p n q.value_type q.protocol q.direction v
@@ -437,7 +448,7 @@ some_group a b e = cc
 taken : (link : Link) (q : CompleteQualifiers) (v : Value) (group more : Group) → Kept group → larger_group q v group ≡ Some more → Taken link q v group more
 taken link q v group more k e = by_member (member_of q.value_type v) refl e
   where
-    by_test : (m : Member) (t : Bool) → member_of q.value_type v ≡ Some m → goes_with q m.bits group group.entries ≡ t → (if t then Some (with_member q v m group) else None) ≡ Some more → Taken link q v group more
+    by_test : (m : Interval) (t : Bool) → member_of q.value_type v ≡ Some m → goes_with q group group.entries ≡ t → (if t then Some (with_member q v m group) else None) ≡ Some more → Taken link q v group more
     by_test m false w g e = cc
     by_test m true w g e =
         let kept = kept_with q v m group group.entries refl k g w in
@@ -448,9 +459,9 @@ taken link q v group more k e = by_member (member_of q.value_type v) refl e
           reads_are = λ p n. group_rows link p n (with_member q v m group) kept (omega arith) ∙ rows_read link p n q v group group.entries refl k;
         })
 
-    by_member : (o : Option Member) → member_of q.value_type v ≡ o → group_and q v group o ≡ Some more → Taken link q v group more
+    by_member : (o : Option Interval) → member_of q.value_type v ≡ o → group_and q v group o ≡ Some more → Taken link q v group more
     by_member None w e = cc
-    by_member (Some m) w e = by_test m (goes_with q m.bits group group.entries) w refl e
+    by_member (Some m) w e = by_test m (goes_with q group group.entries) w refl e
 
 -- readings after readings
 or_again : (bs : List Entry) (a b o : MatchResult) → either a (or_reads bs b o) ≡ or_reads bs (either a b) o

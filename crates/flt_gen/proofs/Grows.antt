@@ -1,6 +1,7 @@
 -- The code of a formula has no fault and no jump, and no more instructions and branches than are
 -- counted.
-use Rattle.flt_gen.proofs.Common.{◌≡◌, ℕ, zero, suc, ◌+◌, ◌-◌, ◌*◌, ◌/◌, ◌<◌, ◌≤◌, List, [], ◌∷◌, length, take, drop, Bool, true, false, cond, Option, Some, None, refl, sym, ap, ◌∙◌, arith, length-drop, length-take, ◌≢◌, nat_lt, ◌==◌, not, ◌&&◌, if◌then◌else◌, count_by, nat_tests, sum_by-cons, All-cons, Insn, Operand, Constant, IndexRegister, Operation, LoadAbsolute, LoadIndirect, Load, LoadHeaderLength, Store, Compute, Negate, Jump, JumpIf, CopyToIndex, Accumulator, Immediate, Memory, Length, Test, Width, fault_if_known, operation_fault, unless, ends_in_return, IsValidUnlessLong, code_of, is_branch, JUMP, HasNoJump, Comparison, Equal, NotEqual, Less, AtMost, Greater, AtLeast, Operator, Protocol, Tcp, Udp, Icmp, number_words, number_size, NumberTree, literal, len, named, load, negated, applied, Link, network_offset, Interval, Elementary, Outcome, Field, Offset, Fixed, AfterHeader, width_of, Formula, Single, Compare, Both, Either, Except, Among, plain, computation, takes_constant, constant, constant_operand, branch_insn, emit_branch, emit_comparison, emit_field, emit_mask, emit_accessor, emit_number, Block, at_top, emit_interval, emit_chain, are_few, low_of, MOST_HALVINGS, emit_elementary, emit_formula, words, nodes, first_ends, tests}
+use Rattle.flt_gen.proofs.Common.{◌≡◌, ℕ, zero, suc, ◌+◌, ◌-◌, ◌*◌, ◌/◌, ◌<◌, ◌≤◌, List, [], ◌∷◌, length, take, drop, Bool, true, false, cond, Option, Some, None, refl, sym, ap, ◌∙◌, arith, length-drop, length-take, ◌≢◌, nat_lt, ◌==◌, not, ◌&&◌, if◌then◌else◌, count_by, nat_tests, sum_by-cons, All-cons, Insn, Operand, Constant, IndexRegister, Operation, LoadAbsolute, LoadIndirect, Load, LoadHeaderLength, Store, Compute, Negate, Jump, JumpIf, CopyToIndex, Accumulator, Index, Immediate, Memory, Length, Test, Width, fault_if_known, operation_fault, unless, ends_in_return, IsValidUnlessLong, code_of, is_branch, JUMP, HasNoJump, Comparison, Equal, NotEqual, Less, AtMost, Greater, AtLeast, Operator, Protocol, Tcp, Udp, Icmp, number_words, number_size, NumberTree, literal, len, named, load, negated, applied, Link, network_offset, Interval, Elementary, Outcome, Field, Offset, Fixed, AfterHeader, width_of, Formula, Single, Compare, Both, Either, Except, Sought, Numbers, Sides, Direction, Source, Destination, And, Or, max, subst, plain, computation, takes_constant, constant, constant_operand, branch_insn, emit_branch, emit_comparison, emit_field, emit_mask, emit_accessor, emit_number, Block, at_top, emit_interval, emit_chain, are_few, low_of, MOST_HALVINGS, emit_elementary, emit_formula, emit_masked, emit_side, emit_others, emit_few, emit_index, emit_at_index, emit_many, are_at_index, emit_among, words, nodes, first_ends, sought_tests, tests}
+use Rattle.flt_ast.specs.declared.qualifiers.Direction.TheVariants as direction
 use Rattle.flt_bpf.specs.declared.fault.CheckFault.{CheckFault}
 use Rattle.flt_bpf.specs.declared.fault.CheckFault.TheVariants.{JumpOut, NoSuchWord, DivisionByZero, ShiftTooFar}
 use Rattle.flt_bpf.specs.declared.operation.AluOperation.TheVariants as arithmetic
@@ -9,7 +10,7 @@ use Rattle.flt_bpf.specs.Check.{fault_of}
 use Rattle.flt_bpf.specs.Instructions.{operation_of}
 use Rattle.flt_words.specs.declared.token.Operator.TheVariants.{ShiftLeft, ShiftRight, Divide, Remainder}
 use Rattle.flt_gen.specs.inside.Code.{emit_search}
-use Rattle.flt_gen.proofs.Ascending.{if_case}
+use Rattle.flt_gen.proofs.Ascending.{if_case, Searchable, Reached, Ready, Searches, length_without, ends_few as first_few}
 use Rattle.flt_gen.proofs.Codes.{code_is}
 use Rattle.flt_gen.proofs.Numbers.{operand_is}
 use Rattle.flt_gen.proofs.Tails.{by_right}
@@ -289,9 +290,99 @@ search_fits (suc k) from is hit miss c s h m =
     let first = first_of_half from half is (omega arith) in
     fits_more _ _ (omega arith) (omega arith) (branch_fits test.AtLeast (low_of (drop half is)) upper.entry lower.entry lower.code both.grows (inside_on fl.grows fu.entry) fl.entry))
 
-pub emitted_fits : (link : Link) (f : Formula) (hit miss : ℕ) (c : List Insn) → words f ≤ 16 → Sound c → Inside c hit → Inside c miss → Fits c (emit_formula link f hit miss c) (4 * tests f + 6 * nodes f) (6 * (tests f + nodes f))
-emitted_fits link (Single t) hit miss c few s h m = fits_more _ _ (omega arith) (omega arith) (elementary_fits t hit miss c s h m)
-emitted_fits link (Compare comparison l r) hit miss c few s h m =
+-- the loads of a side: of a mask and the length of a header there is only one
+abbrev Lean : Option ℕ → Offset → Type 0
+Lean mask (Fixed k) = Unit {0}
+Lean mask (AfterHeader header k) = mask ≡ None
+
+source_lean : (index : ℕ) (mask : Option ℕ) (a b : Offset) → Reached index mask a b → Lean mask a × Lean mask b
+source_lean index mask (Fixed a) (Fixed b) h = (tt, tt)
+source_lean index mask (AfterHeader k a) (AfterHeader g b) h = (h.0, h.0)
+source_lean index mask (Fixed a) (AfterHeader g b) h = absurd h
+source_lean index mask (AfterHeader k a) (Fixed b) h = absurd h
+
+load_grows : (place : Offset) (width : Width) (mask : Option ℕ) → Lean mask place → {c d : List Insn} {m w : ℕ} → Grows c d m w → Grows c (emit_field place width (emit_mask mask d)) (m + 2) (w + 2)
+load_grows (Fixed k) width mask h g = grows_more _ _ (omega arith) (omega arith) (grows_put (LoadAbsolute width) k refl refl (mask_grows mask g))
+load_grows (AfterHeader header k) width mask h {c = c} {d = d} {m = m} {w = w} g =
+    subst (λ o. Grows c (emit_field (AfterHeader header k) width (emit_mask o d)) (m + 2) (w + 2)) (sym h) (field_grows (AfterHeader header k) width g)
+
+-- the branches of a search
+abbrev searched : List Interval → ℕ
+searched is = 2 * length is - 1 + first_ends is
+
+side_fits : (place : Offset) (width : Width) (mask : Option ℕ) (is : List Interval) (hit miss : ℕ) (c : List Insn) → Lean mask place → Sound c → Inside c hit → Inside c miss → Fits c (emit_side place width mask is hit miss c) (searched is + 2) (3 * searched is + 2)
+side_fits place width mask is hit miss c l s h m = fits_top (load_grows place width mask l (search_fits MOST_HALVINGS false is hit miss c s h m).grows)
+
+others_fits : (at : Sides) (numbers : Numbers) (is : List Interval) (hit miss : ℕ) (c : List Insn) → Lean numbers.mask at.source → Sound c → Inside c hit → Inside c miss → Fits c (emit_others at numbers is hit miss c) (2 * length is + 2) (6 * length is + 2)
+others_fits at numbers [] hit miss c l s h m = fits_more _ _ (omega arith) (omega arith) (record { grows = grows_none s; entry = m })
+others_fits at numbers (i ∷ is) hit miss c l s h m =
+    let few = first_few (i ∷ is) in
+    fits_more _ _ (omega arith) (omega arith) (side_fits at.source at.width numbers.mask (i ∷ is) hit miss c l s h m)
+
+some_searched : (is : List Interval) → Searchable is → 1 ≤ length is
+some_searched [] h = absurd h
+some_searched (i ∷ is) h = omega arith
+
+few_fits : (at : Sides) (numbers : Numbers) (hit miss : ℕ) (c : List Insn) → Ready at numbers → Sound c → Inside c hit → Inside c miss → let t = 2 * max 1 (length numbers.all) + max (first_ends numbers.all) (first_ends (numbers.first ∷ [])) + 1 in Fits c (emit_few at numbers hit miss c) (4 * t) (6 * t)
+few_fits at numbers hit miss c r s h m =
+    let lean = source_lean at.index numbers.mask at.source at.destination r.reached in
+    let others = emit_others at numbers numbers.others hit miss c in
+    let all = emit_side at.destination at.width numbers.mask numbers.all hit others.entry others.code in
+    let fo = others_fits at numbers numbers.others hit miss c lean.0 s h m in
+    let fa = side_fits at.destination at.width numbers.mask numbers.all hit others.entry others.code lean.1 fo.grows.sound (inside_on fo.grows h) fo.entry in
+    let ff = side_fits at.source at.width numbers.mask (numbers.first ∷ []) hit all.entry all.code lean.0 fa.grows.sound (inside_on fa.grows (inside_on fo.grows h)) fa.entry in
+    let some = some_searched numbers.all r.all in
+    let fewer : length numbers.others ≤ length numbers.all = subst (λ (is : List Interval). length is ≤ length numbers.all) (sym r.others_are) (length_without numbers.first numbers.all) in
+    let one = first_few (numbers.first ∷ []) in
+    let two = first_few numbers.all in
+    fits_more _ _ (omega arith) (omega arith) (fits_on (fits_on fo.grows fa).grows ff)
+
+at_index_grows : (place : Offset) (width : Width) (index : ℕ) {c d : List Insn} {m w : ℕ} → Grows c d m w → Grows c (emit_at_index place width index d) (m + 1) (w + 1)
+at_index_grows (Fixed k) width index g = grows_put (LoadIndirect width) (k - index) refl refl g
+at_index_grows (AfterHeader header k) width index g = grows_put (LoadIndirect width) k refl refl g
+
+index_grows : (place : Offset) (index : ℕ) {c d : List Insn} {m w : ℕ} → Grows c d m w → Grows c (emit_index place index d) (m + 1) (w + 1)
+index_grows (Fixed k) index g = grows_put (Load Index Immediate) index refl refl g
+index_grows (AfterHeader header k) index g = grows_put LoadHeaderLength header refl refl g
+
+masked_grows : (mask : Option ℕ) (is : List Interval) (hit miss : ℕ) (c : List Insn) → Sound c → Inside c hit → Inside c miss → Grows c (emit_masked mask is hit miss c) (searched is + 1) (3 * searched is + 1)
+masked_grows mask is hit miss c s h m = mask_grows mask (search_fits MOST_HALVINGS false is hit miss c s h m).grows
+
+many_fits : (at : Sides) (numbers : Numbers) (hit miss : ℕ) (c : List Insn) → Ready at numbers → Sound c → Inside c hit → Inside c miss → let t = 2 * max 1 (length numbers.all) + max (first_ends numbers.all) (first_ends (numbers.first ∷ [])) + 2 in Fits c (emit_many at numbers hit miss c) (4 * t) (6 * t)
+many_fits at numbers hit miss c r s h m =
+    let none = emit_at_index at.destination at.width at.index (emit_masked numbers.mask numbers.all hit miss c) in
+    let later = emit_at_index at.destination at.width at.index (emit_branch test.AtLeast Constant 0 hit miss none) in
+    let one = emit_interval false numbers.first hit (length later) later in
+    let fn = fits_top (at_index_grows at.destination at.width at.index (masked_grows numbers.mask numbers.all hit miss c s h m)) in
+    let hn = inside_on fn.grows h in
+    let fl = fits_top (at_index_grows at.destination at.width at.index (branch_grows test.AtLeast Constant 0 hit miss none fn.grows.sound hn (inside_on fn.grows m))) in
+    let fi = interval_fits false numbers.first [] hit (length later) later fl.grows.sound (inside_on fl.grows hn) fl.entry in
+    let fs = fits_top (index_grows at.source at.index (at_index_grows at.source at.width at.index (masked_grows numbers.mask numbers.all one.entry (length none) one.code fi.grows.sound fi.entry (inside_on fi.grows (inside_on fl.grows fn.entry))))) in
+    let some = some_searched numbers.all r.all in
+    let one_more = first_few (numbers.first ∷ []) in
+    let two = first_few numbers.all in
+    fits_more _ _ (omega arith) (omega arith) (fits_on (fits_on (fits_on fn.grows fl).grows fi).grows fs)
+
+among_fits : (d : Direction) (at : Sides) (numbers : Numbers) (hit miss : ℕ) (c : List Insn) → Ready at numbers → Sound c → Inside c hit → Inside c miss → Fits c (emit_among d at numbers hit miss c) (4 * sought_tests d numbers) (6 * sought_tests d numbers)
+among_fits (direction.One Source) at numbers hit miss c r s h m =
+    let some = some_searched numbers.all r.all in
+    fits_more _ _ (omega arith) (omega arith) (side_fits at.source at.width numbers.mask numbers.all hit miss c (source_lean at.index numbers.mask at.source at.destination r.reached).0 s h m)
+among_fits (direction.One Destination) at numbers hit miss c r s h m =
+    let some = some_searched numbers.all r.all in
+    fits_more _ _ (omega arith) (omega arith) (side_fits at.destination at.width numbers.mask numbers.all hit miss c (source_lean at.index numbers.mask at.source at.destination r.reached).1 s h m)
+among_fits (direction.Both And) at numbers hit miss c r s h m = fits_more _ _ (omega arith) (omega arith) (record { grows = grows_none s; entry = m })
+among_fits (direction.Both Or) at numbers hit miss c r s h m = by (are_at_index numbers)
+  where
+    t : ℕ
+    t = 2 * max 1 (length numbers.all) + max (first_ends numbers.all) (first_ends (numbers.first ∷ []))
+
+    by : (b : Bool) → Fits c (if b then emit_many at numbers hit miss c else emit_few at numbers hit miss c) (4 * (t + (if b then 2 else 1))) (6 * (t + (if b then 2 else 1)))
+    by true = many_fits at numbers hit miss c r s h m
+    by false = few_fits at numbers hit miss c r s h m
+
+pub emitted_fits : (link : Link) (f : Formula) (hit miss : ℕ) (c : List Insn) → words f ≤ 16 → Searches f → Sound c → Inside c hit → Inside c miss → Fits c (emit_formula link f hit miss c) (4 * tests f + 6 * nodes f) (6 * (tests f + nodes f))
+emitted_fits link (Single t) hit miss c few up s h m = fits_more _ _ (omega arith) (omega arith) (elementary_fits t hit miss c s h m)
+emitted_fits link (Compare comparison l r) hit miss c few up s h m =
     fits_more _ _ (omega arith) (omega arith)
     (fits_top
     (number_grows link l 0 (omega arith)
@@ -301,18 +392,16 @@ emitted_fits link (Compare comparison l r) hit miss c few s h m =
     (grows_put (Store Accumulator) 0 refl refl
     (number_grows link r 1 (omega arith)
     (operands_grow 0 (omega arith) (comparison_grows comparison IndexRegister 0 hit miss c s h m))))))))
-emitted_fits link (Both a b) hit miss c few s h m =
+emitted_fits link (Both a b) hit miss c few up s h m =
     let e = emit_formula link b hit miss c in
-    let f = emitted_fits link b hit miss c (omega arith) s h m in
+    let f = emitted_fits link b hit miss c (omega arith) up.1 s h m in
     fits_more _ _ (omega arith) (omega arith)
-    (fits_on f.grows (emitted_fits link a e.entry miss e.code (omega arith) f.grows.sound f.entry (inside_on f.grows m)))
-emitted_fits link (Either a b) hit miss c few s h m =
+    (fits_on f.grows (emitted_fits link a e.entry miss e.code (omega arith) up.0 f.grows.sound f.entry (inside_on f.grows m)))
+emitted_fits link (Either a b) hit miss c few up s h m =
     let e = emit_formula link b hit miss c in
-    let f = emitted_fits link b hit miss c (omega arith) s h m in
+    let f = emitted_fits link b hit miss c (omega arith) up.1 s h m in
     fits_more _ _ (omega arith) (omega arith)
-    (fits_on f.grows (emitted_fits link a hit e.entry e.code (omega arith) f.grows.sound (inside_on f.grows h) f.entry))
-emitted_fits link (Except a) hit miss c few s h m = emitted_fits link a miss hit c few s m h
-emitted_fits link (Among f is) hit miss c few s h m =
-    let g = search_fits MOST_HALVINGS false is hit miss c s h m in
-    let more = ends_few false is in
-    fits_more _ _ (omega arith) (omega arith) (fits_top (field_grows f.offset f.width (mask_grows f.mask g.grows)))
+    (fits_on f.grows (emitted_fits link a hit e.entry e.code (omega arith) up.0 f.grows.sound (inside_on f.grows h) f.entry))
+emitted_fits link (Except a) hit miss c few up s h m = emitted_fits link a miss hit c few up s m h
+emitted_fits link (Sought d at numbers) hit miss c few r s h m =
+    fits_more _ _ (omega arith) (omega arith) (among_fits d at numbers hit miss c r s h m)

@@ -15,6 +15,7 @@ pub mod Grows
 pub mod Accessors
 pub mod Walking
 pub mod Counted
+pub mod IdleBits
 pub mod Prefixes
 pub mod Together
 pub mod Once

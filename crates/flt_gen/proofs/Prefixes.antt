@@ -1,31 +1,13 @@
--- Networks as intervals: what is asked under the mask of one prefix can be asked under that of a
--- longer one.
-use Rattle.flt_gen.proofs.Common.{◌≡◌, ℕ, suc, ◌+◌, ◌-◌, ◌*◌, ◌/◌, ◌^◌, ◌<◌, ◌≤◌, Bool, true, false, Some, None, refl, sym, ap, ◌∙◌, arith, inl, inr, ◌==◌, ◌&&◌, nat_lt, nat_le, bit_and, if◌then◌else◌, div-mul-le_self, lt-div-mul-add, le-div_iff_mul-le, mul-le-mul_right, pow-succ', suc-mul, cases_lt, nat_tests, and_le_r, pow_pos, first_bits, under_mask, is_in, Member, partial_mask, agree, mask_of}
+-- Last bits that don't decide which numbers are in intervals, and networks as intervals.
+use Rattle.flt_gen.proofs.Common.{◌≡◌, ℕ, zero, suc, ◌+◌, ◌-◌, ◌*◌, ◌/◌, ◌%◌, ◌^◌, ◌<◌, ◌≤◌, List, [], ◌∷◌, map, Bool, true, false, Some, None, refl, sym, ap, ap₂, ◌∙◌, subst, arith, inl, inr, ◌==◌, ◌&&◌, ◌||◌, nat_le, bit_and, if◌then◌else◌, div-mul-le_self, lt-div-mul-add, le-div_iff_mul-le, mul-le-mul_right, pow-succ', suc-mul, cases_lt, nat_tests, and_parts, and_le_r, pow_pos, first_bits, under_mask, Interval, is_in, is_within, partial_mask, is_aligned, idle_bits, left_out, high_mask, cut, interval}
+use Rattle.std.specs.List.{list_all}
+use Rattle.std.specs.Int.Bits.{and_zero_r}
+use Rattle.std.proofs.Math.Nat.{div-add-mod}
 use Rattle.std.proofs.Common.{pow_mono}
-use Rattle.std.proofs.lemmas.Nat.Bits.{and_high_mask, and_high_mask_twice}
+use Rattle.std.proofs.lemmas.Nat.{and_mask}
+use Rattle.std.proofs.lemmas.Nat.Bits.{and_high_mask}
+use Rattle.flt_gen.proofs.Ascending.{if_case, Apart, apart_less}
 use Rattle.flt_gen.proofs.Runs.{one_number}
-
--- numbers of a member that mean the same under a mask of so many bits
-pub record Good (m : Member) (t : ℕ) : Type 0 where
-  pub order : m.numbers.low ≤ m.numbers.high
-  pub fewer : m.bits ≤ t
-  pub alike : agree (nat_lt m.bits 32) (nat_lt t 32) ≡ true
-  pub masked : m.bits < 32 → bit_and m.numbers.low (first_bits 32 m.bits) ≡ m.numbers.low
-  pub end : m.bits < 32 → m.numbers.high ≡ m.numbers.low + (2 ^ 32 - 1 - first_bits 32 m.bits)
-
-pub whole_mask : (t : ℕ) → 32 ≤ t → mask_of t ≡ None
-whole_mask t l = let none : 32 - t ≡ 0 = omega arith in ap (λ k. partial_mask (2 ^ 32 - 2 ^ k)) none
-
-two_more : (k : ℕ) → 2 ≤ 2 ^ suc k
-two_more k = let some = pow_pos k in let more : 2 ^ suc k ≡ 2 * 2 ^ k = pow-succ' 2 k in omega arith
-
-part_mask : (t : ℕ) → t < 32 → mask_of t ≡ Some (first_bits 32 t)
-part_mask t l =
-    let next : 32 - t ≡ suc (32 - t - 1) = omega arith in
-    let two = two_more (32 - t - 1) in
-    let pow : 2 ^ (32 - t) ≡ 2 ^ suc (32 - t - 1) = ap (λ k. 2 ^ k) next in
-    let not_all : (first_bits 32 t == 2 ^ 32 - 1) ≡ false = grind (arith, nat_tests) in
-    ap (λ b. if b then None else Some (first_bits 32 t)) not_all
 
 -- blocks of numbers, each as long as the last ones are J
 no_further : (c d J : ℕ) → 0 < J → d * J ≤ c * J + (J - 1) → d ≤ c
@@ -35,89 +17,161 @@ no_further c d J some l =
       | inr k ↦ k
     ]
 
-block_in : (y a J : ℕ) → 0 < J → a ≡ a / J * J → (nat_le a y && nat_le y (a + (J - 1))) ≡ (nat_le a (y / J * J) && nat_le (y / J * J) (a + (J - 1)))
-block_in y a J some whole =
-    let under : y / J * J ≤ y = div-mul-le_self y J in
-    let near : y < y / J * J + J = lt-div-mul-add some in
-    let from : a ≤ y → a ≤ y / J * J = λ l. let k : a / J ≤ y / J = (le-div_iff_mul-le some).1 (omega arith) in let m : a / J * J ≤ y / J * J = mul-le-mul_right J k in omega arith in
-    let upto : y / J * J ≤ a + (J - 1) → y ≤ a + (J - 1) = λ l. let k : y / J ≤ a / J = no_further (a / J) (y / J) J some (omega arith) in let m : y / J * J ≤ a / J * J = mul-le-mul_right J k in omega arith in
+-- a number is in some of them exactly where the first of its own is
+blocks_in : (x a b J : ℕ) → 0 < J → (nat_le (a * J) (x / J * J) && nat_le (x / J * J) (b * J)) ≡ (nat_le (a * J) x && nat_le x (b * J + (J - 1)))
+blocks_in x a b J some =
+    let under : x / J * J ≤ x = div-mul-le_self x J in
+    let near : x < x / J * J + J = lt-div-mul-add some in
+    let from : a * J ≤ x → a * J ≤ x / J * J = λ l. mul-le-mul_right J ((le-div_iff_mul-le some).1 l) in
+    let upto : x ≤ b * J + (J - 1) → x / J * J ≤ b * J = λ l. mul-le-mul_right J (no_further b (x / J) J some (omega arith)) in
     grind (arith, nat_tests)
 
-block_is : (z a J : ℕ) → 0 < J → a ≡ a / J * J → z ≡ z / J * J → (z == a) ≡ (nat_le a z && nat_le z (a + (J - 1)))
-block_is z a J some whole round =
-    let same : z ≤ a + (J - 1) → z ≤ a = λ l. let k : z / J ≤ a / J = no_further (a / J) (z / J) J some (omega arith) in let m : z / J * J ≤ a / J * J = mul-le-mul_right J k in omega arith in
-    grind (arith, nat_tests)
+-- numbers that begin and end with a block
+record Blocks (k : ℕ) (i : Interval) : Type 0 where
+  low_is : i.low ≡ i.low / 2 ^ k * 2 ^ k
+  high_is : i.high ≡ i.high / 2 ^ k * 2 ^ k + (2 ^ k - 1)
 
--- the mask of the last j bits
+whole : (n J r : ℕ) → n % J ≡ r → n ≡ n / J * J + r
+whole n J r e = let all : J * (n / J) + n % J ≡ n = div-add-mod n J in let turned : J * (n / J) ≡ n / J * J = omega arith in omega arith
+
+blocks_of : (k : ℕ) (i : Interval) → is_aligned (2 ^ k - 1) i ≡ true → Blocks k i
+blocks_of k i e =
+    let t = and_parts (bit_and i.low (2 ^ k - 1) == 0) (bit_and i.high (2 ^ k - 1) == 2 ^ k - 1) e in
+    let low : bit_and i.low (2 ^ k - 1) ≡ 0 = (let u = t.0 in grind (arith, nat_tests)) in
+    let high : bit_and i.high (2 ^ k - 1) ≡ 2 ^ k - 1 = (let u = t.1 in grind (arith, nat_tests)) in
+    let first = whole i.low (2 ^ k) 0 (sym (and_mask i.low k) ∙ low) in
+    record { low_is = omega arith; high_is = whole i.high (2 ^ k) (2 ^ k - 1) (sym (and_mask i.high k) ∙ high) }
+
+block_order : (k : ℕ) (i : Interval) → Blocks k i → i.low ≤ i.high → i.low ≤ i.high - (2 ^ k - 1)
+block_order k i h l =
+    let low = h.low_is in
+    let high = h.high_is in
+    let some = pow_pos k in
+    let few : i.low / 2 ^ k ≤ i.high / 2 ^ k = no_further (i.high / 2 ^ k) (i.low / 2 ^ k) (2 ^ k) some (omega arith) in
+    let less : i.low / 2 ^ k * 2 ^ k ≤ i.high / 2 ^ k * 2 ^ k = mul-le-mul_right (2 ^ k) few in
+    omega arith
+
+-- last bits that don't decide
+pub record Idle (last : ℕ) (first : Interval) (is : List Interval) : Type 0 where
+  pub bits : ℕ
+  pub few : bits ≤ 31
+  pub last_is : last ≡ 2 ^ bits - 1
+  pub first_aligned : is_aligned last first ≡ true
+  pub all_aligned : list_all (is_aligned last) is ≡ true
+
+zero_aligned : (i : Interval) → is_aligned 0 i ≡ true
+zero_aligned i = ap₂ (λ a b. (a == 0) && (b == 0)) (and_zero_r i.low) (and_zero_r i.high)
+
+idle_none : (first : Interval) (is : List Interval) → Idle 0 first is
+idle_none first is = record { bits = 0; few = omega arith; last_is = refl; first_aligned = zero_aligned first; all_aligned = all is }
+  where
+    all : (is : List Interval) → list_all (is_aligned 0) is ≡ true
+    all [] = refl
+    all (i ∷ is) = ap₂ (λ a b. a && b) (zero_aligned i) (all is)
+
+idle_by : (k : ℕ) (first : Interval) (is : List Interval) → k ≤ 31 → Idle (idle_bits k first is) first is
+idle_by zero first is l = idle_none first is
+idle_by (suc k) first is l =
+    if_case (λ last. Idle last first is) (is_aligned (2 ^ suc k - 1) first && list_all (is_aligned (2 ^ suc k - 1)) is) _ _
+    (λ e. let t = and_parts (is_aligned (2 ^ suc k - 1) first) (list_all (is_aligned (2 ^ suc k - 1)) is) e in
+    record { bits = suc k; few = l; last_is = refl; first_aligned = t.0; all_aligned = t.1 })
+    (λ e. idle_by k first is (omega arith))
+
+pub idle_sought : (b : Bool) (first : Interval) (is : List Interval) → Idle (left_out b first is) first is
+idle_sought false first is = idle_none first is
+idle_sought true first is = if_case (λ last. Idle last first is) _ (idle_bits 31 first is) 0 (λ e. idle_by 31 first is (omega arith)) (λ e. idle_none first is)
+
+-- a number that fits its field, if bits are left out
+abbrev pub Small : ℕ → ℕ → Type 0
+Small last x = 0 < last → x < 2 ^ 32
+
+two_more : (k : ℕ) → 2 ≤ 2 ^ suc k
+two_more k = let some = pow_pos k in let more : 2 ^ suc k ≡ 2 * 2 ^ k = pow-succ' 2 k in omega arith
+
+masked_is : (k x : ℕ) → k ≤ 31 → (0 < 2 ^ k - 1 → x < 2 ^ 32) → under_mask (high_mask (2 ^ k - 1)) x ≡ x / 2 ^ k * 2 ^ k
+masked_is zero x l s = omega arith
+masked_is (suc k) x l s =
+    let two = two_more k in
+    let some : (2 ^ suc k - 1 == 0) ≡ false = grind (arith, nat_tests) in
+    let same : 2 ^ 32 - 1 - (2 ^ suc k - 1) ≡ 2 ^ 32 - 2 ^ suc k = omega arith in
+    ap (λ b. under_mask (if b then None else Some (2 ^ 32 - 1 - (2 ^ suc k - 1))) x) some
+    ∙ ap (bit_and x) same
+    ∙ and_high_mask 32 (suc k) (omega arith) x (s (omega arith))
+
+cut_at : (k x : ℕ) (i : Interval) → k ≤ 31 → is_aligned (2 ^ k - 1) i ≡ true → (0 < 2 ^ k - 1 → x < 2 ^ 32) → is_in (under_mask (high_mask (2 ^ k - 1)) x) (cut (2 ^ k - 1) i) ≡ is_in x i
+cut_at k x i l e s =
+    let J = 2 ^ k in
+    let h = blocks_of k i e in
+    let low = h.low_is in
+    let high = h.high_is in
+    let end : i.high - (J - 1) ≡ i.high / J * J = omega arith in
+    ap (λ y. nat_le i.low y && nat_le y (i.high - (J - 1))) (masked_is k x l s)
+    ∙ ap₂ (λ a b. nat_le a (x / J * J) && nat_le (x / J * J) b) low end
+    ∙ blocks_in x (i.low / J) (i.high / J) J (pow_pos k)
+    ∙ ap₂ (λ a b. nat_le a x && nat_le x b) (sym low) (sym high)
+
+pub cut_in : (last x : ℕ) (first i : Interval) (is : List Interval) → Idle last first is → is_aligned last i ≡ true → Small last x → is_in (under_mask (high_mask last) x) (cut last i) ≡ is_in x i
+cut_in last x first i is h e s =
+    subst (λ n. is_aligned n i ≡ true → Small n x → is_in (under_mask (high_mask n) x) (cut n i) ≡ is_in x i) (sym h.last_is) (λ a b. cut_at h.bits x i h.few a b) e s
+
+pub cut_within : (last x : ℕ) (first : Interval) (is : List Interval) → Idle last first is → Small last x → is_within (under_mask (high_mask last) x) (map (cut last) is) ≡ is_within x is
+cut_within last x first is h s = go is h.all_aligned
+  where
+    go : (js : List Interval) → list_all (is_aligned last) js ≡ true → is_within (under_mask (high_mask last) x) (map (cut last) js) ≡ is_within x js
+    go [] e = refl
+    go (j ∷ js) e =
+        let t = and_parts (is_aligned last j) (list_all (is_aligned last) js) e in
+        ap₂ (λ a b. a || b) (cut_in last x first j is h t.0 s) (go js t.1)
+
+pub cut_order : (last : ℕ) (first i : Interval) (is : List Interval) → Idle last first is → is_aligned last i ≡ true → i.low ≤ i.high → i.low ≤ (cut last i).high
+cut_order last first i is h e l =
+    subst (λ n. is_aligned n i ≡ true → i.low ≤ i.high - n) (sym h.last_is) (λ a. block_order h.bits i (blocks_of h.bits i a) l) e
+
+pub cut_apart : (last a : ℕ) (first : Interval) (is : List Interval) → Idle last first is → Apart a is → Apart a (map (cut last) is)
+cut_apart last a first is h up = go a is h.all_aligned up
+  where
+    go : (a : ℕ) (js : List Interval) → list_all (is_aligned last) js ≡ true → Apart a js → Apart a (map (cut last) js)
+    go a [] e up = tt
+    go a (j ∷ js) e up =
+        let t = and_parts (is_aligned last j) (list_all (is_aligned last) js) e in
+        (up.0, cut_order last first j is h t.0 up.1, apart_less ((cut last j).high + 1) (j.high + 1) (map (cut last) js) (omega arith) (go (j.high + 1) js t.1 up.2))
+
+-- the test of a network's address
 abbrev high : ℕ → ℕ
 high j = 2 ^ 32 - 2 ^ j
 
-masked_small : (x j : ℕ) → bit_and x (high j) < 2 ^ 32
-masked_small x j = let l = and_le_r x (high j) in let some = pow_pos j in omega arith
+part_mask : (b : ℕ) → b < 32 → partial_mask (first_bits 32 b) ≡ Some (first_bits 32 b)
+part_mask b l =
+    let next : 32 - b ≡ suc (32 - b - 1) = omega arith in
+    let two = two_more (32 - b - 1) in
+    let pow : 2 ^ (32 - b) ≡ 2 ^ suc (32 - b - 1) = ap (λ k. 2 ^ k) next in
+    let not_all : (first_bits 32 b == 2 ^ 32 - 1) ≡ false = grind (arith, nat_tests) in
+    ap (λ t. if t then None else Some (first_bits 32 b)) not_all
 
-round_is : (a j : ℕ) → j ≤ 32 → bit_and a (high j) ≡ a → a ≡ a / 2 ^ j * 2 ^ j
-round_is a j l e =
-    let small = masked_small a j in
-    sym e ∙ and_high_mask 32 j l a (omega arith)
-
-size_is : (j : ℕ) → j ≤ 32 → 2 ^ 32 - 1 - high j ≡ 2 ^ j - 1
-size_is j l = let some = pow_pos j in let few : 2 ^ j ≤ 2 ^ 32 = pow_mono l in omega arith
-
-under_longer : (x a j k : ℕ) → k ≤ j → j ≤ 32 → bit_and a (high j) ≡ a → (nat_le a (bit_and x (high k)) && nat_le (bit_and x (high k)) (a + (2 ^ j - 1))) ≡ (nat_le a (bit_and x (high j)) && nat_le (bit_and x (high j)) (a + (2 ^ j - 1)))
-under_longer x a j k l m e =
-    let y = bit_and x (high k) in
-    let z : y / 2 ^ j * 2 ^ j ≡ bit_and x (high j) = sym (and_high_mask 32 j m y (masked_small x k)) ∙ and_high_mask_twice 32 j m x k l in
-    block_in y a (2 ^ j) (pow_pos j) (round_is a j m e) ∙ ap (λ v. nat_le a v && nat_le v (a + (2 ^ j - 1))) z
-
-agree_true : (a b : Bool) → agree a b ≡ true → b ≡ true → a ≡ true
-agree_true a b e h = grind (arith, nat_tests)
-
-agree_false : (a b : Bool) → agree a b ≡ true → b ≡ false → a ≡ false
-agree_false a b e h = grind (arith, nat_tests)
-
-pub same_hit : (m : Member) (t : ℕ) → Good m t → (x : ℕ) → is_in (under_mask (mask_of t) x) m.numbers ≡ is_in (under_mask (mask_of m.bits) x) m.numbers
-same_hit m t g x = by (nat_lt t 32) refl
+pub net_hit : (b a x : ℕ) → x < 2 ^ 32 → bit_and a (first_bits 32 b) ≡ a → (under_mask (partial_mask (first_bits 32 b)) x == a) ≡ is_in x (interval a (a + (2 ^ 32 - 1 - first_bits 32 b)))
+net_hit b a x lx e = elim (cases_lt b 32) [
+  | inl short ↦ part short
+  | inr long ↦ all long
+]
   where
-    a : ℕ
-    a = m.numbers.low
+    part : b < 32 → (under_mask (partial_mask (first_bits 32 b)) x == a) ≡ is_in x (interval a (a + (2 ^ 32 - 1 - first_bits 32 b)))
+    part l =
+        let J = 2 ^ (32 - b) in
+        let some = pow_pos (32 - b) in
+        let under = and_le_r a (first_bits 32 b) in
+        let z : bit_and x (high (32 - b)) ≡ x / J * J = and_high_mask 32 (32 - b) (omega arith) x lx in
+        let round : a ≡ a / J * J = sym e ∙ and_high_mask 32 (32 - b) (omega arith) a (omega arith) in
+        let few : J ≤ 2 ^ 32 = pow_mono {i = 32 - b} {j = 32} (omega arith) in
+        let size : a + (2 ^ 32 - 1 - high (32 - b)) ≡ a / J * J + (J - 1) = omega arith in
+        ap (λ o. under_mask o x == a) (part_mask b l)
+        ∙ ap₂ (λ y c. y == c) z round
+        ∙ one_number (x / J * J) (a / J * J) (a / J * J) refl
+        ∙ blocks_in x (a / J) (a / J) J some
+        ∙ ap₂ (λ c d. nat_le c x && nat_le x d) (sym round) (sym size)
 
-    j : ℕ
-    j = 32 - m.bits
-
-    by : (b : Bool) → nat_lt t 32 ≡ b → is_in (under_mask (mask_of t) x) m.numbers ≡ is_in (under_mask (mask_of m.bits) x) m.numbers
-    by true e =
-        let few : t < 32 = grind (arith, nat_tests) in
-        let part = agree_true (nat_lt m.bits 32) (nat_lt t 32) g.alike e in
-        let short : m.bits < 32 = grind (arith, nat_tests) in
-        let fewer = g.fewer in
-        let ends : m.numbers.high ≡ a + (2 ^ j - 1) = g.end short ∙ ap (λ s. a + s) (size_is j (omega arith)) in
-        ap (λ o. is_in (under_mask o x) m.numbers) (part_mask t few)
-        ∙ ap (λ h. nat_le a (bit_and x (high (32 - t))) && nat_le (bit_and x (high (32 - t))) h) ends
-        ∙ under_longer x a j (32 - t) (omega arith) (omega arith) (g.masked short)
-        ∙ ap (λ h. nat_le a (bit_and x (high j)) && nat_le (bit_and x (high j)) h) (sym ends)
-        ∙ ap (λ o. is_in (under_mask o x) m.numbers) (sym (part_mask m.bits short))
-    by false e =
-        let all : 32 ≤ t = grind (arith, nat_tests) in
-        let whole = agree_false (nat_lt m.bits 32) (nat_lt t 32) g.alike e in
-        let long : 32 ≤ m.bits = grind (arith, nat_tests) in
-        ap (λ o. is_in (under_mask o x) m.numbers) (whole_mask t all ∙ sym (whole_mask m.bits long))
-
--- the test of a network's address
-pub net_hit : (b a x : ℕ) → bit_and a (first_bits 32 b) ≡ a → (under_mask (mask_of b) x == a) ≡ (nat_le a (under_mask (mask_of b) x) && nat_le (under_mask (mask_of b) x) (a + (2 ^ 32 - 1 - first_bits 32 b)))
-net_hit b a x e = by (nat_lt b 32) refl
-  where
-    by : (t : Bool) → nat_lt b 32 ≡ t → (under_mask (mask_of b) x == a) ≡ (nat_le a (under_mask (mask_of b) x) && nat_le (under_mask (mask_of b) x) (a + (2 ^ 32 - 1 - first_bits 32 b)))
-    by true t =
-        let short : b < 32 = grind (arith, nat_tests) in
-        let j = 32 - b in
-        let l : j ≤ 32 = omega arith in
-        let z = bit_and x (high j) in
-        ap (λ o. under_mask o x == a) (part_mask b short)
-        ∙ block_is z a (2 ^ j) (pow_pos j) (round_is a j l e) (round_is z j l (and_high_mask_twice 32 j l x j (omega arith)))
-        ∙ ap (λ s. nat_le a z && nat_le z (a + s)) (sym (size_is j l))
-        ∙ ap (λ o. nat_le a (under_mask o x) && nat_le (under_mask o x) (a + (2 ^ 32 - 1 - first_bits 32 b))) (sym (part_mask b short))
-    by false t =
-        let long : 32 ≤ b = grind (arith, nat_tests) in
+    all : 32 ≤ b → (under_mask (partial_mask (first_bits 32 b)) x == a) ≡ is_in x (interval a (a + (2 ^ 32 - 1 - first_bits 32 b)))
+    all l =
         let none : 32 - b ≡ 0 = omega arith in
-        let ends : a ≡ a + (2 ^ 32 - 1 - first_bits 32 b) = (let nothing : 2 ^ 32 - 1 - first_bits 32 b ≡ 0 = ap (λ k. 2 ^ 32 - 1 - (2 ^ 32 - 2 ^ k)) none in omega arith) in
-        one_number (under_mask (mask_of b) x) a (a + (2 ^ 32 - 1 - first_bits 32 b)) ends
+        let ones : first_bits 32 b ≡ 2 ^ 32 - 1 = ap (λ k. 2 ^ 32 - 2 ^ k) none in
+        let ends : a ≡ a + (2 ^ 32 - 1 - first_bits 32 b) = omega arith in
+        ap (λ m. under_mask (partial_mask m) x == a) ones ∙ one_number x a (a + (2 ^ 32 - 1 - first_bits 32 b)) ends

@@ -1,6 +1,12 @@
 -- A formula's steps, emitted from the last to the first, are the formula's code.
-use Rattle.flt_gen.proofs.Common.{◌≡◌, ◌<◌, ◌≤◌, List, [], ◌∷◌, length, drop, get_or, Bool, true, false, Result, Ok, Err, refl, sym, ap, ◌∙◌, arith, OnOk, if◌then◌else◌, And, Or, Link, Elementary, Formula, Single, Both, Either, all_of, Numbers, is_idle, needed_tests, Steps, Part, Joint, Meaning, meaning, with_parts, with_formula, no_steps, IsPut, IsJoined, Walk, finish_formula, emit_part, emit_parts}
+use Rattle.flt_gen.proofs.Common.{◌≡◌, ℕ, Option, map, Interval, joined_all, left_out, high_mask, cut, without, numbers_by, sought, Group, no_group, Entry, group_formula, flush_members, flush_group, ◌<◌, ◌≤◌, List, [], ◌∷◌, length, drop, get_or, Bool, true, false, Result, Ok, Err, refl, sym, ap, ◌∙◌, arith, OnOk, if◌then◌else◌, And, Or, Link, Elementary, Formula, Single, Both, Either, all_of, Numbers, is_idle, needed_tests, Steps, Part, Joint, Meaning, meaning, with_parts, with_formula, no_steps, IsPut, IsJoined, Walk, finish_formula, emit_part, emit_parts}
 use Rattle.std.specs.declared.alloc.AllocError.{AllocError}
+use Rattle.flt_gen.specs.declared.steps.Step.{Step}
+use Rattle.flt_gen.specs.inside.Group.{is_empty as has_none}
+use Rattle.flt_gen.specs.inside.Walk.{begin_right}
+use Rattle.flt_gen.specs.declared.waiting.LeftTruth.{LeftTruth}
+use Rattle.flt_gen.specs.declared.waiting.Pending.{Pending}
+use Rattle.flt_gen.specs.declared.waiting.Pending.TheVariants as next
 
 parts_emitted : (link : Link) (w : Walk) (f : Formula) (ps : List Part) → emit_parts link w (with_parts f ps) ≡ emit_parts link (finish_formula link f w) ps
 parts_emitted link w (Both a b) ps =
@@ -41,3 +47,39 @@ words_put (Ok t) ts other s0 s1 s2 s3 l e first others join =
     ∙ ap (λ (m : Meaning). record m { parts = Joint And ∷ m.parts }) (others ∙ ap (with_formula rest) first)
     ∙ ap (λ (f : Formula). with_formula f (meaning s0)) (sym (more_needed ts other l e))
 words_put (Err t) ts other s0 s1 s2 s3 l e first others join = tt
+
+-- numbers, from intervals that are joined, cut and put
+pub numbers_put : {T : Type 0} (r : Result T AllocError) (is_masked : Bool) (first one : Interval) (all is js ks : List Interval) (last : ℕ) (mask : Option ℕ) (ss : List Step) → is ≡ joined_all all → last ≡ (left_out is_masked first is) → mask ≡ high_mask last → one ≡ cut last first → js ≡ map (cut last) is → ss ≡ [] → OnOk r (ks ≡ without one js) → OnOk r (record { numbers = record { mask = mask; first = one; all = js; others = ks }; steps = ss } ≡ no_steps (sought is_masked first all))
+numbers_put (Err t) is_masked first one all is js ks last mask ss e_is e_last e_mask e_one e_js e_ss e_ks = tt
+numbers_put (Ok t) is_masked first one all is js ks last mask ss e_is e_last e_mask e_one e_js e_ss e_ks =
+    ap (λ xs. steps_of mask one js xs ss) e_ks
+    ∙ ap (λ xs. steps_of mask one xs (without one xs) ss) e_js
+    ∙ ap (λ i. steps_of mask i (map (cut last) is) (without i (map (cut last) is)) ss) e_one
+    ∙ ap (λ o. steps_of o (cut last first) (map (cut last) is) (without (cut last first) (map (cut last) is)) ss) e_mask
+    ∙ ap (λ n. with_steps (numbers_by n first is) ss) e_last
+    ∙ ap (λ xs. with_steps (numbers_by (left_out is_masked first xs) first xs) ss) e_is
+    ∙ ap (with_steps (sought is_masked first all)) e_ss
+  where
+    with_steps : Numbers → List Step → Steps
+    with_steps n xs = record { numbers = n; steps = xs }
+
+    steps_of : Option ℕ → Interval → List Interval → List Interval → List Step → Steps
+    steps_of o i xs ys ss = with_steps (record { mask = o; first = i; all = xs; others = ys }) ss
+
+-- a group that waits, emitted as the right operand of an or
+right_group : (p : Pending) (w : Walk) → (begin_right p w).group ≡ w.group
+right_group next.Nothing w = refl
+right_group next.Or w = refl
+
+some_flushed : (link : Link) (w : Walk) (es : List Entry) → has_none es ≡ false → finish_formula link (group_formula link w.group) (record w { truths = record { join = Or; to = w.to } ∷ w.truths; group = no_group }) ≡ flush_members link w es
+some_flushed link w [] e = cc
+some_flushed link w (x ∷ es) e = refl
+
+pub flushed : {T : Type 0} (r : Result T AllocError) (link : Link) (w v old new : Walk) (ts : List LeftTruth) → v ≡ w → w ≡ begin_right old.pending old → has_none v.group.entries ≡ false → ts ≡ record { join = Or; to = v.to } ∷ v.truths → OnOk r (new ≡ finish_formula link (group_formula link v.group) (record v { truths = ts; group = no_group })) → OnOk r (new ≡ flush_group link old)
+flushed (Err t) link w v old new ts view right some put done = tt
+flushed (Ok t) link w v old new ts view right some put done =
+    done
+    ∙ ap (λ xs. finish_formula link (group_formula link v.group) (record v { truths = xs; group = no_group })) put
+    ∙ some_flushed link v v.group.entries some
+    ∙ ap (λ (x : Walk). flush_members link x x.group.entries) (view ∙ right)
+    ∙ ap (λ (g : Group). flush_members link (begin_right old.pending old) g.entries) (right_group old.pending old)

@@ -1,5 +1,6 @@
 -- Code that grew in front still stands at its end.
-use Rattle.flt_gen.proofs.Common.{◌≡◌, ℕ, zero, suc, ◌+◌, ◌-◌, ◌/◌, ◌≤◌, List, [], ◌∷◌, length, take, drop, Bool, true, false, Option, Some, None, refl, ap, ◌∙◌, arith, ◌==◌, Insn, Width, Test, Operand, Constant, IndexRegister, Comparison, Equal, Protocol, Tcp, Udp, Icmp, NumberTree, load, negated, applied, Link, Offset, Fixed, AfterHeader, Interval, Elementary, Outcome, Field, width_of, Formula, Single, Compare, Both, Either, Except, Among, plain, emit_branch, emit_comparison, emit_field, emit_mask, emit_accessor, constant, constant_operand, emit_right, emit_number, emit_relation, Block, emit_interval, emit_chain, are_few, low_of, MOST_HALVINGS, emit_elementary, emit_formula, Store, Accumulator}
+use Rattle.flt_gen.proofs.Common.{◌≡◌, ℕ, zero, suc, ◌+◌, ◌-◌, ◌/◌, ◌≤◌, List, [], ◌∷◌, length, take, drop, Bool, true, false, Option, Some, None, refl, ap, ◌∙◌, arith, ◌==◌, Insn, Width, Test, Operand, Constant, IndexRegister, Comparison, Equal, Protocol, Tcp, Udp, Icmp, NumberTree, load, negated, applied, Link, Offset, Fixed, AfterHeader, Interval, Elementary, Outcome, Field, width_of, Formula, Single, Compare, Both, Either, Except, Sought, Numbers, Sides, Direction, plain, emit_branch, emit_comparison, emit_field, emit_mask, emit_accessor, constant, constant_operand, emit_right, emit_number, emit_relation, Block, emit_interval, emit_chain, are_few, low_of, MOST_HALVINGS, emit_elementary, emit_formula, emit_masked, emit_side, emit_others, emit_few, emit_index, emit_at_index, emit_many, are_at_index, emit_among, Store, Accumulator, Source, Destination, And, Or}
+use Rattle.flt_ast.specs.declared.qualifiers.Direction.TheVariants as direction
 use Rattle.flt_bpf.specs.declared.operation.Test.TheVariants as test
 use Rattle.flt_gen.specs.inside.Code.{emit_search}
 use Rattle.flt_gen.proofs.Ascending.{if_case}
@@ -100,6 +101,49 @@ search_extends (suc k) from is hit miss c =
     (λ e. chain_extends from is hit miss c)
     (λ e. extends_on (extends_on (search_extends k true (drop h is) hit miss c) (search_extends k from (take h is) hit miss upper.code)) (branch_extends test.AtLeast Constant (low_of (drop h is)) upper.entry lower.entry lower.code))
 
+pub masked_extends : (mask : Option ℕ) (is : List Interval) (hit miss : ℕ) (c : List Insn) → Extends c (emit_masked mask is hit miss c)
+masked_extends mask is hit miss c = mask_extends mask c _ (search_extends MOST_HALVINGS false is hit miss c)
+
+pub side_extends : (place : Offset) (width : Width) (mask : Option ℕ) (is : List Interval) (hit miss : ℕ) (c : List Insn) → Extends c (emit_side place width mask is hit miss c).code
+side_extends place width mask is hit miss c = field_extends place width c _ (masked_extends mask is hit miss c)
+
+pub others_extends : (at : Sides) (numbers : Numbers) (is : List Interval) (hit miss : ℕ) (c : List Insn) → Extends c (emit_others at numbers is hit miss c).code
+others_extends at numbers [] hit miss c = extends_none c
+others_extends at numbers (i ∷ is) hit miss c = side_extends at.source at.width numbers.mask (i ∷ is) hit miss c
+
+pub few_extends : (at : Sides) (numbers : Numbers) (hit miss : ℕ) (c : List Insn) → Extends c (emit_few at numbers hit miss c).code
+few_extends at numbers hit miss c =
+    let others = emit_others at numbers numbers.others hit miss c in
+    let all = emit_side at.destination at.width numbers.mask numbers.all hit others.entry others.code in
+    extends_on (extends_on (others_extends at numbers numbers.others hit miss c) (side_extends at.destination at.width numbers.mask numbers.all hit others.entry others.code))
+    (side_extends at.source at.width numbers.mask (numbers.first ∷ []) hit all.entry all.code)
+
+pub at_index_extends : (place : Offset) (width : Width) (index : ℕ) (c d : List Insn) → Extends c d → Extends c (emit_at_index place width index d)
+at_index_extends (Fixed k) width index c d e = extends_put c d _ e
+at_index_extends (AfterHeader header k) width index c d e = extends_put c d _ e
+
+index_extends : (place : Offset) (index : ℕ) (c d : List Insn) → Extends c d → Extends c (emit_index place index d)
+index_extends (Fixed k) index c d e = extends_put c d _ e
+index_extends (AfterHeader header k) index c d e = extends_put c d _ e
+
+many_extends : (at : Sides) (numbers : Numbers) (hit miss : ℕ) (c : List Insn) → Extends c (emit_many at numbers hit miss c).code
+many_extends at numbers hit miss c =
+    let none = emit_at_index at.destination at.width at.index (emit_masked numbers.mask numbers.all hit miss c) in
+    let later = emit_at_index at.destination at.width at.index (emit_branch test.AtLeast Constant 0 hit miss none) in
+    let one = emit_interval false numbers.first hit (length later) later in
+    index_extends at.source at.index c _ (at_index_extends at.source at.width at.index c _
+    (extends_on (extends_on (extends_on (at_index_extends at.destination at.width at.index c _ (masked_extends numbers.mask numbers.all hit miss c))
+    (at_index_extends at.destination at.width at.index none _ (branch_extends test.AtLeast Constant 0 hit miss none)))
+    (interval_extends false numbers.first hit (length later) later))
+    (masked_extends numbers.mask numbers.all one.entry (length none) one.code)))
+
+among_extends : (d : Direction) (at : Sides) (numbers : Numbers) (hit miss : ℕ) (c : List Insn) → Extends c (emit_among d at numbers hit miss c).code
+among_extends (direction.One Source) at numbers hit miss c = side_extends at.source at.width numbers.mask numbers.all hit miss c
+among_extends (direction.One Destination) at numbers hit miss c = side_extends at.destination at.width numbers.mask numbers.all hit miss c
+among_extends (direction.Both And) at numbers hit miss c = extends_none c
+among_extends (direction.Both Or) at numbers hit miss c =
+    if_case (λ (e : Block). Extends c e.code) (are_at_index numbers) _ _ (λ e. many_extends at numbers hit miss c) (λ e. few_extends at numbers hit miss c)
+
 pub emitted_extends : (link : Link) (f : Formula) (hit miss : ℕ) (c : List Insn) → Extends c (emit_formula link f hit miss c).code
 emitted_extends link (Single t) hit miss c = elementary_extends t hit miss c
 emitted_extends link (Compare comparison l r) hit miss c = relation_extends link comparison l r hit miss c
@@ -108,4 +152,4 @@ emitted_extends link (Both a b) hit miss c =
 emitted_extends link (Either a b) hit miss c =
     let e = emit_formula link b hit miss c in extends_on (emitted_extends link b hit miss c) (emitted_extends link a hit e.entry e.code)
 emitted_extends link (Except a) hit miss c = emitted_extends link a miss hit c
-emitted_extends link (Among f is) hit miss c = field_extends f.offset f.width c _ (mask_extends f.mask c _ (search_extends MOST_HALVINGS false is hit miss c))
+emitted_extends link (Sought d at numbers) hit miss c = among_extends d at numbers hit miss c

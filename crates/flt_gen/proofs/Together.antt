@@ -1,5 +1,7 @@
 -- Addresses or ports that are looked for together read as one after the other.
-use Rattle.flt_gen.proofs.Common.{◌≡◌, ℕ, ◌+◌, ◌-◌, ◌*◌, ◌^◌, ◌%◌, ◌≤◌, List, [], ◌∷◌, Bool, true, false, Option, Some, None, refl, sym, ap, ap₂, ◌∙◌, subst, arith, ◌==◌, ◌||◌, ◌&&◌, nat_le, min, max, bit_and, if◌then◌else◌, nat_tests, or-false, Protocol, Ip, Tcp, Udp, ValueType, Host, Net, Port, PortRange, Source, Destination, And, Or, Direction, CompleteQualifiers, Value, first_bits, Link, type_offset, FrameKind, Elementary, Interval, Member, One, Between, Several, Sides, Transport, MatchResult, Yes, No, Rejected, reading_of, with, field_at, under_mask, kind_test, elementary_reads, Formula, is_in, is_within, both, either, all_of, sides, Numbers, no_numbers, any_sides, reads, address_places, address_test, port_is, port_between, port_places, port_sides, transport, following, ip_transport, ip6_transport, port_test, port_formula, net_test, net_formula, value_formula, joined_all, sought, mask_of, found_member, net_numbers, member_of, several_formula}
+use Rattle.flt_gen.proofs.Common.{◌≡◌, ℕ, ◌+◌, ◌-◌, ◌*◌, ◌^◌, ◌%◌, ◌<◌, List, [], ◌∷◌, length, map, Bool, true, false, Option, Some, None, refl, sym, ap, ap₂, ◌∙◌, subst, arith, inl, inr, ◌==◌, ◌||◌, ◌&&◌, nat_le, min, max, bit_and, if◌then◌else◌, nat_tests, or-false, Protocol, Ip, Tcp, Udp, ValueType, Host, Net, Port, PortRange, Source, Destination, And, Or, Direction, CompleteQualifiers, Value, first_bits, Word, field, big_endian_at, Link, type_offset, FrameKind, Elementary, Interval, One, Between, Several, Sides, Transport, MatchResult, Yes, No, Rejected, reading_of, with, field_at, under_mask, kind_test, elementary_reads, Formula, Sought, is_in, is_within, both, either, all_of, sides, Numbers, no_numbers, reads, address_places, address_test, partial_mask, port_is, port_between, port_places, port_sides, transport, following, ip_transport, ip6_transport, port_test, port_formula, net_test, net_formula, value_formula, joined_all, left_out, high_mask, cut, sought, interval, is_address, net_numbers, member_of, several_formula}
+use Rattle.std.specs.Prelude.{◌⊎◌}
+use Rattle.std.proofs.Math.Nat.{mod-lt}
 use Rattle.flt_words.specs.declared.token.Protocol.TheVariants.{Arp, Rarp}
 use Rattle.flt_ast.specs.declared.qualifiers.Direction.TheVariants as direction
 use Rattle.flt_ast.specs.declared.value.Value.TheVariants as value
@@ -8,35 +10,39 @@ use Rattle.flt_gen.specs.declared.elementary.FrameKind.TheVariants as kind
 use Rattle.flt_gen.specs.declared.port.Ports.{Ports}
 use Rattle.flt_gen.proofs.Ascending.{Ordered, within_joined}
 use Rattle.flt_gen.proofs.Exclusive.{ip_no_ip6, ip_no_arp, ip_no_rarp, arp_no_rarp}
-use Rattle.flt_gen.proofs.Prefixes.{Good, same_hit, net_hit, whole_mask}
+use Rattle.flt_gen.proofs.Prefixes.{Idle, idle_sought, Small, cut_in, cut_within, net_hit}
 use Rattle.flt_gen.proofs.Runs.{one_number}
 
--- a field is what a member looks for, or what one of some does
-abbrev pub hit : Member → ℕ → Bool
-hit m x = is_in (under_mask (mask_of m.bits) x) m.numbers
+-- the fields of these sides fit the masks that numbers may have
+abbrev pub Fitting : Bool → Sides → Type 0
+Fitting b at = b ≡ true → (p : List ℕ) (x : ℕ) → (field_at at.source at.width p ≡ Some x) ⊎ (field_at at.destination at.width p ≡ Some x) → x < 2 ^ 32
 
-abbrev pub any_hit : List Member → ℕ → Bool
-any_hit [] x = false
-any_hit (m ∷ ms) x = hit m x || any_hit ms x
+pub fitting_small : (b : Bool) (at : Sides) (m : Interval) (is : List Interval) → Fitting b at → (p : List ℕ) (x : ℕ) → (field_at at.source at.width p ≡ Some x) ⊎ (field_at at.destination at.width p ≡ Some x) → Small (left_out b m is) x
+fitting_small true at m is fit p x e = λ l. fit refl p x e
+fitting_small false at m is fit p x e = λ l. absurd (omega arith)
 
-abbrev pub raw_any : List Member → ℕ → Bool
-raw_any [] y = false
-raw_any (m ∷ ms) y = is_in y m.numbers || raw_any ms y
+pub unmasked_fitting : (b : Bool) (at : Sides) → b ≡ false → Fitting b at
+unmasked_fitting true at e = cc
+unmasked_fitting false at e = λ f. cc
 
--- members whose numbers mean the same under the mask of so many bits
-abbrev pub Goods : List Member → ℕ → Type 0
-Goods [] t = Unit {0}
-Goods (m ∷ ms) t = Good m t × Goods ms t
+-- a word is below 2^32
+word_small : (p : List ℕ) (at x : ℕ) → field p at Word ≡ Some x → x < 2 ^ 32
+word_small p at x e = by (nat_le (at + 4) (length p)) e
+  where
+    by : (b : Bool) → (if b then Some (big_endian_at p at Word) else None) ≡ Some x → x < 2 ^ 32
+    by false f = cc
+    by true f = subst (λ y. y < 2 ^ 32) (some_is _ x f) (mod-lt _ (omega arith))
+      where
+        some_is : (a b : ℕ) → Some a ≡ Some b → a ≡ b
+        some_is a b g = cc
 
-pub any_same : (ms : List Member) (t : ℕ) → Goods ms t → (x : ℕ) → raw_any ms (under_mask (mask_of t) x) ≡ any_hit ms x
-any_same [] t h x = refl
-any_same (m ∷ ms) t h x = ap₂ (λ a b. a || b) (same_hit m t h.0 x) (any_same ms t h.1 x)
+pub address_fitting : (b : Bool) (link : Link) (k : FrameKind) → Fitting b (address_places link k)
+address_fitting b link k e p x (inl f) = word_small p _ x f
+address_fitting b link k e p x (inr f) = word_small p _ x f
 
--- ports of any kind
-abbrev pub is_port : ValueType → Bool
-is_port Port = true
-is_port PortRange = true
-is_port _ = false
+not_both : (b c : Bool) → (b ≡ true → c ≡ true) → c ≡ false → b ≡ false
+not_both false c f e = refl
+not_both true c f e = absurd (let t = f refl in cc)
 
 -- those that are looked for together: not both sides at once
 abbrev pub Merged : Direction → Type 0
@@ -57,11 +63,11 @@ plain_reads (direction.One Destination) s d f = read_by d f
 plain_reads (direction.Both Or) s d f = either (read_by s f) (read_by d f)
 plain_reads (direction.Both And) s d f = both (read_by s f) (read_by d f)
 
-abbrev sides_read : Direction → Option ℕ → Option ℕ → (ℕ → Bool) → (ℕ → Bool) → (ℕ → Bool) → MatchResult
-sides_read (direction.One Source) s d f a o = read_by s a
-sides_read (direction.One Destination) s d f a o = read_by d a
-sides_read (direction.Both Or) s d f a o = either (read_by s f) (either (read_by d a) (read_by s o))
-sides_read (direction.Both And) s d f a o = both (read_by s f) (read_by d f)
+abbrev sides_read : Direction → Option ℕ → Option ℕ → (ℕ → Bool) → (ℕ → Bool) → MatchResult
+sides_read (direction.One Source) s d f a = read_by s a
+sides_read (direction.One Destination) s d f a = read_by d a
+sides_read (direction.Both Or) s d f a = either (both (read_by s a) (either (read_by s f) (read_by d (λ x. true)))) (read_by d a)
+sides_read (direction.Both And) s d f a = both (read_by s f) (read_by d f)
 
 yes_or : (b c : Bool) → exact (b || c) ≡ either (exact b) (exact c)
 yes_or true c = refl
@@ -75,40 +81,58 @@ read_same : (o : Option ℕ) (f g : ℕ → Bool) → ((x : ℕ) → f x ≡ g x
 read_same None f g e = refl
 read_same (Some x) f g e = ap exact (e x)
 
-both_told : (m n k b o : Bool) → either (exact m) (either (exact (n || b)) (exact (k || o))) ≡ either (either (exact m) (exact n)) (either (exact k) (either (exact b) (exact o)))
-both_told false false true true o = refl
-both_told _ _ _ _ _ = refl
+read_seen : (o : Option ℕ) (f g : ℕ → Bool) → ((x : ℕ) → o ≡ Some x → f x ≡ g x) → read_by o f ≡ read_by o g
+read_seen None f g e = refl
+read_seen (Some x) f g e = ap exact (e x refl)
+
+-- the source is of the first or of the others, whose first is k; so is the destination
+both_told : (m k o n b : Bool) → either (both (exact (m || (k || o))) (either (exact m) Yes)) (exact (n || b)) ≡ either (either (exact m) (exact n)) (either (both (exact (k || o)) (either (exact k) Yes)) (exact b))
+both_told true k o n b = refl
+both_told false true o true b = refl
+both_told false true o false b = refl
+both_told false false true true b = refl
+both_told false false true false b = refl
+both_told false false false true b = refl
+both_told false false false false b = refl
+
+-- the destination isn't captured
+one_told : (m k o : Bool) → either (both (exact (m || (k || o))) (either (exact m) Rejected)) Rejected ≡ either (either (exact m) Rejected) (either (both (exact (k || o)) (either (exact k) Rejected)) Rejected)
+one_told true k o = refl
+one_told false true o = refl
+one_told false false true = refl
+one_told false false false = refl
 
 -- one more in front of those of which k is the first
-one_more : (d : Direction) (s t : Option ℕ) (m k o : ℕ → Bool) → Merged d → sides_read d s t m (λ x. m x || (k x || o x)) (λ x. k x || o x) ≡ either (plain_reads d s t m) (sides_read d s t k (λ x. k x || o x) o)
+one_more : (d : Direction) (s t : Option ℕ) (m k o : ℕ → Bool) → Merged d → sides_read d s t m (λ x. m x || (k x || o x)) ≡ either (plain_reads d s t m) (sides_read d s t k (λ x. k x || o x))
 one_more (direction.One Source) s t m k o h = read_or s m (λ x. k x || o x)
 one_more (direction.One Destination) s t m k o h = read_or t m (λ x. k x || o x)
 one_more (direction.Both Or) None t m k o h = refl
-one_more (direction.Both Or) (Some x) None m k o h = cut (m x) (k x)
-  where
-    cut : (b c : Bool) → either (exact b) Rejected ≡ either (either (exact b) Rejected) (either (exact c) Rejected)
-    cut true c = refl
-    cut false c = refl
-one_more (direction.Both Or) (Some x) (Some y) m k o h = both_told (m x) (m y) (k x) (k y || o y) (o x)
+one_more (direction.Both Or) (Some x) None m k o h = one_told (m x) (k x) (o x)
+one_more (direction.Both Or) (Some x) (Some y) m k o h = both_told (m x) (k x) (o x) (m y) (k y || o y)
 one_more (direction.Both And) s t m k o h = absurd h
 
-one_alone : (d : Direction) (s t : Option ℕ) (m : ℕ → Bool) → sides_read d s t m (λ x. m x || false) (λ x. false) ≡ plain_reads d s t m
+one_alone : (d : Direction) (s t : Option ℕ) (m : ℕ → Bool) → sides_read d s t m (λ x. m x || false) ≡ plain_reads d s t m
 one_alone (direction.One Source) s t m = read_same s (λ x. m x || false) m (λ x. or-false (m x))
 one_alone (direction.One Destination) s t m = read_same t (λ x. m x || false) m (λ x. or-false (m x))
 one_alone (direction.Both Or) None t m = refl
-one_alone (direction.Both Or) (Some x) None m = refl
+one_alone (direction.Both Or) (Some x) None m = cut (m x)
+  where
+    cut : (b : Bool) → either (both (exact (b || false)) (either (exact b) Rejected)) Rejected ≡ either (exact b) Rejected
+    cut true = refl
+    cut false = refl
 one_alone (direction.Both Or) (Some x) (Some y) m = last (m x) (m y)
   where
-    last : (b c : Bool) → either (exact b) (either (exact (c || false)) (exact false)) ≡ either (exact b) (exact c)
+    last : (b c : Bool) → either (both (exact (b || false)) (either (exact b) Yes)) (exact (c || false)) ≡ either (exact b) (exact c)
     last false true = refl
     last _ _ = refl
 one_alone (direction.Both And) s t m = refl
 
-sides_same : (d : Direction) (s t : Option ℕ) (f g a b o q : ℕ → Bool) → ((x : ℕ) → f x ≡ g x) → ((x : ℕ) → a x ≡ b x) → ((x : ℕ) → o x ≡ q x) → sides_read d s t f a o ≡ sides_read d s t g b q
-sides_same (direction.One Source) s t f g a b o q e h k = read_same s a b h
-sides_same (direction.One Destination) s t f g a b o q e h k = read_same t a b h
-sides_same (direction.Both Or) s t f g a b o q e h k = ap₂ either (read_same s f g e) (ap₂ either (read_same t a b h) (read_same s o q k))
-sides_same (direction.Both And) s t f g a b o q e h k = ap₂ both (read_same s f g e) (read_same t f g e)
+sides_seen : (d : Direction) (s t : Option ℕ) (f g a b : ℕ → Bool) → ((x : ℕ) → s ≡ Some x → f x ≡ g x) → ((x : ℕ) → t ≡ Some x → f x ≡ g x) → ((x : ℕ) → s ≡ Some x → a x ≡ b x) → ((x : ℕ) → t ≡ Some x → a x ≡ b x) → sides_read d s t f a ≡ sides_read d s t g b
+sides_seen (direction.One Source) s t f g a b i j h k = read_seen s a b h
+sides_seen (direction.One Destination) s t f g a b i j h k = read_seen t a b k
+sides_seen (direction.Both Or) s t f g a b i j h k =
+    ap₂ either (ap₂ both (read_seen s a b h) (ap (λ r. either r (read_by t (λ x. true))) (read_seen s f g i))) (read_seen t a b k)
+sides_seen (direction.Both And) s t f g a b i j h k = ap₂ both (read_seen s f g i) (read_seen t f g j)
 
 module _ (link : Link) (p : List ℕ) (n : ℕ) where
   or_no : (s : MatchResult) → either s No ≡ s
@@ -226,6 +250,13 @@ module _ (link : Link) (p : List ℕ) (n : ℕ) where
       let k = ip6_transport link in
       ap₂ (λ v w. either (both (kind_reads kind.Ip) v) (both (kind_reads kind.Ip6) w)) (after_is protocol h (port_sides ports d h bs)) (after_is protocol k (port_sides ports d k bs))
 
+  hosts_same : (protocol : Option Protocol) (x y : Sides → MatchResult) → ((k : FrameKind) → x (address_places link k) ≡ y (address_places link k)) → hosts_by protocol x ≡ hosts_by protocol y
+  hosts_same None x y e = ap₂ either (ap (both (kind_reads kind.Ip)) (e kind.Ip)) (ap₂ either (ap (both (kind_reads kind.Arp)) (e kind.Arp)) (ap (both (kind_reads kind.Rarp)) (e kind.Rarp)))
+  hosts_same (Some Ip) x y e = ap (both (kind_reads kind.Ip)) (e kind.Ip)
+  hosts_same (Some Arp) x y e = ap (both (kind_reads kind.Arp)) (e kind.Arp)
+  hosts_same (Some Rarp) x y e = ap (both (kind_reads kind.Rarp)) (e kind.Rarp)
+  hosts_same (Some _) x y e = refl
+
   -- several, and one
   abbrev source_of : Sides → Option ℕ
   source_of at = field_at at.source at.width p
@@ -233,67 +264,85 @@ module _ (link : Link) (p : List ℕ) (n : ℕ) where
   abbrev destination_of : Sides → Option ℕ
   destination_of at = field_at at.destination at.width p
 
-  abbrev pub members_read : ValueType → Option Protocol → Direction → Member → List Member → MatchResult
-  members_read k protocol d m ms =
-      by_sides k protocol (λ at. sides_read d (source_of at) (destination_of at) (hit m) (any_hit (m ∷ ms)) (any_hit ms))
+  abbrev hit : Interval → ℕ → Bool
+  hit i x = is_in x i
 
-  abbrev member_reads : ValueType → Option Protocol → Direction → Member → MatchResult
+  abbrev pub members_read : ValueType → Option Protocol → Direction → Interval → List Interval → MatchResult
+  members_read k protocol d m ms =
+      by_sides k protocol (λ at. sides_read d (source_of at) (destination_of at) (hit m) (λ x. is_within x (m ∷ ms)))
+
+  abbrev member_reads : ValueType → Option Protocol → Direction → Interval → MatchResult
   member_reads k protocol d m = by_sides k protocol (λ at. plain_reads d (source_of at) (destination_of at) (hit m))
 
-  pub members_more : (k : ValueType) (protocol : Option Protocol) (d : Direction) (m l : Member) (ms : List Member) → Merged d → members_read k protocol d m (l ∷ ms) ≡ either (member_reads k protocol d m) (members_read k protocol d l ms)
+  pub members_more : (k : ValueType) (protocol : Option Protocol) (d : Direction) (m l : Interval) (ms : List Interval) → Merged d → members_read k protocol d m (l ∷ ms) ≡ either (member_reads k protocol d m) (members_read k protocol d l ms)
   members_more k protocol d m l ms h =
-      ap (by_sides k protocol) (λ i at. one_more d (source_of at) (destination_of at) (hit m) (hit l) (any_hit ms) h i)
-      ∙ sides_join k protocol (λ at. plain_reads d (source_of at) (destination_of at) (hit m)) (λ at. sides_read d (source_of at) (destination_of at) (hit l) (any_hit (l ∷ ms)) (any_hit ms))
+      ap (by_sides k protocol) (λ i at. one_more d (source_of at) (destination_of at) (hit m) (hit l) (λ x. is_within x ms) h i)
+      ∙ sides_join k protocol (λ at. plain_reads d (source_of at) (destination_of at) (hit m)) (λ at. sides_read d (source_of at) (destination_of at) (hit l) (λ x. is_within x (l ∷ ms)))
 
-  pub members_alone : (k : ValueType) (protocol : Option Protocol) (d : Direction) (m : Member) → members_read k protocol d m [] ≡ member_reads k protocol d m
+  pub members_alone : (k : ValueType) (protocol : Option Protocol) (d : Direction) (m : Interval) → members_read k protocol d m [] ≡ member_reads k protocol d m
   members_alone k protocol d m = ap (by_sides k protocol) (λ i at. one_alone d (source_of at) (destination_of at) (hit m) i)
 
   -- the formula of several
-  abbrev side_reads : Sides → Direction → ℕ → Numbers → MatchResult
-  side_reads at d t numbers = reads link (any_sides d at (mask_of t) numbers) p n
+  abbrev sought_at : Sides → Direction → Numbers → MatchResult
+  sought_at at d numbers = reads link (Sought d at numbers) p n
 
-  sides_are : (at : Sides) (d : Direction) (t : ℕ) (m : Member) (ms : List Member) (all others : List Interval) → Merged d → Goods (m ∷ ms) t → Ordered 0 all → Ordered 0 others → ((y : ℕ) → is_within y all ≡ raw_any (m ∷ ms) y) → ((y : ℕ) → is_within y others ≡ raw_any ms y) → side_reads at d t (sought m.numbers all others) ≡ sides_read d (source_of at) (destination_of at) (hit m) (any_hit (m ∷ ms)) (any_hit ms)
-  sides_are at d t m ms all others h g oa oo wa wo = by d h ∙ same
+  sides_are : (at : Sides) (d : Direction) (b : Bool) (m : Interval) (ms all : List Interval) → Merged d → Fitting b at → Ordered 0 all → ((y : ℕ) → is_within y all ≡ is_within y (m ∷ ms)) → sought_at at d (sought b m all) ≡ sides_read d (source_of at) (destination_of at) (hit m) (λ x. is_within x (m ∷ ms))
+  sides_are at d b m ms all h fit o w = by d h ∙ sides_seen d (source_of at) (destination_of at) _ _ _ _ (λ x e. one x (small x (inl e))) (λ x e. one x (small x (inr e))) (λ x e. some x (small x (inl e))) (λ x e. some x (small x (inr e)))
     where
+      last : ℕ
+      last = left_out b m (joined_all all)
+
+      idle : Idle last m (joined_all all)
+      idle = idle_sought b m (joined_all all)
+
       u : ℕ → ℕ
-      u x = under_mask (mask_of t) x
+      u x = under_mask (high_mask last) x
 
-      same : sides_read d (source_of at) (destination_of at) (λ x. is_within (u x) (m.numbers ∷ [])) (λ x. is_within (u x) (joined_all all)) (λ x. is_within (u x) (joined_all others)) ≡ sides_read d (source_of at) (destination_of at) (hit m) (any_hit (m ∷ ms)) (any_hit ms)
-      same = sides_same d (source_of at) (destination_of at) _ _ _ _ _ _
-          (λ x. or-false (is_in (u x) m.numbers) ∙ same_hit m t g.0 x)
-          (λ x. within_joined (u x) all oa ∙ wa (u x) ∙ any_same (m ∷ ms) t g x)
-          (λ x. within_joined (u x) others oo ∙ wo (u x) ∙ any_same ms t g.1 x)
+      small : (x : ℕ) → (source_of at ≡ Some x) ⊎ (destination_of at ≡ Some x) → Small last x
+      small x e = fitting_small b at m (joined_all all) fit p x e
 
-      by : (e : Direction) → Merged e → reads link (any_sides e at (mask_of t) (sought m.numbers all others)) p n ≡ sides_read e (source_of at) (destination_of at) (λ x. is_within (u x) (m.numbers ∷ [])) (λ x. is_within (u x) (joined_all all)) (λ x. is_within (u x) (joined_all others))
+      one : (x : ℕ) → Small last x → is_within (u x) (cut last m ∷ []) ≡ hit m x
+      one x l = or-false (is_in (u x) (cut last m)) ∙ cut_in last x m m (joined_all all) idle idle.first_aligned l
+
+      some : (x : ℕ) → Small last x → is_within (u x) (map (cut last) (joined_all all)) ≡ is_within x (m ∷ ms)
+      some x l = cut_within last x m (joined_all all) idle l ∙ within_joined x all o ∙ w x
+
+      by : (e : Direction) → Merged e → sought_at at e (sought b m all) ≡ sides_read e (source_of at) (destination_of at) (λ x. is_within (u x) (cut last m ∷ [])) (λ x. is_within (u x) (map (cut last) (joined_all all)))
       by (direction.Both And) q = absurd q
       by (direction.One Source) q = refl
       by _ q = refl
 
   -- ports have no mask
-  pub several_are : (q : CompleteQualifiers) (t : ℕ) (k : ValueType) (m : Member) (ms : List Member) (all others : List Interval) → (is_port k ≡ true → 32 ≤ t) → Merged q.direction → Goods (m ∷ ms) t → Ordered 0 all → Ordered 0 others → ((y : ℕ) → is_within y all ≡ raw_any (m ∷ ms) y) → ((y : ℕ) → is_within y others ≡ raw_any ms y) → reads link (several_formula link q t k (sought m.numbers all others)) p n ≡ members_read k q.protocol q.direction m ms
-  several_are q t k m ms all others whole h g oa oo wa wo = by k whole
+  pub several_are : (q : CompleteQualifiers) (k : ValueType) (b : Bool) (m : Interval) (ms all : List Interval) → (b ≡ true → is_address k ≡ true) → Merged q.direction → Ordered 0 all → ((y : ℕ) → is_within y all ≡ is_within y (m ∷ ms)) → reads link (several_formula link q k (sought b m all)) p n ≡ members_read k q.protocol q.direction m ms
+  several_are q k b m ms all nets h o w = by k nets
     where
       numbers : Numbers
-      numbers = sought m.numbers all others
+      numbers = sought b m all
 
-      each : (at : Sides) → side_reads at q.direction t numbers ≡ sides_read q.direction (source_of at) (destination_of at) (hit m) (any_hit (m ∷ ms)) (any_hit ms)
-      each at = sides_are at q.direction t m ms all others h g oa oo wa wo
+      each : (at : Sides) → Fitting b at → sought_at at q.direction numbers ≡ sides_read q.direction (source_of at) (destination_of at) (hit m) (λ x. is_within x (m ∷ ms))
+      each at fit = sides_are at q.direction b m ms all h fit o w
 
-      hosts_are : (protocol : Option Protocol) → reads link (several_formula link (record q { protocol = protocol }) t Host numbers) p n ≡ hosts_by protocol (λ at. side_reads at q.direction t numbers)
+      hosts_are : (protocol : Option Protocol) → reads link (several_formula link (record q { protocol = protocol }) Host numbers) p n ≡ hosts_by protocol (λ at. sought_at at q.direction numbers)
       hosts_are (Some Ip) = refl
       hosts_are _ = refl
 
-      ports : 32 ≤ t → reads link (several_formula link q t Port numbers) p n ≡ ports_by q.protocol (λ at. side_reads at q.direction t numbers)
-      ports l =
-          ports_are q.protocol q.direction Several numbers
-          ∙ ap (λ o. ports_by q.protocol (λ at. reads link (any_sides q.direction at o numbers) p n)) (sym (whole_mask t l))
+      hosts : reads link (several_formula link q Host numbers) p n ≡ members_read Host q.protocol q.direction m ms
+      hosts = hosts_are q.protocol ∙ hosts_same q.protocol _ _ (λ k. each (address_places link k) (address_fitting b link k))
 
-      by : (k : ValueType) → (is_port k ≡ true → 32 ≤ t) → reads link (several_formula link q t k numbers) p n ≡ by_sides k q.protocol (λ at. sides_read q.direction (source_of at) (destination_of at) (hit m) (any_hit (m ∷ ms)) (any_hit ms))
-      by Host w = hosts_are q.protocol ∙ ap (hosts_by q.protocol) (λ i at. each at i)
-      by Net w = hosts_are q.protocol ∙ ap (hosts_by q.protocol) (λ i at. each at i)
-      by Port w = ports (w refl) ∙ ap (ports_by q.protocol) (λ i at. each at i)
-      by PortRange w = ports (w refl) ∙ ap (ports_by q.protocol) (λ i at. each at i)
-      by _ w = refl
+      ports : b ≡ false → reads link (several_formula link q Port numbers) p n ≡ members_read Port q.protocol q.direction m ms
+      ports e =
+          ports_are q.protocol q.direction Several numbers
+          ∙ ap₂ (two_headers q.protocol) (each (port_places (ip_transport link)) (unmasked_fitting b (port_places (ip_transport link)) e)) (each (port_places (ip6_transport link)) (unmasked_fitting b (port_places (ip6_transport link)) e))
+
+      no_address : (k : ValueType) → (b ≡ true → is_address k ≡ true) → is_address k ≡ false → b ≡ false
+      no_address k f e = not_both b (is_address k) f e
+
+      by : (k : ValueType) → (b ≡ true → is_address k ≡ true) → reads link (several_formula link q k numbers) p n ≡ by_sides k q.protocol (λ at. sides_read q.direction (source_of at) (destination_of at) (hit m) (λ x. is_within x (m ∷ ms)))
+      by Host f = hosts
+      by Net f = hosts
+      by Port f = ports (no_address Port f refl)
+      by PortRange f = ports (no_address PortRange f refl)
+      by _ f = refl
 
   -- the row of a member
   row_sides : (at : Sides) (d : Direction) (s t : List Elementary) (f : ℕ → Bool) → reads link (all_of s) p n ≡ read_by (source_of at) f → reads link (all_of t) p n ≡ read_by (destination_of at) f → reads link (sides d s t) p n ≡ plain_reads d (source_of at) (destination_of at) f
@@ -302,14 +351,7 @@ module _ (link : Link) (p : List ℕ) (n : ℕ) where
   row_sides at (direction.Both Or) s t f e h = ap₂ either e h
   row_sides at (direction.Both And) s t f e h = ap₂ both e h
 
-  hosts_same : (protocol : Option Protocol) (x y : Sides → MatchResult) → ((k : FrameKind) → x (address_places link k) ≡ y (address_places link k)) → hosts_by protocol x ≡ hosts_by protocol y
-  hosts_same None x y e = ap₂ either (ap (both (kind_reads kind.Ip)) (e kind.Ip)) (ap₂ either (ap (both (kind_reads kind.Arp)) (e kind.Arp)) (ap (both (kind_reads kind.Rarp)) (e kind.Rarp)))
-  hosts_same (Some Ip) x y e = ap (both (kind_reads kind.Ip)) (e kind.Ip)
-  hosts_same (Some Arp) x y e = ap (both (kind_reads kind.Arp)) (e kind.Arp)
-  hosts_same (Some Rarp) x y e = ap (both (kind_reads kind.Rarp)) (e kind.Rarp)
-  hosts_same (Some _) x y e = refl
-
-  address_row : (protocol : Option Protocol) (d : Direction) (mask : Option ℕ) (a : ℕ) (f : ℕ → Bool) → ((x : ℕ) → (under_mask mask x == a) ≡ f x) → reads link (net_formula link protocol (net_test d mask a)) p n ≡ hosts_by protocol (λ at. plain_reads d (source_of at) (destination_of at) f)
+  address_row : (protocol : Option Protocol) (d : Direction) (mask : Option ℕ) (a : ℕ) (f : ℕ → Bool) → ((x : ℕ) → x < 2 ^ 32 → (under_mask mask x == a) ≡ f x) → reads link (net_formula link protocol (net_test d mask a)) p n ≡ hosts_by protocol (λ at. plain_reads d (source_of at) (destination_of at) f)
   address_row protocol d mask a f e = kinds_are protocol ∙ hosts_same protocol row (λ at. plain_reads d (source_of at) (destination_of at) f) each
     where
       row : Sides → MatchResult
@@ -322,8 +364,9 @@ module _ (link : Link) (p : List ℕ) (n : ℕ) where
       each : (k : FrameKind) → row (address_places link k) ≡ plain_reads d (source_of (address_places link k)) (destination_of (address_places link k)) f
       each k =
           let at = address_places link k in
+          let fit = address_fitting true link k refl p in
           row_sides at d (address_test mask a at.source ∷ []) (address_test mask a at.destination ∷ []) f
-          (read_same (source_of at) (λ x. under_mask mask x == a) f e) (read_same (destination_of at) (λ x. under_mask mask x == a) f e)
+          (read_seen (source_of at) (λ x. under_mask mask x == a) f (λ x g. e x (fit x (inl g)))) (read_seen (destination_of at) (λ x. under_mask mask x == a) f (λ x g. e x (fit x (inr g))))
 
   both_ends : (o : Option ℕ) (a b : ℕ) → both (read_by o (λ x. nat_le a x)) (read_by o (λ x. nat_le x b)) ≡ read_by o (λ x. nat_le a x && nat_le x b)
   both_ends None a b = refl
@@ -349,43 +392,40 @@ module _ (link : Link) (p : List ℕ) (n : ℕ) where
       (both_ends (source_of at) a b ∙ read_same (source_of at) (λ x. nat_le a x && nat_le x b) f e)
       (both_ends (destination_of at) a b ∙ read_same (destination_of at) (λ x. nat_le a x && nat_le x b) f e)
 
-  abbrev Rows : ValueType → Option Protocol → Direction → Value → Member → Type 0
+  abbrev Rows : ValueType → Option Protocol → Direction → Value → Interval → Type 0
   Rows k protocol d v m = reads link (value_formula link k protocol d v) p n ≡ member_reads k protocol d m
 
-  unmasked : (i : Interval) (x : ℕ) → is_in x i ≡ is_in (under_mask (mask_of 32) x) i
-  unmasked i x = ap (λ o. is_in (under_mask o x) i) (sym (whole_mask 32 (omega arith)))
-
-  some_member : (l m : Member) → Some l ≡ Some m → l ≡ m
+  some_member : (l m : Interval) → Some l ≡ Some m → l ≡ m
   some_member l m e = cc
 
-  net_row : (protocol : Option Protocol) (d : Direction) (b a : ℕ) (m : Member) → net_numbers b (record { address = a; mask = first_bits 32 b }) ≡ Some m → reads link (net_formula link protocol (net_test d (mask_of b) a)) p n ≡ hosts_by protocol (λ at. plain_reads d (source_of at) (destination_of at) (hit m))
+  net_row : (protocol : Option Protocol) (d : Direction) (b a : ℕ) (m : Interval) → net_numbers (record { address = a; mask = first_bits 32 b }) ≡ Some m → reads link (net_formula link protocol (net_test d (partial_mask (first_bits 32 b)) a)) p n ≡ hosts_by protocol (λ at. plain_reads d (source_of at) (destination_of at) (hit m))
   net_row protocol d b a m e = by (bit_and a (first_bits 32 b) == a) refl e
     where
-      l : Member
-      l = found_member b a (a + (2 ^ 32 - 1 - first_bits 32 b))
+      l : Interval
+      l = interval a (a + (2 ^ 32 - 1 - first_bits 32 b))
 
-      by : (t : Bool) → (bit_and a (first_bits 32 b) == a) ≡ t → (if t then Some l else None) ≡ Some m → reads link (net_formula link protocol (net_test d (mask_of b) a)) p n ≡ hosts_by protocol (λ at. plain_reads d (source_of at) (destination_of at) (hit m))
+      by : (t : Bool) → (bit_and a (first_bits 32 b) == a) ≡ t → (if t then Some l else None) ≡ Some m → reads link (net_formula link protocol (net_test d (partial_mask (first_bits 32 b)) a)) p n ≡ hosts_by protocol (λ at. plain_reads d (source_of at) (destination_of at) (hit m))
       by true t h =
           let inside : bit_and a (first_bits 32 b) ≡ a = grind (arith, nat_tests) in
-          subst (λ (z : Member). reads link (net_formula link protocol (net_test d (mask_of b) a)) p n ≡ hosts_by protocol (λ at. plain_reads d (source_of at) (destination_of at) (hit z))) (some_member l m h)
-          (address_row protocol d (mask_of b) a (hit l) (λ x. net_hit b a x inside))
+          subst (λ (z : Interval). reads link (net_formula link protocol (net_test d (partial_mask (first_bits 32 b)) a)) p n ≡ hosts_by protocol (λ at. plain_reads d (source_of at) (destination_of at) (hit z))) (some_member l m h)
+          (address_row protocol d (partial_mask (first_bits 32 b)) a (hit l) (λ x s. net_hit b a x s inside))
       by false t h = cc
 
-  pub member_is : (k : ValueType) (protocol : Option Protocol) (d : Direction) (v : Value) (m : Member) → member_of k v ≡ Some m → Rows k protocol d v m
+  pub member_is : (k : ValueType) (protocol : Option Protocol) (d : Direction) (v : Value) (m : Interval) → member_of k v ≡ Some m → Rows k protocol d v m
   member_is Host protocol d (value.Dotted x z) m e =
-      let l = found_member 32 x.address x.address in
-      subst (λ (w : Member). Rows Host protocol d (value.Dotted x z) w) (some_member l m e)
-      (address_row protocol d None x.address (hit l) (λ y. one_number y x.address x.address refl ∙ unmasked l.numbers y))
+      let l = interval x.address x.address in
+      subst (λ (w : Interval). Rows Host protocol d (value.Dotted x z) w) (some_member l m e)
+      (address_row protocol d None x.address (hit l) (λ y s. one_number y x.address x.address refl))
   member_is Net protocol d (value.Number x mask.Unwritten) m e = net_row protocol d 8 (x % 256 * 2 ^ 24) m e
   member_is Net protocol d (value.Number x (mask.Prefix b)) m e = net_row protocol d b (x % 256 * 2 ^ 24) m e
   member_is Net protocol d (value.Dotted x mask.Unwritten) m e = net_row protocol d (8 * x.parts) x.address m e
   member_is Net protocol d (value.Dotted x (mask.Prefix b)) m e = net_row protocol d b x.address m e
   member_is Port protocol d (value.Number x z) m e =
-      let l = found_member 32 x x in
-      subst (λ (w : Member). Rows Port protocol d (value.Number x z) w) (some_member l m e)
-      (port_row protocol d (One x) (hit l) (one_port d x (hit l) (λ y. one_number y x x refl ∙ unmasked l.numbers y)))
+      let l = interval x x in
+      subst (λ (w : Interval). Rows Port protocol d (value.Number x z) w) (some_member l m e)
+      (port_row protocol d (One x) (hit l) (one_port d x (hit l) (λ y. one_number y x x refl)))
   member_is PortRange protocol d (value.Range a b) m e =
-      let l = found_member 32 (min a b) (max a b) in
-      subst (λ (w : Member). Rows PortRange protocol d (value.Range a b) w) (some_member l m e)
-      (port_row protocol d (Between (min a b) (max a b)) (hit l) (some_ports d (min a b) (max a b) (hit l) (λ y. unmasked l.numbers y)))
+      let l = interval (min a b) (max a b) in
+      subst (λ (w : Interval). Rows PortRange protocol d (value.Range a b) w) (some_member l m e)
+      (port_row protocol d (Between (min a b) (max a b)) (hit l) (some_ports d (min a b) (max a b) (hit l) (λ y. refl)))
   member_is _ protocol d _ m e = cc

@@ -59,7 +59,7 @@ fits link empty filled few = fits_more _ _ (omega arith) (omega arith) (record {
 fits link (truth a) filled few =
     let s = grouped_stands link a no_group kept_none filled in
     fits_more _ _ (omega (arith, s.tests_fit, s.nodes_are)) (omega (arith, s.tests_fit, s.nodes_are))
-    (emitted_fits link (grouped_formula link no_group a) 2 1 returns_code (omega (arith, s.words_are)) returns_sound (record { low = omega arith; upper_bound = omega arith }) (record { low = omega arith; upper_bound = omega arith }))
+    (emitted_fits link (grouped_formula link no_group a) 2 1 returns_code (omega (arith, s.words_are)) s.searches returns_sound (record { low = omega arith; upper_bound = omega arith }) (record { low = omega arith; upper_bound = omega arith }))
 
 leads : (link : Link) (e : Expression) → some_primitive is_unfilled e ≡ false → words_of e ≤ 16 → (p : List ℕ) (n : ℕ) → Leads p n HasWords (expression_code link e).code (expression_code link e).entry (pick (holds e link p n) 262144 0)
 leads link empty filled few p n = hit_leads p n

@@ -1,6 +1,5 @@
 -- Tests joined by and, or and not, and how they are read.
-use Rattle.std.specs.Prelude.{ℕ, ◌&&◌, ◌||◌, nat_le, Bool, true, false, List, [], ◌∷◌, Option, Some}
-use Rattle.flt_bpf.specs.declared.operation.Width.{Width}
+use Rattle.std.specs.Prelude.{ℕ, ◌&&◌, ◌||◌, nat_le, Bool, true, false, List, [], ◌∷◌, Option, Some, None}
 use Rattle.flt_words.specs.declared.token.Comparison.{Comparison}
 use Rattle.flt_words.specs.declared.token.Protocol.{Protocol}
 use Rattle.flt_words.specs.declared.token.Side.TheVariants.{Source, Destination}
@@ -11,23 +10,28 @@ use Rattle.flt_ast.specs.Tree.{NumberTree}
 use Rattle.cap_octet.specs.declared.link.Link.{Link}
 use Rattle.flt_gen.specs.declared.elementary.Elementary.{Elementary}
 use Rattle.flt_gen.specs.declared.elementary.Interval.{Interval}
-use Rattle.flt_gen.specs.declared.elementary.MaskedField.{MaskedField}
-use Rattle.flt_gen.specs.declared.elementary.Offset.{Offset}
 use Rattle.flt_gen.specs.declared.elementary.Sides.{Sides}
 use Rattle.flt_gen.specs.declared.elementary.Elementary.TheVariants.{Outcome}
 use Rattle.flt_gen.specs.Elementary.{MatchResult, Yes, No, Rejected, reading_of, with, compares, field_at, under_mask, elementary_reads}
 use Rattle.flt_gen.specs.Numbers.{number, accessor_tests}
 
+-- numbers that are looked for under a mask, if there is one: those of the member that comes first
+-- in the expression, all, and all that aren't the first's
+pub record Numbers : Type 0 where
+  pub mask : Option ℕ
+  pub first : Interval
+  pub all : List Interval
+  pub others : List Interval
+
 -- a test, a comparison of two numbers, two formulas that both hold or either of which does, one
--- that doesn't hold, or whether a field is in some intervals
+-- that doesn't hold, or numbers that are looked for on the sides that a direction asks for
 pub data Formula : Type 0 where
   Single : Elementary → Formula
   Compare : Comparison → NumberTree → NumberTree → Formula
   Both : Formula → Formula → Formula
   Either : Formula → Formula → Formula
   Except : Formula → Formula
-  -- a field is in one of some intervals
-  Among : MaskedField → List Interval → Formula
+  Sought : Direction → Sides → Numbers → Formula
 
 -- both hold: the second is read only if the first is yes
 abbrev pub both : MatchResult → MatchResult → MatchResult
@@ -62,10 +66,30 @@ abbrev pub is_within : ℕ → List Interval → Bool
 is_within x [] = false
 is_within x (i ∷ is) = is_in x i || is_within x is
 
--- whether a field is in some intervals; if it isn't all captured, the packet is rejected
-abbrev pub among_reads : MaskedField → List Interval → List ℕ → MatchResult
-among_reads f is p =
-    reading_of (with (field_at f.offset f.width p) (λ x. Some (is_within (under_mask f.mask x) is)))
+-- whether a field, if it is captured, is in some intervals; else the packet is rejected
+abbrev pub among_reads : Option ℕ → List Interval → Option ℕ → MatchResult
+among_reads mask is o = reading_of (with o (λ x. Some (is_within (under_mask mask x) is)))
+
+-- a field is captured; else the packet is rejected
+abbrev pub captured_reads : Option ℕ → MatchResult
+captured_reads o = reading_of (with o (λ x. Some true))
+
+-- whether the source, or else the destination, is one of some numbers. If it is the source, but not
+-- by the first member, the destination has to be captured: a test of the first one reads it, if
+-- they are tested one after the other
+abbrev pub either_reads : Numbers → Option ℕ → Option ℕ → MatchResult
+either_reads numbers s d =
+    either (both (among_reads numbers.mask numbers.all s)
+    (either (among_reads numbers.mask (numbers.first ∷ []) s) (captured_reads d)))
+    (among_reads numbers.mask numbers.all d)
+
+-- the sides that a direction asks for are some numbers; `src and dst` is never asked for like this,
+-- and doesn't match here
+abbrev pub sought_reads : Direction → Numbers → Option ℕ → Option ℕ → MatchResult
+sought_reads (direction.One Source) numbers s d = among_reads numbers.mask numbers.all s
+sought_reads (direction.One Destination) numbers s d = among_reads numbers.mask numbers.all d
+sought_reads (direction.Both Or) numbers s d = either_reads numbers s d
+sought_reads (direction.Both And) numbers s d = No
 
 -- the reading of a formula on a packet of original length n
 abbrev pub reads : Link → Formula → List ℕ → ℕ → MatchResult
@@ -74,7 +98,8 @@ reads link (Compare c l r) p n = relation_reads link c l r p n
 reads link (Both a b) p n = both (reads link a p n) (reads link b p n)
 reads link (Either a b) p n = either (reads link a p n) (reads link b p n)
 reads link (Except a) p n = negation (reads link a p n)
-reads link (Among f is) p n = among_reads f is p
+reads link (Sought d at numbers) p n =
+    sought_reads d numbers (field_at at.source at.width p) (field_at at.destination at.width p)
 
 -- some tests that all hold, read one after the other; for no tests that is always so
 abbrev pub all_of : List Elementary → Formula
@@ -100,36 +125,10 @@ sides (direction.One Destination) source destination = all_of destination
 sides (direction.Both Or) source destination = Either (all_of source) (all_of destination)
 sides (direction.Both And) source destination = Both (all_of source) (all_of destination)
 
--- numbers that are looked for: those that come first in the expression, all of them, and all
--- without the first
-pub record Numbers : Type 0 where
-  pub first : Interval
-  pub all : List Interval
-  pub others : List Interval
-
 -- an interval that nothing looks for
 abbrev pub no_interval : Interval
 no_interval = record { low = 0; high = 0 }
 
 -- nothing is looked for
 abbrev pub no_numbers : Numbers
-no_numbers = record { first = no_interval; all = []; others = [] }
-
--- a field under a mask, or of which all bits count
-abbrev pub masked_field : Offset → Width → Option ℕ → MaskedField
-masked_field offset width mask = record { offset = offset; width = width; mask = mask }
-
--- one of several numbers on a side, or on either; `src and dst` is never asked for like this, and
--- doesn't match here. The source is compared with only the first numbers before the destination is
--- looked at: so a packet that ends between the two is read as by tests of one after the other.
--- After the destination the source is known not to be one of the first
-abbrev pub any_sides : Direction → Sides → Option ℕ → Numbers → Formula
-any_sides (direction.One Source) at mask numbers =
-    Among (masked_field at.source at.width mask) numbers.all
-any_sides (direction.One Destination) at mask numbers =
-    Among (masked_field at.destination at.width mask) numbers.all
-any_sides (direction.Both Or) at mask numbers =
-    Either (Among (masked_field at.source at.width mask) (numbers.first ∷ []))
-    (Either (Among (masked_field at.destination at.width mask) numbers.all)
-    (Among (masked_field at.source at.width mask) numbers.others))
-any_sides (direction.Both And) at mask numbers = Single (Outcome false)
+no_numbers = record { mask = None; first = no_interval; all = []; others = [] }

@@ -37,7 +37,7 @@ use Rattle.flt_gen.specs.declared.port.Transport.{Transport}
 use Rattle.flt_gen.specs.declared.port.Ports.TheVariants.{One, Between, Several}
 use Rattle.flt_gen.specs.Elementary.{with, is_at, compares_at, compares_under, has_type, kind_test, first_fragment, has_ip_proto, has_ip6_proto}
 use Rattle.cap_octet.specs.Link.{network_offset}
-use Rattle.flt_gen.specs.Formula.{Formula, Single, Compare, Both, Either, all_of, sides, Numbers, no_numbers, any_sides}
+use Rattle.flt_gen.specs.Formula.{Formula, Single, Compare, Both, Either, Sought, all_of, sides, Numbers, no_numbers}
 
 -- a test, and then a formula
 abbrev pub after : Elementary → Formula → Formula
@@ -140,6 +140,7 @@ destination_offset _ = 24
 abbrev pub address_places : Link → FrameKind → Sides
 address_places link kind = record {
   width = Word;
+  index = destination_offset kind - destination_offset Ip;
   source = Fixed (network_offset link + source_offset kind);
   destination = Fixed (network_offset link + destination_offset kind);
 }
@@ -150,12 +151,12 @@ net_tests at net =
     sides net.direction (address_test net.mask net.address at.source ∷ [])
     (address_test net.mask net.address at.destination ∷ [])
 
--- the addresses of a header of a kind, as a direction asks for them, are those of hosts: for all in
--- a network, or of several, whose addresses under a mask, if there is one, are these numbers
+-- the addresses of a header of a kind, as a direction asks for them, are those of hosts: all in a
+-- network, or several, which are these numbers
 abbrev pub hosts_sides : Link → FrameKind → Hosts → Numbers → Formula
 hosts_sides link kind (hosts.Net net) numbers = net_tests (address_places link kind) net
-hosts_sides link kind (hosts.Several direction mask) numbers =
-    any_sides direction (address_places link kind) mask numbers
+hosts_sides link kind (hosts.Several direction) numbers =
+    Sought direction (address_places link kind) numbers
 
 -- hosts in a header of a kind
 abbrev pub hosts_of_kind : Link → FrameKind → Hosts → Numbers → Formula
@@ -219,7 +220,12 @@ port_between a b offset =
 -- where both ports after a header stand
 abbrev pub port_places : Transport → Sides
 port_places header =
-    record { width = HalfWord; source = header.source; destination = header.destination }
+    record {
+      width = HalfWord;
+      index = header.index;
+      source = header.source;
+      destination = header.destination;
+    }
 
 -- the ports after a header are those that are looked for: if they are several, these numbers
 abbrev pub port_sides : Ports → Direction → Transport → Numbers → Formula
@@ -228,7 +234,7 @@ port_sides (One n) direction header numbers =
 port_sides (Between a b) direction header numbers =
     sides direction (port_between a b header.source) (port_between a b header.destination)
 port_sides Several direction header numbers =
-    any_sides direction (port_places header) None numbers
+    Sought direction (port_places header) numbers
 
 -- the test of TCP, that of UDP, or either, and then a formula
 abbrev pub transport : Option Protocol → Elementary → Elementary → Formula → Formula
@@ -260,6 +266,7 @@ ip_transport link = record {
   no_later_fragment = Some (first_fragment link);
   source = AfterHeader (network_offset link) (network_offset link);
   destination = AfterHeader (network_offset link) (network_offset link + 2);
+  index = 0;
 }
 
 -- what follows an IPv6 header, which has 40 bytes
@@ -270,6 +277,7 @@ ip6_transport link = record {
   no_later_fragment = None;
   source = Fixed (network_offset link + 40);
   destination = Fixed (network_offset link + 42);
+  index = 40;
 }
 
 -- `port` and `portrange`: the ports of TCP and UDP over IPv4 or IPv6; for SCTP no port is read

@@ -47,8 +47,8 @@ impl NetTest {
 pub enum Hosts {
     /// Those of a network, which may be a single one.
     Net(NetTest),
-    /// The steps' numbers, on these sides, under a mask where not the whole address counts.
-    Several(Direction, Option<u32>),
+    /// The steps' numbers, on these sides.
+    Several(Direction),
 }
 
 /// The mask of a word of 32 bits, or `None` if all of its bits count.
@@ -83,6 +83,7 @@ fn address_places(link: Link, kind: FrameKind) -> Sides
     let start = network_offset(link);
     Sides {
         width: Width::Word,
+        index: destination - 16,
         source: Offset::Fixed(start + source),
         destination: Offset::Fixed(start + destination),
     }
@@ -165,7 +166,7 @@ impl<A: Allocator> Steps<A> {
                 let destination = address_test(net.mask, net.address, at.destination);
                 self.put_sides(net.direction, &[source], &[destination])?;
             }
-            Hosts::Several(direction, mask) => self.put_among_sides(direction, at, mask)?,
+            Hosts::Several(direction) => self.put_among(direction, at)?,
         }
         self.put_join(Join::And)
     }

@@ -1,17 +1,25 @@
-//! Emits the code that checks whether a field is in one of some intervals.
+//! Emits the code that checks whether a field, or one of two, is in one of some intervals.
 
-ghost use Rattle.std.specs.Prelude.{◌≡◌};
+ghost use Rattle.std.specs.Prelude.{◌≡◌, OnOk};
 ghost use Rattle.flt_gen.specs.inside.Code.{are_few, low_of, emit_interval, emit_chain};
-ghost use Rattle.flt_gen.specs.inside.Code.{emit_search, emit_among};
+ghost use Rattle.flt_gen.specs.inside.Code.{emit_search, emit_masked, emit_side, emit_few};
+ghost use Rattle.flt_gen.specs.inside.Code.{emit_index, emit_at_index, emit_many, emit_among};
 ghost use Rattle.flt_gen.specs.inside.Emits.{Emits};
 
 use crate::code::{Code, Targets};
-use crate::elementary::{Interval, MaskedField};
-use flt_bpf::operation::{Operand, Test};
+use crate::elementary::{Interval, Offset, Sides};
+use crate::steps::Steps;
+use flt_ast::Direction;
+use flt_bpf::operation::{Operand, Operation, Register, Source, Test, Width};
+use flt_words::{Join, Side};
 use std::alloc::{AllocError, Allocator};
 
 /// How often intervals are halved at most, down to few: 4,096 of them take twelve times.
 const MOST_HALVINGS: usize = 16;
+
+/// How many are looked for on either side at X at least: fewer are shorter without it if they come
+/// after another test of addresses, as in `host a and (host b or host c)`.
+const FEWEST_AT_INDEX: usize = 5;
 
 /// Whether intervals aren't halved: one at most, or two single numbers, since that would be one
 /// more test.
@@ -108,20 +116,134 @@ impl<A: Allocator> Code<A> {
         Ok(self.top())
     }
 
-    /// Emits whether a field is in some intervals. There is one at least, and they ascend. Returns
-    /// the place where the code begins.
-    pub fn emit_among(
+    /// Emits whether A, under a mask if there is one, is in some intervals, of which there is one at
+    /// least. They ascend.
+    fn emit_masked(
         &mut self,
-        field: MaskedField,
+        mask: Option<u32>,
+        items: &[Interval],
+        to: Targets,
+    ) -> Result<(), AllocError>
+        ensures { OnOk result
+            (self.new ≡ emit_masked mask items.now to.yes to.no self.old) }
+    {
+        // There is one, so the search begins at `top()`, in front of which the mask goes.
+        self.emit_search(MOST_HALVINGS, false, items, to)?;
+        self.emit_mask(mask)
+    }
+
+    /// Emits whether a field is in some intervals, as `emit_masked`. Returns the place where the
+    /// code begins.
+    fn emit_side(
+        &mut self,
+        offset: Offset,
+        width: Width,
+        mask: Option<u32>,
         items: &[Interval],
         to: Targets,
     ) -> Result<usize, AllocError>
-        ensures { Emits result (emit_among field items.now to.yes to.no self.old) self.new }
+        ensures { Emits result
+            (emit_side offset width mask items.now to.yes to.no self.old) self.new }
     {
-        // There is one, so the search begins at `top()`, in front of which the load goes.
-        self.emit_search(MOST_HALVINGS, false, items, to)?;
-        self.emit_mask(field.mask)?;
-        self.emit_field(field.offset, field.width)?;
+        self.emit_masked(mask, items, to)?;
+        self.emit_field(offset, width)?;
         Ok(self.top())
+    }
+
+    /// Emits whether either side is one of few numbers: the source is compared with the first
+    /// member's, the destination with all, and the source with the others.
+    fn emit_few(&mut self, at: Sides, numbers: &Steps<A>, to: Targets) -> Result<usize, AllocError>
+        ensures { Emits result (emit_few at numbers.now.numbers to.yes to.no self.old) self.new }
+    {
+        let (yes, width, mask) = (to.yes, at.width, numbers.mask());
+        let mut no = to.no;
+        if !numbers.others().is_empty() {
+            no = self.emit_side(at.source, width, mask, numbers.others(), to)?;
+        }
+        let no = self.emit_side(
+            at.destination,
+            width,
+            mask,
+            numbers.all(),
+            Targets { yes, no },
+        )?;
+        self.emit_side(
+            at.source,
+            width,
+            mask,
+            &[numbers.first()],
+            Targets { yes, no },
+        )
+    }
+
+    /// Emits the load into X of the number from which both sides are counted.
+    fn emit_index(&mut self, offset: Offset, index: u32) -> Result<(), AllocError>
+        ensures { OnOk result (self.new ≡ emit_index offset index self.old) }
+    {
+        match offset {
+            Offset::Fixed(_) => {
+                self.emit_plain(Operation::Load(Register::Index, Source::Immediate), index)
+            }
+            Offset::AfterHeader(header, _) => self.emit_plain(Operation::LoadHeaderLength, header),
+        }
+    }
+
+    /// Emits the load into A of a field that is counted from X.
+    fn emit_at_index(&mut self, offset: Offset, width: Width, index: u32) -> Result<(), AllocError>
+        ensures { OnOk result (self.new ≡ emit_at_index offset width index self.old) }
+    {
+        let at = match offset {
+            Offset::Fixed(at) => at.saturating_sub(index),
+            Offset::AfterHeader(_, at) => at,
+        };
+        self.emit_plain(Operation::LoadIndirect(width), at)
+    }
+
+    /// Emits whether either side is one of many numbers, both read at X, so that the same code may
+    /// serve for headers of each kind. If the source is one of them, but not of the first member,
+    /// it is asked whether the destination is captured.
+    fn emit_many(&mut self, at: Sides, numbers: &Steps<A>, to: Targets) -> Result<usize, AllocError>
+        ensures { Emits result (emit_many at numbers.now.numbers to.yes to.no self.old) self.new }
+    {
+        let mask = numbers.mask();
+        self.emit_masked(mask, numbers.all(), to)?;
+        self.emit_at_index(at.destination, at.width, at.index)?;
+        let no = self.top();
+        self.emit_branch(Test::AtLeast, Operand::Constant, 0, to)?;
+        self.emit_at_index(at.destination, at.width, at.index)?;
+        let later = Targets {
+            yes: to.yes,
+            no: self.top(),
+        };
+        let yes = self.emit_interval(false, numbers.first(), later)?;
+        self.emit_masked(mask, numbers.all(), Targets { yes, no })?;
+        self.emit_at_index(at.source, at.width, at.index)?;
+        self.emit_index(at.source, at.index)?;
+        Ok(self.top())
+    }
+
+    /// Emits whether the sides that a direction asks for are some numbers. Returns the place where
+    /// the code begins.
+    pub fn emit_among(
+        &mut self,
+        direction: Direction,
+        at: Sides,
+        numbers: &Steps<A>,
+        to: Targets,
+    ) -> Result<usize, AllocError>
+        ensures { Emits result
+            (emit_among direction at numbers.now.numbers to.yes to.no self.old) self.new }
+    {
+        let offset = match direction {
+            Direction::One(Side::Source) => at.source,
+            Direction::One(Side::Destination) => at.destination,
+            Direction::Both(Join::Or) if numbers.all().len() >= FEWEST_AT_INDEX => {
+                return self.emit_many(at, numbers, to);
+            }
+            Direction::Both(Join::Or) => return self.emit_few(at, numbers, to),
+            // Several numbers never have this direction (`same_direction` of group.rt).
+            Direction::Both(Join::And) => return Ok(to.no),
+        };
+        self.emit_side(offset, at.width, numbers.mask(), numbers.all(), to)
     }
 }

@@ -33,14 +33,6 @@ pub enum Offset {
     AfterHeader(u32, u32),
 }
 
-/// A field: its place, its width, and the mask if not all of its bits count.
-#[derive(Clone, Copy)]
-pub struct MaskedField {
-    pub offset: Offset,
-    pub width: Width,
-    pub mask: Option<u32>,
-}
-
 /// The numbers from the first to the last.
 #[derive(Clone, Copy)]
 pub struct Interval {
@@ -67,10 +59,13 @@ pub enum Elementary {
     Field(FieldTest),
 }
 
-/// The places of a source and a destination, both addresses or both ports, and their width.
+/// The places of a source and a destination, both addresses or both ports, and their width. If they
+/// are read at X, it holds `index`, or the length of the header before them; so fields of headers of
+/// several kinds are at the same place after X.
 #[derive(Clone, Copy)]
 pub struct Sides {
     pub width: Width,
+    pub index: u32,
     pub source: Offset,
     pub destination: Offset,
 }

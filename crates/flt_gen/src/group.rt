@@ -5,18 +5,18 @@ ghost use Rattle.std.specs.Prelude.{◌≡◌, ◌≤◌, [], nat_lt, if◌then�
 ghost use Rattle.std.specs.List.{insert};
 ghost use Rattle.flt_gen.specs.inside.Intervals.{insert_ascending};
 ghost use Rattle.flt_gen.specs.inside.Group.{no_group, same_type, same_protocol, same_direction};
-ghost use Rattle.flt_gen.specs.inside.Group.{goes_with, prefix_bits, net_member, member_of, is_empty};
+ghost use Rattle.flt_gen.specs.inside.Group.{goes_with, is_masked, net_member, member_of, is_empty};
 ghost use Rattle.flt_gen.specs.inside.Group.{larger_group, is_searched, group_formula, rows_formula};
-ghost use Rattle.flt_gen.specs.inside.Group.{numbers_of};
+ghost use Rattle.flt_gen.specs.inside.Group.{numbers_of, is_address, has_networks};
 ghost use Rattle.flt_gen.specs.inside.Steps.{IsPut, no_steps};
 
-use crate::address::{Hosts, partial_mask};
+use crate::address::Hosts;
 use crate::elementary::{Elementary, Interval};
 use crate::port::{PortTest, Ports};
 use crate::stack::Stack;
 use crate::steps::Steps;
 use cap_octet::Link;
-use flt_ast::{CompleteQualifiers, Direction, NetMask, Value, ip4_prefix_mask};
+use flt_ast::{CompleteQualifiers, Direction, NetMask, Value};
 use flt_words::{Join, Protocol, Side, ValueType};
 use std::alloc::{AllocError, Allocator};
 use std::marker::Model;
@@ -25,16 +25,9 @@ use std::marker::Model;
 /// by the square of its length.
 const MOST_TOGETHER: usize = 4096;
 
-/// How many are looked for together at least where not each is one number: fewer are shorter one
-/// after the other.
-const FEWEST_RANGES: usize = 8;
-
-/// The numbers that a member of a group looks for; only their first `bits` bits count.
-#[derive(Clone, Copy)]
-pub struct Member {
-    pub bits: u32,
-    pub numbers: Interval,
-}
+/// How many are looked for together at least where not each is one number: the code of two might be
+/// longer than their bound allows.
+const FEWEST_RANGES: usize = 3;
 
 /// A member: a value with its qualifiers.
 #[derive(Clone, Copy)]
@@ -48,15 +41,12 @@ pub struct Entry {
 pub struct Group<A: Allocator> {
     /// Those of the value that stands first in the expression.
     qualifiers: CompleteQualifiers,
-    /// The most bits that count of a member.
-    bits: u32,
     /// Whether each member is one number.
     is_plain: bool,
     /// The numbers of the value that stands first.
     first: Interval,
-    /// The numbers of all, which ascend by their beginnings, and of all but that value.
+    /// The numbers of all, which ascend by their beginnings.
     all: Vec<Interval, A>,
-    others: Vec<Interval, A>,
     /// The members, of which the first in the expression is the latest.
     entries: Stack<Entry, A>,
 }
@@ -68,11 +58,9 @@ impl<A: Allocator> Model for Group<A> {
 
     ghost view = { λ g. record {
       qualifiers = g.qualifiers;
-      bits = g.bits;
       is_plain = g.is_plain;
       first = g.first;
       all = g.all.items;
-      others = g.others.items;
       entries = g.entries;
     } };
 }
@@ -115,32 +103,24 @@ fn same_direction(one: Direction, other: Direction) -> bool
     }
 }
 
-/// The length of the prefix of a network of IPv4. `None` for one with `mask`, whose bits need be no
-/// prefix, and for other values.
-fn prefix_bits(value: Value) -> Option<u32>
-    ensures { result ≡ prefix_bits value }
+/// Whether a network is written with `mask`, whose bits need be no prefix.
+fn is_masked(value: Value) -> bool
+    ensures { result ≡ is_masked value }
 {
-    match value {
-        Value::Number(_, NetMask::Unwritten) => Some(8),
-        Value::Dotted(dotted, NetMask::Unwritten) => Some(8 * u32::from(dotted.parts)),
-        Value::Number(_, NetMask::Prefix(bits)) | Value::Dotted(_, NetMask::Prefix(bits)) => {
-            Some(bits)
-        }
-        _ => None,
-    }
+    matches!(
+        value,
+        Value::Number(_, NetMask::Mask(_)) | Value::Dotted(_, NetMask::Mask(_))
+    )
 }
 
 /// A network as a member: `None` if it has no prefix, or if its address has other bits.
-fn net_member(value: Value) -> Option<Member>
+fn net_member(value: Value) -> Option<Interval>
     ensures { result ≡ net_member value }
 {
-    match (prefix_bits(value), value.ip4_net()) {
-        (Some(bits), Some(net)) if net.address & net.mask == net.address => {
+    match value.ip4_net() {
+        Some(net) if !is_masked(value) && net.address & net.mask == net.address => {
             let (low, high) = (net.address, net.address + (u32::MAX - net.mask));
-            Some(Member {
-                bits,
-                numbers: Interval { low, high },
-            })
+            Some(Interval { low, high })
         }
         _ => None,
     }
@@ -148,7 +128,7 @@ fn net_member(value: Value) -> Option<Member>
 
 /// A value as a member of a group: an address or network of IPv4, a port or a range of ports.
 /// `None` for a value that can't be one.
-fn member_of(value_type: ValueType, value: Value) -> Option<Member>
+fn member_of(value_type: ValueType, value: Value) -> Option<Interval>
     ensures { result ≡ member_of value_type value }
 {
     let (low, high) = match (value_type, value) {
@@ -158,10 +138,14 @@ fn member_of(value_type: ValueType, value: Value) -> Option<Member>
         (ValueType::PortRange, Value::Range { first, last }) => (first.min(last), first.max(last)),
         _ => return None,
     };
-    Some(Member {
-        bits: 32,
-        numbers: Interval { low, high },
-    })
+    Some(Interval { low, high })
+}
+
+/// Whether addresses of IPv4 are looked for.
+fn is_address(value_type: ValueType) -> bool
+    ensures { result ≡ is_address value_type }
+{
+    matches!(value_type, ValueType::Host | ValueType::Net)
 }
 
 /// The index at which an interval is put among others, so that they still ascend.
@@ -192,11 +176,9 @@ impl<A: Allocator> Group<A> {
         ensures { self.new ≡ no_group }
     {
         self.qualifiers = NO_QUALIFIERS;
-        self.bits = 0;
         self.is_plain = true;
         self.first = Interval { low: 0, high: 0 };
         self.all.clear();
-        self.others.clear();
         self.entries.clear();
     }
 
@@ -209,17 +191,15 @@ impl<A: Allocator> Group<A> {
 
     /// Whether a value with these qualifiers may join the members: any may if there are none, else
     /// one with the same (`same_type`, `same_protocol`, `same_direction`), while there are fewer
-    /// than `MOST_TOGETHER`. Whole addresses and networks don't go together, since only the bits of
-    /// networks are masked.
-    fn goes_with(&self, qualifiers: CompleteQualifiers, bits: u32) -> bool
-        ensures { result ≡ goes_with qualifiers bits self.now self.now.entries }
+    /// than `MOST_TOGETHER`.
+    fn goes_with(&self, qualifiers: CompleteQualifiers) -> bool
+        ensures { result ≡ goes_with qualifiers self.now self.now.entries }
     {
         self.is_empty()
             || (same_type(qualifiers.value_type, self.qualifiers.value_type)
                 && (same_protocol(qualifiers.protocol, self.qualifiers.protocol)
                     && (same_direction(qualifiers.direction, self.qualifiers.direction)
-                        && ((bits < 32) == (self.bits < 32)
-                            && self.entries.entries().len() < MOST_TOGETHER))))
+                        && self.entries.entries().len() < MOST_TOGETHER)))
     }
 
     /// Adds a value, which comes before the members in the expression, if it can be a member and
@@ -230,16 +210,12 @@ impl<A: Allocator> Group<A> {
         ensures same { IfOk result (λ taken. self.new ≡ (if taken then self.new else self.old)) }
     {
         match member_of(qualifiers.value_type, value) {
-            Some(new) if self.goes_with(qualifiers, new.bits) => {
-                if !self.is_empty() {
-                    put_among(&mut self.others, self.first)?;
-                }
-                put_among(&mut self.all, new.numbers)?;
+            Some(new) if self.goes_with(qualifiers) => {
+                put_among(&mut self.all, new)?;
                 self.entries.push(Entry { qualifiers, value })?;
                 self.qualifiers = qualifiers;
-                self.bits = self.bits.max(new.bits);
-                self.is_plain = new.numbers.low == new.numbers.high && self.is_plain;
-                self.first = new.numbers;
+                self.is_plain = new.low == new.high && self.is_plain;
+                self.first = new;
                 Ok(true)
             }
             _ => Ok(false),
@@ -270,11 +246,18 @@ impl<A: Allocator> Group<A> {
         steps.put_join(Join::Or)
     }
 
+    /// Whether networks are looked for, not only hosts or ports.
+    fn has_networks(&self) -> bool
+        ensures { result ≡ has_networks self.now }
+    {
+        is_address(self.qualifiers.value_type) && !self.is_plain
+    }
+
     /// Begins the steps of the group's members, with the numbers that they look for.
     pub fn begin_steps(&self, steps: &mut Steps<A>) -> Result<(), AllocError>
         ensures { OnOk result (steps.new ≡ no_steps (numbers_of self.now)) }
     {
-        steps.begin(self.first, &self.all, &self.others)
+        steps.begin(self.has_networks(), self.first, &self.all)
     }
 
     /// Adds the steps that look for the group's members. `steps` has their numbers.
@@ -288,8 +271,7 @@ impl<A: Allocator> Group<A> {
         let (protocol, direction) = (self.qualifiers.protocol, self.qualifiers.direction);
         match self.qualifiers.value_type {
             ValueType::Host | ValueType::Net => {
-                let mask = partial_mask(ip4_prefix_mask(self.bits));
-                steps.put_hosts(link, protocol, Hosts::Several(direction, mask))
+                steps.put_hosts(link, protocol, Hosts::Several(direction))
             }
             ValueType::Port | ValueType::PortRange => {
                 steps.put_ports(link, PortTest::new(protocol, direction, Ports::Several))
@@ -315,11 +297,9 @@ impl<A: Allocator + Clone> Group<A> {
     {
         Ok(Group {
             qualifiers: NO_QUALIFIERS,
-            bits: 0,
             is_plain: true,
             first: Interval { low: 0, high: 0 },
             all: Vec::new(alloc.clone()?),
-            others: Vec::new(alloc.clone()?),
             entries: Stack::new(alloc),
         })
     }

@@ -60,6 +60,8 @@ pub struct Transport {
     pub no_later_fragment: Option<Elementary>,
     pub source: Offset,
     pub destination: Offset,
+    /// The length of the header before, if that is fixed, as `index` of `Sides`.
+    pub index: u32,
 }
 
 /// The transport header after an IPv4 header. That has no fixed length: the ports are at the bytes
@@ -74,6 +76,7 @@ fn ip_transport(link: Link) -> Transport
         no_later_fragment: Some(first_fragment(link)),
         source: Offset::AfterHeader(start, start),
         destination: Offset::AfterHeader(start, start + 2),
+        index: 0,
     }
 }
 
@@ -88,6 +91,7 @@ fn ip6_transport(link: Link) -> Transport
         no_later_fragment: None,
         source: Offset::Fixed(start + 40),
         destination: Offset::Fixed(start + 42),
+        index: 40,
     }
 }
 
@@ -134,13 +138,13 @@ impl<A: Allocator> Steps<A> {
                 self.put_sides(direction, &source, &port_between(first, last, destination))
             }
             Ports::Several => {
-                let width = Width::HalfWord;
                 let at = Sides {
-                    width,
+                    width: Width::HalfWord,
+                    index: header.index,
                     source,
                     destination,
                 };
-                self.put_among_sides(direction, at, None)
+                self.put_among(direction, at)
             }
         }
     }

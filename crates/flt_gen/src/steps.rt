@@ -9,39 +9,43 @@
 //! `put_..` adds the steps of the formula that its clause names. The walk emits their code, from
 //! the last one to the first.
 
-ghost use Rattle.std.specs.Prelude.{◌≡◌, [], OnOk, MatchOption};
-ghost use Rattle.flt_gen.specs.Formula.{Single, all_of, sides, no_numbers, any_sides};
-ghost use Rattle.flt_gen.specs.inside.Intervals.{is_gap, joined_all, sought};
+ghost use Rattle.std.specs.Prelude.{◌≡◌, ◌≤◌, [], map, OnOk, MatchOption};
+ghost use Rattle.std.specs.List.{list_all};
+ghost use Rattle.flt_gen.specs.Formula.{Single, Sought, all_of, sides, no_numbers};
+ghost use Rattle.flt_gen.specs.inside.Intervals.{is_gap, joined_all, sought, is_aligned};
+ghost use Rattle.flt_gen.specs.inside.Intervals.{idle_bits, is_block, left_out, high_mask, cut};
+ghost use Rattle.flt_gen.specs.inside.Intervals.{without};
 
-use crate::elementary::{Elementary, Interval, MaskedField, Sides};
+use crate::elementary::{Elementary, Interval, Sides};
 use crate::stack::Stack;
 use flt_ast::Direction;
 use flt_words::{Join, Side};
 use std::alloc::{AllocError, Allocator};
 use std::marker::Model;
+use std::mem::swap;
 
 /// A step of a formula.
 #[derive(Clone, Copy)]
 pub enum Step {
     /// A test.
     Check(Elementary),
-    /// The field is one of the numbers that come first in the expression.
-    AmongFirst(MaskedField),
-    /// The field is one of the numbers that are looked for.
-    AmongAll(MaskedField),
-    /// The field is one of those numbers, without the ones that come first.
-    AmongOthers(MaskedField),
+    /// The sides that a direction asks for are some of the numbers that are looked for.
+    Among(Direction, Sides),
     /// `and` or `or`, between the two formulas before it.
     Joined(Join),
 }
 
-/// The steps of a formula, and the numbers that are looked for if there are several: the ones
-/// that come first in the expression, all of them, and all but the first.
+/// The steps of a formula, and the numbers that are looked for if there are several, under a mask if
+/// not all bits decide: the ones that come first in the expression, all of them, and all but the
+/// first.
 #[derive(Drop)]
 pub struct Steps<A: Allocator> {
+    mask: Option<u32>,
     first: Interval,
     all: Vec<Interval, A>,
     others: Vec<Interval, A>,
+    /// Room in which numbers that touch are joined.
+    joined: Vec<Interval, A>,
     steps: Stack<Step, A>,
 }
 
@@ -51,7 +55,12 @@ impl<A: Allocator> Model for Steps<A> {
     ghost Value = { Steps };
 
     ghost view = { λ s. record {
-      numbers = record { first = s.first; all = s.all.items; others = s.others.items };
+      numbers = record {
+        mask = s.mask;
+        first = s.first;
+        all = s.all.items;
+        others = s.others.items;
+      };
       steps = s.steps;
     } };
 }
@@ -92,6 +101,123 @@ fn join_touching<A: Allocator>(
     Ok(())
 }
 
+/// Whether an interval is a row of blocks, if each number is in a block with those that differ from
+/// it only in the bits of `last`, which is 0 or the last bits.
+fn is_aligned(last: u32, item: Interval) -> bool
+    ensures { result ≡ is_aligned last item }
+{
+    item.low & last == 0 && item.high & last == last
+}
+
+/// Whether all of some intervals are rows of blocks.
+fn are_aligned(last: u32, items: &[Interval]) -> bool
+    ensures { result ≡ list_all (is_aligned last) items.now }
+{
+    items.iter().all(|item| is_aligned(last, *item))
+}
+
+/// The longest last bits, at most this many, that don't decide which numbers are in intervals.
+#[tactic(auto, using(crate::proofs::IdleBits::none_left, crate::proofs::IdleBits::one_less))]
+fn idle_bits(bits: u32, first: Interval, items: &[Interval]) -> u32
+    requires { bits ≤ 31 }
+    ensures { result ≡ idle_bits bits first items.now }
+{
+    if bits == 0 {
+        return 0;
+    }
+    let last = (1 << bits) - 1;
+    if is_aligned(last, first) && are_aligned(last, items) {
+        return last;
+    }
+    idle_bits(bits - 1, first, items)
+}
+
+/// Whether an interval has as many numbers as a block.
+fn is_block(last: u32, item: Interval) -> bool
+    ensures { result ≡ is_block last item }
+{
+    item.high.saturating_sub(item.low) == last
+}
+
+/// The last bits that aren't looked at, if any may be left out: none, if that doesn't make single
+/// numbers of two intervals, which are one test each then.
+fn left_out(is_masked: bool, first: Interval, items: &[Interval]) -> u32
+    ensures { result ≡ left_out is_masked first items.now }
+{
+    let last = idle_bits(31, first, items);
+    if is_masked && items.iter().filter(|item| is_block(last, **item)).count() > 1 {
+        last
+    } else {
+        0
+    }
+}
+
+/// The mask without the last bits, or `None` if there are none of these.
+fn high_mask(last: u32) -> Option<u32>
+    ensures { result ≡ high_mask last }
+{
+    if last == 0 {
+        None
+    } else {
+        Some(u32::MAX - last)
+    }
+}
+
+/// The numbers of blocks, which have 0 for the last bits: the first one's to the last one's.
+fn cut(last: u32, item: Interval) -> Interval
+    ensures { result ≡ cut last item }
+{
+    Interval {
+        low: item.low,
+        high: item.high.saturating_sub(last),
+    }
+}
+
+/// Puts intervals, each cut to the numbers of its blocks, from a list into another one. What was in
+/// that goes, and what is in the first list then isn't stated.
+#[tactic(auto, using(crate::proofs::IdleBits::uncut))]
+fn put_cut<A: Allocator>(
+    last: u32,
+    items: &mut Vec<Interval, A>,
+    all: &mut Vec<Interval, A>,
+) -> Result<(), AllocError>
+    ensures { OnOk result (all.new.items ≡ map (cut last) items.old.items) }
+{
+    if last == 0 {
+        swap(items, all);
+        return Ok(());
+    }
+    all.clear();
+    let mut at = 0;
+    // The label names the loop in its proof.
+    'cut: while at < items.len() {
+        all.push(cut(last, items[at]))?;
+        at += 1;
+    }
+    Ok(())
+}
+
+/// Puts intervals into a list, without the first member's. What was in the list goes.
+fn put_others<A: Allocator>(
+    first: Interval,
+    items: &[Interval],
+    others: &mut Vec<Interval, A>,
+) -> Result<(), AllocError>
+    ensures { OnOk result (others.new.items ≡ without first items.now) }
+{
+    others.clear();
+    let mut at = 0;
+    // The label names the loop in its proof.
+    'others: while at < items.len() {
+        let item = items[at];
+        if !(first.low == item.low && first.high == item.high) {
+            others.push(item)?;
+        }
+        at += 1;
+    }
+    Ok(())
+}
+
 impl<A: Allocator> Steps<A> {
     ghost use Rattle.flt_gen.specs.inside.Steps.{with_step, no_steps, IsPut, IsJoined};
 
@@ -100,26 +226,37 @@ impl<A: Allocator> Steps<A> {
         ensures { self.new ≡ no_steps no_numbers }
     {
         self.steps.clear();
+        self.mask = None;
         self.first = Interval { low: 0, high: 0 };
         self.all.clear();
         self.others.clear();
     }
 
-    /// Begins a formula: there is no step yet, and these numbers are looked for, those that come
-    /// first, all and all but the first. They ascend by their beginnings; those that touch are
-    /// joined.
+    /// Begins a formula: there is no step yet, and these numbers are looked for, of which those of
+    /// the first member are `first`. They ascend by their beginnings; those that touch are joined.
+    /// If `is_masked`, last bits that decide nothing may be left out.
     pub fn begin(
         &mut self,
+        is_masked: bool,
         first: Interval,
         all: &[Interval],
-        others: &[Interval],
     ) -> Result<(), AllocError>
-        ensures { OnOk result (self.new ≡ no_steps (sought first all.now others.now)) }
+        ensures { OnOk result (self.new ≡ no_steps (sought is_masked first all.now)) }
     {
         self.steps.clear();
-        self.first = first;
-        join_touching(all, &mut self.all)?;
-        join_touching(others, &mut self.others)
+        join_touching(all, &mut self.joined)?;
+        let last = left_out(is_masked, first, &self.joined);
+        self.mask = high_mask(last);
+        self.first = cut(last, first);
+        put_cut(last, &mut self.joined, &mut self.all)?;
+        put_others(self.first, &self.all, &mut self.others)
+    }
+
+    /// The mask under which numbers are looked for, if there is one.
+    pub fn mask(&self) -> Option<u32>
+        ensures { result ≡ self.now.numbers.mask }
+    {
+        self.mask
     }
 
     /// The numbers that come first.
@@ -203,42 +340,12 @@ impl<A: Allocator> Steps<A> {
         }
     }
 
-    /// Adds the steps that look for the numbers on a side, or on either, under a mask if not all
-    /// bits count. The source is compared with only the first numbers before the destination is
-    /// looked at, as by tests of one after the other.
-    pub fn put_among_sides(
-        &mut self,
-        direction: Direction,
-        at: Sides,
-        mask: Option<u32>,
-    ) -> Result<(), AllocError>
+    /// Adds a step: the sides that a direction asks for are some of the numbers that are looked for.
+    pub fn put_among(&mut self, direction: Direction, at: Sides) -> Result<(), AllocError>
         ensures { OnOk result
-            (IsPut (any_sides direction at mask self.old.numbers) self.old self.new) }
+            (IsPut (Sought direction at self.old.numbers) self.old self.new) }
     {
-        let width = at.width;
-        let source = MaskedField {
-            offset: at.source,
-            width,
-            mask,
-        };
-        let destination = MaskedField {
-            offset: at.destination,
-            width,
-            mask,
-        };
-        match direction {
-            Direction::One(Side::Source) => self.steps.push(Step::AmongAll(source)),
-            Direction::One(Side::Destination) => self.steps.push(Step::AmongAll(destination)),
-            Direction::Both(Join::Or) => {
-                self.steps.push(Step::AmongFirst(source))?;
-                self.steps.push(Step::AmongAll(destination))?;
-                self.steps.push(Step::AmongOthers(source))?;
-                self.put_join(Join::Or)?;
-                self.put_join(Join::Or)
-            }
-            // Several numbers never have this direction (`same_direction` of group.rt).
-            Direction::Both(Join::And) => self.put_test(Elementary::Outcome(false)),
-        }
+        self.steps.push(Step::Among(direction, at))
     }
 }
 
@@ -247,9 +354,11 @@ impl<A: Allocator + Clone> Steps<A> {
     /// comes before each formula. An error is an allocator that cannot be cloned.
     pub fn new(alloc: A) -> Result<Self, AllocError> {
         Ok(Steps {
+            mask: None,
             first: Interval { low: 0, high: 0 },
             all: Vec::new(alloc.clone()?),
             others: Vec::new(alloc.clone()?),
+            joined: Vec::new(alloc.clone()?),
             steps: Stack::new(alloc),
         })
     }

@@ -374,9 +374,7 @@ impl<A: Allocator + Clone> Walk<A> {
             let to = self.to;
             let entry = match step {
                 Step::Check(test) => self.code.emit_elementary(test, to)?,
-                Step::AmongFirst(field) => self.code.emit_among(field, &[steps.first()], to)?,
-                Step::AmongAll(field) => self.code.emit_among(field, steps.all(), to)?,
-                Step::AmongOthers(field) => self.code.emit_among(field, steps.others(), to)?,
+                Step::Among(direction, at) => self.code.emit_among(direction, at, steps, to)?,
                 Step::Joined(join) => {
                     self.truths.push(LeftTruth { join, to })?;
                     continue;

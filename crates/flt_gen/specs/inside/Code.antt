@@ -1,5 +1,5 @@
 -- The code of a formula, which is emitted in front of the code that is present.
-use Rattle.std.specs.Prelude.{ℕ, zero, suc, ◌+◌, ◌-◌, ◌/◌, true, false, nat_lt, ◌==◌, ◌&&◌, not, if◌then◌else◌, Bool, List, [], ◌∷◌, length, take, drop, Option, Some, None}
+use Rattle.std.specs.Prelude.{ℕ, zero, suc, ◌+◌, ◌-◌, ◌/◌, true, false, nat_lt, nat_le, ◌==◌, ◌&&◌, not, if◌then◌else◌, Bool, List, [], ◌∷◌, length, take, drop, Option, Some, None}
 use Rattle.flt_bpf.specs.declared.insn.Insn.{Insn}
 use Rattle.flt_bpf.specs.declared.operation.Width.{Width}
 use Rattle.flt_bpf.specs.declared.operation.Test.{Test}
@@ -12,6 +12,10 @@ use Rattle.flt_words.specs.declared.token.Comparison.{Comparison}
 use Rattle.flt_words.specs.declared.token.Comparison.TheVariants.{Equal, NotEqual, Less, AtMost, Greater, AtLeast}
 use Rattle.flt_words.specs.declared.token.Protocol.{Protocol}
 use Rattle.flt_words.specs.declared.token.Protocol.TheVariants.{Ether, Tcp, Udp, Icmp}
+use Rattle.flt_words.specs.declared.token.Side.TheVariants as side
+use Rattle.flt_words.specs.declared.token.Join.TheVariants as join
+use Rattle.flt_ast.specs.declared.qualifiers.Direction.{Direction}
+use Rattle.flt_ast.specs.declared.qualifiers.Direction.TheVariants as direction
 use Rattle.flt_ast.specs.Tree.{NumberTree, literal, len, named, load, negated, applied}
 use Rattle.cap_octet.specs.declared.link.Link.{Link}
 use Rattle.flt_gen.specs.declared.elementary.Offset.{Offset}
@@ -19,15 +23,15 @@ use Rattle.flt_gen.specs.declared.elementary.Offset.TheVariants.{Fixed, AfterHea
 use Rattle.flt_gen.specs.declared.elementary.FieldTest.{FieldTest}
 use Rattle.flt_gen.specs.declared.elementary.Elementary.{Elementary}
 use Rattle.flt_gen.specs.declared.elementary.Interval.{Interval}
-use Rattle.flt_gen.specs.declared.elementary.MaskedField.{MaskedField}
+use Rattle.flt_gen.specs.declared.elementary.Sides.{Sides}
 use Rattle.flt_gen.specs.declared.elementary.Elementary.TheVariants.{Outcome, Field}
 use Rattle.flt_gen.specs.Elementary.{with}
 use Rattle.cap_octet.specs.Link.{network_offset}
 use Rattle.flt_gen.specs.Numbers.{width_of}
-use Rattle.flt_gen.specs.Formula.{Formula, Single, Compare, Both, Either, Except, Among}
+use Rattle.flt_gen.specs.Formula.{Formula, Single, Compare, Both, Either, Except, Sought, Numbers}
 use Rattle.flt_bpf.specs.declared.operation.Operation.{Operation}
 use Rattle.flt_bpf.specs.declared.operation.Operation.TheVariants.{LoadAbsolute, LoadIndirect, Load, LoadHeaderLength, Store, Compute, Negate, JumpIf, CopyToIndex}
-use Rattle.flt_bpf.specs.declared.operation.Register.TheVariants.{Accumulator}
+use Rattle.flt_bpf.specs.declared.operation.Register.TheVariants.{Accumulator, Index}
 use Rattle.flt_bpf.specs.declared.operation.Source.TheVariants.{Immediate, Memory, Length}
 use Rattle.flt_bpf.specs.declared.operation.AluOperation.{AluOperation}
 use Rattle.flt_bpf.specs.declared.operation.AluOperation.TheVariants as arithmetic
@@ -231,10 +235,77 @@ emit_search (suc k) is_above is hit miss c =
 abbrev pub MOST_HALVINGS : ℕ
 MOST_HALVINGS = 16
 
+-- whether A, under a mask if there is one, is in some intervals, of which there is one at least
+abbrev pub emit_masked : Option ℕ → List Interval → ℕ → ℕ → List Insn → List Insn
+emit_masked mask is hit miss c =
+    emit_mask mask (emit_search MOST_HALVINGS false is hit miss c).code
+
 -- whether a field is in some intervals, of which there is one at least
-abbrev pub emit_among : MaskedField → List Interval → ℕ → ℕ → List Insn → Block
-emit_among f is hit miss c =
-    at_top (emit_field f.offset f.width (emit_mask f.mask (emit_search MOST_HALVINGS false is hit miss c).code))
+abbrev pub emit_side : Offset → Width → Option ℕ → List Interval → ℕ → ℕ → List Insn → Block
+emit_side offset width mask is hit miss c =
+    at_top (emit_field offset width (emit_masked mask is hit miss c))
+
+-- the same, or a place where it goes on if there is none
+abbrev pub emit_others : Sides → Numbers → List Interval → ℕ → ℕ → List Insn → Block
+emit_others at numbers [] hit miss c = block c miss
+emit_others at numbers is hit miss c = emit_side at.source at.width numbers.mask is hit miss c
+
+-- either side, of few numbers: the source is compared with the first member's, the destination with
+-- all, and the source with the others
+abbrev pub emit_few : Sides → Numbers → ℕ → ℕ → List Insn → Block
+emit_few at numbers hit miss c =
+    let others = emit_others at numbers numbers.others hit miss c in
+    let all = emit_side at.destination at.width numbers.mask numbers.all hit others.entry others.code in
+    emit_side at.source at.width numbers.mask (numbers.first ∷ []) hit all.entry all.code
+
+-- the number that both sides are counted from goes into X
+abbrev pub emit_index : Offset → ℕ → List Insn → List Insn
+emit_index (Fixed k) index c = plain (Load Index Immediate) index ∷ c
+emit_index (AfterHeader header k) index c = plain LoadHeaderLength header ∷ c
+
+-- a field that is counted from X goes into A
+abbrev pub emit_at_index : Offset → Width → ℕ → List Insn → List Insn
+emit_at_index (Fixed k) width index c = plain (LoadIndirect width) (k - index) ∷ c
+emit_at_index (AfterHeader header k) width index c = plain (LoadIndirect width) k ∷ c
+
+-- the destination, counted from X, goes into A
+abbrev pub emit_second : Sides → List Insn → List Insn
+emit_second at c = emit_at_index at.destination at.width at.index c
+
+-- either side, if X holds the number from which both are counted: if the source is one of the
+-- numbers, but not of the first member, whether the destination is captured; if it is none, whether
+-- the destination is one
+abbrev pub emit_at_sides : Sides → Numbers → ℕ → ℕ → List Insn → List Insn
+emit_at_sides at numbers hit miss c =
+    let none = emit_second at (emit_masked numbers.mask numbers.all hit miss c) in
+    let later = emit_second at (emit_branch test.AtLeast Constant 0 hit miss none) in
+    let one = emit_interval false numbers.first hit (length later) later in
+    emit_at_index at.source at.width at.index
+    (emit_masked numbers.mask numbers.all one.entry (length none) one.code)
+
+-- either side, of many numbers, at X, so that the same code may serve for headers of each kind
+abbrev pub emit_many : Sides → Numbers → ℕ → ℕ → List Insn → Block
+emit_many at numbers hit miss c =
+    at_top (emit_index at.source at.index (emit_at_sides at numbers hit miss c))
+
+-- the fewest intervals that are looked for at X on either side
+abbrev pub FEWEST_AT_INDEX : ℕ
+FEWEST_AT_INDEX = 5
+
+-- numbers are looked for at X
+abbrev pub are_at_index : Numbers → Bool
+are_at_index numbers = nat_le FEWEST_AT_INDEX (length numbers.all)
+
+-- the sides that a direction asks for are some numbers
+abbrev pub emit_among : Direction → Sides → Numbers → ℕ → ℕ → List Insn → Block
+emit_among (direction.One side.Source) at numbers hit miss c =
+    emit_side at.source at.width numbers.mask numbers.all hit miss c
+emit_among (direction.One side.Destination) at numbers hit miss c =
+    emit_side at.destination at.width numbers.mask numbers.all hit miss c
+emit_among (direction.Both join.Or) at numbers hit miss c =
+    if are_at_index numbers then emit_many at numbers hit miss c
+    else emit_few at numbers hit miss c
+emit_among (direction.Both join.And) at numbers hit miss c = block c miss
 
 -- the code of a formula that goes on at one of two places
 abbrev pub emit_formula : Link → Formula → ℕ → ℕ → List Insn → Block
@@ -246,7 +317,7 @@ emit_formula link (Both a b) hit miss c =
 emit_formula link (Either a b) hit miss c =
     let e = emit_formula link b hit miss c in emit_formula link a hit e.entry e.code
 emit_formula link (Except a) hit miss c = emit_formula link a miss hit c
-emit_formula link (Among f is) hit miss c = emit_among f is hit miss c
+emit_formula link (Sought d at numbers) hit miss c = emit_among d at numbers hit miss c
 
 -- the code of some tests that all have to hold, from the last to the first
 abbrev pub emit_all : List Elementary → ℕ → ℕ → List Insn → Block

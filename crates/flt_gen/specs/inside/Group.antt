@@ -1,6 +1,6 @@
 -- Addresses or ports that are looked for together, since they stand one after the other with `or`
 -- between them.
-use Rattle.std.specs.Prelude.{ℕ, ◌+◌, ◌-◌, ◌*◌, ◌^◌, ◌==◌, nat_lt, nat_le, min, max, bit_and, not, Bool, true, false, ◌&&◌, if◌then◌else◌, List, [], ◌∷◌, length, Option, Some, None}
+use Rattle.std.specs.Prelude.{ℕ, ◌+◌, ◌-◌, ◌^◌, ◌==◌, nat_lt, nat_le, min, max, bit_and, not, Bool, true, false, ◌&&◌, if◌then◌else◌, List, [], ◌∷◌, length, Option, Some, None}
 use Rattle.flt_words.specs.declared.token.Protocol.{Protocol}
 use Rattle.flt_words.specs.declared.token.Protocol.TheVariants.{Ip, Tcp, Udp}
 use Rattle.flt_words.specs.declared.token.Side.TheVariants.{Source, Destination}
@@ -14,48 +14,43 @@ use Rattle.flt_ast.specs.declared.value.Value.{Value}
 use Rattle.flt_ast.specs.declared.value.Value.TheVariants as value
 use Rattle.flt_ast.specs.declared.value.NetMask.TheVariants as mask
 use Rattle.flt_ast.specs.declared.value.Ip4Net.{Ip4Net}
-use Rattle.flt_ast.specs.Nets.{first_bits, ip4_net}
+use Rattle.flt_ast.specs.Nets.{ip4_net}
 use Rattle.flt_ast.specs.Tree.{TruthTree, qualified, compared, denied, joined}
 use Rattle.cap_octet.specs.declared.link.Link.{Link}
 use Rattle.flt_gen.specs.declared.elementary.Interval.{Interval}
-use Rattle.flt_gen.specs.declared.group.Member.{Member}
 use Rattle.flt_gen.specs.declared.group.Entry.{Entry}
 use Rattle.flt_gen.specs.declared.port.Ports.TheVariants.{Several}
 use Rattle.flt_gen.specs.declared.address.Hosts.TheVariants as hosts
 use Rattle.flt_gen.specs.declared.elementary.Elementary.TheVariants.{Outcome}
 use Rattle.flt_gen.specs.Formula.{Formula, Single, Both, Either, Except, Numbers, no_interval}
-use Rattle.flt_gen.specs.Primitives.{partial_mask, hosts_formula, port_test, port_formula}
+use Rattle.flt_gen.specs.Elementary.{with}
+use Rattle.flt_gen.specs.Primitives.{hosts_formula, port_test, port_formula}
 use Rattle.flt_gen.specs.inside.Emitted.{relation_formula, qualified_needed}
 use Rattle.flt_gen.specs.inside.Intervals.{insert_ascending, sought}
 use Rattle.flt_gen.specs.Reading.{formula}
 
--- the qualifiers of the member that stands first, how many bits count at most, whether each member
--- is one number, the numbers of the first, of all and of all but the first, which ascend, and the
--- members, in the order of the expression
+-- the qualifiers of the member that stands first, whether each member is one number, the numbers of
+-- the first and of all, which ascend, and the members, in the order of the expression
 pub record Group : Type 0 where
   pub qualifiers : CompleteQualifiers
-  pub bits : ℕ
   pub is_plain : Bool
   pub first : Interval
   pub all : List Interval
-  pub others : List Interval
   pub entries : List Entry
 
 -- a group without members; its qualifiers decide nothing
 abbrev pub no_group : Group
 no_group = record {
   qualifiers = record { protocol = None; direction = direction.Both Or; value_type = Host };
-  bits = 0;
   is_plain = true;
   first = no_interval;
   all = [];
-  others = [];
   entries = [];
 }
 
--- what a value looks for: numbers, of which the first bits count
-abbrev pub found_member : ℕ → ℕ → ℕ → Member
-found_member bits low high = record { bits = bits; numbers = record { low = low; high = high } }
+-- the numbers from the first to the last
+abbrev pub interval : ℕ → ℕ → Interval
+interval low high = record { low = low; high = high }
 
 -- a value as a member, with its qualifiers
 abbrev pub entry : CompleteQualifiers → Value → Entry
@@ -66,20 +61,13 @@ abbrev pub is_empty : List Entry → Bool
 is_empty [] = true
 is_empty (e ∷ es) = false
 
--- the numbers of those that are no more the first are put among the others, if there are some
-abbrev pub others_with : List Entry → Interval → List Interval → List Interval
-others_with [] first others = others
-others_with (e ∷ es) first others = insert_ascending first others
-
--- a group with one more member in front, which has these qualifiers and looks for this
-abbrev pub with_member : CompleteQualifiers → Value → Member → Group → Group
-with_member q v m group = record {
+-- a group with one more member in front, which has these qualifiers and looks for these numbers
+abbrev pub with_member : CompleteQualifiers → Value → Interval → Group → Group
+with_member q v i group = record {
   qualifiers = q;
-  bits = max group.bits m.bits;
-  is_plain = m.numbers.low == m.numbers.high && group.is_plain;
-  first = m.numbers;
-  all = insert_ascending m.numbers group.all;
-  others = others_with group.entries group.first group.others;
+  is_plain = i.low == i.high && group.is_plain;
+  first = i;
+  all = insert_ascending i group.all;
   entries = entry q v ∷ group.entries;
 }
 
@@ -114,60 +102,47 @@ same_direction _ _ = false
 abbrev pub MOST_TOGETHER : ℕ
 MOST_TOGETHER = 4096
 
--- both say yes, or both say no
-abbrev pub agree : Bool → Bool → Bool
-agree true b = b
-agree false b = not b
-
--- a value with these qualifiers, of which this number of bits count, may join the members: any may
--- if there are none; else one with the type, the protocol and the direction of the group, if there
--- is room, and if of both all bits of an address count or of neither
-abbrev pub goes_with : CompleteQualifiers → ℕ → Group → List Entry → Bool
-goes_with q bits group [] = true
-goes_with q bits group (e ∷ es) =
+-- a value with these qualifiers may join the members: any may if there are none; else one with the
+-- type, the protocol and the direction of the group, if there is room
+abbrev pub goes_with : CompleteQualifiers → Group → List Entry → Bool
+goes_with q group [] = true
+goes_with q group (e ∷ es) =
     same_type q.value_type group.qualifiers.value_type
     && (same_protocol q.protocol group.qualifiers.protocol
     && (same_direction q.direction group.qualifiers.direction
-    && (agree (nat_lt bits 32) (nat_lt group.bits 32) && nat_lt (length (e ∷ es)) MOST_TOGETHER)))
+    && nat_lt (length (e ∷ es)) MOST_TOGETHER))
 
--- the length of a network's prefix: none of one with `mask`, and of other values
-abbrev pub prefix_bits : Value → Option ℕ
-prefix_bits (value.Number n mask.Unwritten) = Some 8
-prefix_bits (value.Dotted d mask.Unwritten) = Some (8 * d.parts)
-prefix_bits (value.Number n (mask.Prefix bits)) = Some bits
-prefix_bits (value.Dotted d (mask.Prefix bits)) = Some bits
-prefix_bits _ = None
+-- a network has `mask`, whose bits need be no prefix
+abbrev pub is_masked : Value → Bool
+is_masked (value.Number n (mask.Mask bits)) = true
+is_masked (value.Dotted d (mask.Mask bits)) = true
+is_masked _ = false
 
--- the addresses of a network whose address has no other bits than its mask
-abbrev pub net_numbers : ℕ → Ip4Net → Option Member
-net_numbers bits net =
+-- the addresses of a network whose address has no other bits than its mask, which is a prefix
+abbrev pub net_numbers : Ip4Net → Option Interval
+net_numbers net =
     if bit_and net.address net.mask == net.address
-    then Some (found_member bits net.address (net.address + (2 ^ 32 - 1 - net.mask)))
+    then Some (interval net.address (net.address + (2 ^ 32 - 1 - net.mask)))
     else None
 
--- a network, by its prefix, if it has one
-abbrev pub net_by : Option ℕ → Option Ip4Net → Option Member
-net_by (Some bits) (Some net) = net_numbers bits net
-net_by _ _ = None
-
--- a network as a member
-abbrev pub net_member : Value → Option Member
-net_member v = net_by (prefix_bits v) (ip4_net v)
+-- a network as a member, if it has a prefix
+abbrev pub net_member : Value → Option Interval
+net_member v = if is_masked v then None else with (ip4_net v) net_numbers
 
 -- what a value looks for as a member: an address, whatever its parts and its mask, a network, a
 -- port or ports; none of other types and values
-abbrev pub member_of : ValueType → Value → Option Member
+abbrev pub member_of : ValueType → Value → Option Interval
 member_of Net v = net_member v
-member_of Host (value.Dotted dotted m) = Some (found_member 32 dotted.address dotted.address)
-member_of Port (value.Number n m) = Some (found_member 32 n n)
-member_of PortRange (value.Range a b) = Some (found_member 32 (min a b) (max a b))
+member_of Host (value.Dotted dotted m) = Some (interval dotted.address dotted.address)
+member_of Port (value.Number n m) = Some (interval n n)
+member_of PortRange (value.Range a b) = Some (interval (min a b) (max a b))
 member_of _ _ = None
 
 -- a group with one more member, if the value is one and goes with the others, or none
-abbrev pub group_and : CompleteQualifiers → Value → Group → Option Member → Option Group
+abbrev pub group_and : CompleteQualifiers → Value → Group → Option Interval → Option Group
 group_and q v group None = None
-group_and q v group (Some m) =
-    if goes_with q m.bits group group.entries then Some (with_member q v m group) else None
+group_and q v group (Some i) =
+    if goes_with q group group.entries then Some (with_member q v i group) else None
 
 -- the group with one more in front, or none if the value does not go with it
 abbrev pub larger_group : CompleteQualifiers → Value → Group → Option Group
@@ -175,31 +150,37 @@ larger_group q v group = group_and q v group (member_of q.value_type v)
 
 -- how many are looked for together at least where not each is one number
 abbrev pub FEWEST_RANGES : ℕ
-FEWEST_RANGES = 8
+FEWEST_RANGES = 3
 
 -- the members are looked for together
 abbrev pub is_searched : Group → Bool
 is_searched group = nat_le (if group.is_plain then 2 else FEWEST_RANGES) (length group.entries)
 
+-- addresses of IPv4 are looked for
+abbrev pub is_address : ValueType → Bool
+is_address Host = true
+is_address Net = true
+is_address _ = false
+
+-- networks are looked for, not only hosts or ports
+abbrev pub has_networks : Group → Bool
+has_networks group = is_address group.qualifiers.value_type && not group.is_plain
+
 -- the numbers that the members look for
 abbrev pub numbers_of : Group → Numbers
-numbers_of group = sought group.first group.all group.others
-
--- the mask of the longest prefix, or none if all bits count
-abbrev pub mask_of : ℕ → Option ℕ
-mask_of bits = partial_mask (first_bits 32 bits)
+numbers_of group = sought (has_networks group) group.first group.all
 
 -- one of several members with these numbers
-abbrev pub several_formula : Link → CompleteQualifiers → ℕ → ValueType → Numbers → Formula
-several_formula link q bits Host numbers =
-    hosts_formula link q.protocol (hosts.Several q.direction (mask_of bits)) numbers
-several_formula link q bits Net numbers =
-    hosts_formula link q.protocol (hosts.Several q.direction (mask_of bits)) numbers
-several_formula link q bits Port numbers =
+abbrev pub several_formula : Link → CompleteQualifiers → ValueType → Numbers → Formula
+several_formula link q Host numbers =
+    hosts_formula link q.protocol (hosts.Several q.direction) numbers
+several_formula link q Net numbers =
+    hosts_formula link q.protocol (hosts.Several q.direction) numbers
+several_formula link q Port numbers =
     port_formula link (port_test q.protocol q.direction Several) numbers
-several_formula link q bits PortRange numbers =
+several_formula link q PortRange numbers =
     port_formula link (port_test q.protocol q.direction Several) numbers
-several_formula link q bits _ numbers = Single (Outcome false)
+several_formula link q _ numbers = Single (Outcome false)
 
 -- one of the members, by one after the other
 abbrev pub rows_formula : Link → List Entry → Formula
@@ -212,8 +193,7 @@ rows_formula link (e ∷ f ∷ es) =
 abbrev pub group_formula : Link → Group → Formula
 group_formula link group =
     if is_searched group
-    then several_formula link group.qualifiers group.bits group.qualifiers.value_type
-    (numbers_of group)
+    then several_formula link group.qualifiers group.qualifiers.value_type (numbers_of group)
     else rows_formula link group.entries
 
 -- either of two formulas, or only the first if there are no members

@@ -1,5 +1,6 @@
--- Intervals that ascend by their beginnings.
-use Rattle.std.specs.Prelude.{◌-◌, nat_lt, max, Bool, if◌then◌else◌, List, [], ◌∷◌}
+-- Intervals that ascend by their beginnings, and the bits of their numbers that are looked at.
+use Rattle.std.specs.Prelude.{ℕ, zero, suc, ◌-◌, ◌^◌, ◌==◌, ◌&&◌, nat_lt, max, bit_and, Bool, if◌then◌else◌, List, [], ◌∷◌, map, count_by, Option, Some, None}
+use Rattle.std.specs.List.{list_all}
 use Rattle.flt_gen.specs.declared.elementary.Interval.{Interval}
 use Rattle.flt_gen.specs.Formula.{Numbers}
 
@@ -26,7 +27,56 @@ abbrev pub joined_all : List Interval → List Interval
 joined_all [] = []
 joined_all (i ∷ is) = joined_from i is
 
--- the numbers that are looked for, by those that come first, all of them, and all without the first
-abbrev pub sought : Interval → List Interval → List Interval → Numbers
-sought first all others =
-    record { first = first; all = joined_all all; others = joined_all others }
+-- an interval is a row of blocks, if each number is in a block with those that differ from it only
+-- in the bits of `last`, which is 0 or the last bits
+abbrev pub is_aligned : ℕ → Interval → Bool
+is_aligned last i = bit_and i.low last == 0 && bit_and i.high last == last
+
+-- the longest last bits, at most this many, that don't decide which numbers are in intervals
+abbrev pub idle_bits : ℕ → Interval → List Interval → ℕ
+idle_bits zero first is = 0
+idle_bits (suc k) first is =
+    if is_aligned (2 ^ suc k - 1) first && list_all (is_aligned (2 ^ suc k - 1)) is
+    then 2 ^ suc k - 1 else idle_bits k first is
+
+-- an interval has as many numbers as a block
+abbrev pub is_block : ℕ → Interval → Bool
+is_block last i = i.high - i.low == last
+
+-- the last bits that aren't looked at, if any may be left out: none, if that doesn't make single
+-- numbers of two intervals
+abbrev pub left_out : Bool → Interval → List Interval → ℕ
+left_out is_masked first is =
+    let last = idle_bits 31 first is in
+    if is_masked && nat_lt 1 (count_by (is_block last) is) then last else 0
+
+-- the mask without the last bits, or none if there are none of these
+abbrev pub high_mask : ℕ → Option ℕ
+high_mask last = if last == 0 then None else Some (2 ^ 32 - 1 - last)
+
+-- the numbers of blocks, which have 0 for the last bits: the first one's to the last one's
+abbrev pub cut : ℕ → Interval → Interval
+cut last i = record { low = i.low; high = i.high - last }
+
+-- two intervals are the same
+abbrev pub same_interval : Interval → Interval → Bool
+same_interval i j = i.low == j.low && i.high == j.high
+
+-- intervals other than one
+abbrev pub without : Interval → List Interval → List Interval
+without i [] = []
+without i (j ∷ js) = if same_interval i j then without i js else j ∷ without i js
+
+-- intervals as numbers that are looked for without their last bits
+abbrev pub numbers_by : ℕ → Interval → List Interval → Numbers
+numbers_by last first is = record {
+  mask = high_mask last;
+  first = cut last first;
+  all = map (cut last) is;
+  others = without (cut last first) (map (cut last) is);
+}
+
+-- the numbers that are looked for, by the first member's and all; last bits may be left out
+abbrev pub sought : Bool → Interval → List Interval → Numbers
+sought is_masked first all =
+    let is = joined_all all in numbers_by (left_out is_masked first is) first is

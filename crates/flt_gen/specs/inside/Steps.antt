@@ -3,9 +3,9 @@
 use Rattle.std.specs.Prelude.{◌≡◌, List, [], ◌∷◌}
 use Rattle.flt_words.specs.declared.token.Join.{Join}
 use Rattle.flt_words.specs.declared.token.Join.TheVariants.{And, Or}
-use Rattle.flt_gen.specs.Formula.{Formula, Single, Both, Either, Among, Numbers}
+use Rattle.flt_gen.specs.Formula.{Formula, Single, Both, Either, Sought, Numbers}
 use Rattle.flt_gen.specs.declared.steps.Step.{Step}
-use Rattle.flt_gen.specs.declared.steps.Step.TheVariants.{Check, AmongFirst, AmongAll, AmongOthers, Joined}
+use Rattle.flt_gen.specs.declared.steps.Step.TheVariants.{Check, Among, Joined}
 
 -- the numbers that are looked for, and the steps, the latest first
 pub record Steps : Type 0 where
@@ -28,9 +28,7 @@ pub data Part : Type 0 where
 -- what a step is where these numbers are looked for
 abbrev pub part_of : Numbers → Step → Part
 part_of numbers (Check t) = Leaf (Single t)
-part_of numbers (AmongFirst f) = Leaf (Among f (numbers.first ∷ []))
-part_of numbers (AmongAll f) = Leaf (Among f numbers.all)
-part_of numbers (AmongOthers f) = Leaf (Among f numbers.others)
+part_of numbers (Among d at) = Leaf (Sought d at numbers)
 part_of numbers (Joined join) = Joint join
 
 -- what steps are where these numbers are looked for, the latest first
