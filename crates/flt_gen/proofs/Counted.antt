@@ -31,7 +31,7 @@ bare_one t = record { no_nodes = refl; no_words = refl; searches = tt; few = ome
 pub bare_some : {t : Elementary} (n : ℕ) → 1 ≤ n → Bare (Single t) n
 bare_some {t = t} n l = bare_within n l (bare_one t)
 
-bare_both : {a b : Formula} {m n : ℕ} → Bare a m → Bare b n → Bare (Both a b) (m + n)
+pub bare_both : {a b : Formula} {m n : ℕ} → Bare a m → Bare b n → Bare (Both a b) (m + n)
 bare_both h k = record {
   no_nodes = omega (arith, h.no_nodes, k.no_nodes);
   no_words = omega (arith, h.no_words, k.no_words);
@@ -53,7 +53,7 @@ bare_after {t = t} h = bare_both (bare_one t) h
 bare_pair : {t u : Elementary} → Bare (Both (Single t) (Single u)) 2
 bare_pair {t = t} {u = u} = bare_after (bare_one u)
 
-bare_all : (ts : List Elementary) (n : ℕ) → length ts ≤ n → 1 ≤ n → Bare (all_of ts) n
+pub bare_all : (ts : List Elementary) (n : ℕ) → length ts ≤ n → 1 ≤ n → Bare (all_of ts) n
 bare_all [] n l some = bare_some n some
 bare_all (t ∷ []) n l some = bare_some n some
 bare_all (t ∷ u ∷ ts) n l some = bare_within n (omega arith) (bare_after (bare_all (u ∷ ts) (n - 1) (omega arith) (omega arith)))

@@ -1,7 +1,13 @@
 -- The formula of a truth in which hosts or ports are looked for together reads as the truth's own,
 -- and has no more tests.
-use Rattle.flt_gen.proofs.Common.{◌≡◌, ℕ, suc, ◌+◌, ◌-◌, ◌*◌, ◌^◌, ◌<◌, ◌≤◌, max, min, List, [], ◌∷◌, length, Bool, true, false, Option, Some, None, refl, sym, ap, ap₂, ◌∙◌, subst, arith, ◌==◌, ◌||◌, ◌&&◌, nat_lt, nat_le, bit_and, if◌then◌else◌, suc-mul, nat_tests, and_parts, or_parts, Protocol, Ip, Tcp, Udp, Source, Destination, And, Or, ValueType, Host, Net, Port, PortRange, Direction, CompleteQualifiers, Value, Interval, Sides, FrameKind, network_offset, not, map, and-false, inl, inr, Sought, sought_tests, interval, is_address, joined_all, left_out, high_mask, cut, address_places, port_places, ip_transport, ip6_transport, are_at_index, sought, Entry, Comparison, NumberTree, TruthTree, check, cast, sized, bare, valued, qualified, compared, denied, joined, is_unfilled, any_primitive, Link, MatchResult, Yes, Several, Formula, Compare, Both, Either, Except, is_in, is_within, both, either, negation, Numbers, reads, check_formula, cast_formula, sized_formula, hosts_formula, port_test, port_formula, qualified_formula, protocols_of, relation_formula, qualified_needed, formula, first_ends, tests, nodes, words, insert_ascending, Group, no_group, entry, with_member, same_type, same_protocol, same_direction, goes_with, net_numbers, member_of, group_and, larger_group, is_searched, numbers_of, several_formula, rows_formula, group_formula, or_any, or_group, truth_member, choice, grouped_formula, MOST_TOGETHER, FEWEST_RANGES}
-use Rattle.std.specs.Prelude.{◌⊎◌}
+use Rattle.flt_gen.proofs.Common.{◌≡◌, ℕ, suc, ◌+◌, ◌-◌, ◌*◌, ◌^◌, ◌<◌, ◌≤◌, max, min, List, [], ◌∷◌, length, Bool, true, false, Option, Some, None, refl, sym, ap, ap₂, ◌∙◌, subst, arith, ◌==◌, ◌||◌, ◌&&◌, nat_lt, nat_le, bit_and, if◌then◌else◌, suc-mul, nat_tests, and_parts, or_parts, Protocol, Ip, Tcp, Udp, Source, Destination, And, Or, ValueType, Host, Net, Port, PortRange, Direction, CompleteQualifiers, Value, Interval, Sides, FrameKind, network_offset, not, map, and-false, inl, inr, Sought, sought_tests, interval, is_address, joined_all, left_out, high_mask, cut, address_places, port_places, ip_transport, ip6_transport, are_at_index, sought, Entry, Comparison, NumberTree, TruthTree, check, cast, sized, bare, valued, qualified, compared, denied, joined, is_unfilled, any_primitive, Link, MatchResult, Yes, Several, Formula, Compare, Both, Either, Except, is_in, is_within, both, either, negation, Numbers, reads, check_formula, cast_formula, sized_formula, hosts_formula, port_test, port_formula, qualified_formula, protocols_of, relation_formula, qualified_needed, formula, first_ends, tests, nodes, words, insert_ascending, Group, no_group, entry, with_member, same_type, same_protocol, same_direction, goes_with, net_numbers, member_of, group_and, larger_group, is_searched, numbers_of, several_formula, all_of, kind_test, elementary_reads, value_formula, Proto, rows_formula, group_formula, or_any, or_group, truth_member, choice, grouped_formula, MOST_TOGETHER, FEWEST_RANGES}
+use Rattle.std.specs.Prelude.{◌⊎◌, count_by}
+use Rattle.flt_words.specs.declared.token.Protocol.TheVariants as protocol
+use Rattle.flt_gen.specs.declared.cases.Case.{Case}
+use Rattle.flt_gen.specs.declared.cases.Case.TheVariants.{Mac, Ip6, IpProto, Ip6Proto}
+use Rattle.flt_gen.specs.inside.Cases.{case_of, same_words, key_of, case_frame, case_tests, MOST_DECISIONS}
+use Rattle.flt_gen.specs.inside.Group.{with_case, has_none, shares_words, case_goes_with, larger_by, together_formula, FEWEST_CASES}
+use Rattle.flt_gen.proofs.Deciding.{Shapes, fields_of, some_fields, shape_of, shapes_of, rows, read_all, or_no, both_either, sizes, decision_read, decision_bare, Likes, likes_put, sizes_put, length_put, read_put, frame_alike, alike_alike, self_alike}
 use Rattle.std.proofs.lemmas.List.{length-map}
 use Rattle.cap_octet.specs.declared.link.Link.TheVariants as link
 use Rattle.flt_ast.specs.declared.value.Ip4Net.{Ip4Net}
@@ -49,13 +55,21 @@ pub record Held (group : Group) (ms : List Interval) : Type 0 where
   pub counted : length group.entries * member_tests group.qualifiers.value_type group.qualifiers.protocol group.qualifiers.direction ≤ group_tests group
   pub rows : (link : Link) (p : List ℕ) (n : ℕ) → reads link (rows_formula link group.entries) p n ≡ members_read link p n group.qualifiers.value_type group.qualifiers.protocol group.qualifiers.direction group.first ms
 
+-- a group of cases, which have the words of one
+pub record Listed (group : Group) : Type 0 where
+  pub kind : Case
+  pub like : Likes kind group.cases
+  pub some : 0 < length group.cases
+  pub counted : (link : Link) → sizes (case_tests link group.qualifiers.direction) 0 group.cases + length group.cases ≤ group_tests group
+  pub rows_are : (link : Link) (p : List ℕ) (n : ℕ) → reads link (rows_formula link group.entries) p n ≡ both (elementary_reads (kind_test link (case_frame kind)) p) (read_all link p n (rows (case_tests link group.qualifiers.direction) 0 group.cases))
+
 -- a group that waits
 pub record Kept (group : Group) : Type 0 where
-  pub none : length group.entries ≡ 0 → group.all ≡ []
-  pub some : 0 < length group.entries → (ms : List Interval) × Held group ms
+  pub none : length group.entries ≡ 0 → (group.all ≡ []) × (group.cases ≡ [])
+  pub some : 0 < length group.entries → ((group.cases ≡ []) × ((ms : List Interval) × Held group ms)) ⊎ Listed group
 
 pub kept_none : Kept no_group
-kept_none = record { none = λ e. refl; some = λ l. absurd (omega arith) }
+kept_none = record { none = λ e. (refl, refl); some = λ l. absurd (omega arith) }
 
 -- several members' formula has no more tests
 several_hosts_few : (protocol : Option Protocol) (d : Direction) (n x : ℕ) → 1 + x ≤ n → of_kinds protocol (1 + (n * count.side_tests d 1 + x)) ≤ n * count.ip4_tests protocol d
@@ -163,7 +177,11 @@ ready at b group ms h some fit reached = record {
 one_point : (i : Interval) → i.low ≡ i.high → first_ends (i ∷ []) ≡ 0
 one_point i e = let same : (i.low == i.high) ≡ true = grind (arith, nat_tests) in ap (λ b. if b then 0 else 1) same
 
-group_bare_several : (link : Link) (group : Group) (ms : List Interval) → Held group ms → is_searched group ≡ true → Bare (several_formula link group.qualifiers group.qualifiers.value_type (numbers_of group)) (group_tests group)
+-- a group of members with numbers is searched by how many they are
+by_numbers : (group : Group) → group.cases ≡ [] → is_searched group ≡ nat_le (if group.is_plain then 2 else FEWEST_RANGES) (length group.entries)
+by_numbers group e = ap (λ cs. nat_le (if not (has_none cs) then FEWEST_CASES else (if group.is_plain then 2 else FEWEST_RANGES)) (length group.entries)) e
+
+group_bare_several : (link : Link) (group : Group) (ms : List Interval) → Held group ms → nat_le (if group.is_plain then 2 else FEWEST_RANGES) (length group.entries) ≡ true → Bare (several_formula link group.qualifiers group.qualifiers.value_type (numbers_of group)) (group_tests group)
 group_bare_several link group ms h e = by group.is_plain refl e
   where
     n : ℕ
@@ -216,14 +234,26 @@ rows_bare link (e ∷ []) l = bare_within _ (omega arith) (bare_needed link e.qu
 rows_bare link (e ∷ f ∷ es) l =
     bare_either (bare_needed link e.qualifiers.value_type e.qualifiers.protocol e.qualifiers.direction e.value) (rows_bare link (f ∷ es) (omega arith))
 
+listed_bare : (link : Link) (group : Group) → Listed group → (cs : List Case) → cs ≡ group.cases → Bare (together_formula link group cs) (group_tests group)
+listed_bare link group h [] e = absurd (let some = h.some in let z = ap length e in omega arith)
+listed_bare link group h (c ∷ cs) e =
+    let by = case_tests link group.qualifiers.direction in
+    let fields = fields_of link group.qualifiers.direction h.kind in
+    let few = h.counted link in
+    let same : sizes by 0 (c ∷ cs) + length (c ∷ cs) ≡ sizes by 0 group.cases + length group.cases = ap (λ ds. sizes by 0 ds + length ds) e in
+    bare_within _ (omega arith) (bare_after (decision_bare by MOST_DECISIONS 0 fields (c ∷ cs) (subst (λ ds. Shapes fields (rows by 0 ds)) (sym e) (shapes_of link group.qualifiers.direction h.kind group.cases h.like)) (some_fields link group.qualifiers.direction h.kind) (omega arith)))
+
 group_bare : (link : Link) (group : Group) → Kept group → 0 < length group.entries → Bare (group_formula link group) (group_tests group)
 group_bare link group k l =
     if_case (λ (f : Formula). Bare f (group_tests group)) (is_searched group) _ _
-    (λ e. group_bare_several link group (k.some l).0 (k.some l).1 e)
+    (λ e. elim (k.some l) [
+      | inl h ↦ subst (λ cs. Bare (together_formula link group cs) (group_tests group)) (sym h.0) (group_bare_several link group (h.1).0 (h.1).1 (sym (by_numbers group h.0) ∙ e))
+      | inr h ↦ listed_bare link group h group.cases refl
+    ])
     (λ e. rows_bare link group.entries l)
 
 -- members that are looked for together read as one after the other
-searched_two : (group : Group) → is_searched group ≡ true → 2 ≤ length group.entries
+searched_two : (group : Group) → nat_le (if group.is_plain then 2 else FEWEST_RANGES) (length group.entries) ≡ true → 2 ≤ length group.entries
 searched_two group e = by group.is_plain e
   where
     by : (b : Bool) → nat_le (if b then 2 else FEWEST_RANGES) (length group.entries) ≡ true → 2 ≤ length group.entries
@@ -231,13 +261,29 @@ searched_two group e = by group.is_plain e
 
 group_rows : (link : Link) (p : List ℕ) (n : ℕ) (group : Group) → Kept group → 0 < length group.entries → reads link (group_formula link group) p n ≡ reads link (rows_formula link group.entries) p n
 group_rows link p n group k l =
-    let ms = (k.some l).0 in
-    let h = (k.some l).1 in
     if_case (λ (f : Formula). reads link f p n ≡ reads link (rows_formula link group.entries) p n) (is_searched group) _ _
-    (λ e. several_are link p n group.qualifiers group.qualifiers.value_type (is_address group.qualifiers.value_type && not group.is_plain) group.first ms group.all
-    (λ t. (and_parts (is_address group.qualifiers.value_type) (not group.is_plain) t).0) (h.merged (searched_two group e)) h.ascends h.all_within
-    ∙ sym (h.rows link p n))
+    (λ e. elim (k.some l) [
+      | inl h ↦ ap (λ cs. reads link (together_formula link group cs) p n) h.0 ∙ numbers (h.1).0 (h.1).1 (sym (by_numbers group h.0) ∙ e)
+      | inr h ↦ cases h group.cases refl
+    ])
     (λ e. refl)
+  where
+    numbers : (ms : List Interval) → Held group ms → nat_le (if group.is_plain then 2 else FEWEST_RANGES) (length group.entries) ≡ true → reads link (together_formula link group []) p n ≡ reads link (rows_formula link group.entries) p n
+    numbers ms h e =
+        several_are link p n group.qualifiers group.qualifiers.value_type (is_address group.qualifiers.value_type && not group.is_plain) group.first ms group.all
+        (λ t. (and_parts (is_address group.qualifiers.value_type) (not group.is_plain) t).0) (h.merged (searched_two group e)) h.ascends h.all_within
+        ∙ sym (h.rows link p n)
+
+    cases : (h : Listed group) (cs : List Case) → cs ≡ group.cases → reads link (together_formula link group cs) p n ≡ reads link (rows_formula link group.entries) p n
+    cases h [] e = absurd (let some = h.some in let z = ap length e in omega arith)
+    cases h (c ∷ cs) e =
+        let d = group.qualifiers.direction in
+        let fields = fields_of link d h.kind in
+        let like = subst (Likes h.kind) (sym e) h.like in
+        ap (both (elementary_reads (kind_test link (case_frame c)) p)) (decision_read link p n (case_tests link d) MOST_DECISIONS 0 fields (c ∷ cs) (shapes_of link d h.kind (c ∷ cs) like))
+        ∙ ap (λ k. both (elementary_reads (kind_test link k) p) (read_all link p n (rows (case_tests link d) 0 (c ∷ cs)))) (frame_alike h.kind c like.0)
+        ∙ ap (λ ds. both (elementary_reads (kind_test link (case_frame h.kind)) p) (read_all link p n (rows (case_tests link d) 0 ds))) e
+        ∙ sym (h.rows_are link p n)
 
 -- what is read of a truth, or else of the group after it
 abbrev or_reads : List Entry → MatchResult → MatchResult → MatchResult
@@ -347,7 +393,7 @@ fits_in q group [] l g = absurd (omega arith)
 fits_in q group (e ∷ es) l g =
     let room = nat_lt (length (e ∷ es)) MOST_TOGETHER in
     let o = group.qualifiers in
-    let b = and_parts (same_type q.value_type o.value_type) (same_protocol q.protocol o.protocol && (same_direction q.direction o.direction && room)) g in
+    let b = and_parts (same_type q.value_type o.value_type) (same_protocol q.protocol o.protocol && (same_direction q.direction o.direction && room)) (and_parts (has_none group.cases) _ g).1 in
     let c = and_parts (same_protocol q.protocol o.protocol) (same_direction q.direction o.direction && room) b.1 in
     let d = and_parts (same_direction q.direction o.direction) room c.1 in
     let sd = directions_are q.direction o.direction d.0 in
@@ -381,7 +427,7 @@ held_one q v m group k none e = record {
     order = member_order q.value_type v m e
 
     empty : group.all ≡ []
-    empty = k.none (ap length none)
+    empty = (k.none (ap length none)).0
 
     ap_less : (a b c : ℕ) → a ≡ 1 → b ≤ c → a * b ≤ c
     ap_less a b c e l = let same : a * b ≡ 1 * b = ap (λ x. x * b) e in omega arith
@@ -421,6 +467,105 @@ held_more q v m group ls e es is h f w = record {
     more_times : (n a b c t : ℕ) → b ≡ a → a ≤ c → n * b ≤ t → suc n * a ≤ c + t
     more_times n a b c t e l h = let same : n * b ≡ n * a = ap (λ x. n * x) e in let one : suc n * a ≡ n * a + a = suc-mul n a in omega arith
 
+-- a value that is a case
+abbrev CaseRead : Link → List ℕ → ℕ → ValueType → Option Protocol → Direction → Value → Case → Type 0
+CaseRead link p n k o d v c = reads link (value_formula link k o d v) p n ≡ both (elementary_reads (kind_test link (case_frame c)) p) (reads link (all_of (case_tests link d c)) p n)
+
+some_case : (b c : Case) → Some b ≡ Some c → b ≡ c
+some_case b c e = cc
+
+case_read : (link : Link) (p : List ℕ) (n : ℕ) (k : ValueType) (o : Option Protocol) (d : Direction) (v : Value) (c : Case) → case_of k o d v ≡ Some c → CaseRead link p n k o d v c
+case_read link p n Host o (direction.One Source) (value.Mac a) c e = subst (CaseRead link p n Host o (direction.One Source) (value.Mac a)) (some_case (Mac a) c e) refl
+case_read link p n Host o (direction.One Destination) (value.Mac a) c e = subst (CaseRead link p n Host o (direction.One Destination) (value.Mac a)) (some_case (Mac a) c e) refl
+case_read link p n Host o (direction.One Source) (value.Ip6 a m) c e = subst (CaseRead link p n Host o (direction.One Source) (value.Ip6 a m)) (some_case (Ip6 None a) c e) refl
+case_read link p n Host o (direction.One Destination) (value.Ip6 a m) c e = subst (CaseRead link p n Host o (direction.One Destination) (value.Ip6 a m)) (some_case (Ip6 None a) c e) refl
+case_read link p n Net o (direction.One Source) (value.Ip6 a m) c e = subst (CaseRead link p n Net o (direction.One Source) (value.Ip6 a m)) (some_case (Ip6 m a) c e) refl
+case_read link p n Net o (direction.One Destination) (value.Ip6 a m) c e = subst (CaseRead link p n Net o (direction.One Destination) (value.Ip6 a m)) (some_case (Ip6 m a) c e) refl
+case_read link p n Proto (Some Ip) d (value.Number x m) c e = subst (CaseRead link p n Proto (Some Ip) d (value.Number x m)) (some_case (IpProto x) c e) refl
+case_read link p n Proto (Some protocol.Ip6) d (value.Number x m) c e = subst (CaseRead link p n Proto (Some protocol.Ip6) d (value.Number x m)) (some_case (Ip6Proto x) c e) refl
+case_read link p n _ o d _ c e = cc
+
+case_few : (link : Link) (k : ValueType) (o : Option Protocol) (d : Direction) (v : Value) (c : Case) → case_of k o d v ≡ Some c → length (case_tests link d c) + 1 ≤ count.typed_tests k o d v
+case_few link Host o (direction.One s) (value.Mac a) c e = subst (λ c. length (case_tests link (direction.One s) c) + 1 ≤ 3) (some_case (Mac a) c e) (omega arith)
+case_few link Host o (direction.One s) (value.Ip6 a m) c e = subst (λ c. length (case_tests link (direction.One s) c) + 1 ≤ 5) (some_case (Ip6 None a) c e) (omega arith)
+case_few link Net o (direction.One s) (value.Ip6 a m) c e = subst (λ c. length (case_tests link (direction.One s) c) + 1 ≤ 5) (some_case (Ip6 m a) c e) (omega arith)
+case_few link Proto (Some Ip) d (value.Number x m) c e = subst (λ c. length (case_tests link d c) + 1 ≤ 2) (some_case (IpProto x) c e) (omega arith)
+case_few link Proto (Some protocol.Ip6) d (value.Number x m) c e = subst (λ c. length (case_tests link d c) + 1 ≤ 2) (some_case (Ip6Proto x) c e) (omega arith)
+case_few link _ o d _ c e = cc
+
+row_case : (link : Link) (p : List ℕ) (n : ℕ) (q : CompleteQualifiers) (v : Value) (c : Case) → case_of q.value_type q.protocol q.direction v ≡ Some c → reads link (qualified_needed link q v) p n ≡ both (elementary_reads (kind_test link (case_frame c)) p) (reads link (all_of (case_tests link q.direction c)) p n)
+row_case link p n q v c e = value_same link p n q.value_type q.protocol q.direction v ∙ case_read link p n q.value_type q.protocol q.direction v c e
+
+-- where a case is put among others
+abbrev place : Case → List Case → ℕ
+place c cs = count_by (λ d. nat_lt (key_of d) (key_of c)) cs
+
+listed_one : (q : CompleteQualifiers) (v : Value) (c : Case) (group : Group) → Kept group → group.entries ≡ [] → case_of q.value_type q.protocol q.direction v ≡ Some c → Listed (with_case q v c group)
+listed_one q v c group k none e = record {
+  kind = c;
+  like = likes_put c c (place c group.cases) group.cases (self_alike c) (subst (Likes c) (sym empty) tt);
+  some = let h = length_put c (place c group.cases) group.cases in omega arith;
+  counted = λ link.
+      let h = length_put c (place c group.cases) group.cases in
+      let s = sizes_put (case_tests link q.direction) c (place c group.cases) group.cases in
+      let no = ap length empty in
+      let nothing = ap (sizes (case_tests link q.direction) 0) empty in
+      let few = case_few link q.value_type q.protocol q.direction v c e in
+      omega arith;
+  rows_are = λ link p n.
+      let by = case_tests link q.direction in
+      ap (λ es. reads link (rows_formula link (entry q v ∷ es)) p n) none
+      ∙ row_case link p n q v c e
+      ∙ ap (both (elementary_reads (kind_test link (case_frame c)) p))
+      (sym (or_no _)
+      ∙ ap (λ cs. either (reads link (all_of (by c)) p n) (read_all link p n (rows by 0 cs))) (sym empty)
+      ∙ sym (read_put link p n by (fields_of link q.direction c) c (place c group.cases) group.cases (shape_of link q.direction c) (subst (λ cs. Shapes (fields_of link q.direction c) (rows by 0 cs)) (sym empty) tt)));
+}
+  where
+    empty : group.cases ≡ []
+    empty = (k.none (ap length none)).1
+
+listed_more : (q : CompleteQualifiers) (v : Value) (c : Case) (group : Group) (e : Entry) (es : List Entry) → group.entries ≡ e ∷ es → (h : Listed group) → same_words h.kind c ≡ true → group.qualifiers.direction ≡ q.direction → case_of q.value_type q.protocol q.direction v ≡ Some c → Listed (with_case q v c group)
+listed_more q v c group e es is h like same w = record {
+  kind = h.kind;
+  like = likes_put h.kind c (place c group.cases) group.cases like h.like;
+  some = let l = length_put c (place c group.cases) group.cases in omega arith;
+  counted = λ link.
+      let l = length_put c (place c group.cases) group.cases in
+      let s = sizes_put (case_tests link q.direction) c (place c group.cases) group.cases in
+      let few = case_few link q.value_type q.protocol q.direction v c w in
+      let old = subst (λ d. sizes (case_tests link d) 0 group.cases + length group.cases ≤ group_tests group) same (h.counted link) in
+      omega arith;
+  rows_are = λ link p n.
+      let by = case_tests link q.direction in
+      let frame = elementary_reads (kind_test link (case_frame h.kind)) p in
+      ap (λ zs. reads link (rows_formula link (entry q v ∷ zs)) p n) is
+      ∙ ap (λ zs. either (reads link (qualified_needed link q v) p n) (reads link (rows_formula link zs) p n)) (sym is)
+      ∙ ap₂ either
+      (row_case link p n q v c w ∙ ap (λ k. both (elementary_reads (kind_test link k) p) (reads link (all_of (by c)) p n)) (frame_alike h.kind c like))
+      (h.rows_are link p n ∙ ap (λ d. both frame (read_all link p n (rows (case_tests link d) 0 group.cases))) same)
+      ∙ sym (both_either frame (reads link (all_of (by c)) p n) (read_all link p n (rows by 0 group.cases)))
+      ∙ ap (both frame) (sym (read_put link p n by (fields_of link q.direction h.kind) c (place c group.cases) group.cases (shapes_of link q.direction h.kind (c ∷ []) (like, tt)).0 (shapes_of link q.direction h.kind group.cases h.like)));
+}
+
+shared : (kind c : Case) (cs : List Case) → Likes kind cs → shares_words c cs ≡ true → same_words kind c ≡ true
+shared kind c [] h e = cc
+shared kind c (x ∷ xs) h e = alike_alike kind x c h.0 e
+
+kept_with_case : (q : CompleteQualifiers) (v : Value) (c : Case) (group : Group) (es : List Entry) → group.entries ≡ es → Kept group → case_goes_with c q.direction group es ≡ true → case_of q.value_type q.protocol q.direction v ≡ Some c → Kept (with_case q v c group)
+kept_with_case q v c group [] is k g w = record { none = λ e. absurd (omega arith); some = λ _. inr (listed_one q v c group k is w) }
+kept_with_case q v c group (e ∷ es) is k g w =
+    let l : 0 < length group.entries = (let z : length group.entries ≡ length (e ∷ es) = ap length is in omega arith) in
+    let a = and_parts (shares_words c group.cases) _ g in
+    let b = and_parts (same_direction q.direction group.qualifiers.direction) _ a.1 in
+    record {
+      none = λ e. absurd (omega arith);
+      some = λ _. elim (k.some l) [
+        | inl h ↦ absurd (let no = ap (shares_words c) (sym h.0) ∙ a.0 in cc)
+        | inr h ↦ inr (listed_more q v c group e es is h (shared h.kind c group.cases h.like a.0) (directions_are q.direction group.qualifiers.direction b.0).0 w)
+      ];
+    }
+
 -- what a member and those after it are, and how they read
 record Taken (link : Link) (q : CompleteQualifiers) (v : Value) (group more : Group) : Type 0 where
   kept : Kept more
@@ -429,11 +574,20 @@ record Taken (link : Link) (q : CompleteQualifiers) (v : Value) (group more : Gr
   reads_are : (p : List ℕ) (n : ℕ) → reads link (group_formula link more) p n ≡ or_reads group.entries (reads link (qualified_formula link q v) p n) (reads link (group_formula link group) p n)
 
 kept_with : (q : CompleteQualifiers) (v : Value) (m : Interval) (group : Group) (es : List Entry) → group.entries ≡ es → Kept group → goes_with q group es ≡ true → member_of q.value_type v ≡ Some m → Kept (with_member q v m group)
-kept_with q v m group [] is k g w = record { none = λ e. absurd (omega arith); some = λ _. ([], held_one q v m group k is w) }
+kept_with q v m group [] is k g w = record { none = λ e. absurd (omega arith); some = λ _. inl ((k.none (ap length is)).1, ([], held_one q v m group k is w)) }
 kept_with q v m group (e ∷ es) is k g w =
     let l : 0 < length group.entries = (let z : length group.entries ≡ length (e ∷ es) = ap length is in omega arith) in
-    let old = k.some l in
-    record { none = λ e. absurd (omega arith); some = λ _. (group.first ∷ old.0, held_more q v m group old.0 e es is old.1 (fits_in q group (e ∷ es) (omega arith) g) w) }
+    record {
+      none = λ e. absurd (omega arith);
+      some = λ _. elim (k.some l) [
+        | inl h ↦ inl (h.0, (group.first ∷ (h.1).0, held_more q v m group (h.1).0 e es is (h.1).1 (fits_in q group (e ∷ es) (omega arith) g) w))
+        | inr h ↦ absurd (no_cases group.cases (and_parts (has_none group.cases) _ g).0 h.some)
+      ];
+    }
+  where
+    no_cases : (cs : List Case) → has_none cs ≡ true → 0 < length cs → ⊥
+    no_cases [] e l = omega arith
+    no_cases (c ∷ cs) e l = cc
 
 rows_read : (link : Link) (p : List ℕ) (n : ℕ) (q : CompleteQualifiers) (v : Value) (group : Group) (es : List Entry) → group.entries ≡ es → Kept group → reads link (rows_formula link (entry q v ∷ es)) p n ≡ or_reads es (reads link (qualified_formula link q v) p n) (reads link (group_formula link group) p n)
 rows_read link p n q v group [] is k = value_same link p n q.value_type q.protocol q.direction v
@@ -446,7 +600,7 @@ some_group : (a b : Group) → Some a ≡ Some b → a ≡ b
 some_group a b e = cc
 
 taken : (link : Link) (q : CompleteQualifiers) (v : Value) (group more : Group) → Kept group → larger_group q v group ≡ Some more → Taken link q v group more
-taken link q v group more k e = by_member (member_of q.value_type v) refl e
+taken link q v group more k e = by_case (case_of q.value_type q.protocol q.direction v) refl e
   where
     by_test : (m : Interval) (t : Bool) → member_of q.value_type v ≡ Some m → goes_with q group group.entries ≡ t → (if t then Some (with_member q v m group) else None) ≡ Some more → Taken link q v group more
     by_test m false w g e = cc
@@ -462,6 +616,21 @@ taken link q v group more k e = by_member (member_of q.value_type v) refl e
     by_member : (o : Option Interval) → member_of q.value_type v ≡ o → group_and q v group o ≡ Some more → Taken link q v group more
     by_member None w e = cc
     by_member (Some m) w e = by_test m (goes_with q group group.entries) w refl e
+
+    by_place : (c : Case) (t : Bool) → case_of q.value_type q.protocol q.direction v ≡ Some c → case_goes_with c q.direction group group.entries ≡ t → (if t then Some (with_case q v c group) else None) ≡ Some more → Taken link q v group more
+    by_place c false w g e = cc
+    by_place c true w g e =
+        let kept = kept_with_case q v c group group.entries refl k g w in
+        subst (λ (g : Group). Taken link q v group g) (some_group (with_case q v c group) more e) (record {
+          kept = kept;
+          some = omega arith;
+          tests_fit = omega arith;
+          reads_are = λ p n. group_rows link p n (with_case q v c group) kept (omega arith) ∙ rows_read link p n q v group group.entries refl k;
+        })
+
+    by_case : (o : Option Case) → case_of q.value_type q.protocol q.direction v ≡ o → larger_by q v group o ≡ Some more → Taken link q v group more
+    by_case None w e = by_member (member_of q.value_type v) refl e
+    by_case (Some c) w e = by_place c (case_goes_with c q.direction group group.entries) w refl e
 
 -- readings after readings
 or_again : (bs : List Entry) (a b o : MatchResult) → either a (or_reads bs b o) ≡ or_reads bs (either a b) o

@@ -25,3 +25,5 @@ pub mod Turned
 pub mod Masks
 pub mod StepsEmitted
 pub mod Whole
+pub mod Deciding
+pub mod Decision

@@ -63,7 +63,7 @@ module _ (link : Link) (p : List ℕ) (n : ℕ) where
   abbrev told : List Elementary → MatchResult
   told ts = reads link (all_of ts) p n
 
-  all_put : (t : Elementary) (ts : List Elementary) → told (t ∷ ts) ≡ both (elementary_reads t p) (told ts)
+  pub all_put : (t : Elementary) (ts : List Elementary) → told (t ∷ ts) ≡ both (elementary_reads t p) (told ts)
   all_put t [] = sym (and_yes (elementary_reads t p))
   all_put t (u ∷ ts) = refl
 

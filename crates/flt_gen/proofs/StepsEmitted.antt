@@ -39,14 +39,24 @@ more_needed : (ts : List Elementary) (other : Elementary) → 2 ≤ length ts �
 more_needed (t ∷ u ∷ ts) other l e = ap (λ b. all_of (if b then needed_tests (u ∷ ts) else t ∷ needed_tests (u ∷ ts))) e ∙ more_tests t (needed_tests (u ∷ ts)) (some_needed u ts)
 more_needed _ other l e = absurd (omega arith)
 
+-- two formulas and their join
+pub both_put : {T : Type 0} (r : Result T AllocError) (f g h : Formula) (s0 s1 s2 s3 : Steps) → Both f g ≡ h → IsPut f s0 s1 → IsPut g s1 s2 → OnOk r (IsJoined And s2 s3) → OnOk r (IsPut h s0 s3)
+both_put (Err t) f g h s0 s1 s2 s3 e first others join = tt
+both_put (Ok t) f g h s0 s1 s2 s3 e first others join =
+    join
+    ∙ ap (λ (m : Meaning). record m { parts = Joint And ∷ m.parts }) (others ∙ ap (with_formula g) first)
+    ∙ ap (λ (f : Formula). with_formula f (meaning s0)) e
+
+pub either_put : {T : Type 0} (r : Result T AllocError) (f g h : Formula) (s0 s1 s2 s3 : Steps) → Either f g ≡ h → IsPut f s0 s1 → IsPut g s1 s2 → OnOk r (IsJoined Or s2 s3) → OnOk r (IsPut h s0 s3)
+either_put (Err t) f g h s0 s1 s2 s3 e first others join = tt
+either_put (Ok t) f g h s0 s1 s2 s3 e first others join =
+    join
+    ∙ ap (λ (m : Meaning). record m { parts = Joint Or ∷ m.parts }) (others ∙ ap (with_formula g) first)
+    ∙ ap (λ (f : Formula). with_formula f (meaning s0)) e
+
 -- a test, those after it, and their join
 pub words_put : {T : Type 0} (r : Result T AllocError) (ts : List Elementary) (other : Elementary) (s0 s1 s2 s3 : Steps) → 2 ≤ length ts → is_idle (get_or ts 0 other) ≡ false → IsPut (Single (get_or ts 0 other)) s0 s1 → IsPut (all_of (needed_tests (drop 1 ts))) s1 s2 → OnOk r (IsJoined And s2 s3) → OnOk r (IsPut (all_of (needed_tests ts)) s0 s3)
-words_put (Ok t) ts other s0 s1 s2 s3 l e first others join =
-    let rest = all_of (needed_tests (drop 1 ts)) in
-    join
-    ∙ ap (λ (m : Meaning). record m { parts = Joint And ∷ m.parts }) (others ∙ ap (with_formula rest) first)
-    ∙ ap (λ (f : Formula). with_formula f (meaning s0)) (sym (more_needed ts other l e))
-words_put (Err t) ts other s0 s1 s2 s3 l e first others join = tt
+words_put r ts other s0 s1 s2 s3 l e first others join = both_put r _ _ _ s0 s1 s2 s3 (sym (more_needed ts other l e)) first others join
 
 -- numbers, from intervals that are joined, cut and put
 pub numbers_put : {T : Type 0} (r : Result T AllocError) (is_masked : Bool) (first one : Interval) (all is js ks : List Interval) (last : ℕ) (mask : Option ℕ) (ss : List Step) → is ≡ joined_all all → last ≡ (left_out is_masked first is) → mask ≡ high_mask last → one ≡ cut last first → js ≡ map (cut last) is → ss ≡ [] → OnOk r (ks ≡ without one js) → OnOk r (record { numbers = record { mask = mask; first = one; all = js; others = ks }; steps = ss } ≡ no_steps (sought is_masked first all))

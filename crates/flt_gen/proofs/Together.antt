@@ -26,7 +26,7 @@ unmasked_fitting true at e = cc
 unmasked_fitting false at e = λ f. cc
 
 -- a word is below 2^32
-word_small : (p : List ℕ) (at x : ℕ) → field p at Word ≡ Some x → x < 2 ^ 32
+pub word_small : (p : List ℕ) (at x : ℕ) → field p at Word ≡ Some x → x < 2 ^ 32
 word_small p at x e = by (nat_le (at + 4) (length p)) e
   where
     by : (b : Bool) → (if b then Some (big_endian_at p at Word) else None) ≡ Some x → x < 2 ^ 32

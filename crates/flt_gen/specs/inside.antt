@@ -1,4 +1,5 @@
 -- Helpers for functions and proofs of this crate and of other crates: no promise rests on them.
+pub mod Cases
 pub mod Code
 pub mod Emits
 pub mod Counts

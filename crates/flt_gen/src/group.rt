@@ -1,5 +1,5 @@
-//! Groups of addresses or ports, which one search looks for together. The walk adds the members
-//! from the last one in the expression to the first.
+//! Groups of addresses, ports or protocols, which one search or decision tree looks for together.
+//! The walk adds the members from the last one in the expression to the first.
 
 ghost use Rattle.std.specs.Prelude.{◌≡◌, ◌≤◌, [], nat_lt, if◌then◌else◌, Some, None, length, IfOk, OnOk};
 ghost use Rattle.std.specs.List.{insert};
@@ -7,10 +7,13 @@ ghost use Rattle.flt_gen.specs.inside.Intervals.{insert_ascending};
 ghost use Rattle.flt_gen.specs.inside.Group.{no_group, same_type, same_protocol, same_direction};
 ghost use Rattle.flt_gen.specs.inside.Group.{goes_with, is_masked, net_member, member_of, is_empty};
 ghost use Rattle.flt_gen.specs.inside.Group.{larger_group, is_searched, group_formula, rows_formula};
-ghost use Rattle.flt_gen.specs.inside.Group.{numbers_of, is_address, has_networks};
+ghost use Rattle.flt_gen.specs.inside.Group.{numbers_of, is_address, has_networks, has_none};
+ghost use Rattle.flt_gen.specs.inside.Group.{case_goes_with, with_case};
+ghost use Rattle.flt_gen.specs.inside.Cases.{case_of};
 ghost use Rattle.flt_gen.specs.inside.Steps.{IsPut, no_steps};
 
 use crate::address::Hosts;
+use crate::cases::{Case, case_of, put_case, same_words};
 use crate::elementary::{Elementary, Interval};
 use crate::port::{PortTest, Ports};
 use crate::stack::Stack;
@@ -29,6 +32,9 @@ const MOST_TOGETHER: usize = 4096;
 /// longer than their bound allows.
 const FEWEST_RANGES: usize = 3;
 
+/// How many cases are decided together at least: fewer are shorter one after the other.
+const FEWEST_CASES: usize = 8;
+
 /// A member: a value with its qualifiers.
 #[derive(Clone, Copy)]
 pub struct Entry {
@@ -36,7 +42,7 @@ pub struct Entry {
     pub value: Value,
 }
 
-/// Addresses or ports with the same protocol and direction.
+/// Addresses, ports or protocols with the same qualifiers, as far as these count.
 #[derive(Drop)]
 pub struct Group<A: Allocator> {
     /// Those of the value that stands first in the expression.
@@ -47,6 +53,8 @@ pub struct Group<A: Allocator> {
     first: Interval,
     /// The numbers of all, which ascend by their beginnings.
     all: Vec<Interval, A>,
+    /// The members that are compared word by word, which ascend; the others have numbers.
+    cases: Vec<Case, A>,
     /// The members, of which the first in the expression is the latest.
     entries: Stack<Entry, A>,
 }
@@ -61,6 +69,7 @@ impl<A: Allocator> Model for Group<A> {
       is_plain = g.is_plain;
       first = g.first;
       all = g.all.items;
+      cases = g.cases.items;
       entries = g.entries;
     } };
 }
@@ -179,6 +188,7 @@ impl<A: Allocator> Group<A> {
         self.is_plain = true;
         self.first = Interval { low: 0, high: 0 };
         self.all.clear();
+        self.cases.clear();
         self.entries.clear();
     }
 
@@ -196,10 +206,51 @@ impl<A: Allocator> Group<A> {
         ensures { result ≡ goes_with qualifiers self.now self.now.entries }
     {
         self.is_empty()
-            || (same_type(qualifiers.value_type, self.qualifiers.value_type)
-                && (same_protocol(qualifiers.protocol, self.qualifiers.protocol)
-                    && (same_direction(qualifiers.direction, self.qualifiers.direction)
-                        && self.entries.entries().len() < MOST_TOGETHER)))
+            || (self.cases.is_empty()
+                && (same_type(qualifiers.value_type, self.qualifiers.value_type)
+                    && (same_protocol(qualifiers.protocol, self.qualifiers.protocol)
+                        && (same_direction(qualifiers.direction, self.qualifiers.direction)
+                            && self.entries.entries().len() < MOST_TOGETHER))))
+    }
+
+    /// Whether a case with this direction may join the members: it may if there are none, else with
+    /// their words and direction, while there are fewer than `MOST_TOGETHER`.
+    fn case_goes_with(&self, case: Case, direction: Direction) -> bool
+        ensures { result ≡ case_goes_with case direction self.now self.now.entries }
+    {
+        if self.is_empty() {
+            return true;
+        }
+        match self.cases.first() {
+            None => false,
+            Some(other) => {
+                same_words(*other, case)
+                    && same_direction(direction, self.qualifiers.direction)
+                    && self.entries.entries().len() < MOST_TOGETHER
+            }
+        }
+    }
+
+    /// Adds a case, if it goes with the members. Returns `false` if it isn't added.
+    fn add_case(
+        &mut self,
+        qualifiers: CompleteQualifiers,
+        value: Value,
+        case: Case,
+    ) -> Result<bool, AllocError>
+        ensures taken { IfOk result (λ taken.
+            (if case_goes_with case qualifiers.direction self.old self.old.entries
+            then Some (with_case qualifiers value case self.old) else None)
+            ≡ (if taken then Some self.new else None)) }
+        ensures same { IfOk result (λ taken. self.new ≡ (if taken then self.new else self.old)) }
+    {
+        if !self.case_goes_with(case, qualifiers.direction) {
+            return Ok(false);
+        }
+        put_case(&mut self.cases, case)?;
+        self.entries.push(Entry { qualifiers, value })?;
+        self.qualifiers = qualifiers;
+        Ok(true)
     }
 
     /// Adds a value, which comes before the members in the expression, if it can be a member and
@@ -209,6 +260,9 @@ impl<A: Allocator> Group<A> {
             ≡ (if taken then Some self.new else None)) }
         ensures same { IfOk result (λ taken. self.new ≡ (if taken then self.new else self.old)) }
     {
+        if let Some(case) = case_of(qualifiers, value) {
+            return self.add_case(qualifiers, value, case);
+        }
         match member_of(qualifiers.value_type, value) {
             Some(new) if self.goes_with(qualifiers) => {
                 put_among(&mut self.all, new)?;
@@ -226,7 +280,13 @@ impl<A: Allocator> Group<A> {
     fn is_searched(&self) -> bool
         ensures { result ≡ is_searched self.now }
     {
-        let fewest = if self.is_plain { 2 } else { FEWEST_RANGES };
+        let fewest = if !self.cases.is_empty() {
+            FEWEST_CASES
+        } else if self.is_plain {
+            2
+        } else {
+            FEWEST_RANGES
+        };
         self.entries.entries().len() >= fewest
     }
 
@@ -269,6 +329,9 @@ impl<A: Allocator> Group<A> {
             return self.put_rows(link, steps);
         }
         let (protocol, direction) = (self.qualifiers.protocol, self.qualifiers.direction);
+        if !self.cases.is_empty() {
+            return steps.put_cases(link, direction, &self.cases);
+        }
         match self.qualifiers.value_type {
             ValueType::Host | ValueType::Net => {
                 steps.put_hosts(link, protocol, Hosts::Several(direction))
@@ -300,6 +363,7 @@ impl<A: Allocator + Clone> Group<A> {
             is_plain: true,
             first: Interval { low: 0, high: 0 },
             all: Vec::new(alloc.clone()?),
+            cases: Vec::new(alloc.clone()?),
             entries: Stack::new(alloc),
         })
     }

@@ -16,6 +16,7 @@
 
 mod address;
 mod among;
+mod cases;
 mod code;
 mod elementary;
 mod emit;

@@ -19,7 +19,7 @@ use std::alloc::{AllocError, Allocator};
 
 /// The tests for a MAC address of 48 bits in the six bytes from a place on: one for the first four
 /// bytes, one for the last two.
-fn mac_tests(at: u32, address: u64) -> [Elementary; 2]
+pub fn mac_tests(at: u32, address: u64) -> [Elementary; 2]
     requires { at ≤ 6 }
     ensures { result ≡ mac_tests at address }
 {

@@ -1,5 +1,5 @@
--- Addresses or ports that are looked for together, since they stand one after the other with `or`
--- between them.
+-- Addresses, ports or protocols that are looked for together, since they stand one after the other
+-- with `or` between them.
 use Rattle.std.specs.Prelude.{ℕ, ◌+◌, ◌-◌, ◌^◌, ◌==◌, nat_lt, nat_le, min, max, bit_and, not, Bool, true, false, ◌&&◌, if◌then◌else◌, List, [], ◌∷◌, length, Option, Some, None}
 use Rattle.flt_words.specs.declared.token.Protocol.{Protocol}
 use Rattle.flt_words.specs.declared.token.Protocol.TheVariants.{Ip, Tcp, Udp}
@@ -18,6 +18,7 @@ use Rattle.flt_ast.specs.Nets.{ip4_net}
 use Rattle.flt_ast.specs.Tree.{TruthTree, qualified, compared, denied, joined}
 use Rattle.cap_octet.specs.declared.link.Link.{Link}
 use Rattle.flt_gen.specs.declared.elementary.Interval.{Interval}
+use Rattle.flt_gen.specs.declared.cases.Case.{Case}
 use Rattle.flt_gen.specs.declared.group.Entry.{Entry}
 use Rattle.flt_gen.specs.declared.port.Ports.TheVariants.{Several}
 use Rattle.flt_gen.specs.declared.address.Hosts.TheVariants as hosts
@@ -25,17 +26,20 @@ use Rattle.flt_gen.specs.declared.elementary.Elementary.TheVariants.{Outcome}
 use Rattle.flt_gen.specs.Formula.{Formula, Single, Both, Either, Except, Numbers, no_interval}
 use Rattle.flt_gen.specs.Elementary.{with}
 use Rattle.flt_gen.specs.Primitives.{hosts_formula, port_test, port_formula}
+use Rattle.flt_gen.specs.inside.Cases.{case_of, same_words, insert_case, cases_formula}
 use Rattle.flt_gen.specs.inside.Emitted.{relation_formula, qualified_needed}
 use Rattle.flt_gen.specs.inside.Intervals.{insert_ascending, sought}
 use Rattle.flt_gen.specs.Reading.{formula}
 
 -- the qualifiers of the member that stands first, whether each member is one number, the numbers of
--- the first and of all, which ascend, and the members, in the order of the expression
+-- the first and of all, which ascend, or the members as cases, and the members, in the order of the
+-- expression
 pub record Group : Type 0 where
   pub qualifiers : CompleteQualifiers
   pub is_plain : Bool
   pub first : Interval
   pub all : List Interval
+  pub cases : List Case
   pub entries : List Entry
 
 -- a group without members; its qualifiers decide nothing
@@ -45,6 +49,7 @@ no_group = record {
   is_plain = true;
   first = no_interval;
   all = [];
+  cases = [];
   entries = [];
 }
 
@@ -68,6 +73,15 @@ with_member q v i group = record {
   is_plain = i.low == i.high && group.is_plain;
   first = i;
   all = insert_ascending i group.all;
+  cases = group.cases;
+  entries = entry q v ∷ group.entries;
+}
+
+-- a group with one more member in front, which is compared word by word
+abbrev pub with_case : CompleteQualifiers → Value → Case → Group → Group
+with_case q v c group = record group {
+  qualifiers = q;
+  cases = insert_case c group.cases;
   entries = entry q v ∷ group.entries;
 }
 
@@ -102,15 +116,33 @@ same_direction _ _ = false
 abbrev pub MOST_TOGETHER : ℕ
 MOST_TOGETHER = 4096
 
+-- no members are cases
+abbrev pub has_none : List Case → Bool
+has_none [] = true
+has_none (c ∷ cs) = false
+
 -- a value with these qualifiers may join the members: any may if there are none; else one with the
 -- type, the protocol and the direction of the group, if there is room
 abbrev pub goes_with : CompleteQualifiers → Group → List Entry → Bool
 goes_with q group [] = true
 goes_with q group (e ∷ es) =
-    same_type q.value_type group.qualifiers.value_type
+    has_none group.cases && (same_type q.value_type group.qualifiers.value_type
     && (same_protocol q.protocol group.qualifiers.protocol
     && (same_direction q.direction group.qualifiers.direction
-    && nat_lt (length (e ∷ es)) MOST_TOGETHER))
+    && nat_lt (length (e ∷ es)) MOST_TOGETHER)))
+
+-- a case has the words of others
+abbrev pub shares_words : Case → List Case → Bool
+shares_words c [] = false
+shares_words c (d ∷ ds) = same_words d c
+
+-- a case with this direction may join the members: it may if there are none; else with their words
+-- and direction, if there is room
+abbrev pub case_goes_with : Case → Direction → Group → List Entry → Bool
+case_goes_with c d group [] = true
+case_goes_with c d group (e ∷ es) =
+    shares_words c group.cases && (same_direction d group.qualifiers.direction
+    && nat_lt (length (e ∷ es)) MOST_TOGETHER)
 
 -- a network has `mask`, whose bits need be no prefix
 abbrev pub is_masked : Value → Bool
@@ -144,17 +176,33 @@ group_and q v group None = None
 group_and q v group (Some i) =
     if goes_with q group group.entries then Some (with_member q v i group) else None
 
+-- a group with one more member, by the value as a case, or else by its numbers
+abbrev pub larger_by : CompleteQualifiers → Value → Group → Option Case → Option Group
+larger_by q v group None = group_and q v group (member_of q.value_type v)
+larger_by q v group (Some c) =
+    if case_goes_with c q.direction group group.entries then Some (with_case q v c group) else None
+
 -- the group with one more in front, or none if the value does not go with it
 abbrev pub larger_group : CompleteQualifiers → Value → Group → Option Group
-larger_group q v group = group_and q v group (member_of q.value_type v)
+larger_group q v group = larger_by q v group (case_of q.value_type q.protocol q.direction v)
 
 -- how many are looked for together at least where not each is one number
 abbrev pub FEWEST_RANGES : ℕ
 FEWEST_RANGES = 3
 
+-- how many cases are decided together at least: fewer are shorter one after the other
+abbrev pub FEWEST_CASES : ℕ
+FEWEST_CASES = 8
+
+-- how many members are looked for together at least
+abbrev pub fewest : Group → ℕ
+fewest group =
+    if not (has_none group.cases) then FEWEST_CASES else
+    (if group.is_plain then 2 else FEWEST_RANGES)
+
 -- the members are looked for together
 abbrev pub is_searched : Group → Bool
-is_searched group = nat_le (if group.is_plain then 2 else FEWEST_RANGES) (length group.entries)
+is_searched group = nat_le (fewest group) (length group.entries)
 
 -- addresses of IPv4 are looked for
 abbrev pub is_address : ValueType → Bool
@@ -189,11 +237,16 @@ rows_formula link (e ∷ []) = qualified_needed link e.qualifiers e.value
 rows_formula link (e ∷ f ∷ es) =
     Either (qualified_needed link e.qualifiers e.value) (rows_formula link (f ∷ es))
 
+-- one of the members, by their numbers or as cases
+abbrev pub together_formula : Link → Group → List Case → Formula
+together_formula link group [] =
+    several_formula link group.qualifiers group.qualifiers.value_type (numbers_of group)
+together_formula link group (c ∷ cs) = cases_formula link group.qualifiers.direction (c ∷ cs)
+
 -- a packet has one of the members
 abbrev pub group_formula : Link → Group → Formula
 group_formula link group =
-    if is_searched group
-    then several_formula link group.qualifiers group.qualifiers.value_type (numbers_of group)
+    if is_searched group then together_formula link group group.cases
     else rows_formula link group.entries
 
 -- either of two formulas, or only the first if there are no members

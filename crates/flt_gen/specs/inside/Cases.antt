@@ -1,0 +1,183 @@
+-- Lists of MAC addresses, of addresses and networks of IPv6, and of protocol numbers, as decision
+-- trees: the first words are compared by halves, and then the next words of those that are left.
+use Rattle.std.specs.Prelude.{ℕ, zero, suc, ◌+◌, ◌-◌, ◌/◌, ◌^◌, ◌==◌, ◌&&◌, nat_lt, nat_le, Bool, true, false, if◌then◌else◌, List, [], ◌∷◌, length, take, drop, slice_get, count_by, Option, Some, None}
+use Rattle.std.specs.List.{list_all, insert}
+use Rattle.flt_words.specs.declared.token.Protocol.{Protocol}
+use Rattle.flt_words.specs.declared.token.Protocol.TheVariants as protocol
+use Rattle.flt_words.specs.declared.token.Side.TheVariants.{Source}
+use Rattle.flt_words.specs.declared.token.ValueType.{ValueType}
+use Rattle.flt_words.specs.declared.token.ValueType.TheVariants.{Host, Net, Proto}
+use Rattle.flt_words.specs.declared.token.Comparison.TheVariants.{AtLeast}
+use Rattle.flt_ast.specs.declared.qualifiers.Direction.{Direction}
+use Rattle.flt_ast.specs.declared.qualifiers.Direction.TheVariants as direction
+use Rattle.flt_ast.specs.declared.value.Value.{Value}
+use Rattle.flt_ast.specs.declared.value.Value.TheVariants as value
+use Rattle.cap_octet.specs.declared.link.Link.{Link}
+use Rattle.cap_octet.specs.Link.{network_offset}
+use Rattle.flt_gen.specs.declared.elementary.FrameKind.{FrameKind}
+use Rattle.flt_gen.specs.declared.elementary.FrameKind.TheVariants as kind
+use Rattle.flt_gen.specs.declared.elementary.Elementary.{Elementary}
+use Rattle.flt_gen.specs.declared.elementary.Elementary.TheVariants.{Outcome, Field}
+use Rattle.flt_gen.specs.declared.cases.Case.{Case}
+use Rattle.flt_gen.specs.declared.cases.Case.TheVariants.{Mac, Ip6, IpProto, Ip6Proto}
+use Rattle.flt_gen.specs.declared.cases.Bound.{Bound}
+use Rattle.flt_gen.specs.declared.cases.Bound.TheVariants.{Below, From, Exactly}
+use Rattle.flt_gen.specs.Elementary.{with, kind_test, has_ip_proto, has_ip6_proto}
+use Rattle.flt_gen.specs.Formula.{Formula, Single, Both, Either, all_of}
+use Rattle.flt_gen.specs.Primitives.{mac_tests, ip6_tests, after}
+
+-- a value as a case, or none: an address of one side, or a protocol of IPv4 or of IPv6
+abbrev pub case_of : ValueType → Option Protocol → Direction → Value → Option Case
+case_of Host p (direction.One s) (value.Mac a) = Some (Mac a)
+case_of Host p (direction.One s) (value.Ip6 a n) = Some (Ip6 None a)
+case_of Net p (direction.One s) (value.Ip6 a n) = Some (Ip6 n a)
+case_of Proto (Some protocol.Ip) d (value.Number n m) = Some (IpProto n)
+case_of Proto (Some protocol.Ip6) d (value.Number n m) = Some (Ip6Proto n)
+case_of _ _ _ _ = None
+
+-- both are compared in the same words
+abbrev pub same_words : Case → Case → Bool
+same_words (Mac a) (Mac b) = true
+same_words (Ip6 m a) (Ip6 n b) = true
+same_words (IpProto a) (IpProto b) = true
+same_words (Ip6Proto a) (Ip6Proto b) = true
+same_words _ _ = false
+
+-- the number by which cases ascend
+abbrev pub key_of : Case → ℕ
+key_of (Mac a) = a
+key_of (Ip6 n a) = a
+key_of (IpProto n) = n
+key_of (Ip6Proto n) = n
+
+-- a case is put among others that ascend
+abbrev pub insert_case : Case → List Case → List Case
+insert_case c cs = insert cs (count_by (λ d. nat_lt (key_of d) (key_of c)) cs) c
+
+-- the frames in which a case may be
+abbrev pub case_frame : Case → FrameKind
+case_frame (Mac a) = kind.Ethernet
+case_frame (Ip6 n a) = kind.Ip6
+case_frame (IpProto n) = kind.Ip
+case_frame (Ip6Proto n) = kind.Ip6
+
+-- where the address of a side stands in an Ethernet frame
+abbrev pub mac_place : Direction → ℕ
+mac_place (direction.One Source) = 6
+mac_place _ = 0
+
+-- where the address of a side stands in an IPv6 header
+abbrev pub ip6_place : Direction → ℕ
+ip6_place (direction.One Source) = 8
+ip6_place _ = 24
+
+-- the tests of a case's words
+abbrev pub case_tests : Link → Direction → Case → List Elementary
+case_tests link d (Mac a) = mac_tests (mac_place d) a
+case_tests link d (Ip6 n a) = ip6_tests n a (network_offset link + ip6_place d)
+case_tests link d (IpProto n) = has_ip_proto link n ∷ []
+case_tests link d (Ip6Proto n) = has_ip6_proto link n ∷ []
+
+-- ---- cases by the tests of their words, from a word on
+
+-- the test of a word
+abbrev pub word_test : (Case → List Elementary) → ℕ → Case → Option Elementary
+word_test tests word c = slice_get (tests c) word
+
+-- the lowest number that a word may be for a test of it
+abbrev pub lowest : Option Elementary → ℕ
+lowest (Some (Field t)) = t.value
+lowest _ = 0
+
+-- how far past its value a test's numbers may reach: the bits that don't count
+abbrev pub reach : Option ℕ → ℕ
+reach None = 0
+reach (Some mask) = 2 ^ 32 - 1 - mask
+
+-- no mask
+abbrev pub is_whole : Option ℕ → Bool
+is_whole None = true
+is_whole (Some mask) = false
+
+-- all numbers for which a test is yes keep a bound
+abbrev pub keeps : Bound → Option Elementary → Bool
+keeps (Below n) (Some (Field t)) = nat_lt (t.value + reach t.mask) n
+keeps (From n) (Some (Field t)) = nat_le n t.value
+keeps (Exactly n) (Some (Field t)) = is_whole t.mask && t.value == n
+keeps _ _ = false
+
+-- so do those of some cases
+abbrev pub all_keep : (Case → List Elementary) → ℕ → Bound → List Case → Bool
+all_keep tests word b cs = list_all (λ c. keeps b (word_test tests word c)) cs
+
+-- the test of a word of the case at a place, if there is one
+abbrev pub test_at : (Case → List Elementary) → ℕ → List Case → ℕ → Option Elementary
+test_at tests word cs at = with (slice_get cs at) (word_test tests word)
+
+-- one case after the other
+abbrev pub chain : (Case → List Elementary) → ℕ → List Case → Formula
+chain tests word [] = Single (Outcome false)
+chain tests word (c ∷ []) = all_of (drop word (tests c))
+chain tests word (c ∷ d ∷ cs) = Either (all_of (drop word (tests c))) (chain tests word (d ∷ cs))
+
+-- a word is a number at least
+abbrev pub from_test : Option Elementary → ℕ → Elementary
+from_test (Some (Field t)) n = Field (record t { mask = None; comparison = AtLeast; value = n })
+from_test _ n = Outcome false
+
+-- the place of the case with which the upper half begins: the first whose word isn't lower than that
+-- of the middle one, or if that is the first of all, the first whose word is higher
+abbrev pub middle : (Case → List Elementary) → ℕ → List Case → ℕ
+middle tests word cs =
+    let n = lowest (test_at tests word cs (length cs / 2)) in
+    let at = count_by (λ c. nat_lt (lowest (word_test tests word c)) n) cs in
+    if at == 0 then count_by (λ c. nat_le (lowest (word_test tests word c)) n) cs else at
+
+-- cases from a place on are parted from those before by their words
+abbrev pub is_parted : (Case → List Elementary) → ℕ → List Case → ℕ → Bool
+is_parted tests word cs at =
+    let n = lowest (test_at tests word cs at) in
+    nat_lt 0 at && (nat_lt at (length cs)
+    && (all_keep tests word (Below n) (take at cs) && all_keep tests word (From n) (drop at cs)))
+
+-- how many cases are compared one after the other
+abbrev pub FEW_CASES : ℕ
+FEW_CASES = 2
+
+-- all cases have a test, if there is one, and then what follows it, if they have another test
+abbrev pub same_word : Option Elementary → Option Elementary → Formula → Formula
+same_word None u following = Single (Outcome false)
+same_word (Some t) None following = Single t
+same_word (Some t) (Some u) following = Both (Single t) following
+
+-- the upper half where a test is yes, or else the lower half
+abbrev pub by_half : Elementary → Formula → Formula → Formula
+by_half t upper lower = Either (Both (Single t) upper) lower
+
+-- cases by halves, or by the word that all have, where the rest is decided so
+abbrev pub decided : (ℕ → List Case → Formula) → (Case → List Elementary) → ℕ → List Case → Formula
+decided next tests word cs =
+    let t = test_at tests word cs 0 in
+    let at = middle tests word cs in
+    if nat_le (length cs) FEW_CASES then chain tests word cs else
+    (if all_keep tests word (Exactly (lowest t)) cs
+    then same_word t (test_at tests (word + 1) cs 0) (next (word + 1) cs) else
+    (if is_parted tests word cs at
+    then by_half (from_test t (lowest (test_at tests word cs at))) (next word (drop at cs))
+    (next word (take at cs))
+    else chain tests word cs))
+
+-- cases by halves, of one word after the other: halved this often at most
+unfoldable pub decision : ℕ → (Case → List Elementary) → ℕ → List Case → Formula
+decision zero tests word cs = chain tests word cs
+decision (suc k) tests word cs = decided (decision k tests) tests word cs
+
+-- how often cases are halved, or all have the same word, at most
+abbrev pub MOST_DECISIONS : ℕ
+MOST_DECISIONS = 64
+
+-- cases with the same words, in the frames in which they may be
+abbrev pub cases_formula : Link → Direction → List Case → Formula
+cases_formula link d [] = Single (Outcome false)
+cases_formula link d (c ∷ cs) =
+    after (kind_test link (case_frame c)) (decision MOST_DECISIONS (case_tests link d) 0 (c ∷ cs))

@@ -1,0 +1,345 @@
+//! Lists of MAC addresses, of addresses and networks of IPv6, and of protocol numbers, each on one
+//! side, as decision trees: the first words of the values are compared by halves, and then the next
+//! words of those that are left. The steps are tests with `and` and `or`, of which `flt_short`
+//! leaves out what is known.
+//!
+//! `ether src A or B or C`, of which B and C begin with the same four bytes, becomes
+//! `(word >= B and word = B and (last two = B or last two = C)) or word = A and last two = A`.
+
+ghost use Rattle.std.specs.Prelude.{◌≡◌, ◌≤◌, slice_get, drop, count_by, nat_lt, OnOk};
+ghost use Rattle.flt_gen.specs.Formula.{all_of};
+ghost use Rattle.flt_gen.specs.inside.Cases.{case_of, same_words, key_of, insert_case, case_frame};
+ghost use Rattle.flt_gen.specs.inside.Cases.{case_tests, lowest, reach};
+ghost use Rattle.flt_gen.specs.inside.Cases.{word_test, keeps, all_keep, test_at, from_test};
+ghost use Rattle.flt_gen.specs.inside.Cases.{middle, is_parted, chain, decision, cases_formula};
+
+use crate::address::ip6_test;
+use crate::elementary::{
+    Elementary, FieldTest, FrameKind, has_ip_proto, has_ip6_proto, kind_test, network_offset,
+};
+use crate::protocol::mac_tests;
+use crate::steps::Steps;
+use cap_octet::Link;
+use flt_ast::{CompleteQualifiers, Direction, Value};
+use flt_words::{Comparison, Join, Protocol, Side, ValueType};
+use std::alloc::{AllocError, Allocator};
+
+/// How many cases are compared one after the other, since a test more would part them.
+const FEW_CASES: usize = 2;
+
+/// How often cases are halved, or all have the same word, at most.
+const MOST_DECISIONS: usize = 64;
+
+/// A value that is compared word by word.
+#[derive(Clone, Copy)]
+pub enum Case {
+    Mac(u64),
+    /// An address of IPv6, with the length of its prefix where not all of its bits count.
+    Ip6(Option<u32>, u128),
+    IpProto(u32),
+    Ip6Proto(u32),
+}
+
+/// A bound of the numbers that a word may be.
+#[derive(Clone, Copy)]
+enum Bound {
+    Below(u32),
+    From(u32),
+    Exactly(u32),
+}
+
+/// A value with its qualifiers as a case: an address of one side, or a protocol of IPv4 or of IPv6.
+/// `None` for any other.
+pub fn case_of(qualifiers: CompleteQualifiers, value: Value) -> Option<Case>
+    ensures { result ≡ case_of qualifiers.value_type qualifiers.protocol qualifiers.direction value }
+{
+    match (qualifiers.value_type, qualifiers.direction, value) {
+        (ValueType::Host, Direction::One(_), Value::Mac(address)) => Some(Case::Mac(address)),
+        (ValueType::Host, Direction::One(_), Value::Ip6(address, _)) => {
+            Some(Case::Ip6(None, address))
+        }
+        (ValueType::Net, Direction::One(_), Value::Ip6(address, prefix)) => {
+            Some(Case::Ip6(prefix, address))
+        }
+        (ValueType::Proto, _, Value::Number(number, _)) => match qualifiers.protocol {
+            Some(Protocol::Ip) => Some(Case::IpProto(number)),
+            Some(Protocol::Ip6) => Some(Case::Ip6Proto(number)),
+            _ => None,
+        },
+        _ => None,
+    }
+}
+
+/// Whether both are compared in the same words.
+pub fn same_words(one: Case, other: Case) -> bool
+    ensures { result ≡ same_words one other }
+{
+    match (one, other) {
+        (Case::Mac(_), Case::Mac(_))
+        | (Case::Ip6(_, _), Case::Ip6(_, _))
+        | (Case::IpProto(_), Case::IpProto(_))
+        | (Case::Ip6Proto(_), Case::Ip6Proto(_)) => true,
+        _ => false,
+    }
+}
+
+/// The number by which cases ascend.
+fn key_of(case: Case) -> u128
+    ensures { result ≡ key_of case }
+{
+    match case {
+        Case::Mac(address) => address.into(),
+        Case::Ip6(_, address) => address,
+        Case::IpProto(number) | Case::Ip6Proto(number) => number.into(),
+    }
+}
+
+/// Puts a case among others, so that they still ascend.
+pub fn put_case<A: Allocator>(cases: &mut Vec<Case, A>, new: Case) -> Result<(), AllocError>
+    ensures { OnOk result (cases.new.items ≡ insert_case new cases.old.items) }
+{
+    let key = key_of(new);
+    let at = cases.iter().filter(|case| key_of(**case) < key).count();
+    cases.insert(at, new)?;
+    Ok(())
+}
+
+/// The frames in which a case may be.
+fn case_frame(case: Case) -> FrameKind
+    ensures { result ≡ case_frame case }
+{
+    match case {
+        Case::Mac(_) => FrameKind::Ethernet,
+        Case::Ip6(_, _) | Case::Ip6Proto(_) => FrameKind::Ip6,
+        Case::IpProto(_) => FrameKind::Ip,
+    }
+}
+
+/// The test of a word of a case; `None` past its last one.
+fn word_test(link: Link, direction: Direction, case: Case, word: usize) -> Option<Elementary>
+    ensures { result ≡ word_test (case_tests link direction) word case }
+{
+    let is_source = matches!(direction, Direction::One(Side::Source));
+    match (case, word) {
+        (Case::Mac(address), 0 | 1) => {
+            // The source is at byte 6 of a frame, the destination at byte 0.
+            let at = if is_source { 6 } else { 0 };
+            Some(mac_tests(at, address)[word])
+        }
+        (Case::Ip6(prefix, address), 0..=3) => {
+            // The addresses stand at bytes 8 and 24 of the header (RFC 8200, section 3).
+            let at = network_offset(link) + if is_source { 8 } else { 24 };
+            Some(ip6_test(prefix, address, at, word as u32))
+        }
+        (Case::IpProto(number), 0) => Some(has_ip_proto(link, number)),
+        (Case::Ip6Proto(number), 0) => Some(has_ip6_proto(link, number)),
+        _ => None,
+    }
+}
+
+/// The lowest number that a word may be for a test of it.
+fn lowest(test: Option<Elementary>) -> u32
+    ensures { result ≡ lowest test }
+{
+    match test {
+        Some(Elementary::Field(field)) => field.value,
+        _ => 0,
+    }
+}
+
+/// How far past its value a test's numbers may reach: the bits that don't count.
+fn reach(mask: Option<u32>) -> u32
+    ensures { result ≡ reach mask }
+{
+    match mask {
+        None => 0,
+        Some(mask) => u32::MAX - mask,
+    }
+}
+
+/// Whether all numbers for which a test is yes keep a bound.
+fn keeps(bound: Bound, test: Option<Elementary>) -> bool
+    ensures { result ≡ keeps bound test }
+{
+    let Some(Elementary::Field(field)) = test else {
+        return false;
+    };
+    match bound {
+        Bound::Below(number) => field.value.saturating_add(reach(field.mask)) < number,
+        Bound::From(number) => number <= field.value,
+        Bound::Exactly(number) => field.mask.is_none() && field.value == number,
+    }
+}
+
+/// The test that a word is a number at least; of the word and its place is `test`.
+fn from_test(test: Option<Elementary>, number: u32) -> Elementary
+    ensures { result ≡ from_test test number }
+{
+    match test {
+        Some(Elementary::Field(field)) => Elementary::Field(FieldTest {
+            mask: None,
+            comparison: Comparison::AtLeast,
+            value: number,
+            ..field
+        }),
+        _ => Elementary::Outcome(false),
+    }
+}
+
+/// Whether the tests of a word keep a bound in all of some cases.
+fn all_keep(link: Link, direction: Direction, word: usize, bound: Bound, cases: &[Case]) -> bool
+    ensures { result ≡ all_keep (case_tests link direction) word bound cases.now }
+{
+    cases.iter().all(|case| keeps(bound, word_test(link, direction, *case, word)))
+}
+
+/// The test of a word of the case at a place, if there is one.
+fn test_at(
+    link: Link,
+    direction: Direction,
+    word: usize,
+    cases: &[Case],
+    at: usize,
+) -> Option<Elementary>
+    ensures { result ≡ test_at (case_tests link direction) word cases.now at }
+{
+    match cases.get(at) {
+        None => None,
+        Some(case) => word_test(link, direction, *case, word),
+    }
+}
+
+/// The place of the case with which the upper half begins: the first whose word isn't lower than
+/// that of the middle one, or if that is the first of all, the first whose word is higher.
+fn middle(link: Link, direction: Direction, word: usize, cases: &[Case]) -> usize
+    ensures { result ≡ middle (case_tests link direction) word cases.now }
+{
+    let number = lowest(test_at(link, direction, word, cases, cases.len() / 2));
+    let of = |case: &Case| lowest(word_test(link, direction, *case, word));
+    let at = cases.iter().filter(|case| of(case) < number).count();
+    if at > 0 {
+        return at;
+    }
+    cases.iter().filter(|case| of(case) <= number).count()
+}
+
+/// Whether cases from a place on are parted from those before by their words.
+fn is_parted(link: Link, direction: Direction, word: usize, cases: &[Case], at: usize) -> bool
+    ensures { result ≡ is_parted (case_tests link direction) word cases.now at }
+{
+    let number = lowest(test_at(link, direction, word, cases, at));
+    at > 0
+        && at < cases.len()
+        && all_keep(link, direction, word, Bound::Below(number), &cases[..at])
+        && all_keep(link, direction, word, Bound::From(number), &cases[at..])
+}
+
+impl<A: Allocator> Steps<A> {
+    ghost use Rattle.flt_gen.specs.inside.Steps.{IsPut};
+
+    /// Adds the steps of a case's tests from a word on.
+    fn put_case_from(
+        &mut self,
+        link: Link,
+        direction: Direction,
+        word: usize,
+        case: Case,
+    ) -> Result<(), AllocError>
+        ensures { OnOk result
+            (IsPut (all_of (drop word (case_tests link direction case))) self.old self.new) }
+    {
+        let Some(test) = word_test(link, direction, case, word) else {
+            return self.put_test(Elementary::Outcome(true));
+        };
+        self.put_test(test)?;
+        if word_test(link, direction, case, word + 1).is_none() {
+            return Ok(());
+        }
+        self.put_case_from(link, direction, word + 1, case)?;
+        self.put_join(Join::And)
+    }
+
+    /// Adds the steps of one case after the other.
+    fn put_chain(
+        &mut self,
+        link: Link,
+        direction: Direction,
+        word: usize,
+        cases: &[Case],
+    ) -> Result<(), AllocError>
+        ensures { OnOk result
+            (IsPut (chain (case_tests link direction) word cases.now) self.old self.new) }
+    {
+        match cases {
+            [] => self.put_test(Elementary::Outcome(false)),
+            [only] => self.put_case_from(link, direction, word, *only),
+            [first, others @ ..] => {
+                self.put_case_from(link, direction, word, *first)?;
+                self.put_chain(link, direction, word, others)?;
+                self.put_join(Join::Or)
+            }
+        }
+    }
+
+    /// Adds the steps of cases by halves, of one word after the other: they are halved `most` times
+    /// at most.
+    fn put_decision(
+        &mut self,
+        most: usize,
+        link: Link,
+        direction: Direction,
+        word: usize,
+        cases: &[Case],
+    ) -> Result<(), AllocError>
+        ensures { OnOk result
+            (IsPut (decision most (case_tests link direction) word cases.now) self.old self.new) }
+    {
+        if most == 0 {
+            return self.put_chain(link, direction, word, cases);
+        }
+        if cases.len() <= FEW_CASES {
+            return self.put_chain(link, direction, word, cases);
+        }
+        let test = test_at(link, direction, word, cases, 0);
+        if all_keep(link, direction, word, Bound::Exactly(lowest(test)), cases) {
+            let Some(test) = test else {
+                return self.put_test(Elementary::Outcome(false));
+            };
+            self.put_test(test)?;
+            if test_at(link, direction, word + 1, cases, 0).is_none() {
+                return Ok(());
+            }
+            self.put_decision(most - 1, link, direction, word + 1, cases)?;
+            return self.put_join(Join::And);
+        }
+        let at = middle(link, direction, word, cases);
+        if !is_parted(link, direction, word, cases, at) {
+            return self.put_chain(link, direction, word, cases);
+        }
+        let (lower, upper) = (&cases[..at], &cases[at..]);
+        let number = lowest(test_at(link, direction, word, cases, at));
+        self.put_test(from_test(test, number))?;
+        self.put_decision(most - 1, link, direction, word, upper)?;
+        self.put_join(Join::And)?;
+        self.put_decision(most - 1, link, direction, word, lower)?;
+        self.put_join(Join::Or)
+    }
+
+    /// Adds the steps of cases that look for a value, in the frames in which they may be.
+    pub fn put_cases(
+        &mut self,
+        link: Link,
+        direction: Direction,
+        cases: &[Case],
+    ) -> Result<(), AllocError>
+        ensures { OnOk result
+            (IsPut (cases_formula link direction cases.now) self.old self.new) }
+    {
+        let [first, ..] = cases else {
+            return self.put_test(Elementary::Outcome(false));
+        };
+        self.put_test(kind_test(link, case_frame(*first)))?;
+        self.put_decision(MOST_DECISIONS, link, direction, 0, cases)?;
+        self.put_join(Join::And)
+    }
+}
