@@ -1,5 +1,5 @@
 -- The counts of the table's formulas are at most those of the tree.
-use Rattle.flt_gen.proofs.Common.{◌≡◌, ℕ, ◌+◌, ◌-◌, ◌≤◌, max, min, List, [], ◌∷◌, length, Option, Some, None, refl, arith, Protocol, Source, Destination, And, Or, ValueType, Host, Net, Port, PortRange, Proto, Direction, Value, Link, FrameKind, Elementary, Sides, One, Between, ip_transport, ip6_transport, Formula, Single, Both, Either, Sought, all_of, sides, Numbers, no_numbers, after, any_proto, mac_tests, check_formula, cast_formula, proto_formula, hosts_of_kind, hosts_formula, net_formula, net_test, ip6_formula, ether_host, port_formula, port_test, port_sides, transport, value_formula, sought_tests, tests, nodes, words}
+use Rattle.flt_gen.proofs.Common.{◌≡◌, ℕ, ◌+◌, ◌-◌, ◌≤◌, max, min, List, [], ◌∷◌, length, Option, Some, None, refl, arith, Protocol, Source, Destination, And, Or, ValueType, Host, Net, Port, PortRange, Proto, Direction, Value, Link, FrameKind, Elementary, Sides, One, Between, ip_transport, ip6_transport, Formula, Single, Both, Either, Split, Sought, all_of, sides, Numbers, no_numbers, after, any_proto, mac_tests, check_formula, cast_formula, proto_formula, hosts_of_kind, hosts_formula, net_formula, net_test, ip6_formula, ether_host, port_formula, port_test, port_sides, transport, value_formula, sought_tests, tests, nodes, words}
 use Rattle.flt_words.specs.declared.token.Protocol.TheVariants as protocol
 use Rattle.flt_words.specs.declared.token.Cast.{Cast}
 use Rattle.flt_words.specs.declared.token.Cast.TheVariants.{Broadcast, Multicast}
@@ -41,6 +41,14 @@ bare_both h k = record {
 
 pub bare_either : {a b : Formula} {m n : ℕ} → Bare a m → Bare b n → Bare (Either a b) (m + n)
 bare_either h k = record {
+  no_nodes = omega (arith, h.no_nodes, k.no_nodes);
+  no_words = omega (arith, h.no_words, k.no_words);
+  searches = (h.searches, k.searches);
+  few = omega (arith, h.few, k.few);
+}
+
+pub bare_split : {t : Elementary} {a b : Formula} {m n : ℕ} → Bare a m → Bare b n → Bare (Split t a b) (1 + (m + n))
+bare_split h k = record {
   no_nodes = omega (arith, h.no_nodes, k.no_nodes);
   no_words = omega (arith, h.no_words, k.no_words);
   searches = (h.searches, k.searches);

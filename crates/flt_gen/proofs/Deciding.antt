@@ -1,6 +1,7 @@
 -- Decision trees of cases: they read as one case after the other, and have few tests.
 use Rattle.flt_gen.proofs.Common.{◌≡◌, ℕ, zero, suc, ◌+◌, ◌-◌, ◌*◌, ◌^◌, ◌<◌, ◌≤◌, List, [], ◌∷◌, ◌++◌, length, map, take, drop, Bool, true, false, Option, Some, None, refl, sym, ap, ap₂, ◌∙◌, subst, arith, ◌==◌, ◌&&◌, nat_lt, nat_le, bit_and, nat_tests, and_parts, pow_pos, and_le_r, Direction, Link, first_bits, Word, HalfWord, Byte, Width, Offset, Fixed, Equal, Elementary, Outcome, Field, MatchResult, Yes, No, Rejected, reading_of, with, field_at, under_mask, compares, elementary_reads, network_offset, Formula, both, either, all_of, reads, partial_mask}
 use Rattle.std.specs.Prelude.{slice_get}
+use Rattle.flt_gen.specs.Formula.{choose, Split}
 use Rattle.std.specs.List.{list_all, insert}
 use Rattle.std.proofs.lemmas.List.{take-append-drop, length-take-le, length-append}
 use Rattle.std.proofs.lemmas.Nat.{and-not, and_comm}
@@ -9,9 +10,9 @@ use Rattle.flt_gen.specs.declared.cases.Case.{Case}
 use Rattle.flt_gen.specs.declared.cases.Case.TheVariants.{Mac, Ip6, IpProto, Ip6Proto}
 use Rattle.flt_gen.specs.declared.cases.Bound.{Bound}
 use Rattle.flt_gen.specs.declared.cases.Bound.TheVariants.{Below, From, Exactly}
-use Rattle.flt_gen.specs.inside.Cases.{same_words, case_frame, mac_place, ip6_place, case_tests, word_test, lowest, reach, is_whole, keeps, all_keep, chain, test_at, from_test, middle, is_parted, same_word, by_half, decided, decision, FEW_CASES}
+use Rattle.flt_gen.specs.inside.Cases.{same_words, case_frame, mac_place, ip6_place, case_tests, word_test, lowest, reach, is_whole, keeps, all_keep, chain, test_at, from_test, middle, is_parted, same_word, decided, decision, FEW_CASES}
 use Rattle.flt_gen.proofs.Ascending.{if_case}
-use Rattle.flt_gen.proofs.Counted.{Bare, bare_within, bare_all, bare_one, bare_some, bare_both, bare_either}
+use Rattle.flt_gen.proofs.Counted.{Bare, bare_within, bare_all, bare_one, bare_some, bare_both, bare_either, bare_split}
 use Rattle.flt_gen.proofs.Decision.{decision_none, decision_next}
 use Rattle.flt_gen.proofs.Needed.{all_put}
 use Rattle.flt_gen.proofs.Together.{word_small}
@@ -237,22 +238,16 @@ module _ (link : Link) (p : List ℕ) (n : ℕ) where
 
   -- by a test of the first word that parts those that keep two bounds
   halves_read : (f : Offset × Width) (fs : List (Offset × Width)) (k : ℕ) (lower upper : List (List Elementary)) → Shapes (f ∷ fs) lower → Shapes (f ∷ fs) upper → all_rows (Below k) lower ≡ true → all_rows (From k) upper ≡ true → 0 < length lower
-      → either (both (reading_of (with (field_at f.0 f.1 p) (λ x. Some (nat_le k x)))) (read_all upper)) (read_all lower) ≡ either (read_all lower) (read_all upper)
+      → choose (reading_of (with (field_at f.0 f.1 p) (λ x. Some (nat_le k x)))) (read_all upper) (read_all lower) ≡ either (read_all lower) (read_all upper)
   halves_read f fs k lower upper g h a b some = by (field_at f.0 f.1 p) refl
     where
-      by : (o : Option ℕ) → field_at f.0 f.1 p ≡ o → either (both (reading_of (with o (λ x. Some (nat_le k x)))) (read_all upper)) (read_all lower) ≡ either (read_all lower) (read_all upper)
+      half : (x : ℕ) → field_at f.0 f.1 p ≡ Some x → (c : Bool) → nat_le k x ≡ c → choose (reading_of (Some c)) (read_all upper) (read_all lower) ≡ either (read_all lower) (read_all upper)
+      half x e true t = let l : k ≤ x = grind (arith, nat_tests) in ap (λ r. either r (read_all upper)) (sym (none_below f fs k x lower g a e l))
+      half x e false t = let l : x < k = grind (arith, nat_tests) in sym (ap (either (read_all lower)) (none_from f fs k x upper h b e l) ∙ or_no (read_all lower))
+
+      by : (o : Option ℕ) → field_at f.0 f.1 p ≡ o → choose (reading_of (with o (λ x. Some (nat_le k x)))) (read_all upper) (read_all lower) ≡ either (read_all lower) (read_all upper)
       by None e = sym (ap (λ r. either r (read_all upper)) (none_there f fs lower g some e))
-      by (Some x) e = half (nat_le k x) refl
-        where
-          half : (c : Bool) → nat_le k x ≡ c → either (both (reading_of (Some c)) (read_all upper)) (read_all lower) ≡ either (read_all lower) (read_all upper)
-          half true t =
-              let l : k ≤ x = grind (arith, nat_tests) in
-              let none = none_below f fs k x lower g a e l in
-              ap (either (read_all upper)) none ∙ or_no (read_all upper) ∙ ap (λ r. either r (read_all upper)) (sym none)
-          half false t =
-              let l : x < k = grind (arith, nat_tests) in
-              let none = none_from f fs k x upper h b e l in
-              sym (ap (either (read_all lower)) none ∙ or_no (read_all lower))
+      by (Some x) e = half x e (nat_le k x) refl
 
   -- all have the same first word
   one_word : (f : Offset × Width) (k : ℕ) (mask : Option ℕ) (v : ℕ) → (is_whole mask && v == k) ≡ true → by_field f mask v ≡ by_field f None k
@@ -308,7 +303,7 @@ module _ (link : Link) (p : List ℕ) (n : ℕ) where
           after (g ∷ gs) [] k s i = absurd k
 
   parted_is : (by : Case → List Elementary) (w : ℕ) (next : ℕ → List Case → Formula) → Reads by w next → (fs : List (Offset × Width)) (cs : List Case) (at : ℕ) → Shapes fs (rows by w cs) → is_parted by w cs at ≡ true
-      → reads link (by_half (from_test (test_at by w cs 0) (lowest (test_at by w cs at))) (next w (drop at cs)) (next w (take at cs))) p n ≡ read_all (rows by w cs)
+      → reads link (Split (from_test (test_at by w cs 0) (lowest (test_at by w cs at))) (next w (drop at cs)) (next w (take at cs))) p n ≡ read_all (rows by w cs)
   parted_is by w next ok fs [] at h e = absurd (let a = and_parts (nat_lt 0 at) _ e in let b = and_parts (nat_lt at 0) _ a.1 in let t = b.0 in let no : at < 0 = grind (arith, nat_tests) in omega arith)
   parted_is by w next ok [] (c ∷ cs) zero h e = cc
   parted_is by w next ok [] (c ∷ cs) (suc at) h e =
@@ -327,8 +322,8 @@ module _ (link : Link) (p : List ℕ) (n : ℕ) where
       let d = and_parts (all_keep by w (Below k) (take at (c ∷ cs))) (all_keep by w (From k) (drop at (c ∷ cs))) b.1 in
       let g = shapes_take (f ∷ fs) by w at (c ∷ cs) h in
       let j = shapes_drop (f ∷ fs) by w at (c ∷ cs) h in
-      ap₂ (λ r s. either (both (elementary_reads (from_test (word_test by w c) k) p) r) s) (ok w (f ∷ fs) (drop at (c ∷ cs)) j) (ok w (f ∷ fs) (take at (c ∷ cs)) g)
-      ∙ ap (λ r. either (both r (read_all (rows by w (drop at (c ∷ cs))))) (read_all (rows by w (take at (c ∷ cs))))) (ap (λ t. elementary_reads (from_test t k) p) (first_is (by c) w) ∙ from (drop w (by c)) k h.0)
+      ap₂ (choose (elementary_reads (from_test (word_test by w c) k) p)) (ok w (f ∷ fs) (drop at (c ∷ cs)) j) (ok w (f ∷ fs) (take at (c ∷ cs)) g)
+      ∙ ap (λ r. choose r (read_all (rows by w (drop at (c ∷ cs)))) (read_all (rows by w (take at (c ∷ cs))))) (ap (λ t. elementary_reads (from_test t k) p) (first_is (by c) w) ∙ from (drop w (by c)) k h.0)
       ∙ halves_read f fs k (rows by w (take at (c ∷ cs))) (rows by w (drop at (c ∷ cs))) g j (sym (kept_rows by w (Below k) (take at (c ∷ cs))) ∙ d.0) (sym (kept_rows by w (From k) (drop at (c ∷ cs))) ∙ d.1) (some_taken by w at c cs (let t = a.0 in grind (arith, nat_tests)))
       ∙ sym (read_append (rows by w (take at (c ∷ cs))) (rows by w (drop at (c ∷ cs))))
       ∙ ap read_all (rows_parts by w at (c ∷ cs))
@@ -467,7 +462,7 @@ decided_bare by next ok w fs cs h some l =
     same [] h l = absurd (omega arith)
     same (d ∷ ds) h l = same_bare by w next ok fs d ds h some
 
-    parts : (at : ℕ) → is_parted by w cs at ≡ true → Bare (by_half (from_test (test_at by w cs 0) (lowest (test_at by w cs at))) (next w (drop at cs)) (next w (take at cs))) (sizes by w cs + (length cs - 1))
+    parts : (at : ℕ) → is_parted by w cs at ≡ true → Bare (Split (from_test (test_at by w cs 0) (lowest (test_at by w cs at))) (next w (drop at cs)) (next w (take at cs))) (sizes by w cs + (length cs - 1))
     parts at e =
         let a = and_parts (nat_lt 0 at) _ e in
         let b = and_parts (nat_lt at (length cs)) _ a.1 in
@@ -477,7 +472,7 @@ decided_bare by next ok w fs cs h some l =
         let both_long : length (take at cs) + length (drop at cs) ≡ length cs = sym (length-append (take at cs) (drop at cs)) ∙ ap length (take-append-drop at cs) in
         let sum = sizes_parts by w at cs in
         bare_within _ (omega arith)
-        (bare_either (bare_both (bare_one _) (ok w fs (drop at cs) (shapes_drop fs by w at cs h) some (omega arith))) (ok w fs (take at cs) (shapes_take fs by w at cs h) some (omega arith)))
+        (bare_split (ok w fs (drop at cs) (shapes_drop fs by w at cs h) some (omega arith)) (ok w fs (take at cs) (shapes_take fs by w at cs h) some (omega arith)))
 
 pub decision_bare : (by : Case → List Elementary) (k : ℕ) → Few by (decision k by)
 decision_bare by zero w fs cs h some l =

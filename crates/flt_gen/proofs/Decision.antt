@@ -1,13 +1,22 @@
 -- A decision tree, unfolded once, and the tests of a case from a word on.
-use Rattle.std.proofs.Common.{◌≡◌, ℕ, zero, suc, ◌+◌, ◌-◌, ◌<◌, List, [], ◌∷◌, drop, take, length, Bool, true, false, Option, Some, None, refl, ap, ap₂, ◌∙◌, sym, arith, nat_le, ◌≤◌, ◌⊎◌, inl, inr}
+use Rattle.std.proofs.Common.{◌≡◌, ℕ, zero, suc, ◌+◌, ◌-◌, ◌<◌, List, [], ◌∷◌, drop, take, get_or, length, Bool, true, false, Option, Some, None, refl, ap, ap₂, ◌∙◌, sym, subst, arith, nat_le, ◌≤◌, ◌⊎◌, inl, inr}
 use Rattle.std.specs.Prelude.{slice_get, is_none, if◌then◌else◌}
 use Rattle.std.proofs.lemmas.Bool.Decides.{nat_tests}
+use Rattle.std.specs.Prelude.{Result}
+use Rattle.std.specs.declared.alloc.AllocError.{AllocError}
+use Rattle.flt_gen.specs.inside.Emits.{Emits}
+use Rattle.flt_bpf.specs.declared.insn.Insn.{Insn}
+use Rattle.flt_ast.specs.declared.qualifiers.Direction.{Direction}
+use Rattle.flt_gen.specs.Elementary.{kind_test}
+use Rattle.flt_gen.specs.Primitives.{after}
+use Rattle.cap_octet.specs.declared.link.Link.{Link}
+use Rattle.flt_gen.specs.inside.Code.{Block, emit_all, emit_elementary, emit_formula}
 use Rattle.flt_gen.specs.declared.cases.Case.{Case}
 use Rattle.flt_gen.specs.declared.elementary.Elementary.{Elementary}
 use Rattle.flt_gen.specs.declared.elementary.Elementary.TheVariants.{Outcome}
-use Rattle.flt_gen.specs.Formula.{Formula, Single, Both, all_of}
+use Rattle.flt_gen.specs.Formula.{Formula, Single, Both, Split, all_of}
 use Rattle.flt_gen.specs.declared.cases.Bound.TheVariants.{Exactly}
-use Rattle.flt_gen.specs.inside.Cases.{chain, decided, decision, all_keep, is_parted, middle, test_at, lowest, from_test, same_word, by_half, FEW_CASES}
+use Rattle.flt_gen.specs.inside.Cases.{case_frame, case_tests, cases_formula, MOST_DECISIONS, chain, decided, decision, all_keep, is_parted, middle, test_at, lowest, from_test, same_word, FEW_CASES}
 
 pub decision_none : (k : ℕ) (tests : Case → List Elementary) (word : ℕ) (cs : List Case) → k ≡ 0 → decision k tests word cs ≡ chain tests word cs
 unfolding decision
@@ -34,21 +43,45 @@ decision_chain (suc k) tests word cs (inr l) =
         if all_keep tests word (Exactly (lowest (test_at tests word cs 0))) cs
         then same_word (test_at tests word cs 0) (test_at tests (word + 1) cs 0) (next (word + 1) cs) else
         (if is_parted tests word cs (middle tests word cs)
-        then by_half (from_test (test_at tests word cs 0) (lowest (test_at tests word cs (middle tests word cs)))) (next word (drop (middle tests word cs) cs)) (next word (take (middle tests word cs) cs))
+        then Split (from_test (test_at tests word cs 0) (lowest (test_at tests word cs (middle tests word cs)))) (next word (drop (middle tests word cs) cs)) (next word (take (middle tests word cs) cs))
         else chain tests word cs)
 
-pub all_from : (ts : List Elementary) (word : ℕ) (t : Elementary) → slice_get ts word ≡ Some t → is_none (slice_get ts (word + 1)) ≡ false → all_of (drop word ts) ≡ Both (Single t) (all_of (drop (word + 1) ts))
-all_from [] zero t e n = cc
-all_from [] (suc word) t e n = cc
-all_from (t ∷ []) zero u e n = cc
-all_from (t ∷ v ∷ ts) zero u e n = ap (λ (x : Elementary). Both (Single x) (all_of (v ∷ ts))) (some_is t u e)
+-- the code of tests, of which all hold
+pub all_emitted : (link : Link) (ts : List Elementary) (hit miss : ℕ) (c : List Insn) → emit_formula link (all_of ts) hit miss c ≡ emit_all ts hit miss c
+all_emitted link [] hit miss c = refl
+all_emitted link (t ∷ []) hit miss c = refl
+all_emitted link (t ∷ u ∷ ts) hit miss c = ap (λ (e : Block). emit_elementary t e.entry miss e.code) (all_emitted link (u ∷ ts) hit miss c)
+
+-- a case in front of others, of all that are searched or of some
+chain_emitted : (link : Link) (tests : Case → List Elementary) (word : ℕ) (cs : List Case) (other : Case) (hit miss : ℕ) (c : List Insn) → 1 ≤ length cs → let e = emit_formula link (chain tests word (drop 1 cs)) hit miss c in emit_formula link (chain tests word cs) hit miss c ≡ emit_all (drop word (tests (get_or cs 0 other))) hit e.entry e.code
+chain_emitted link tests word [] other hit miss c l = absurd (omega arith)
+chain_emitted link tests word (d ∷ []) other hit miss c l = all_emitted link (drop word (tests d)) hit miss c
+chain_emitted link tests word (d ∷ x ∷ xs) other hit miss c l = let e = emit_formula link (chain tests word (x ∷ xs)) hit miss c in all_emitted link (drop word (tests d)) hit e.entry e.code
+
+pub turn_emitted : (r : Result ℕ AllocError) (new : List Insn) (link : Link) (tests : Case → List Elementary) (word : ℕ) (cs : List Case) (other : Case) (hit miss : ℕ) (c : List Insn) (e : Block) → 1 ≤ length cs → emit_formula link (chain tests word (drop 1 cs)) hit miss c ≡ e
+    → Emits r (emit_all (drop word (tests (get_or cs 0 other))) hit e.entry e.code) new → Emits r (emit_formula link (chain tests word cs) hit miss c) new
+turn_emitted r new link tests word cs other hit miss c e l is done =
+    subst (λ (f : Block). Emits r f new)
+    (sym (chain_emitted link tests word cs other hit miss c l ∙ ap (λ (f : Block). emit_all (drop word (tests (get_or cs 0 other))) hit f.entry f.code) is)) done
+
+pub cases_put : (link : Link) (d : Direction) (cs : List Case) (other : Case) → 1 ≤ length cs → cases_formula link d cs ≡ after (kind_test link (case_frame (get_or cs 0 other))) (decision MOST_DECISIONS (case_tests link d) 0 cs)
+cases_put link d [] other l = absurd (omega arith)
+cases_put link d (c ∷ cs) other l = refl
+
+pub tests_from : (ts : List Elementary) (word : ℕ) (t : Elementary) → slice_get ts word ≡ Some t → drop word ts ≡ t ∷ drop (word + 1) ts
+tests_from [] zero t e = cc
+tests_from [] (suc word) t e = cc
+tests_from (u ∷ ts) zero t e = ap (λ (x : Elementary). x ∷ ts) (some_is u t e)
   where
     some_is : (a b : Elementary) → Some a ≡ Some b → a ≡ b
     some_is a b g = cc
-all_from (t ∷ ts) (suc word) u e n =
-    let next : suc word + 1 ≡ suc (word + 1) = omega arith in
-    all_from ts word u e (ap (λ k. is_none (slice_get (t ∷ ts) k)) (sym next) ∙ n)
-    ∙ ap (λ k. Both (Single u) (all_of (drop k (t ∷ ts)))) (sym next)
+tests_from (u ∷ ts) (suc word) t e = (let next : suc word + 1 ≡ suc (word + 1) = omega arith in tests_from ts word t e ∙ ap (λ k. t ∷ drop k (u ∷ ts)) (sym next))
+
+pub none_from : (ts : List Elementary) (word : ℕ) → slice_get ts word ≡ None → drop word ts ≡ []
+none_from [] zero e = refl
+none_from [] (suc word) e = refl
+none_from (u ∷ ts) zero e = cc
+none_from (u ∷ ts) (suc word) e = none_from ts word e
 
 -- the parts of a decision
 module _ (k : ℕ) (by : Case → List Elementary) (w : ℕ) (cs : List Case) (some : 0 < k) (many : FEW_CASES < length cs) where
@@ -62,7 +95,7 @@ module _ (k : ℕ) (by : Case → List Elementary) (w : ℕ) (cs : List Case) (s
   parts same parted =
       if same then same_word t (test_at by (w + 1) cs 0) (next (w + 1) cs) else
       (if parted
-      then by_half (from_test t (lowest (test_at by w cs (middle by w cs)))) (next w (drop (middle by w cs) cs)) (next w (take (middle by w cs) cs))
+      then Split (from_test t (lowest (test_at by w cs (middle by w cs)))) (next w (drop (middle by w cs) cs)) (next w (take (middle by w cs) cs))
       else chain by w cs)
 
   put : decision k by w cs ≡ parts (all_keep by w (Exactly (lowest t)) cs) (is_parted by w cs (middle by w cs))
@@ -90,8 +123,8 @@ module _ (k : ℕ) (by : Case → List Elementary) (w : ℕ) (cs : List Case) (s
       more None n = cc
       more (Some u) n = refl
 
-  pub decision_halves : (o : Option Elementary) (at : ℕ) (b : Bool) → o ≡ t → at ≡ middle by w cs → false ≡ all_keep by w (Exactly (lowest o)) cs → b ≡ is_parted by w cs at → (if b then by_half (from_test o (lowest (test_at by w cs at))) (next w (drop at cs)) (next w (take at cs)) else chain by w cs) ≡ decision k by w cs
+  pub decision_halves : (o : Option Elementary) (at : ℕ) (b : Bool) → o ≡ t → at ≡ middle by w cs → false ≡ all_keep by w (Exactly (lowest o)) cs → b ≡ is_parted by w cs at → (if b then Split (from_test o (lowest (test_at by w cs at))) (next w (drop at cs)) (next w (take at cs)) else chain by w cs) ≡ decision k by w cs
   decision_halves o at b e f a g =
-      ap₂ (λ x i. if b then by_half (from_test x (lowest (test_at by w cs i))) (next w (drop i cs)) (next w (take i cs)) else chain by w cs) e f
+      ap₂ (λ x i. if b then Split (from_test x (lowest (test_at by w cs i))) (next w (drop i cs)) (next w (take i cs)) else chain by w cs) e f
       ∙ ap (parts false) (g ∙ ap (is_parted by w cs) f)
       ∙ sym (put ∙ ap (λ c. parts c (is_parted by w cs (middle by w cs))) (sym (a ∙ ap (λ x. all_keep by w (Exactly (lowest x)) cs) e)))

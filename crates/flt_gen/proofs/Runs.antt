@@ -1,10 +1,11 @@
 -- The code of a formula goes on where the formula's reading says.
+use Rattle.flt_gen.specs.Formula.{choose}
 use Rattle.flt_gen.proofs.Common.{◌≡◌, ℕ, zero, suc, ◌+◌, ◌-◌, ◌/◌, ◌%◌, ◌^◌, ◌<◌, ◌≤◌, List, [], ◌∷◌, length, take, drop, Bool, true, false, Option, Some, None, refl, sym, ap, ◌∙◌, subst, arith, nat_le, nat_lt, ◌==◌, not, ◌&&◌, ◌||◌, if◌then◌else◌, bit_and, option_map, nat_tests, Insn, State, Width, Byte, Test, Operand, Constant, IndexRegister, LoadAbsolute, LoadIndirect, Load, Immediate, LoadHeaderLength, Compute, JumpIf, Accumulator, Index, answer_of, answer_after, field, test_holds, operand_value, into, header_length, Comparison, Equal, NotEqual, Less, AtMost, Greater, AtLeast, number_words, NumberTree, Link, Offset, Fixed, AfterHeader, Interval, Sides, Direction, Source, Destination, And, Or, without, ap₂, Elementary, Outcome, Field, MatchResult, Yes, No, Rejected, reading_of, with, compares, field_at, under_mask, field_reads, elementary_reads, number, plain, constant, branch_insn, emit_elementary, emit_branch, emit_comparison, emit_field, emit_mask, emit_test, emit_relation, Block, at_top, emit_interval, emit_chain, are_few, low_of, MOST_HALVINGS, emit_masked, emit_side, emit_others, emit_few, emit_second, emit_at_sides, emit_many, are_at_index, emit_among, emit_formula, words}
 use Rattle.std.proofs.Math.Nat.{mod-eq_of_lt}
 use Rattle.flt_ast.specs.declared.qualifiers.Direction.TheVariants as direction
 use Rattle.flt_bpf.specs.declared.operation.Test.TheVariants as test
 use Rattle.flt_bpf.specs.declared.operation.AluOperation.TheVariants as arithmetic
-use Rattle.flt_gen.specs.Formula.{Formula, Single, Compare, Both, Either, Except, Sought, Numbers, is_in, is_within, among_reads, captured_reads, either_reads, sought_reads, relation_reads, both, either, negation as exchanged, reads}
+use Rattle.flt_gen.specs.Formula.{Formula, Single, Compare, Both, Either, Except, Split, Sought, Numbers, is_in, is_within, among_reads, captured_reads, either_reads, sought_reads, relation_reads, both, either, negation as exchanged, reads}
 use Rattle.flt_gen.specs.inside.Code.{emit_search}
 use Rattle.flt_gen.proofs.Ascending.{if_case, Apart, Searchable, Reached, Ready, Searches, apart_without, within_without, searchable_apart, apart_take, apart_drop, lower_half, first_taken, upper_half}
 use Rattle.flt_gen.proofs.Codes.{run, run_plain}
@@ -22,6 +23,10 @@ pick Rejected v w = 0
 pick_both : (a b : MatchResult) (v w : ℕ) → pick a (pick b v w) w ≡ pick (both a b) v w
 pick_both Yes b v w = refl
 pick_both _ b v w = refl
+
+pick_chosen : (a b c : MatchResult) (v w : ℕ) → pick a (pick b v w) (pick c v w) ≡ pick (choose a b c) v w
+pick_chosen Yes b c v w = refl
+pick_chosen _ b c v w = refl
 
 pick_either : (a b : MatchResult) (v w : ℕ) → pick a v (pick b v w) ≡ pick (either a b) v w
 pick_either Yes b v w = refl
@@ -456,4 +461,11 @@ module _ (p : List ℕ) (n : ℕ) where
       (emitted_leads link b hit miss v w c (omega arith) up.1 h m))
   emitted_leads link (Except a) hit miss v w c few up h m =
       leads_to p n (pick_negated (reads link a p n) v w) (emitted_leads link a miss hit w v c few up m h)
+  emitted_leads link (Split t a b) hit miss v w c few up h m =
+      let no = emit_formula link b hit miss c in
+      let yes = emit_formula link a hit miss no.code in
+      leads_to p n (pick_chosen (elementary_reads t p) (reads link a p n) (reads link b p n) v w)
+      (elementary_leads t yes.entry no.entry (pick (reads link a p n) v w) (pick (reads link b p n) v w) yes.code
+      (emitted_leads link a hit miss v w no.code (omega arith) up.0 (leads_on p n (emitted_extends link b hit miss c) h) (leads_on p n (emitted_extends link b hit miss c) m))
+      (leads_on p n (emitted_extends link a hit miss no.code) (emitted_leads link b hit miss v w c (omega arith) up.1 h m)))
   emitted_leads link (Sought d at numbers) hit miss v w c few up h m = among_leads d at numbers hit miss v w c up h m

@@ -1,5 +1,5 @@
 -- Code that grew in front still stands at its end.
-use Rattle.flt_gen.proofs.Common.{◌≡◌, ℕ, zero, suc, ◌+◌, ◌-◌, ◌/◌, ◌≤◌, List, [], ◌∷◌, length, take, drop, Bool, true, false, Option, Some, None, refl, ap, ◌∙◌, arith, ◌==◌, Insn, Width, Test, Operand, Constant, IndexRegister, Comparison, Equal, Protocol, Tcp, Udp, Icmp, NumberTree, load, negated, applied, Link, Offset, Fixed, AfterHeader, Interval, Elementary, Outcome, Field, width_of, Formula, Single, Compare, Both, Either, Except, Sought, Numbers, Sides, Direction, plain, emit_branch, emit_comparison, emit_field, emit_mask, emit_accessor, constant, constant_operand, emit_right, emit_number, emit_relation, Block, emit_interval, emit_chain, are_few, low_of, MOST_HALVINGS, emit_elementary, emit_formula, emit_masked, emit_side, emit_others, emit_few, emit_index, emit_at_index, emit_many, are_at_index, emit_among, Store, Accumulator, Source, Destination, And, Or}
+use Rattle.flt_gen.proofs.Common.{◌≡◌, ℕ, zero, suc, ◌+◌, ◌-◌, ◌/◌, ◌≤◌, List, [], ◌∷◌, length, take, drop, Bool, true, false, Option, Some, None, refl, ap, ◌∙◌, arith, ◌==◌, Insn, Width, Test, Operand, Constant, IndexRegister, Comparison, Equal, Protocol, Tcp, Udp, Icmp, NumberTree, load, negated, applied, Link, Offset, Fixed, AfterHeader, Interval, Elementary, Outcome, Field, width_of, Formula, Single, Compare, Both, Either, Except, Split, Sought, Numbers, Sides, Direction, plain, emit_branch, emit_comparison, emit_field, emit_mask, emit_accessor, constant, constant_operand, emit_right, emit_number, emit_relation, Block, emit_interval, emit_chain, are_few, low_of, MOST_HALVINGS, emit_elementary, emit_formula, emit_masked, emit_side, emit_others, emit_few, emit_index, emit_at_index, emit_many, are_at_index, emit_among, Store, Accumulator, Source, Destination, And, Or}
 use Rattle.flt_ast.specs.declared.qualifiers.Direction.TheVariants as direction
 use Rattle.flt_bpf.specs.declared.operation.Test.TheVariants as test
 use Rattle.flt_gen.specs.inside.Code.{emit_search}
@@ -152,4 +152,8 @@ emitted_extends link (Both a b) hit miss c =
 emitted_extends link (Either a b) hit miss c =
     let e = emit_formula link b hit miss c in extends_on (emitted_extends link b hit miss c) (emitted_extends link a hit e.entry e.code)
 emitted_extends link (Except a) hit miss c = emitted_extends link a miss hit c
+emitted_extends link (Split t a b) hit miss c =
+    let no = emit_formula link b hit miss c in
+    let yes = emit_formula link a hit miss no.code in
+    extends_on (extends_on (emitted_extends link b hit miss c) (emitted_extends link a hit miss no.code)) (elementary_extends t yes.entry no.entry yes.code)
 emitted_extends link (Sought d at numbers) hit miss c = among_extends d at numbers hit miss c

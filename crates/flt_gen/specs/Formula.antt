@@ -24,13 +24,15 @@ pub record Numbers : Type 0 where
   pub others : List Interval
 
 -- a test, a comparison of two numbers, two formulas that both hold or either of which does, one
--- that doesn't hold, or numbers that are looked for on the sides that a direction asks for
+-- that doesn't hold, one of two by a test, or numbers that are looked for on the sides that a
+-- direction asks for
 pub data Formula : Type 0 where
   Single : Elementary → Formula
   Compare : Comparison → NumberTree → NumberTree → Formula
   Both : Formula → Formula → Formula
   Either : Formula → Formula → Formula
   Except : Formula → Formula
+  Split : Elementary → Formula → Formula → Formula
   Sought : Direction → Sides → Numbers → Formula
 
 -- both hold: the second is read only if the first is yes
@@ -50,6 +52,12 @@ abbrev pub negation : MatchResult → MatchResult
 negation Yes = No
 negation No = Yes
 negation Rejected = Rejected
+
+-- one of two readings, by a test
+abbrev pub choose : MatchResult → MatchResult → MatchResult → MatchResult
+choose Yes a b = a
+choose No a b = b
+choose Rejected a b = Rejected
 
 -- whether two numbers compare so; if one of them has no value, the packet is rejected
 abbrev pub relation_reads : Link → Comparison → NumberTree → NumberTree → List ℕ → ℕ → MatchResult
@@ -98,6 +106,7 @@ reads link (Compare c l r) p n = relation_reads link c l r p n
 reads link (Both a b) p n = both (reads link a p n) (reads link b p n)
 reads link (Either a b) p n = either (reads link a p n) (reads link b p n)
 reads link (Except a) p n = negation (reads link a p n)
+reads link (Split t a b) p n = choose (elementary_reads t p) (reads link a p n) (reads link b p n)
 reads link (Sought d at numbers) p n =
     sought_reads d numbers (field_at at.source at.width p) (field_at at.destination at.width p)
 

@@ -1,27 +1,25 @@
 //! Lists of MAC addresses, of addresses and networks of IPv6, and of protocol numbers, each on one
 //! side, as decision trees: the first words of the values are compared by halves, and then the next
-//! words of those that are left. The steps are tests with `and` and `or`, of which `flt_short`
-//! leaves out what is known.
-//!
-//! `ether src A or B or C`, of which B and C begin with the same four bytes, becomes
-//! `(word >= B and word = B and (last two = B or last two = C)) or word = A and last two = A`.
+//! words of those that are left. Each test loads its word; `flt_short` leaves out the loads of what
+//! is in A.
 
-ghost use Rattle.std.specs.Prelude.{◌≡◌, ◌≤◌, slice_get, drop, count_by, nat_lt, OnOk};
-ghost use Rattle.flt_gen.specs.Formula.{all_of};
+ghost use Rattle.std.specs.Prelude.{◌≡◌, drop, OnOk};
+ghost use Rattle.flt_gen.specs.inside.Code.{emit_all, emit_formula};
+ghost use Rattle.flt_gen.specs.inside.Emits.{Emits};
 ghost use Rattle.flt_gen.specs.inside.Cases.{case_of, same_words, key_of, insert_case, case_frame};
 ghost use Rattle.flt_gen.specs.inside.Cases.{case_tests, lowest, reach};
 ghost use Rattle.flt_gen.specs.inside.Cases.{word_test, keeps, all_keep, test_at, from_test};
 ghost use Rattle.flt_gen.specs.inside.Cases.{middle, is_parted, chain, decision, cases_formula};
 
 use crate::address::ip6_test;
+use crate::code::{Code, Targets};
 use crate::elementary::{
     Elementary, FieldTest, FrameKind, has_ip_proto, has_ip6_proto, kind_test, network_offset,
 };
 use crate::protocol::mac_tests;
-use crate::steps::Steps;
 use cap_octet::Link;
 use flt_ast::{CompleteQualifiers, Direction, Value};
-use flt_words::{Comparison, Join, Protocol, Side, ValueType};
+use flt_words::{Comparison, Protocol, Side, ValueType};
 use std::alloc::{AllocError, Allocator};
 
 /// How many cases are compared one after the other, since a test more would part them.
@@ -234,112 +232,109 @@ fn is_parted(link: Link, direction: Direction, word: usize, cases: &[Case], at: 
         && all_keep(link, direction, word, Bound::From(number), &cases[at..])
 }
 
-impl<A: Allocator> Steps<A> {
-    ghost use Rattle.flt_gen.specs.inside.Steps.{IsPut};
-
-    /// Adds the steps of a case's tests from a word on.
-    fn put_case_from(
+impl<A: Allocator> Code<A> {
+    /// Emits the tests of a case from a word on, which all have to hold. Returns the place where
+    /// they begin; for no test that is `to.yes`. It calls itself for each: they are few.
+    fn emit_case_from(
         &mut self,
         link: Link,
         direction: Direction,
         word: usize,
         case: Case,
-    ) -> Result<(), AllocError>
-        ensures { OnOk result
-            (IsPut (all_of (drop word (case_tests link direction case))) self.old self.new) }
+        to: Targets,
+    ) -> Result<usize, AllocError>
+        ensures { Emits result
+            (emit_all (drop word (case_tests link direction case)) to.yes to.no self.old) self.new }
     {
         let Some(test) = word_test(link, direction, case, word) else {
-            return self.put_test(Elementary::Outcome(true));
+            return Ok(to.yes);
         };
-        self.put_test(test)?;
-        if word_test(link, direction, case, word + 1).is_none() {
-            return Ok(());
-        }
-        self.put_case_from(link, direction, word + 1, case)?;
-        self.put_join(Join::And)
+        let yes = self.emit_case_from(link, direction, word + 1, case, to)?;
+        self.emit_elementary(test, Targets { yes, no: to.no })
     }
 
-    /// Adds the steps of one case after the other.
-    fn put_chain(
+    /// Emits one case after the other. It calls itself for each: they are few, but where networks
+    /// contain others of the list.
+    fn emit_cases_in_turn(
         &mut self,
         link: Link,
         direction: Direction,
         word: usize,
         cases: &[Case],
-    ) -> Result<(), AllocError>
-        ensures { OnOk result
-            (IsPut (chain (case_tests link direction) word cases.now) self.old self.new) }
+        to: Targets,
+    ) -> Result<usize, AllocError>
+        ensures { Emits result (emit_formula link (chain (case_tests link direction) word cases.now)
+            to.yes to.no self.old) self.new }
     {
         match cases {
-            [] => self.put_test(Elementary::Outcome(false)),
-            [only] => self.put_case_from(link, direction, word, *only),
+            [] => Ok(to.no),
             [first, others @ ..] => {
-                self.put_case_from(link, direction, word, *first)?;
-                self.put_chain(link, direction, word, others)?;
-                self.put_join(Join::Or)
+                let no = self.emit_cases_in_turn(link, direction, word, others, to)?;
+                self.emit_case_from(link, direction, word, *first, Targets { yes: to.yes, no })
             }
         }
     }
 
-    /// Adds the steps of cases by halves, of one word after the other: they are halved `most` times
-    /// at most.
-    fn put_decision(
+    /// Emits cases by halves, of one word after the other: they are halved `most` times at most.
+    fn emit_decision(
         &mut self,
         most: usize,
         link: Link,
         direction: Direction,
         word: usize,
         cases: &[Case],
-    ) -> Result<(), AllocError>
-        ensures { OnOk result
-            (IsPut (decision most (case_tests link direction) word cases.now) self.old self.new) }
+        to: Targets,
+    ) -> Result<usize, AllocError>
+        ensures { Emits result
+            (emit_formula link (decision most (case_tests link direction) word cases.now)
+            to.yes to.no self.old) self.new }
     {
         if most == 0 {
-            return self.put_chain(link, direction, word, cases);
+            return self.emit_cases_in_turn(link, direction, word, cases, to);
         }
         if cases.len() <= FEW_CASES {
-            return self.put_chain(link, direction, word, cases);
+            return self.emit_cases_in_turn(link, direction, word, cases, to);
         }
         let test = test_at(link, direction, word, cases, 0);
         if all_keep(link, direction, word, Bound::Exactly(lowest(test)), cases) {
             let Some(test) = test else {
-                return self.put_test(Elementary::Outcome(false));
+                return Ok(to.no);
             };
-            self.put_test(test)?;
             if test_at(link, direction, word + 1, cases, 0).is_none() {
-                return Ok(());
+                return self.emit_elementary(test, to);
             }
-            self.put_decision(most - 1, link, direction, word + 1, cases)?;
-            return self.put_join(Join::And);
+            let yes = self.emit_decision(most - 1, link, direction, word + 1, cases, to)?;
+            return self.emit_elementary(test, Targets { yes, no: to.no });
         }
         let at = middle(link, direction, word, cases);
         if !is_parted(link, direction, word, cases, at) {
-            return self.put_chain(link, direction, word, cases);
+            return self.emit_cases_in_turn(link, direction, word, cases, to);
         }
-        let (lower, upper) = (&cases[..at], &cases[at..]);
         let number = lowest(test_at(link, direction, word, cases, at));
-        self.put_test(from_test(test, number))?;
-        self.put_decision(most - 1, link, direction, word, upper)?;
-        self.put_join(Join::And)?;
-        self.put_decision(most - 1, link, direction, word, lower)?;
-        self.put_join(Join::Or)
+        let no = self.emit_decision(most - 1, link, direction, word, &cases[..at], to)?;
+        let yes = self.emit_decision(most - 1, link, direction, word, &cases[at..], to)?;
+        self.emit_elementary(from_test(test, number), Targets { yes, no })
     }
 
-    /// Adds the steps of cases that look for a value, in the frames in which they may be.
-    pub fn put_cases(
+    /// Emits cases that look for a value, in the frames in which they may be. Returns the place
+    /// where the code begins.
+    pub fn emit_cases(
         &mut self,
         link: Link,
         direction: Direction,
         cases: &[Case],
-    ) -> Result<(), AllocError>
-        ensures { OnOk result
-            (IsPut (cases_formula link direction cases.now) self.old self.new) }
+        to: Targets,
+    ) -> Result<usize, AllocError>
+        ensures { Emits result (emit_formula link (cases_formula link direction cases.now)
+            to.yes to.no self.old) self.new }
     {
         let [first, ..] = cases else {
-            return self.put_test(Elementary::Outcome(false));
+            return Ok(to.no);
         };
-        self.put_test(kind_test(link, case_frame(*first)))?;
-        self.put_decision(MOST_DECISIONS, link, direction, 0, cases)?;
-        self.put_join(Join::And)
+        let yes = self.emit_decision(MOST_DECISIONS, link, direction, 0, cases, to)?;
+        self.emit_elementary(
+            kind_test(link, case_frame(*first)),
+            Targets { yes, no: to.no },
+        )
     }
 }

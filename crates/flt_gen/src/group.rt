@@ -1,19 +1,22 @@
 //! Groups of addresses, ports or protocols, which one search or decision tree looks for together.
 //! The walk adds the members from the last one in the expression to the first.
 
-ghost use Rattle.std.specs.Prelude.{◌≡◌, ◌≤◌, [], nat_lt, if◌then◌else◌, Some, None, length, IfOk, OnOk};
+ghost use Rattle.std.specs.Prelude.{◌≡◌, ◌≤◌, [], nat_lt, if◌then◌else◌, Some, None, length, IfOk, OnOk, true, false};
 ghost use Rattle.std.specs.List.{insert};
 ghost use Rattle.flt_gen.specs.inside.Intervals.{insert_ascending};
 ghost use Rattle.flt_gen.specs.inside.Group.{no_group, same_type, same_protocol, same_direction};
 ghost use Rattle.flt_gen.specs.inside.Group.{goes_with, is_masked, net_member, member_of, is_empty};
 ghost use Rattle.flt_gen.specs.inside.Group.{larger_group, is_searched, group_formula, rows_formula};
 ghost use Rattle.flt_gen.specs.inside.Group.{numbers_of, is_address, has_networks, has_none};
-ghost use Rattle.flt_gen.specs.inside.Group.{case_goes_with, with_case};
+ghost use Rattle.flt_gen.specs.inside.Group.{case_goes_with, with_case, is_decided};
+ghost use Rattle.flt_gen.specs.inside.Code.{emit_formula};
+ghost use Rattle.flt_gen.specs.inside.Emits.{Emits};
 ghost use Rattle.flt_gen.specs.inside.Cases.{case_of};
 ghost use Rattle.flt_gen.specs.inside.Steps.{IsPut, no_steps};
 
 use crate::address::Hosts;
 use crate::cases::{Case, case_of, put_case, same_words};
+use crate::code::{Code, Targets};
 use crate::elementary::{Elementary, Interval};
 use crate::port::{PortTest, Ports};
 use crate::stack::Stack;
@@ -320,18 +323,38 @@ impl<A: Allocator> Group<A> {
         steps.begin(self.has_networks(), self.first, &self.all)
     }
 
-    /// Adds the steps that look for the group's members. `steps` has their numbers.
+    /// Whether the members are decided together, as cases.
+    pub fn is_decided(&self) -> bool
+        ensures { result ≡ is_decided self.now }
+    {
+        !self.cases.is_empty() && self.is_searched()
+    }
+
+    /// Emits members that are decided together. Returns the place where the code begins.
+    pub fn emit_members(
+        &self,
+        link: Link,
+        code: &mut Code<A>,
+        to: Targets,
+    ) -> Result<usize, AllocError>
+        requires { is_decided self.now ≡ true }
+        ensures { Emits result
+            (emit_formula link (group_formula link self.now) to.yes to.no code.old) code.new }
+    {
+        code.emit_cases(link, self.qualifiers.direction, &self.cases, to)
+    }
+
+    /// Adds the steps that look for the group's members, which aren't decided as cases. `steps` has
+    /// their numbers.
     pub fn put_members(&mut self, link: Link, steps: &mut Steps<A>) -> Result<(), AllocError>
-        requires { steps.old.numbers ≡ numbers_of self.old }
+        requires numbers { steps.old.numbers ≡ numbers_of self.old }
+        requires others { is_decided self.old ≡ false }
         ensures { OnOk result (IsPut (group_formula link self.old) steps.old steps.new) }
     {
         if !self.is_searched() {
             return self.put_rows(link, steps);
         }
         let (protocol, direction) = (self.qualifiers.protocol, self.qualifiers.direction);
-        if !self.cases.is_empty() {
-            return steps.put_cases(link, direction, &self.cases);
-        }
         match self.qualifiers.value_type {
             ValueType::Host | ValueType::Net => {
                 steps.put_hosts(link, protocol, Hosts::Several(direction))

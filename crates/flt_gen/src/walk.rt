@@ -358,6 +358,12 @@ impl<A: Allocator + Clone> Walk<A> {
         ensures { OnOk result (self.new ≡ finish_formula link (group_formula link self.old.group)
             (record self.old { group = no_group })) }
     {
+        if self.group.is_decided() {
+            let entry = self.group.emit_members(link, &mut self.code, self.to)?;
+            self.group.clear();
+            self.finish_truth(entry);
+            return Ok(());
+        }
         self.group.begin_steps(steps)?;
         self.group.put_members(link, steps)?;
         self.group.clear();

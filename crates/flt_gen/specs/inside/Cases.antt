@@ -23,7 +23,7 @@ use Rattle.flt_gen.specs.declared.cases.Case.TheVariants.{Mac, Ip6, IpProto, Ip6
 use Rattle.flt_gen.specs.declared.cases.Bound.{Bound}
 use Rattle.flt_gen.specs.declared.cases.Bound.TheVariants.{Below, From, Exactly}
 use Rattle.flt_gen.specs.Elementary.{with, kind_test, has_ip_proto, has_ip6_proto}
-use Rattle.flt_gen.specs.Formula.{Formula, Single, Both, Either, all_of}
+use Rattle.flt_gen.specs.Formula.{Formula, Single, Both, Either, Split, all_of}
 use Rattle.flt_gen.specs.Primitives.{mac_tests, ip6_tests, after}
 
 -- a value as a case, or none: an address of one side, or a protocol of IPv4 or of IPv6
@@ -150,10 +150,6 @@ same_word None u following = Single (Outcome false)
 same_word (Some t) None following = Single t
 same_word (Some t) (Some u) following = Both (Single t) following
 
--- the upper half where a test is yes, or else the lower half
-abbrev pub by_half : Elementary → Formula → Formula → Formula
-by_half t upper lower = Either (Both (Single t) upper) lower
-
 -- cases by halves, or by the word that all have, where the rest is decided so
 abbrev pub decided : (ℕ → List Case → Formula) → (Case → List Elementary) → ℕ → List Case → Formula
 decided next tests word cs =
@@ -163,7 +159,7 @@ decided next tests word cs =
     (if all_keep tests word (Exactly (lowest t)) cs
     then same_word t (test_at tests (word + 1) cs 0) (next (word + 1) cs) else
     (if is_parted tests word cs at
-    then by_half (from_test t (lowest (test_at tests word cs at))) (next word (drop at cs))
+    then Split (from_test t (lowest (test_at tests word cs at))) (next word (drop at cs))
     (next word (take at cs))
     else chain tests word cs))
 

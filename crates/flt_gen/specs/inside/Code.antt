@@ -28,7 +28,7 @@ use Rattle.flt_gen.specs.declared.elementary.Elementary.TheVariants.{Outcome, Fi
 use Rattle.flt_gen.specs.Elementary.{with}
 use Rattle.cap_octet.specs.Link.{network_offset}
 use Rattle.flt_gen.specs.Numbers.{width_of}
-use Rattle.flt_gen.specs.Formula.{Formula, Single, Compare, Both, Either, Except, Sought, Numbers}
+use Rattle.flt_gen.specs.Formula.{Formula, Single, Compare, Both, Either, Except, Split, Sought, Numbers}
 use Rattle.flt_bpf.specs.declared.operation.Operation.{Operation}
 use Rattle.flt_bpf.specs.declared.operation.Operation.TheVariants.{LoadAbsolute, LoadIndirect, Load, LoadHeaderLength, Store, Compute, Negate, JumpIf, CopyToIndex}
 use Rattle.flt_bpf.specs.declared.operation.Register.TheVariants.{Accumulator, Index}
@@ -317,6 +317,10 @@ emit_formula link (Both a b) hit miss c =
 emit_formula link (Either a b) hit miss c =
     let e = emit_formula link b hit miss c in emit_formula link a hit e.entry e.code
 emit_formula link (Except a) hit miss c = emit_formula link a miss hit c
+emit_formula link (Split t a b) hit miss c =
+    let no = emit_formula link b hit miss c in
+    let yes = emit_formula link a hit miss no.code in
+    emit_elementary t yes.entry no.entry yes.code
 emit_formula link (Sought d at numbers) hit miss c = emit_among d at numbers hit miss c
 
 -- the code of some tests that all have to hold, from the last to the first

@@ -6,7 +6,7 @@ use Rattle.flt_ast.specs.declared.qualifiers.Direction.{Direction}
 use Rattle.flt_ast.specs.declared.qualifiers.Direction.TheVariants as direction
 use Rattle.flt_gen.specs.declared.elementary.Interval.{Interval}
 use Rattle.flt_gen.specs.inside.Code.{are_at_index}
-use Rattle.flt_gen.specs.Formula.{Formula, Single, Compare, Both, Either, Except, Sought, Numbers}
+use Rattle.flt_gen.specs.Formula.{Formula, Single, Compare, Both, Either, Except, Split, Sought, Numbers}
 
 -- how many words of memory the code of a formula needs at most
 abbrev pub words : Formula → ℕ
@@ -15,6 +15,7 @@ words (Compare c l r) = max (number_words l) (1 + number_words r)
 words (Both a b) = max (words a) (words b)
 words (Either a b) = max (words a) (words b)
 words (Except a) = words a
+words (Split t a b) = max (words a) (words b)
 words (Sought d at numbers) = 0
 
 -- how many nodes the arithmetic of a formula has
@@ -24,6 +25,7 @@ nodes (Compare c l r) = number_size l + number_size r
 nodes (Both a b) = nodes a + nodes b
 nodes (Either a b) = nodes a + nodes b
 nodes (Except a) = nodes a
+nodes (Split t a b) = nodes a + nodes b
 nodes (Sought d at numbers) = 0
 
 -- one more if the first of some intervals is more than one number, since it has both ends
@@ -48,4 +50,5 @@ tests (Compare c l r) = 1
 tests (Both a b) = tests a + tests b
 tests (Either a b) = tests a + tests b
 tests (Except a) = tests a
+tests (Split t a b) = 1 + (tests a + tests b)
 tests (Sought d at numbers) = sought_tests d numbers

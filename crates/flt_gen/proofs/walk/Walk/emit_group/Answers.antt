@@ -22,6 +22,6 @@ returns g c =
       group = h;
       pending = c.self.inside.pending;
     } in
-    let done = steps_emitted r.result link f numbers s (walk c.clear.new.self) r.new.self put r.ensures in
+    let done = steps_emitted r.result link f numbers s (walk c.clear-2.new.self) r.new.self put r.ensures in
     subst (λ (w : Walk). OnOk r.result (r.new.self ≡ finish_formula link (group_formula link w.group) (record w { group = no_group }))) c.self.view_is
-    (subst (λ (h : Group). OnOk r.result (r.new.self ≡ finish_formula link f (walk h))) c.clear.ensures done)
+    (subst (λ (h : Group). OnOk r.result (r.new.self ≡ finish_formula link f (walk h))) c.clear-2.ensures done)
