@@ -17,7 +17,7 @@ ghost use Rattle.flt_short.specs.Alike.{Shortens};
 ghost use Rattle.flt_short.specs.inside.Alike.{goes_on, same_step};
 ghost use Rattle.flt_short.specs.inside.Alike.{is_masked_test, one_test, direct_code, direct_load};
 ghost use Rattle.flt_short.specs.inside.Alike.{puts_number_into_index, adds_header};
-ghost use Rattle.flt_short.specs.inside.Alike.{loads_alike, header_load, rejects, is_sure, begins};
+ghost use Rattle.flt_short.specs.inside.Alike.{header_load, rejects, is_sure, begins};
 ghost use Rattle.flt_bpf.specs.inside.Flow.{goes_on_or_rejects};
 ghost use Rattle.flt_short.specs.inside.Alike.{code_from, are_copies, lands_at};
 ghost use Rattle.flt_short.specs.inside.Alike.{left_out, stands, are_alike};
@@ -189,8 +189,9 @@ fn is_one_test(
             let (zero, other) = (1 + test.yes as usize, 1 + test.no as usize);
             let place = landing.place;
             let (yes, no) = (place_past(place, new.yes), place_past(place, new.no));
-            let any_bit = Operation::JumpIf(Test::AnyBit, Operand::Constant).code();
-            (is_masked_test(old, *test) && (new.code == any_bit && old.k == new.k))
+            (is_masked_test(old, *test)
+                && (new.code == Operation::JumpIf(Test::AnyBit, Operand::Constant).code()
+                    && old.k == new.k))
                 && (landing.accumulator
                     && (lands_at(code, following, zero, no, false, landing.index)
                         && lands_at(code, following, other, yes, false, landing.index)))
@@ -268,15 +269,6 @@ pub fn adds_header(number: Wide, length: Wide, add: Wide, to_index: Wide) -> boo
             && to_index.code == Operation::CopyToIndex.code())
 }
 
-/// Whether two pairs of instructions begin with the same one, and then load equally many bytes at
-/// X, each at its own `k`. (`adds_header` checks that the first one loads the length of a header.)
-fn loads_alike(old_length: Wide, new_length: Wide, old_load: Wide, new_load: Wide) -> bool
-    ensures { result ≡ loads_alike old_length new_length old_load new_load }
-{
-    (old_length.code == new_length.code && old_length.k == new_length.k)
-        && (direct_code(old_load.code).is_some() && old_load.code == new_load.code)
-}
-
 /// Rule 4: the length of a header and a load at X (`177 L`, `80 i + k`) replace five instructions:
 /// a number into A, the length of the header into X, their sum into A, A into X, a load at X
 /// (`0 i`, `177 L`, `12`, `7`, `80 k`). X isn't read after them.
@@ -295,7 +287,8 @@ fn is_header_load(
         ([length, load, ..], [header_length, add, to_index, indirect, ..]) => {
             let second = place_past(place_past(landing.place, 0), 0);
             adds_header(old, *header_length, *add, *to_index)
-                && (loads_alike(*header_length, *length, *indirect, *load)
+                && ((header_length.code == length.code && header_length.k == length.k)
+                    && (direct_code(indirect.code).is_some() && indirect.code == load.code)
                     && (old.k.wrapping_add(indirect.k) == load.k
                         && lands_at(code, following, 4, second, true, false)))
         }

@@ -19,7 +19,7 @@ use crate::alike::{
     Landing, adds_header, direct_code, goes_on_or_rejects, is_masked_test, is_rejection, is_sure,
     puts_number_into_index, replaces,
 };
-use flt_bpf::operation::{AluOperation, Operand, Operation, Test, decode};
+use flt_bpf::operation::{AluOperation, Operand, Operation, Register, Source, Test, decode};
 use flt_bpf::{Wide, reads_accumulator, reads_index, sets_accumulator, sets_index};
 use std::alloc::{AllocError, Allocator};
 
@@ -503,7 +503,16 @@ impl Shortening<'_> {
 
     /// Emits an instruction of the old code, joined with those after it if that is shorter.
     fn emit(&mut self, at: usize, insn: Wide) {
-        if let Some(test) = self.bits_test_at(at) {
+        let may_join = matches!(
+            decode(insn.code),
+            Some(
+                Operation::Compute(AluOperation::And, Operand::Constant)
+                    | Operation::Load(Register::Accumulator, Source::Immediate)
+            )
+        );
+        if !may_join {
+            self.emit_alone(at, insn);
+        } else if let Some(test) = self.bits_test_at(at) {
             self.emit_test(at, test, index_after(at, 0));
         } else if let Some(load) = self.direct_load_at(at) {
             self.emit_plain(at, load, index_after(at, 2));

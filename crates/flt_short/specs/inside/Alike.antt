@@ -69,7 +69,7 @@ goes_on c (JumpIf test operand) j l i ls =
 goes_on c ReturnConstant j l i ls = true
 goes_on c ReturnAccumulator j l i ls = true
 goes_on c op j l i ls =
-    lands_at c ls 0 (l.place - (1 + 0)) (sets_accumulator op || l.accumulator)
+    lands_at c ls 0 (l.place - 1) (sets_accumulator op || l.accumulator)
     (sets_index op || l.index)
 
 -- j is the same instruction as i except the offsets, what it reads is the same in both programs,
@@ -81,28 +81,18 @@ same_step c (Some op) j l i ls =
     && (((not (reads_accumulator op) || l.accumulator) && (not (reads_index op) || l.index))
     && goes_on c op j l i ls)
 
--- the code of a mask
-abbrev pub MASK : ℕ
-MASK = code_of (Compute And Constant)
-
--- the code of a test whether A is k
-abbrev pub EQUAL : ℕ
-EQUAL = code_of (JumpIf test.Equal Constant)
-
--- the code of a test whether A and k have a bit in common
-abbrev pub ANY_BIT : ℕ
-ANY_BIT = code_of (JumpIf test.AnyBit Constant)
-
 -- i is a mask, and t a test whether 0 is left
 abbrev pub is_masked_test : Insn → Insn → Bool
-is_masked_test i t = (i.code == MASK && t.code == EQUAL) && t.k == 0
+is_masked_test i t =
+    (i.code == code_of (Compute And Constant) && t.code == code_of (JumpIf test.Equal Constant))
+    && t.k == 0
 
 -- j is one test of bits instead of i, which is a mask, and of the test after it whether 0 is left;
 -- before them A is the same in both programs, and after them it isn't read
 unfoldable pub one_test : List Insn → Insn → Landing → Insn → List Insn → List Landing → Bool
 one_test c j l i [] ls = false
 one_test c j l i (t ∷ is) ls =
-    (is_masked_test i t && (j.code == ANY_BIT && i.k == j.k))
+    (is_masked_test i t && (j.code == code_of (JumpIf test.AnyBit Constant) && i.k == j.k))
     && (l.accumulator
     && (lands_at c ls (1 + t.jt) (l.place - (1 + j.jf)) false l.index
     && lands_at c ls (1 + t.jf) (l.place - (1 + j.jt)) false l.index))
@@ -124,7 +114,7 @@ direct_load c j l i (t ∷ []) ls = false
 direct_load c j l i (t ∷ u ∷ is) ls =
     (puts_number_into_index i t
     && (option_map_or (λ n. n == j.code) (direct_code (operation_of u.code)) false && (i.k + u.k) % 2 ^ 32 == j.k))
-    && lands_at c ls 2 (l.place - (1 + 0)) true false
+    && lands_at c ls 2 (l.place - 1) true false
 
 -- four instructions put a number and a header's length into A and X, add them in A, and copy the
 -- sum to X
@@ -133,18 +123,14 @@ adds_header i t u v =
     (i.code == code_of (Load Accumulator Immediate) && t.code == code_of LoadHeaderLength)
     && (u.code == code_of (Compute Add IndexRegister) && v.code == code_of CopyToIndex)
 
--- t and h are the same instruction, and w and j are loads of equally many bytes at X
-abbrev pub loads_alike : Insn → Insn → Insn → Insn → Bool
-loads_alike t h w j =
-    (t.code == h.code && t.k == h.k) && (is_some (direct_code (operation_of w.code)) && w.code == j.code)
-
--- the new code loads a header's length and then at X, instead of i, which puts a number into A,
--- the load of the header's length, their sum, its copy to X, and a load at X; X isn't read after
--- them
+-- the new code loads the same header's length and then equally many bytes at X, instead of i, which
+-- puts a number into A, the load of the header's length, their sum, its copy to X, and a load at X;
+-- X isn't read after them
 unfoldable pub header_load : List Insn → List Insn → Landing → Insn → List Insn → List Landing → Bool
 header_load c (h ∷ j ∷ js) l i (t ∷ u ∷ v ∷ w ∷ is) ls =
-    adds_header i t u v && (loads_alike t h w j
-    && ((i.k + w.k) % 2 ^ 32 == j.k && lands_at c ls 4 (l.place - (1 + 0) - (1 + 0)) true false))
+    adds_header i t u v && (((t.code == h.code && t.k == h.k)
+    && (is_some (direct_code (operation_of w.code)) && w.code == j.code))
+    && ((i.k + w.k) % 2 ^ 32 == j.k && lands_at c ls 4 (l.place - 1 - 1) true false))
 header_load c js l i is ls = false
 
 -- an instruction returns 0
