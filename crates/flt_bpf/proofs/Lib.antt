@@ -4,6 +4,7 @@ pub mod Rules
 pub mod Codes
 pub mod Checking
 pub mod Scan
+pub mod Both
 pub mod Steps
 pub mod Suffix
 pub mod Jumps

@@ -25,7 +25,7 @@ pub use fault::{CheckFault, ListingFault};
 pub use insn::Insn;
 pub use machine::{Flow, State, WORDS, compute, execute};
 pub use position::{Position, advance};
-pub use program::{Program, check, check_insns, insn_fault};
+pub use program::{Program, check, check_insns, constant_fault, insn_fault, is_return};
 pub use reading::read_listing;
 pub use registers::{reads_accumulator, reads_index, sets_accumulator, sets_index};
 pub use running::run;

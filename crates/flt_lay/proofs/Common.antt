@@ -16,4 +16,4 @@ pub use Rattle.flt_bpf.specs.Machine.{Goes, Lost, does_if_known, into, word_into
 pub use Rattle.flt_bpf.specs.Check.{unless, fault_if_known, is_return, ends_in_return, IsFaultless, IsValidUnlessLong}
 pub use Rattle.flt_lay.specs.declared.layout.Reach.{Reach}
 pub use Rattle.flt_lay.specs.declared.layout.Reach.TheVariants.{Near, YesFar, NoFar, BothFar}
-pub use Rattle.flt_lay.specs.inside.Layout.{PlacedCode, place_at, with_offsets, with_test_by, with_insn, placed_code, laid_out, with_jump, latest, jump_near, jumps_by, jumps_with, test_reach}
+pub use Rattle.flt_lay.specs.inside.Layout.{PlacedCode, place_at, with_offsets, with_test_by, with_insn, placed_code, laid_out, emitted, with_jump, with_noted_jump, jump_near, test_reach}

@@ -1,6 +1,6 @@
 -- How many instructions are laid out.
-use Rattle.flt_lay.proofs.Common.{◌≡◌, ℕ, ◌+◌, ◌-◌, ◌*◌, ◌<◌, ◌≤◌, List, [], ◌∷◌, length, Bool, true, cond, Option, Some, refl, sym, subst, arith, ◌≢◌, nat_le, count_by, nat_tests, All-cons, All-head, All-tail, Insn, Operation, Jump, JumpIf, is_branch, JUMP, MOST_OFFSET, HasNoJump, IsShort, back_of_code, Reach, Near, PlacedCode, place_at, with_offsets, with_test_by, with_insn, placed_code, laid_out}
-use Rattle.std.proofs.lemmas.List.Sums.{sum_by-cons}
+use Rattle.flt_lay.proofs.Common.{◌≡◌, ℕ, ◌+◌, ◌-◌, ◌*◌, ◌<◌, ◌≤◌, List, [], ◌∷◌, length, true, cond, Option, Some, refl, sym, subst, arith, ◌≢◌, nat_le, count_by, nat_tests, All-cons, All-head, All-tail, Insn, Operation, Jump, JumpIf, is_branch, JUMP, MOST_OFFSET, HasNoJump, IsShort, back_of_code, Reach, Near, PlacedCode, place_at, emitted, with_offsets, with_test_by, with_insn, placed_code, laid_out}
+use Rattle.std.proofs.lemmas.List.Sums.{count_by-le-length, sum_by-cons}
 use Rattle.flt_bpf.specs.Instructions.{operation_of}
 use Rattle.flt_lay.specs.inside.Layout.{near_place, with_test}
 
@@ -9,13 +9,13 @@ record Grows (c d : List Insn) (most : ℕ) : Type 0 where
   more : length c < length d
   few : length d ≤ length c + most
 
-test_grows : (r : Reach) (i : Insn) (hit miss : ℕ) (c : List Insn) → Grows c (with_test_by r i hit miss c) 3
-test_grows Near i hit miss c = record { more = omega arith; few = omega arith }
-test_grows _ i hit miss c = record { more = omega arith; few = omega arith }
+test_grows : (r : Reach) (i : Insn) (hit miss : ℕ) (l : PlacedCode) → Grows l.code (with_test_by r i hit miss l).code 3
+test_grows Near i hit miss l = record { more = omega arith; few = omega arith }
+test_grows _ i hit miss l = record { more = omega arith; few = omega arith }
 
-emitted_grows : (op : Option Operation) (i : Insn) (l : PlacedCode) → Grows l.code (with_insn op i l) (1 + 2 * cond (is_branch op) 1 0)
+emitted_grows : (op : Option Operation) (i : Insn) (l : PlacedCode) → Grows l.code (with_insn op i l).code (1 + 2 * cond (is_branch op) 1 0)
 unfolding with_test
-emitted_grows (Some (JumpIf t o)) i l = test_grows _ i _ _ l.code
+emitted_grows (Some (JumpIf t o)) i l = test_grows _ i _ _ l
 emitted_grows _ i l = record { more = omega arith; few = omega arith }
 
 pub at_least : (wide : List Insn) → length wide ≤ length (laid_out wide)
@@ -31,22 +31,16 @@ at_most (i ∷ is) =
     let more : count_by (λ j. is_branch (operation_of j.code)) (i ∷ is) ≡ cond (is_branch (operation_of i.code)) 1 0 + count_by (λ j. is_branch (operation_of j.code)) is = sum_by-cons (λ j. cond (is_branch (operation_of j.code)) 1 0) i is in
     omega (arith, g.few, at_most is)
 
-test_or_not : (b : Bool) → cond b 1 0 ≤ 1
-test_or_not b = grind (arith, nat_tests)
-
 -- three for each at most
 pub threefold : (wide : List Insn) → length (laid_out wide) ≤ 3 * length wide
-threefold [] = omega arith
-threefold (i ∷ is) =
-    let g = emitted_grows (operation_of i.code) i (placed_code is) in
-    omega (arith, g.few, threefold is, test_or_not (is_branch (operation_of i.code)))
+threefold wide = omega (arith, at_most wide, count_by-le-length (λ i. is_branch (operation_of i.code)) wide)
 
 -- in short code all targets are near
-near_test : (i : Insn) (hit miss : ℕ) (c : List Insn) → length c ≤ 255 → with_test i hit miss c ≡ with_offsets i (length c - hit) (length c - miss) ∷ c
+near_test : (i : Insn) (hit miss : ℕ) (l : PlacedCode) → length l.code ≤ 255 → with_test i hit miss l ≡ emitted (with_offsets i (length l.code - hit) (length l.code - miss)) l
 unfolding with_test
-near_test i hit miss c l =
-    let h : nat_le (length c - hit) MOST_OFFSET ≡ true = grind (arith, nat_tests) in
-    let m : nat_le (length c - miss) MOST_OFFSET ≡ true = grind (arith, nat_tests) in
+near_test i hit miss l short =
+    let h : nat_le (length l.code - hit) MOST_OFFSET ≡ true = grind (arith, nat_tests) in
+    let m : nat_le (length l.code - miss) MOST_OFFSET ≡ true = grind (arith, nat_tests) in
     rw (h, m) refl
 
 -- one instruction more, and no jump
@@ -57,9 +51,9 @@ record IsPlain (c d : List Insn) : Type 0 where
 plain_put : (i : Insn) (c : List Insn) → i.code ≢ JUMP → HasNoJump c → IsPlain c (i ∷ c)
 plain_put i c other none = record { none = All-cons (λ j. j.code ≢ JUMP) i c other none; one = omega arith }
 
-emitted_plain : (op : Option Operation) (i : Insn) (l : PlacedCode) → operation_of i.code ≡ op → i.code ≢ JUMP → HasNoJump l.code → length l.code ≤ 255 → IsPlain l.code (with_insn op i l)
+emitted_plain : (op : Option Operation) (i : Insn) (l : PlacedCode) → operation_of i.code ≡ op → i.code ≢ JUMP → HasNoJump l.code → length l.code ≤ 255 → IsPlain l.code (with_insn op i l).code
 emitted_plain (Some (JumpIf t o)) i l e other none short =
-    subst (IsPlain l.code) (sym (near_test i (near_place l (place_at l i.jt)) (near_place l (place_at l i.jf)) l.code short)) (plain_put _ l.code other none)
+    subst (λ (m : PlacedCode). IsPlain l.code m.code) (sym (near_test i (near_place l (place_at l i.jt)) (near_place l (place_at l i.jf)) l short)) (plain_put _ l.code other none)
 emitted_plain (Some Jump) i l e other none short = absurd (other (sym (back_of_code i.code Jump e)))
 emitted_plain _ i l e other none short = plain_put _ l.code other none
 

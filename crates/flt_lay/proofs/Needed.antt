@@ -1,4 +1,4 @@
--- A jump stands only for a place_at that is too far for its test.
+-- A jump stands only for a target that is too far for its test.
 use Rattle.flt_lay.proofs.Common.{◌≡◌, ℕ, zero, suc, ◌+◌, ◌-◌, ◌<◌, List, [], ◌∷◌, length, Bool, true, false, Option, Some, refl, sym, ap, ◌∙◌, arith, inl, inr, ◌≢◌, ◌⊎◌, slice_get, nat_le, ◌&&◌, if◌then◌else◌, nat_tests, Insn, Operation, Jump, JumpIf, is_branch, JUMP, MOST_OFFSET, IsNeeded, JumpsAreNeeded, HasNoJump, back_of_code, Near, YesFar, NoFar, BothFar, PlacedCode, with_offsets, with_jump, with_test_by, with_insn, placed_code, laid_out}
 use Rattle.flt_bpf.specs.Instructions.{operation_of}
 use Rattle.flt_bpf.proofs.Jumps.{jump_later, needed_put}
@@ -45,22 +45,22 @@ needed_two c i hit miss other branches far_hit far_miss h = record { each = at }
         record { from = 0; branch = with_offsets i 0 1; there = refl; branches = branches; leads = inr refl; far = omega arith }
     at (suc (suc (suc place))) jump g e = jump_later _ _ (suc (suc place)) jump (jump_later _ _ (suc place) jump (jump_later c _ place jump (h.each place jump g e)))
 
-needed_choice : (i : Insn) (hit miss : ℕ) (c : List Insn) → i.code ≢ JUMP → is_branch (operation_of i.code) ≡ true → JumpsAreNeeded c → (a b d : Bool) → a ≡ (nat_le (length c - hit) MOST_OFFSET && nat_le (length c - miss) MOST_OFFSET) → b ≡ nat_le (length c + 1 - miss) MOST_OFFSET → d ≡ nat_le (length c + 1 - hit) MOST_OFFSET → JumpsAreNeeded (with_test_by (if a then Near else (if b then YesFar else (if d then NoFar else BothFar))) i hit miss c)
-needed_choice i hit miss c other branches h true b d ea eb ed = needed_put c _ other h
-needed_choice i hit miss c other branches h false true d ea eb ed =
-    let far : MOST_OFFSET < length c - hit = grind (arith, nat_tests) in
-    needed_one c i 0 _ hit other branches (inl refl) far h
-needed_choice i hit miss c other branches h false false true ea eb ed =
-    let far : MOST_OFFSET < length c - miss = grind (arith, nat_tests) in
-    needed_one c i _ 0 miss other branches (inr refl) far h
-needed_choice i hit miss c other branches h false false false ea eb ed =
-    let far_hit : MOST_OFFSET < length c + 1 - hit = grind (arith, nat_tests) in
-    let far_miss : MOST_OFFSET < length c + 1 - miss = grind (arith, nat_tests) in
-    needed_two c i hit miss other branches far_hit far_miss h
+needed_choice : (i : Insn) (hit miss : ℕ) (l : PlacedCode) → i.code ≢ JUMP → is_branch (operation_of i.code) ≡ true → JumpsAreNeeded l.code → (a b d : Bool) → a ≡ (nat_le (length l.code - hit) MOST_OFFSET && nat_le (length l.code - miss) MOST_OFFSET) → b ≡ nat_le (length l.code + 1 - miss) MOST_OFFSET → d ≡ nat_le (length l.code + 1 - hit) MOST_OFFSET → JumpsAreNeeded (with_test_by (if a then Near else (if b then YesFar else (if d then NoFar else BothFar))) i hit miss l).code
+needed_choice i hit miss l other branches h true b d ea eb ed = needed_put l.code _ other h
+needed_choice i hit miss l other branches h false true d ea eb ed =
+    let far : MOST_OFFSET < length l.code - hit = grind (arith, nat_tests) in
+    needed_one l.code i 0 _ hit other branches (inl refl) far h
+needed_choice i hit miss l other branches h false false true ea eb ed =
+    let far : MOST_OFFSET < length l.code - miss = grind (arith, nat_tests) in
+    needed_one l.code i _ 0 miss other branches (inr refl) far h
+needed_choice i hit miss l other branches h false false false ea eb ed =
+    let far_hit : MOST_OFFSET < length l.code + 1 - hit = grind (arith, nat_tests) in
+    let far_miss : MOST_OFFSET < length l.code + 1 - miss = grind (arith, nat_tests) in
+    needed_two l.code i hit miss other branches far_hit far_miss h
 
-emitted_needed : (op : Option Operation) (i : Insn) (l : PlacedCode) → operation_of i.code ≡ op → i.code ≢ JUMP → JumpsAreNeeded l.code → JumpsAreNeeded (with_insn op i l)
+emitted_needed : (op : Option Operation) (i : Insn) (l : PlacedCode) → operation_of i.code ≡ op → i.code ≢ JUMP → JumpsAreNeeded l.code → JumpsAreNeeded (with_insn op i l).code
 unfolding with_test
-emitted_needed (Some (JumpIf t o)) i l e other h = needed_choice i _ _ l.code other (ap is_branch e) h _ _ _ refl refl refl
+emitted_needed (Some (JumpIf t o)) i l e other h = needed_choice i _ _ l other (ap is_branch e) h _ _ _ refl refl refl
 emitted_needed (Some Jump) i l e other h = absurd (other (sym (back_of_code i.code Jump e)))
 emitted_needed _ i l e other h = needed_put l.code _ other h
 

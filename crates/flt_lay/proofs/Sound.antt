@@ -1,5 +1,5 @@
 -- Code without a fault stays so.
-use Rattle.flt_lay.proofs.Common.{◌≡◌, ℕ, ◌-◌, ◌<◌, ◌≤◌, List, [], ◌∷◌, ◌++◌, length, drop, true, false, Option, Some, None, refl, sym, ap, ◌∙◌, arith, length-drop, nat_lt, ◌&&◌, nat_tests, Insn, Operation, Load, Compute, Jump, JumpIf, Memory, Test, Operand, unless, fault_if_known, is_return, ends_in_return, IsFaultless, IsValidUnlessLong, Reach, Near, YesFar, NoFar, BothFar, PlacedCode, place_at, with_offsets, with_jump, test_reach, with_test_by, with_insn, placed_code, laid_out}
+use Rattle.flt_lay.proofs.Common.{◌≡◌, ℕ, ◌-◌, ◌<◌, ◌≤◌, List, [], ◌∷◌, ◌++◌, length, drop, true, Option, Some, None, refl, ap, ◌∙◌, arith, length-drop, nat_lt, ◌&&◌, nat_tests, Insn, Operation, Load, Compute, Jump, JumpIf, ReturnConstant, ReturnAccumulator, Memory, Test, Operand, unless, fault_if_known, is_return, ends_in_return, IsFaultless, IsValidUnlessLong, Reach, Near, YesFar, NoFar, BothFar, PlacedCode, place_at, with_offsets, with_jump, with_test_by, with_insn, placed_code, laid_out}
 use Rattle.flt_bpf.specs.declared.fault.CheckFault.TheVariants.{JumpOut}
 use Rattle.flt_bpf.specs.declared.operation.Operand.TheVariants.{Constant}
 use Rattle.flt_bpf.specs.Instructions.{operation_of}
@@ -28,16 +28,17 @@ test_sound i t o jt jf c e yes_in no_in sound =
     let both : (nat_lt jt (length c) && nat_lt jf (length c)) ≡ true = rw (a, b) refl in
     (ap (λ op. fault_if_known op (with_offsets i jt jf) (length c)) e ∙ ap (λ d. unless d JumpOut) both, sound)
 
-reached_sound : (r : Reach) (i : Insn) (t : Test) (o : Operand) (hit miss : ℕ) (c : List Insn) → operation_of i.code ≡ Some (JumpIf t o) → IsInside hit c → IsInside miss c → IsFaultless c → IsFaultless (with_test_by r i hit miss c)
-reached_sound Near i t o hit miss c e h m sound =
-    test_sound i t o _ _ c e (omega (arith, h.some, h.within)) (omega (arith, m.some, m.within)) sound
-reached_sound YesFar i t o hit miss c e h m sound =
-    test_sound i t o _ _ (with_jump hit c) e (omega arith) (omega (arith, m.some, m.within)) (jump_sound hit c h sound)
-reached_sound NoFar i t o hit miss c e h m sound =
-    test_sound i t o _ _ (with_jump miss c) e (omega (arith, h.some, h.within)) (omega arith) (jump_sound miss c m sound)
-reached_sound BothFar i t o hit miss c e h m sound =
-    let later : IsInside hit (with_jump miss c) = record { some = h.some; within = omega (arith, h.within) } in
-    test_sound i t o _ _ (with_jump hit (with_jump miss c)) e (omega arith) (omega arith) (jump_sound hit (with_jump miss c) later (jump_sound miss c m sound))
+reached_sound : (r : Reach) (i : Insn) (t : Test) (o : Operand) (hit miss : ℕ) (l : PlacedCode) → operation_of i.code ≡ Some (JumpIf t o) → IsInside hit l.code → IsInside miss l.code → IsFaultless l.code → IsFaultless (with_test_by r i hit miss l).code
+reached_sound Near i t o hit miss l e h m sound =
+    test_sound i t o _ _ l.code e (omega (arith, h.some, h.within)) (omega (arith, m.some, m.within)) sound
+reached_sound YesFar i t o hit miss l e h m sound =
+    test_sound i t o _ _ (with_jump hit l.code) e (omega arith) (omega (arith, m.some, m.within)) (jump_sound hit l.code h sound)
+reached_sound NoFar i t o hit miss l e h m sound =
+    test_sound i t o _ _ (with_jump miss l.code) e (omega (arith, h.some, h.within)) (omega arith) (jump_sound miss l.code m sound)
+reached_sound BothFar i t o hit miss l e h m sound =
+    let after = with_jump miss l.code in
+    let later : IsInside hit after = record { some = h.some; within = omega (arith, h.within) } in
+    test_sound i t o _ _ (with_jump hit after) e (omega arith) (omega arith) (jump_sound hit after later (jump_sound miss l.code m sound))
 
 plain_sound : (op : Option Operation) (i : Insn) (c : List Insn) → operation_of i.code ≡ op → fault_if_known op (with_offsets i 0 0) (length c) ≡ None → IsFaultless c → IsFaultless (with_offsets i 0 0 ∷ c)
 unfolding fault_of
@@ -54,7 +55,7 @@ near_inside l following k h inside = record { some = (h.near k).some (h.inside k
 within_if : (k following : ℕ) → unless (nat_lt k following) JumpOut ≡ None → k < following
 within_if k following e = grind (arith, nat_tests)
 
-emitted_sound : (op : Option Operation) (i : Insn) (l : PlacedCode) (following : ℕ) → operation_of i.code ≡ op → fault_if_known op i following ≡ None → HasTargets l following → IsFaultless l.code → IsFaultless (with_insn op i l)
+emitted_sound : (op : Option Operation) (i : Insn) (l : PlacedCode) (following : ℕ) → operation_of i.code ≡ op → fault_if_known op i following ≡ None → HasTargets l following → IsFaultless l.code → IsFaultless (with_insn op i l).code
 unfolding with_test
 emitted_sound None i l following e none h sound = cc
 emitted_sound (Some (Load register Memory)) i l following e none h sound = plain_sound _ i l.code e none sound
@@ -62,11 +63,11 @@ emitted_sound (Some (Compute operator Constant)) i l following e none h sound = 
 emitted_sound (Some Jump) i l following e none h sound = jump_sound _ l.code (h.inside i.k (within_if i.k following none)) sound
 emitted_sound (Some (JumpIf t o)) i l following e none h sound = tests (nat_lt i.jt following) (nat_lt i.jf following) refl refl none
   where
-    tests : (a b : _) → a ≡ nat_lt i.jt following → b ≡ nat_lt i.jf following → unless (a && b) JumpOut ≡ None → IsFaultless (with_insn (Some (JumpIf t o)) i l)
+    tests : (a b : _) → a ≡ nat_lt i.jt following → b ≡ nat_lt i.jf following → unless (a && b) JumpOut ≡ None → IsFaultless (with_insn (Some (JumpIf t o)) i l).code
     tests true true ea eb none' =
         let yes_in : i.jt < following = grind (arith, nat_tests) in
         let no_in : i.jf < following = grind (arith, nat_tests) in
-        reached_sound _ i t o _ _ l.code e (near_inside l following i.jt h yes_in) (near_inside l following i.jf h no_in) sound
+        reached_sound _ i t o _ _ l e (near_inside l following i.jt h yes_in) (near_inside l following i.jf h no_in) sound
     tests _ _ ea eb none' = cc
 emitted_sound _ i l following e none h sound = plain_sound _ i l.code e none sound
 
@@ -89,27 +90,18 @@ ends_after (i ∷ []) [] some = absurd (omega arith)
 ends_after (i ∷ []) (j ∷ c) some = refl
 ends_after (i ∷ h ∷ front) c some = ends_after (h ∷ front) c some
 
-test_no_end : (r : Reach) (i : Insn) (t : Test) (o : Operand) (hit miss : ℕ) → operation_of i.code ≡ Some (JumpIf t o) → ends_in_return (with_test_by r i hit miss []) ≡ false
-unfolding operation_of
-test_no_end Near i t o hit miss e = ap is_return e
-test_no_end _ i t o hit miss e = refl
+last_end : (op : Option Operation) (i : Insn) → operation_of i.code ≡ op → is_return op ≡ true → ends_in_return (with_insn op i (placed_code [])).code ≡ true
+last_end (Some ReturnConstant) i e r = ap is_return e
+last_end (Some ReturnAccumulator) i e r = ap is_return e
+last_end _ i e r = cc
 
-last_end : (op : Option Operation) (i : Insn) → operation_of i.code ≡ op → ends_in_return (with_insn op i (placed_code [])) ≡ is_return (operation_of i.code)
-unfolding with_test operation_of
-last_end (Some (JumpIf t o)) i e =
-    let hit = near_place (placed_code []) (place_at (placed_code []) i.jt) in
-    let miss = near_place (placed_code []) (place_at (placed_code []) i.jf) in
-    test_no_end (test_reach hit miss []) i t o hit miss e ∙ sym (ap is_return e)
-last_end (Some Jump) i e = sym (ap is_return e)
-last_end _ i e = refl
-
-ends_laid : (wide : List Insn) → ends_in_return (laid_out wide) ≡ ends_in_return wide
-ends_laid [] = refl
-ends_laid (i ∷ []) = last_end (operation_of i.code) i refl
-ends_laid (i ∷ j ∷ is) =
+ends_laid : (wide : List Insn) → ends_in_return wide ≡ true → ends_in_return (laid_out wide) ≡ true
+ends_laid [] e = e
+ends_laid (i ∷ []) e = last_end (operation_of i.code) i refl e
+ends_laid (i ∷ j ∷ is) e =
     let h = emitted_end (operation_of i.code) i (placed_code (j ∷ is)) in
     let some : 0 < length (laid_out (j ∷ is)) = omega (arith, at_least (j ∷ is)) in
-    ap ends_in_return h.parts ∙ ends_after h.front (laid_out (j ∷ is)) some ∙ ends_laid (j ∷ is)
+    ap ends_in_return h.parts ∙ ends_after h.front (laid_out (j ∷ is)) some ∙ ends_laid (j ∷ is) e
 
 pub sound_laid : (wide : List Insn) → IsValidUnlessLong wide → IsValidUnlessLong (laid_out wide)
-sound_laid wide h = record { faultless = faultless_laid wide h.faultless; ends = ends_laid wide ∙ h.ends }
+sound_laid wide h = record { faultless = faultless_laid wide h.faultless; ends = ends_laid wide h.ends }

@@ -10,9 +10,9 @@ ghost use Rattle.flt_bpf.specs.Instructions.{operation_of};
 ghost use Rattle.flt_bpf.specs.Layout.{is_branch, HasNoJump, JumpsAreNeeded, IsShort};
 ghost use Rattle.flt_bpf.specs.Machine.{start};
 ghost use Rattle.flt_bpf.specs.Valid.{MOST_INSTRUCTIONS, IsValid};
-ghost use Rattle.flt_lay.specs.inside.Layout.{place_at, with_offsets, with_jump, test_reach};
-ghost use Rattle.flt_lay.specs.inside.Layout.{with_test, latest, jumps_by, jump_near, near_place};
-ghost use Rattle.flt_lay.specs.inside.Layout.{with_entry, put, placed_code};
+ghost use Rattle.flt_lay.specs.inside.Layout.{place_at, with_offsets, emitted, with_noted_jump};
+ghost use Rattle.flt_lay.specs.inside.Layout.{jump_near, near_place, test_reach, with_test};
+ghost use Rattle.flt_lay.specs.inside.Layout.{with_place, put, placed_code};
 
 use flt_bpf::insn::Insn;
 use flt_bpf::operation::{Operation, decode};
@@ -164,7 +164,7 @@ impl<A: Allocator> Layout<A> {
 
     /// Puts an instruction in front.
     fn emit(&mut self, insn: Insn) -> Result<(), AllocError>
-        ensures { OnOk result (self.new ≡ record self.old { code = insn ∷ self.old.code }) }
+        ensures { OnOk result (self.new ≡ emitted insn self.old) }
     {
         self.backwards.push(insn)?;
         Ok(())
@@ -173,10 +173,7 @@ impl<A: Allocator> Layout<A> {
     /// Puts in front a jump (`ja`) to a place, and notes it.
     fn emit_jump(&mut self, to: usize) -> Result<(), AllocError>
         requires { length self.old.code < 2 ^ 32 }
-        ensures { OnOk result (self.new ≡ record self.old {
-          code = with_jump to self.old.code;
-          jumps = latest to (with_jump to self.old.code) self.old.jumps;
-        }) }
+        ensures { OnOk result (self.new ≡ with_noted_jump to self.old) }
     {
         let offset = self.distance(to) as u32;
         self.emit(Insn {
@@ -229,11 +226,7 @@ impl<A: Allocator> Layout<A> {
     #[tactic(auto, unfolding(crate::specs::inside::Layout::with_test))]
     fn emit_test(&mut self, insn: Wide, to: Targets) -> Result<(), AllocError>
         requires { length self.old.code + 3 < 2 ^ 32 }
-        ensures { OnOk result (self.new ≡ record self.old {
-          code = with_test insn to.yes to.no self.old.code;
-          jumps = jumps_by (test_reach to.yes to.no self.old.code) to.yes to.no self.old.code
-              self.old.jumps;
-        }) }
+        ensures { OnOk result (self.new ≡ with_test insn to.yes to.no self.old) }
     {
         let (jt, jf) = match self.test_reach(to) {
             Reach::Near => (self.distance(to.yes), self.distance(to.no)),
@@ -258,7 +251,7 @@ impl<A: Allocator> Layout<A> {
     /// Notes the place of the wide instruction that was laid out last: the beginning of the code
     /// now.
     fn push_place(&mut self) -> Result<(), AllocError>
-        ensures { OnOk result (self.new ≡ with_entry self.old.code self.old.jumps self.old) }
+        ensures { OnOk result (self.new ≡ with_place self.old) }
     {
         let top = self.top();
         self.places.push(top)?;

@@ -58,47 +58,29 @@ fn run_on(program: &mut Program<Global>, len: u32) -> (u32, usize) {
     (answer, count as usize)
 }
 
-/// One test, and by how many jumps its targets are reached.
-#[derive(Clone, Copy)]
-struct Row {
-    yes: u32,
-    no: u32,
-    jumps_if_yes: usize,
-    jumps_if_no: usize,
-}
-
-fn row_of(yes: u32, no: u32, jumps_if_yes: usize, jumps_if_no: usize) -> Row {
-    Row {
-        yes,
-        no,
-        jumps_if_yes,
-        jumps_if_no,
-    }
-}
-
 /// A jump for one target makes the other one farther by one instruction.
 #[test]
 fn one_test(rt: HostRuntime) -> Result<(), Fail> {
-    let rows = [
-        row_of(0, 255, 0, 0),
-        row_of(255, 0, 0, 0),
-        row_of(255, 255, 0, 0),
-        row_of(0, 256, 0, 1),
-        row_of(256, 0, 1, 0),
-        row_of(254, 256, 0, 1),
-        row_of(256, 254, 1, 0),
-        row_of(255, 256, 1, 1),
-        row_of(256, 255, 1, 1),
-        row_of(256, 256, 1, 1),
+    // The targets of a test, and by how many jumps each is reached.
+    let rows: [(u32, u32, usize, usize); 10] = [
+        (0, 255, 0, 0),
+        (255, 0, 0, 0),
+        (255, 255, 0, 0),
+        (0, 256, 0, 1),
+        (256, 0, 1, 0),
+        (254, 256, 0, 1),
+        (256, 254, 1, 0),
+        (255, 256, 1, 1),
+        (256, 255, 1, 1),
+        (256, 256, 1, 1),
     ];
-    for row in &rows {
-        let code = with_returns(rt.alloc(), &[has_length(1, row.yes, row.no)])?;
-        let jumps = row.jumps_if_yes.saturating_add(row.jumps_if_no);
+    for (yes, no, jumps_if_yes, jumps_if_no) in rows {
+        let code = with_returns(rt.alloc(), &[has_length(1, yes, no)])?;
+        let jumps = jumps_if_yes.saturating_add(jumps_if_no);
         assert!(rt; code.len() == RETURNS.saturating_add(2).saturating_add(jumps));
         let mut program = program_of(code)?;
-        let (yes, no) = (run_on(&mut program, 1), run_on(&mut program, 2));
-        assert!(rt; yes == (row.yes, row.jumps_if_yes.saturating_add(3)));
-        assert!(rt; no == (row.no, row.jumps_if_no.saturating_add(3)));
+        assert!(rt; run_on(&mut program, 1) == (yes, jumps_if_yes.saturating_add(3)));
+        assert!(rt; run_on(&mut program, 2) == (no, jumps_if_no.saturating_add(3)));
     }
     Ok(())
 }

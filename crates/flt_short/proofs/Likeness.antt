@@ -1,5 +1,6 @@
 -- Code that is alike has the answers of the old code, and a run of it meets no more instructions.
-use Rattle.flt_short.proofs.Common.{◌≡◌, ◌⊎◌, inl, inr, ℕ, zero, suc, ◌+◌, ◌-◌, ◌%◌, ◌^◌, ◌<◌, ◌≤◌, List, [], ◌∷◌, length, drop, length-drop, Bool, true, false, Option, Some, None, refl, sym, ap, ◌∙◌, subst, arith, ◌≢◌, All, count_by, ◌==◌, nat_lt, ◌&&◌, ◌||◌, not, if◌then◌else◌, slice_get, slice_set, bit_and, option_map, option_map_or, and_parts, or_cases, nat_tests, slice_get_within, get_or_from_slice_get, Insn, State, Operation, LoadAbsolute, LoadIndirect, Load, LoadHeaderLength, Store, Compute, Negate, Jump, JumpIf, ReturnConstant, ReturnAccumulator, CopyToIndex, CopyToAccumulator, Accumulator, Index, Immediate, Memory, Length, Constant, IndexRegister, Word, Byte, code_of, Next, Goes, Ends, Lost, does, does_if_known, into, into_word, operand_value, test_holds, field, compute, header_length, Answered, run_from, progress_after, step_if_there, machine, start, IsValidUnlessLong, JUMP, is_branch, implies, landing_fits_at, landing_fits, goes_on, direct_code, is_indirect, rejects, is_sure, goes_on_or_rejects, same_target, goes_on_alike, are_copies, lands_at_if, lands_at, code_from, stands_at, stands, are_alike, begins, answer_of, answer_after, parts}
+use Rattle.flt_short.proofs.Common.{◌≡◌, inl, inr, ℕ, zero, suc, ◌+◌, ◌-◌, ◌%◌, ◌^◌, ◌<◌, ◌≤◌, List, [], ◌∷◌, length, drop, length-drop, Bool, true, false, Option, Some, None, refl, sym, ap, ◌∙◌, subst, arith, ◌≢◌, All, count_by, ◌==◌, nat_lt, ◌&&◌, ◌||◌, not, if◌then◌else◌, slice_get, slice_set, bit_and, option_map, option_map_or, and_parts, or_cases, nat_tests, slice_get_within, get_or_from_slice_get, Insn, State, Operation, LoadAbsolute, LoadIndirect, Load, LoadHeaderLength, Store, Compute, Negate, Jump, JumpIf, ReturnConstant, ReturnAccumulator, CopyToIndex, CopyToAccumulator, Accumulator, Index, Immediate, Memory, Length, Constant, IndexRegister, Byte, code_of, Next, Goes, Ends, Lost, does, does_if_known, into, into_word, operand_value, test_holds, field, compute, header_length, Answered, run_from, progress_after, step_if_there, machine, start, IsValidUnlessLong, JUMP, is_branch, goes_on, direct_code, rejects, is_sure, goes_on_or_rejects, same_target, goes_on_alike, are_copies, lands_at_if, lands_at, code_from, stands_at, stands, are_alike, begins, answer_of, answer_after, parts}
+use Rattle.std.specs.Option.{is_some}
 use Rattle.std.proofs.lemmas.List.{drop-drop}
 use Rattle.std.proofs.Math.Seq.{drop-nil}
 use Rattle.flt_bpf.specs.declared.operation.Test.TheVariants as test
@@ -11,6 +12,7 @@ use Rattle.flt_short.specs.declared.alike.Landing.{Landing}
 use Rattle.flt_short.specs.Alike.{Comes, Shortens}
 use Rattle.flt_bpf.specs.Registers.{reads_accumulator, reads_index, sets_accumulator, sets_index}
 use Rattle.flt_short.specs.inside.Alike.{same_step, one_test, direct_load, header_load, left_out}
+use Rattle.flt_bpf.proofs.Codes.{code_is}
 use Rattle.flt_bpf.proofs.Suffix.{answer_drop, machine_answers, valid_if_short}
 use Rattle.flt_short.proofs.Basics.{known_step, into_both, word_both, stored_both, plain_both}
 
@@ -54,9 +56,17 @@ other s a x = record s { accumulator = a; index = x }
 abbrev Same : Bool → ℕ → ℕ → Type 0
 Same b u v = b ≡ true → u ≡ v
 
-implied_same : (b a : Bool) (u v : ℕ) → implies b a ≡ true → Same a u v → Same b u v
+implied_same : (b a : Bool) (u v : ℕ) → (not b || a) ≡ true → Same a u v → Same b u v
 implied_same true a u v e h = λ z. h e
 implied_same false a u v e h = λ z. cc
+
+-- the old value where it is read
+abbrev read : Bool → ℕ → ℕ → ℕ
+read b u v = if b then v else u
+
+read_is : (b : Bool) (u v : ℕ) → Same b u v → u ≡ read b u v
+read_is true u v h = h refl
+read_is false u v h = refl
 
 drop_after : (c : List Insn) (k : ℕ) (j : Insn) (js : List Insn) → drop k c ≡ j ∷ js → drop (suc k) c ≡ js
 drop_after (i ∷ c) (suc k) j js e = drop_after c k j js e
@@ -67,10 +77,6 @@ tail_after : (c : List Insn) (place : ℕ) (j : Insn) (js : List Insn) → 0 < p
 tail_after c place j js some low e =
     let next : suc (length c - place) ≡ length c - (place - 1) = omega arith in
     sym (drop_after c (length c - place) j js e) ∙ ap (λ k. drop k c) next
-
-above : (o : Option Landing) (far place : ℕ) (a x : Bool) → landing_fits_at o far place a x ≡ true → 0 < place
-above None far place a x e = cc
-above (Some m) far place a x e = grind (arith, nat_tests)
 
 module _ (p : List ℕ) (n : ℕ) where
   -- the code does at a landing what the old code does so far on
@@ -100,251 +106,6 @@ module _ (p : List ℕ) (n : ℕ) where
       let upper_bound = g.1 in
       let steps = ap (steps_after (steps_of is p n)) e in
       (λ b eb. g.0 b (sym (ap (answer_after (answer_of is p n)) e) ∙ eb), omega arith)
-
-  -- after the instruction at a place
-  module _ (c is : List Insn) (ls : List Landing) (l : Landing) (all : AllLand c is ls) (low : l.place ≤ length c) where
-    abbrev following : List Insn
-    following = code_from c (l.place - 1)
-
-    fit_one : (k far : ℕ) (a x : Bool) (o : Option Landing) → slice_get ls k ≡ o → landing_fits_at o far l.place a x ≡ true → (s : State) (u v : ℕ) → Same a u s.accumulator → Same x v s.index → AsGood following is p n far k (other s u v) s
-    fit_one k far a x None e f s u v h g = cc
-    fit_one k far a x (Some m) e f s u v h g =
-        let q : (0 < m.place) × (m.place < l.place) × (l.place - m.place - 1 ≡ far) × (implies m.accumulator a ≡ true) × (implies m.index x ≡ true) = grind (arith, nat_tests) in
-        let below = q.1 in
-        let away = q.2 in
-        let good = all k m e q.0 s u v (implied_same m.accumulator a u s.accumulator q.3 h) (implied_same m.index x v s.index q.4 g) in
-        let there : length c - m.place ≡ (length c - (l.place - 1)) + far = omega arith in
-        let same_code : drop far following ≡ code_from c m.place = drop-drop far (length c - (l.place - 1)) c ∙ ap (λ z. drop z c) (sym there) in
-        let upper_bound = good.1 in
-        let steps : steps_of following p n far (other s u v) ≡ steps_of (code_from c m.place) p n 0 (other s u v) = sym (steps_drop following p n far (other s u v)) ∙ ap (λ z. steps_of z p n 0 (other s u v)) same_code in
-        (λ b eb. sym (answer_drop following p n far (other s u v)) ∙ ap (λ z. answer_of z p n 0 (other s u v)) same_code ∙ good.0 b eb, omega arith)
-
-    fit : (k far : ℕ) (a x : Bool) → landing_fits ls k far l.place a x ≡ true → (s : State) (u v : ℕ) → Same a u s.accumulator → Same x v s.index → AsGood following is p n far k (other s u v) s
-    fit k far a x f s u v h g = fit_one k far a x (slice_get ls k) refl f s u v h g
-
-    -- one instruction, with the same A and X where they are read
-    module _ (s : State) (a x : ℕ) (ha : Same l.accumulator a s.accumulator) (hx : Same l.index x s.index) where
-      abbrev t : State
-      t = other s a x
-
-      set_a : landing_fits ls 0 0 l.place true l.index ≡ true → (v : ℕ) → AsGood following is p n 0 0 (record t { accumulator = v }) (record s { accumulator = v })
-      set_a f v = fit 0 0 true l.index f (record s { accumulator = v }) v x (λ z. refl) hx
-
-      set_x : landing_fits ls 0 0 l.place l.accumulator true ≡ true → (v : ℕ) → AsGood following is p n 0 0 (record t { index = v }) (record s { index = v })
-      set_x f v = fit 0 0 l.accumulator true f (record s { index = v }) a v ha (λ z. refl)
-
-      to_a : (o : Option ℕ) → landing_fits ls 0 0 l.place true l.index ≡ true → Follows following is p n (into Accumulator o t) (into Accumulator o s)
-      to_a o f = into_both p n (Follows following is p n) (ends following is) (lost following is) Accumulator o t s (λ v e. set_a f v)
-
-      to_x : (o : Option ℕ) → landing_fits ls 0 0 l.place l.accumulator true ≡ true → Follows following is p n (into Index o t) (into Index o s)
-      to_x o f = into_both p n (Follows following is p n) (ends following is) (lost following is) Index o t s (λ v e. set_x f v)
-
-      stored : (v : ℕ) (k : ℕ) → landing_fits ls 0 0 l.place l.accumulator l.index ≡ true → Follows following is p n (into_word k v t) (into_word k v s)
-      stored v k f =
-          let m = slice_set s.memory k v in
-          stored_both p n (Follows following is p n) (ends following is) (lost following is) (nat_lt k (length s.memory)) (record t { memory = m }) (record s { memory = m }) (fit 0 0 l.accumulator l.index f (record s { memory = m }) a x ha hx)
-
-      way : (b : Bool) (hit miss near next : ℕ) → landing_fits ls hit near l.place l.accumulator l.index ≡ true → landing_fits ls miss next l.place l.accumulator l.index ≡ true → AsGood following is p n (if b then near else next) (if b then hit else miss) t s
-      way true hit miss near next f g = fit hit near l.accumulator l.index f s a x ha hx
-      way false hit miss near next f g = fit miss next l.accumulator l.index g s a x ha hx
-
-      -- what the operation does
-      op_good : (op : Operation) (j i : Insn) → implies (reads_accumulator op) l.accumulator ≡ true → implies (reads_index op) l.index ≡ true → goes_on op j l i ls ≡ true → Follows following is p n (does op (record j { k = i.k }) p n t) (does op i p n s)
-      op_good (LoadAbsolute w) j i ra rx f = to_a (field p i.k w) f
-      op_good (LoadIndirect w) j i ra rx f =
-          subst (λ m. Follows following is p n (into Accumulator (field p ((m + i.k) % 2 ^ 32) w) t) (into Accumulator (field p ((s.index + i.k) % 2 ^ 32) w) s)) (sym (hx rx)) (to_a (field p ((s.index + i.k) % 2 ^ 32) w) f)
-      op_good (Load Accumulator Immediate) j i ra rx f = set_a f i.k
-      op_good (Load Accumulator Length) j i ra rx f = set_a f n
-      op_good (Load Accumulator Memory) j i ra rx f = word_both p n (Follows following is p n) (ends following is) (lost following is) Accumulator (slice_get s.memory i.k) t s (λ v e. set_a f v)
-      op_good (Load Index Immediate) j i ra rx f = set_x f i.k
-      op_good (Load Index Length) j i ra rx f = set_x f n
-      op_good (Load Index Memory) j i ra rx f = word_both p n (Follows following is p n) (ends following is) (lost following is) Index (slice_get s.memory i.k) t s (λ v e. set_x f v)
-      op_good LoadHeaderLength j i ra rx f = to_x (option_map header_length (field p i.k Byte)) f
-      op_good (Store Accumulator) j i ra rx f =
-          subst (λ v. Follows following is p n (into_word i.k v t) (into_word i.k s.accumulator s)) (sym (ha ra)) (stored s.accumulator i.k f)
-      op_good (Store Index) j i ra rx f =
-          subst (λ v. Follows following is p n (into_word i.k v t) (into_word i.k s.index s)) (sym (hx rx)) (stored s.index i.k f)
-      op_good (Compute o Constant) j i ra rx f =
-          subst (λ v. Follows following is p n (into Accumulator (compute o v i.k) t) (into Accumulator (compute o s.accumulator i.k) s)) (sym (ha ra)) (to_a (compute o s.accumulator i.k) f)
-      op_good (Compute o IndexRegister) j i ra rx f =
-          subst (λ m. Follows following is p n (into Accumulator (compute o a m) t) (into Accumulator (compute o s.accumulator s.index) s)) (sym (hx rx)) (subst (λ v. Follows following is p n (into Accumulator (compute o v s.index) t) (into Accumulator (compute o s.accumulator s.index) s)) (sym (ha ra)) (to_a (compute o s.accumulator s.index) f))
-      op_good Negate j i ra rx f =
-          subst (λ v. AsGood following is p n 0 0 (record t { accumulator = (2 ^ 32 - v) % 2 ^ 32 }) (record s { accumulator = (2 ^ 32 - s.accumulator) % 2 ^ 32 })) (sym (ha ra)) (set_a f ((2 ^ 32 - s.accumulator) % 2 ^ 32))
-      op_good Jump j i ra rx f = cc
-      op_good (JumpIf o Constant) j i ra rx f =
-          let q = and_parts (landing_fits ls i.jt j.jt l.place l.accumulator l.index) (landing_fits ls i.jf j.jf l.place l.accumulator l.index) f in
-          subst (λ v. AsGood following is p n (if test_holds o v i.k then j.jt else j.jf) (if test_holds o s.accumulator i.k then i.jt else i.jf) t s) (sym (ha ra)) (way (test_holds o s.accumulator i.k) i.jt i.jf j.jt j.jf q.0 q.1)
-      op_good (JumpIf o IndexRegister) j i ra rx f =
-          let q = and_parts (landing_fits ls i.jt j.jt l.place l.accumulator l.index) (landing_fits ls i.jf j.jf l.place l.accumulator l.index) f in
-          subst (λ m. AsGood following is p n (if test_holds o a m then j.jt else j.jf) (if test_holds o s.accumulator s.index then i.jt else i.jf) t s) (sym (hx rx)) (subst (λ v. AsGood following is p n (if test_holds o v s.index then j.jt else j.jf) (if test_holds o s.accumulator s.index then i.jt else i.jf) t s) (sym (ha ra)) (way (test_holds o s.accumulator s.index) i.jt i.jf j.jt j.jf q.0 q.1))
-      op_good ReturnConstant j i ra rx f = (λ b eb. eb, omega arith)
-      op_good ReturnAccumulator j i ra rx f = (λ b eb. ap Some (ha ra) ∙ eb, omega arith)
-      op_good CopyToIndex j i ra rx f = subst (λ v. AsGood following is p n 0 0 (record t { index = v }) (record s { index = s.accumulator })) (sym (ha ra)) (set_x f s.accumulator)
-      op_good CopyToAccumulator j i ra rx f = subst (λ v. AsGood following is p n 0 0 (record t { accumulator = v }) (record s { accumulator = s.index })) (sym (hx rx)) (set_a f s.index)
-
-  -- the same instruction
-  same_good : (c is : List Insn) (ls : List Landing) (l : Landing) (all : AllLand c is ls) (low : l.place ≤ length c) (j i : Insn) (op : Option Operation) → operation_of i.code ≡ op → same_step op j l i ls ≡ true → (s : State) (a x : ℕ) → Same l.accumulator a s.accumulator → Same l.index x s.index → AsGood (j ∷ code_from c (l.place - 1)) (i ∷ is) p n 0 0 (other s a x) s
-  unfolding same_step
-  same_good c is ls l all low j i None e f s a x ha hx = cc
-  same_good c is ls l all low j i (Some op) e f s a x ha hx =
-      let d = code_from c (l.place - 1) in
-      let q : (i.code ≡ j.code) × (i.k ≡ j.k) × (implies (reads_accumulator op) l.accumulator ≡ true) × (implies (reads_index op) l.index ≡ true) × (goes_on op j l i ls ≡ true) = grind (arith, nat_tests) in
-      both d is j i (other s a x) s _ _ (known_step p n j (Some op) (other s a x) (ap operation_of (sym q.0) ∙ e)) (known_step p n i (Some op) s e)
-      (subst (λ m. Follows d is p n (does op (record j { k = m }) p n (other s a x)) (does op i p n s)) q.1 (op_good c is ls l all low s a x ha hx op j i q.2 q.3 q.4))
-
-  record Codes : Type 0 where
-    mask : operation_of 84 ≡ Some (Compute arithmetic.And Constant)
-    equal : operation_of 21 ≡ Some (JumpIf test.Equal Constant)
-    any_bit : operation_of 69 ≡ Some (JumpIf test.AnyBit Constant)
-    number : operation_of 0 ≡ Some (Load Accumulator Immediate)
-    copy : operation_of 7 ≡ Some CopyToIndex
-    header : operation_of 177 ≡ Some LoadHeaderLength
-    add : operation_of 12 ≡ Some (Compute arithmetic.Add IndexRegister)
-    rejection : operation_of 6 ≡ Some ReturnConstant
-
-  codes : Codes
-  unfolding operation_of
-  codes = record { mask = refl; equal = refl; any_bit = refl; number = refl; copy = refl; header = refl; add = refl; rejection = refl }
-
-  absolute_is : (w : Width) → operation_of (code_of (LoadAbsolute w)) ≡ Some (LoadAbsolute w)
-  unfolding operation_of
-  absolute_is Word = refl
-  absolute_is _ = refl
-
-  -- one test for a mask and a test of 0
-  one_good : (c is : List Insn) (ls : List Landing) (l : Landing) (all : AllLand c is ls) (low : l.place ≤ length c) (j i : Insn) → one_test j l i is ls ≡ true → (s : State) (a x : ℕ) → Same l.accumulator a s.accumulator → Same l.index x s.index → AsGood (j ∷ code_from c (l.place - 1)) (i ∷ is) p n 0 0 (other s a x) s
-  unfolding one_test
-  one_good c [] ls l all low j i f s a x ha hx = cc
-  one_good c (u ∷ is) ls l all low j i f s a x ha hx =
-      let q : (i.code ≡ 84) × (u.code ≡ 21) × (u.k ≡ 0) × (j.code ≡ 69) × (i.k ≡ j.k) × (l.accumulator ≡ true) × (landing_fits ls (1 + u.jt) j.jf l.place false l.index ≡ true) × (landing_fits ls (1 + u.jf) j.jt l.place false l.index ≡ true) = grind (arith, nat_tests) in
-      let s' : State = record s { accumulator = bit_and s.accumulator i.k } in
-      let z = bit_and s.accumulator i.k == 0 in
-      let second = known_step p n u (Some (JumpIf test.Equal Constant)) s' (ap operation_of q.1 ∙ codes.equal) ∙ ap (λ m. Goes (if bit_and s.accumulator i.k == m then u.jt else u.jf) s') q.2 in
-      let new = known_step p n j (Some (JumpIf test.AnyBit Constant)) (other s a x) (ap operation_of q.3 ∙ codes.any_bit)
-      ∙ ap (λ m. Goes (if not (bit_and m j.k == 0) then j.jt else j.jf) (other s a x)) (ha q.5)
-      ∙ ap (λ m. Goes (if not (bit_and s.accumulator m == 0) then j.jt else j.jf) (other s a x)) (sym q.4) in
-      old_alone (j ∷ code_from c (l.place - 1)) (u ∷ is) i 0 (other s a x) s s' (known_step p n i (Some (Compute arithmetic.And Constant)) s (ap operation_of q.0 ∙ codes.mask))
-      (both (code_from c (l.place - 1)) is j u (other s a x) s' _ _ new second (ways q.6 q.7 z))
-    where
-      ways : landing_fits ls (1 + u.jt) j.jf l.place false l.index ≡ true → landing_fits ls (1 + u.jf) j.jt l.place false l.index ≡ true → (z : Bool) → AsGood (code_from c (l.place - 1)) is p n (if not z then j.jt else j.jf) (if z then u.jt else u.jf) (other s a x) (record s { accumulator = bit_and s.accumulator i.k })
-      ways f g true =
-          let one : 1 + u.jt ≡ suc u.jt = omega arith in
-          subst (λ m. AsGood (code_from c (l.place - 1)) (u ∷ is) p n j.jf m (other s a x) (record s { accumulator = bit_and s.accumulator i.k })) one (fit c (u ∷ is) ls l all low (1 + u.jt) j.jf false l.index f (record s { accumulator = bit_and s.accumulator i.k }) a x (λ q. cc) hx)
-      ways f g false =
-          let one : 1 + u.jf ≡ suc u.jf = omega arith in
-          subst (λ m. AsGood (code_from c (l.place - 1)) (u ∷ is) p n j.jt m (other s a x) (record s { accumulator = bit_and s.accumulator i.k })) one (fit c (u ∷ is) ls l all low (1 + u.jf) j.jt false l.index g (record s { accumulator = bit_and s.accumulator i.k }) a x (λ q. cc) hx)
-
-  -- one load for a number that goes to X by A, and a load at X
-  direct_is : (old new : ℕ) (o : Option Operation) → operation_of old ≡ o → option_map_or (λ n. n == new) (direct_code o) false ≡ true → (w : Width) × ((operation_of old ≡ Some (LoadIndirect w)) × (operation_of new ≡ Some (LoadAbsolute w)))
-  direct_is old new (Some (LoadIndirect w)) e f =
-      let same : code_of (LoadAbsolute w) ≡ new = grind (arith, nat_tests) in
-      (w, (e, ap operation_of (sym same) ∙ absolute_is w))
-  direct_is old new _ e f = cc
-
-  direct_good : (c is : List Insn) (ls : List Landing) (l : Landing) (all : AllLand c is ls) (low : l.place ≤ length c) (j i : Insn) → direct_load j l i is ls ≡ true → (s : State) (a x : ℕ) → AsGood (j ∷ code_from c (l.place - 1)) (i ∷ is) p n 0 0 (other s a x) s
-  unfolding direct_load
-  direct_good c (u ∷ v ∷ is) ls l all low j i f s a x =
-      let q : (i.code ≡ 0) × (u.code ≡ 7) × (option_map_or (λ m. m == j.code) (direct_code (operation_of v.code)) false ≡ true) × ((i.k + v.k) % 2 ^ 32 ≡ j.k) × (landing_fits ls 2 0 l.place true false ≡ true) = grind (arith, nat_tests) in
-      let w = direct_is v.code j.code (operation_of v.code) refl q.2 in
-      let d = code_from c (l.place - 1) in
-      let s' : State = record s { accumulator = i.k } in
-      let s'' : State = record s { accumulator = i.k; index = i.k } in
-      let third = known_step p n v (Some (LoadIndirect w.0)) s'' w.1.0 ∙ ap (λ m. into Accumulator (field p m w.0) s'') q.3 in
-      old_alone (j ∷ d) (u ∷ v ∷ is) i 0 (other s a x) s s' (known_step p n i (Some (Load Accumulator Immediate)) s (ap operation_of q.0 ∙ codes.number))
-      (old_alone (j ∷ d) (v ∷ is) u 0 (other s a x) s' s'' (known_step p n u (Some CopyToIndex) s' (ap operation_of q.1 ∙ codes.copy))
-      (both d is j v (other s a x) s'' _ _ (known_step p n j (Some (LoadAbsolute w.0)) (other s a x) w.1.1) third
-      (into_both p n (Follows d is p n) (ends d is) (lost d is) Accumulator (field p j.k w.0) (other s a x) s'' (λ y e. fit c (u ∷ v ∷ is) ls l all low 2 0 true false q.4 (record s'' { accumulator = y }) y x (λ z. refl) (λ z. cc)))))
-  direct_good c _ ls l all low j i f s a x = cc
-
-  -- the header length and a load after it, for a number and the header length that are added in A
-  -- and go to X
-  indirect_is : (o : Option Operation) → is_indirect o ≡ true → (w : Width) × (o ≡ Some (LoadIndirect w))
-  indirect_is (Some (LoadIndirect w)) e = (w, refl)
-  indirect_is _ e = cc
-
-  place_is : (i h w j : ℕ) → (i + w) % 2 ^ 32 ≡ j → ((i + h) % 2 ^ 32 + w) % 2 ^ 32 ≡ (h + j) % 2 ^ 32
-  place_is i h w j e = omega arith
-
-  module _ (c is : List Insn) (ls : List Landing) (l : Landing) (t u v w : Insn) (all : AllLand c (t ∷ u ∷ v ∷ w ∷ is) ls) (low : l.place ≤ length c) (fitting : landing_fits ls 4 0 (l.place - 1) true false ≡ true) (i j : Insn) (width : Width) (u_is : operation_of u.code ≡ Some (Compute arithmetic.Add IndexRegister)) (v_is : operation_of v.code ≡ Some CopyToIndex) (w_is : operation_of w.code ≡ Some (LoadIndirect width)) (j_is : operation_of j.code ≡ Some (LoadIndirect width)) (k : (i.k + w.k) % 2 ^ 32 ≡ j.k) where
-    abbrev beyond : List Insn
-    beyond = code_from c (l.place - 1 - 1)
-
-    -- after the header length
-    measured : (s : State) (a h : ℕ) → s.accumulator ≡ i.k → AsGood (j ∷ beyond) (u ∷ v ∷ w ∷ is) p n 0 0 (other s a h) (record s { index = h })
-    measured s a h number =
-        let m = (i.k + h) % 2 ^ 32 in
-        let s2 : State = record s { index = h } in
-        let s3 : State = record s { accumulator = m; index = h } in
-        let s4 : State = record s { accumulator = m; index = m } in
-        let first = known_step p n u (Some (Compute arithmetic.Add IndexRegister)) s2 u_is ∙ ap (λ z. into Accumulator (compute arithmetic.Add z h) s2) number in
-        let third = known_step p n w (Some (LoadIndirect width)) s4 w_is ∙ ap (λ z. into Accumulator (field p z width) s4) (place_is i.k h w.k j.k k) in
-        old_alone (j ∷ beyond) (v ∷ w ∷ is) u 0 (other s a h) s2 s3 first
-        (old_alone (j ∷ beyond) (w ∷ is) v 0 (other s a h) s3 s4 (known_step p n v (Some CopyToIndex) s3 v_is)
-        (both beyond is j w (other s a h) s4 _ _ (known_step p n j (Some (LoadIndirect width)) (other s a h) j_is) third
-        (into_both p n (Follows beyond is p n) (ends beyond is) (lost beyond is) Accumulator (field p ((h + j.k) % 2 ^ 32) width) (other s a h) s4
-        (λ y e. fit c (t ∷ u ∷ v ∷ w ∷ is) ls (record l { place = l.place - 1 }) all (omega arith) 4 0 true false fitting (record s4 { accumulator = y }) y h (λ z. refl) (λ z. cc)))))
-
-  header_good : (c is : List Insn) (ls : List Landing) (l : Landing) (all : AllLand c is ls) (low : l.place ≤ length c) (h i : Insn) (js : List Insn) → js ≡ code_from c (l.place - 1) → header_load (h ∷ js) l i is ls ≡ true → (s : State) (a x : ℕ) → AsGood (h ∷ code_from c (l.place - 1)) (i ∷ is) p n 0 0 (other s a x) s
-  unfolding header_load
-  header_good c is ls l all low h i [] at f s a x = cc
-  header_good c (t ∷ u ∷ v ∷ w ∷ is) ls l all low h i (j ∷ js) at f s a x =
-      let q : (i.code ≡ 0) × (t.code ≡ 177) × (u.code ≡ 12) × (v.code ≡ 7) × (t.code ≡ h.code) × (t.k ≡ h.k) × (is_indirect (operation_of w.code) ≡ true) × (w.code ≡ j.code) × ((i.k + w.k) % 2 ^ 32 ≡ j.k) × (landing_fits ls 4 0 (l.place - 1) true false ≡ true) = grind (arith, nat_tests) in
-      let t_is = ap operation_of q.1 ∙ codes.header in
-      let load = indirect_is (operation_of w.code) q.6 in
-      let s1 : State = record s { accumulator = i.k } in
-      let second = known_step p n t (Some LoadHeaderLength) s1 t_is ∙ ap (λ m. into Index (option_map header_length (field p m Byte)) s1) q.5 in
-      let new = known_step p n h (Some LoadHeaderLength) (other s a x) (ap operation_of (sym q.4) ∙ t_is) in
-      let some = above (slice_get ls 4) 0 (l.place - 1) true false q.9 in
-      let rest : j ∷ code_from c (l.place - 1 - 1) ≡ code_from c (l.place - 1) = ap (λ z. j ∷ z) (sym (tail_after c (l.place - 1) j js some (omega arith) (sym at))) ∙ at in
-      let d = j ∷ code_from c (l.place - 1 - 1) in
-      let rest_is = u ∷ v ∷ w ∷ is in
-      let after = measured c is ls l t u v w all low q.9 i j load.0 (ap operation_of q.2 ∙ codes.add) (ap operation_of q.3 ∙ codes.copy) load.1 (ap operation_of (sym q.7) ∙ load.1) q.8 s1 a in
-      subst (λ z. AsGood (h ∷ z) (i ∷ t ∷ rest_is) p n 0 0 (other s a x) s) rest
-      (old_alone (h ∷ d) (t ∷ rest_is) i 0 (other s a x) s s1 (known_step p n i (Some (Load Accumulator Immediate)) s (ap operation_of q.0 ∙ codes.number))
-      (both d rest_is h t (other s a x) s1 _ _ new second
-      (into_both p n (Follows d rest_is p n) (ends d rest_is) (lost d rest_is) Index (option_map header_length (field p h.k Byte)) (other s a x) s1 (λ y e. after y refl))))
-  header_good c _ ls l all low h i _ at f s a x = cc
-
-  -- an instruction that is left out
-  rejected : (j : Insn) (js : List Insn) (s : State) → rejects j ≡ true → (answer_of (j ∷ js) p n 0 s ≡ Some 0) × (steps_of (j ∷ js) p n 0 s ≡ 1)
-  rejected j js s e =
-      let q : (j.code ≡ 6) × (j.k ≡ 0) = grind (arith, nat_tests) in
-      let does = known_step p n j (Some ReturnConstant) s (ap operation_of q.0 ∙ codes.rejection) in
-      (ap (answer_after (answer_of js p n)) does ∙ ap Some q.1, ap (λ o. suc (steps_after (steps_of js p n) o)) does)
-
-  -- what an operation does that can't fail: A and X are others, if it sets them
-  record Sets (op : Operation) (o : Next) (s : State) : Type 0 where
-    a : ℕ
-    x : ℕ
-    goes : o ≡ Goes 0 (other s a x)
-    keeps_a : not (sets_accumulator op) ≡ true → a ≡ s.accumulator
-    keeps_x : not (sets_index op) ≡ true → x ≡ s.index
-
-  sets_a : (op : Operation) (o : Next) (s : State) (v : ℕ) → o ≡ Goes 0 (other s v s.index) → sets_accumulator op ≡ true → Sets op o s
-  sets_a op o s v e t = record { a = v; x = s.index; goes = e; keeps_a = λ h. cc; keeps_x = λ h. refl }
-
-  sets_x : (op : Operation) (o : Next) (s : State) (v : ℕ) → o ≡ Goes 0 (other s s.accumulator v) → sets_index op ≡ true → Sets op o s
-  sets_x op o s v e t = record { a = s.accumulator; x = v; goes = e; keeps_a = λ h. refl; keeps_x = λ h. cc }
-
-  sure_sets : (op : Operation) (i : Insn) (s : State) → is_sure op ≡ true → Sets op (does op i p n s) s
-  sure_sets (Load Accumulator Immediate) i s e = sets_a _ _ s i.k refl refl
-  sure_sets (Load Accumulator Length) i s e = sets_a _ _ s n refl refl
-  sure_sets (Load Index Immediate) i s e = sets_x _ _ s i.k refl refl
-  sure_sets (Load Index Length) i s e = sets_x _ _ s n refl refl
-  sure_sets (Compute arithmetic.Divide o) i s e = cc
-  sure_sets (Compute arithmetic.Remainder o) i s e = cc
-  sure_sets (Compute operator o) i s e = sets_a _ _ s _ refl refl
-  sure_sets Negate i s e = sets_a _ _ s _ refl refl
-  sure_sets CopyToIndex i s e = sets_x _ _ s _ refl refl
-  sure_sets CopyToAccumulator i s e = sets_a _ _ s _ refl refl
-  sure_sets _ i s e = cc
-
-  -- the run goes on, or ends with 0, or the machine is lost
-  abbrev GoesOn : Next → Type 0
-  GoesOn o = (o ≡ Ends 0) ⊎ ((o ≡ Lost) ⊎ ((t : State) × (o ≡ Goes 0 t)))
-
-  goes_or_ends : (op : Operation) (i : Insn) (s : State) → goes_on_or_rejects op ≡ true → GoesOn (does op i p n s)
-  goes_or_ends op i s e = plain_both p n (λ u v. GoesOn u) (inl refl) (inr (inl refl)) op i i s e (λ t. inr (inr (t, refl)))
 
   -- copies do the same
   same_tails : (c : List Insn) (x y : ℕ) → length (drop x c) ≡ length (drop y c) → drop x c ≡ drop y c
@@ -388,26 +149,233 @@ module _ (p : List ℕ) (n : ℕ) where
       alike (Some op) rest to h = plain_both p n (Follows js is p n) (ends js is) (lost js is) op j i s refl (rest h)
   copies_good c _ _ x y d e f s = cc
 
+  -- where a way lands
+  landed : (c is : List Insn) (ls : List Landing) (all : AllLand c is ls) (k place : ℕ) (a x : Bool) → lands_at c ls k place a x ≡ true → (s : State) (u v : ℕ) → Same a u s.accumulator → Same x v s.index → AsGood (code_from c place) is p n 0 k (other s u v) s
+  landed c is ls all k place a x f s u v h g = by (slice_get ls k) refl f
+    where
+      by : (o : Option Landing) → slice_get ls k ≡ o → lands_at_if c o place a x ≡ true → AsGood (code_from c place) is p n 0 k (other s u v) s
+      by None e f = cc
+      by (Some m) e f =
+          let q : (0 < m.place) × ((not m.accumulator || a) ≡ true) × ((not m.index || x) ≡ true) × ((m.place == place || are_copies (code_from c m.place) (code_from c place)) ≡ true) = grind (arith, nat_tests) in
+          let good = all k m e q.0 s u v (implied_same m.accumulator a u s.accumulator q.1 h) (implied_same m.index x v s.index q.2 g) in
+          elim (or_cases (m.place == place) (are_copies (code_from c m.place) (code_from c place)) q.3) [
+            | inl z ↦ let same : m.place ≡ place = grind (arith, nat_tests) in subst (λ z. AsGood (code_from c z) is p n 0 k (other s u v) s) same good
+            | inr z ↦
+                let copy = copies_good c (code_from c m.place) (code_from c place) (length c - m.place) (length c - place) refl refl z (other s u v) in
+                let far = copy.1 in
+                let near = good.1 in
+                (λ b eb. copy.0 b (good.0 b eb), omega arith)
+          ]
+
+  -- after the instruction at a place
+  module _ (c is : List Insn) (ls : List Landing) (l : Landing) (all : AllLand c is ls) (low : l.place ≤ length c) where
+    abbrev following : List Insn
+    following = code_from c (l.place - 1)
+
+    fit : (k far : ℕ) (a x : Bool) → lands_at c ls k (l.place - (1 + far)) a x ≡ true → (s : State) (u v : ℕ) → Same a u s.accumulator → Same x v s.index → AsGood following is p n far k (other s u v) s
+    fit k far a x f s u v h g =
+        let good = landed c is ls all k (l.place - (1 + far)) a x f s u v h g in
+        let start = length c - (l.place - 1) in
+        let there : drop far following ≡ code_from c (l.place - (1 + far)) = drop-drop far start c ∙ same_tails c (start + far) (length c - (l.place - (1 + far))) (omega (arith, length-drop (start + far) c, length-drop (length c - (l.place - (1 + far))) c)) in
+        let upper_bound = good.1 in
+        let steps : steps_of following p n far (other s u v) ≡ steps_of (code_from c (l.place - (1 + far))) p n 0 (other s u v) = sym (steps_drop following p n far (other s u v)) ∙ ap (λ z. steps_of z p n 0 (other s u v)) there in
+        (λ b eb. sym (answer_drop following p n far (other s u v)) ∙ ap (λ z. answer_of z p n 0 (other s u v)) there ∙ good.0 b eb, omega arith)
+
+    -- one instruction, with the same A and X where they are read
+    abbrev Fits : ℕ → ℕ → Bool → Bool → Type 0
+    Fits k far a x = lands_at c ls k (l.place - (1 + far)) a x ≡ true
+
+    set_a : Fits 0 0 true l.index → (s : State) (a x : ℕ) → Same l.index x s.index → (v : ℕ) → AsGood following is p n 0 0 (other s v x) (record s { accumulator = v })
+    set_a f s a x hx v = fit 0 0 true l.index f (record s { accumulator = v }) v x (λ z. refl) hx
+
+    set_x : Fits 0 0 l.accumulator true → (s : State) (a x : ℕ) → Same l.accumulator a s.accumulator → (v : ℕ) → AsGood following is p n 0 0 (other s a v) (record s { index = v })
+    set_x f s a x ha v = fit 0 0 l.accumulator true f (record s { index = v }) a v ha (λ z. refl)
+
+    to_a : Fits 0 0 true l.index → (s : State) (a x : ℕ) → Same l.index x s.index → (o : Option ℕ) → Follows following is p n (into Accumulator o (other s a x)) (into Accumulator o s)
+    to_a f s a x hx o = into_both p n (Follows following is p n) (ends following is) (lost following is) Accumulator o (other s a x) s (λ v e. set_a f s a x hx v)
+
+    stored : Fits 0 0 l.accumulator l.index → (s : State) (a x : ℕ) → Same l.accumulator a s.accumulator → Same l.index x s.index → (k v : ℕ) → Follows following is p n (into_word k v (other s a x)) (into_word k v s)
+    stored f s a x ha hx k v =
+        let m = slice_set s.memory k v in
+        stored_both p n (Follows following is p n) (ends following is) (lost following is) (nat_lt k (length s.memory)) (record (other s a x) { memory = m }) (record s { memory = m }) (fit 0 0 l.accumulator l.index f (record s { memory = m }) a x ha hx)
+
+    way : (hit miss near next : ℕ) → (lands_at c ls hit (l.place - (1 + near)) l.accumulator l.index && lands_at c ls miss (l.place - (1 + next)) l.accumulator l.index) ≡ true → (s : State) (a x : ℕ) → Same l.accumulator a s.accumulator → Same l.index x s.index → (b : Bool) → AsGood following is p n (if b then near else next) (if b then hit else miss) (other s a x) s
+    way hit miss near next f s a x ha hx true = fit hit near l.accumulator l.index (and_parts (lands_at c ls hit (l.place - (1 + near)) l.accumulator l.index) _ f).0 s a x ha hx
+    way hit miss near next f s a x ha hx false = fit miss next l.accumulator l.index (and_parts (lands_at c ls hit (l.place - (1 + near)) l.accumulator l.index) _ f).1 s a x ha hx
+
+    -- what the operation does, with the values of A and X that it reads
+    does_good : (op : Operation) (j i : Insn) → goes_on c op j l i ls ≡ true → (s : State) (a x : ℕ) → Same l.accumulator a s.accumulator → Same l.index x s.index → Follows following is p n (does op (record j { k = i.k }) p n (other s (read (reads_accumulator op) a s.accumulator) (read (reads_index op) x s.index))) (does op i p n s)
+    does_good (LoadAbsolute w) j i f s a x ha hx = to_a f s a x hx (field p i.k w)
+    does_good (LoadIndirect w) j i f s a x ha hx = to_a f s a s.index (λ z. refl) (field p ((s.index + i.k) % 2 ^ 32) w)
+    does_good (Load Accumulator Immediate) j i f s a x ha hx = set_a f s a x hx i.k
+    does_good (Load Accumulator Length) j i f s a x ha hx = set_a f s a x hx n
+    does_good (Load Accumulator Memory) j i f s a x ha hx = word_both p n (Follows following is p n) (ends following is) (lost following is) Accumulator (slice_get s.memory i.k) (other s a x) s (λ v e. set_a f s a x hx v)
+    does_good (Load Index Immediate) j i f s a x ha hx = set_x f s a x ha i.k
+    does_good (Load Index Length) j i f s a x ha hx = set_x f s a x ha n
+    does_good (Load Index Memory) j i f s a x ha hx = word_both p n (Follows following is p n) (ends following is) (lost following is) Index (slice_get s.memory i.k) (other s a x) s (λ v e. set_x f s a x ha v)
+    does_good LoadHeaderLength j i f s a x ha hx = into_both p n (Follows following is p n) (ends following is) (lost following is) Index (option_map header_length (field p i.k Byte)) (other s a x) s (λ v e. set_x f s a x ha v)
+    does_good (Store Accumulator) j i f s a x ha hx = stored f s s.accumulator x (λ z. refl) hx i.k s.accumulator
+    does_good (Store Index) j i f s a x ha hx = stored f s a s.index ha (λ z. refl) i.k s.index
+    does_good (Compute o Constant) j i f s a x ha hx = to_a f s s.accumulator x hx (compute o s.accumulator i.k)
+    does_good (Compute o IndexRegister) j i f s a x ha hx = to_a f s s.accumulator s.index (λ z. refl) (compute o s.accumulator s.index)
+    does_good Negate j i f s a x ha hx = set_a f s s.accumulator x hx ((2 ^ 32 - s.accumulator) % 2 ^ 32)
+    does_good Jump j i f s a x ha hx = cc
+    does_good (JumpIf o Constant) j i f s a x ha hx = way i.jt i.jf j.jt j.jf f s s.accumulator x (λ z. refl) hx (test_holds o s.accumulator i.k)
+    does_good (JumpIf o IndexRegister) j i f s a x ha hx = way i.jt i.jf j.jt j.jf f s s.accumulator s.index (λ z. refl) (λ z. refl) (test_holds o s.accumulator s.index)
+    does_good ReturnConstant j i f s a x ha hx = (λ b eb. eb, omega arith)
+    does_good ReturnAccumulator j i f s a x ha hx = (λ b eb. eb, omega arith)
+    does_good CopyToIndex j i f s a x ha hx = set_x f s s.accumulator x (λ z. refl) s.accumulator
+    does_good CopyToAccumulator j i f s a x ha hx = set_a f s a s.index (λ z. refl) s.index
+
+  -- the same instruction
+  same_good : (c is : List Insn) (ls : List Landing) (l : Landing) (all : AllLand c is ls) (low : l.place ≤ length c) (j i : Insn) (op : Option Operation) → operation_of i.code ≡ op → same_step c op j l i ls ≡ true → (s : State) (a x : ℕ) → Same l.accumulator a s.accumulator → Same l.index x s.index → AsGood (j ∷ code_from c (l.place - 1)) (i ∷ is) p n 0 0 (other s a x) s
+  unfolding same_step
+  same_good c is ls l all low j i None e f s a x ha hx = cc
+  same_good c is ls l all low j i (Some op) e f s a x ha hx =
+      let d = code_from c (l.place - 1) in
+      let q : (i.code ≡ j.code) × (i.k ≡ j.k) × ((not (reads_accumulator op) || l.accumulator) ≡ true) × ((not (reads_index op) || l.index) ≡ true) × (goes_on c op j l i ls ≡ true) = grind (arith, nat_tests) in
+      let a_is = read_is (reads_accumulator op) a s.accumulator (implied_same (reads_accumulator op) l.accumulator a s.accumulator q.2 ha) in
+      let x_is = read_is (reads_index op) x s.index (implied_same (reads_index op) l.index x s.index q.3 hx) in
+      both (code_from c (l.place - 1)) is j i (other s a x) s _ _ (known_step p n j (Some op) (other s a x) (ap operation_of (sym q.0) ∙ e)) (known_step p n i (Some op) s e)
+      (subst (λ m. Follows (code_from c (l.place - 1)) is p n (does op (record j { k = m }) p n (other s a x)) (does op i p n s)) q.1
+      (subst (λ (v : ℕ). Follows (code_from c (l.place - 1)) is p n (does op (record j { k = i.k }) p n (other s v x)) (does op i p n s)) (sym a_is)
+      (subst (λ (v : ℕ). Follows (code_from c (l.place - 1)) is p n (does op (record j { k = i.k }) p n (other s (read (reads_accumulator op) a s.accumulator) v)) (does op i p n s)) (sym x_is)
+      (does_good c is ls l all low op j i q.4 s a x ha hx))))
+
+  coded_step : (o : Operation) (j : Insn) (s : State) → j.code ≡ code_of o → step j p n s ≡ does o j p n s
+  coded_step o j s e = known_step p n j (Some o) s (ap operation_of e ∙ code_is o)
+
+  -- one test for a mask and a test of 0
+  one_good : (c is : List Insn) (ls : List Landing) (l : Landing) (all : AllLand c is ls) (low : l.place ≤ length c) (j i : Insn) → one_test c j l i is ls ≡ true → (s : State) (a x : ℕ) → Same l.accumulator a s.accumulator → Same l.index x s.index → AsGood (j ∷ code_from c (l.place - 1)) (i ∷ is) p n 0 0 (other s a x) s
+  unfolding one_test
+  one_good c [] ls l all low j i f s a x ha hx = cc
+  one_good c (u ∷ is) ls l all low j i f s a x ha hx =
+      let q : (i.code ≡ 84) × (u.code ≡ 21) × (u.k ≡ 0) × (j.code ≡ 69) × (i.k ≡ j.k) × (l.accumulator ≡ true) × (lands_at c ls (1 + u.jt) (l.place - (1 + j.jf)) false l.index ≡ true) × (lands_at c ls (1 + u.jf) (l.place - (1 + j.jt)) false l.index ≡ true) = grind (arith, nat_tests) in
+      let s' : State = record s { accumulator = bit_and s.accumulator i.k } in
+      let z = bit_and s.accumulator i.k == 0 in
+      let second = coded_step (JumpIf test.Equal Constant) u s' q.1 ∙ ap (λ m. Goes (if bit_and s.accumulator i.k == m then u.jt else u.jf) s') q.2 in
+      let new = coded_step (JumpIf test.AnyBit Constant) j (other s a x) q.3
+      ∙ ap (λ m. Goes (if not (bit_and m j.k == 0) then j.jt else j.jf) (other s a x)) (ha q.5)
+      ∙ ap (λ m. Goes (if not (bit_and s.accumulator m == 0) then j.jt else j.jf) (other s a x)) (sym q.4) in
+      old_alone (j ∷ code_from c (l.place - 1)) (u ∷ is) i 0 (other s a x) s s' (coded_step (Compute arithmetic.And Constant) i s q.0)
+      (both (code_from c (l.place - 1)) is j u (other s a x) s' _ _ new second (ways q.6 q.7 z))
+    where
+      ways : lands_at c ls (1 + u.jt) (l.place - (1 + j.jf)) false l.index ≡ true → lands_at c ls (1 + u.jf) (l.place - (1 + j.jt)) false l.index ≡ true → (z : Bool) → AsGood (code_from c (l.place - 1)) is p n (if not z then j.jt else j.jf) (if z then u.jt else u.jf) (other s a x) (record s { accumulator = bit_and s.accumulator i.k })
+      ways f g true =
+          let one : 1 + u.jt ≡ suc u.jt = omega arith in
+          subst (λ m. AsGood (code_from c (l.place - 1)) (u ∷ is) p n j.jf m (other s a x) (record s { accumulator = bit_and s.accumulator i.k })) one (fit c (u ∷ is) ls l all low (1 + u.jt) j.jf false l.index f (record s { accumulator = bit_and s.accumulator i.k }) a x (λ q. cc) hx)
+      ways f g false =
+          let one : 1 + u.jf ≡ suc u.jf = omega arith in
+          subst (λ m. AsGood (code_from c (l.place - 1)) (u ∷ is) p n j.jt m (other s a x) (record s { accumulator = bit_and s.accumulator i.k })) one (fit c (u ∷ is) ls l all low (1 + u.jf) j.jt false l.index g (record s { accumulator = bit_and s.accumulator i.k }) a x (λ q. cc) hx)
+
+  -- one load for a number that goes to X by A, and a load at X
+  direct_is : (old new : ℕ) (o : Option Operation) → operation_of old ≡ o → option_map_or (λ n. n == new) (direct_code o) false ≡ true → (w : Width) × ((operation_of old ≡ Some (LoadIndirect w)) × (operation_of new ≡ Some (LoadAbsolute w)))
+  direct_is old new (Some (LoadIndirect w)) e f =
+      let same : code_of (LoadAbsolute w) ≡ new = grind (arith, nat_tests) in
+      (w, (e, ap operation_of (sym same) ∙ code_is (LoadAbsolute w)))
+  direct_is old new _ e f = cc
+
+  direct_good : (c is : List Insn) (ls : List Landing) (l : Landing) (all : AllLand c is ls) (low : l.place ≤ length c) (j i : Insn) → direct_load c j l i is ls ≡ true → (s : State) (a x : ℕ) → AsGood (j ∷ code_from c (l.place - 1)) (i ∷ is) p n 0 0 (other s a x) s
+  unfolding direct_load
+  direct_good c (u ∷ v ∷ is) ls l all low j i f s a x =
+      let q : (i.code ≡ 0) × (u.code ≡ 7) × (option_map_or (λ m. m == j.code) (direct_code (operation_of v.code)) false ≡ true) × ((i.k + v.k) % 2 ^ 32 ≡ j.k) × (lands_at c ls 2 (l.place - (1 + 0)) true false ≡ true) = grind (arith, nat_tests) in
+      let w = direct_is v.code j.code (operation_of v.code) refl q.2 in
+      let d = code_from c (l.place - 1) in
+      let s' : State = record s { accumulator = i.k } in
+      let s'' : State = record s { accumulator = i.k; index = i.k } in
+      let third = known_step p n v (Some (LoadIndirect w.0)) s'' w.1.0 ∙ ap (λ m. into Accumulator (field p m w.0) s'') q.3 in
+      old_alone (j ∷ d) (u ∷ v ∷ is) i 0 (other s a x) s s' (coded_step (Load Accumulator Immediate) i s q.0)
+      (old_alone (j ∷ d) (v ∷ is) u 0 (other s a x) s' s'' (coded_step CopyToIndex u s' q.1)
+      (both d is j v (other s a x) s'' _ _ (known_step p n j (Some (LoadAbsolute w.0)) (other s a x) w.1.1) third
+      (into_both p n (Follows d is p n) (ends d is) (lost d is) Accumulator (field p j.k w.0) (other s a x) s'' (λ y e. fit c (u ∷ v ∷ is) ls l all low 2 0 true false q.4 (record s'' { accumulator = y }) y x (λ z. refl) (λ z. cc)))))
+  direct_good c _ ls l all low j i f s a x = cc
+
+  -- the header length and a load after it, for a number and the header length that are added in A
+  -- and go to X
+  indirect_is : (o : Option Operation) → is_some (direct_code o) ≡ true → (w : Width) × (o ≡ Some (LoadIndirect w))
+  indirect_is (Some (LoadIndirect w)) e = (w, refl)
+  indirect_is _ e = cc
+
+  place_is : (i h w j : ℕ) → (i + w) % 2 ^ 32 ≡ j → ((i + h) % 2 ^ 32 + w) % 2 ^ 32 ≡ (h + j) % 2 ^ 32
+  place_is i h w j e = omega arith
+
+  module _ (c is : List Insn) (ls : List Landing) (l : Landing) (t u v w : Insn) (all : AllLand c (t ∷ u ∷ v ∷ w ∷ is) ls) (low : l.place ≤ length c) (fitting : lands_at c ls 4 (l.place - 1 - (1 + 0)) true false ≡ true) (i j : Insn) (width : Width) (u_is : operation_of u.code ≡ Some (Compute arithmetic.Add IndexRegister)) (v_is : operation_of v.code ≡ Some CopyToIndex) (w_is : operation_of w.code ≡ Some (LoadIndirect width)) (j_is : operation_of j.code ≡ Some (LoadIndirect width)) (k : (i.k + w.k) % 2 ^ 32 ≡ j.k) where
+    abbrev beyond : List Insn
+    beyond = code_from c (l.place - 1 - 1)
+
+    -- after the header length
+    measured : (s : State) (a h : ℕ) → s.accumulator ≡ i.k → AsGood (j ∷ beyond) (u ∷ v ∷ w ∷ is) p n 0 0 (other s a h) (record s { index = h })
+    measured s a h number =
+        let m = (i.k + h) % 2 ^ 32 in
+        let s2 : State = record s { index = h } in
+        let s3 : State = record s { accumulator = m; index = h } in
+        let s4 : State = record s { accumulator = m; index = m } in
+        let first = known_step p n u (Some (Compute arithmetic.Add IndexRegister)) s2 u_is ∙ ap (λ z. into Accumulator (compute arithmetic.Add z h) s2) number in
+        let third = known_step p n w (Some (LoadIndirect width)) s4 w_is ∙ ap (λ z. into Accumulator (field p z width) s4) (place_is i.k h w.k j.k k) in
+        old_alone (j ∷ beyond) (v ∷ w ∷ is) u 0 (other s a h) s2 s3 first
+        (old_alone (j ∷ beyond) (w ∷ is) v 0 (other s a h) s3 s4 (known_step p n v (Some CopyToIndex) s3 v_is)
+        (both beyond is j w (other s a h) s4 _ _ (known_step p n j (Some (LoadIndirect width)) (other s a h) j_is) third
+        (into_both p n (Follows beyond is p n) (ends beyond is) (lost beyond is) Accumulator (field p ((h + j.k) % 2 ^ 32) width) (other s a h) s4
+        (λ y e. fit c (t ∷ u ∷ v ∷ w ∷ is) ls (record l { place = l.place - 1 }) all (omega arith) 4 0 true false fitting (record s4 { accumulator = y }) y h (λ z. refl) (λ z. cc)))))
+
+  header_good : (c is : List Insn) (ls : List Landing) (l : Landing) (all : AllLand c is ls) (low : l.place ≤ length c) (h i : Insn) (js : List Insn) → js ≡ code_from c (l.place - 1) → header_load c (h ∷ js) l i is ls ≡ true → (s : State) (a x : ℕ) → AsGood (h ∷ code_from c (l.place - 1)) (i ∷ is) p n 0 0 (other s a x) s
+  unfolding header_load
+  header_good c is ls l all low h i [] at f s a x = cc
+  header_good c (t ∷ u ∷ v ∷ w ∷ is) ls l all low h i (j ∷ js) at f s a x =
+      let q : (i.code ≡ 0) × (t.code ≡ 177) × (u.code ≡ 12) × (v.code ≡ 7) × (t.code ≡ h.code) × (t.k ≡ h.k) × (is_some (direct_code (operation_of w.code)) ≡ true) × (w.code ≡ j.code) × ((i.k + w.k) % 2 ^ 32 ≡ j.k) × (lands_at c ls 4 (l.place - 1 - (1 + 0)) true false ≡ true) = grind (arith, nat_tests) in
+      let t_is = ap operation_of q.1 ∙ code_is LoadHeaderLength in
+      let load = indirect_is (operation_of w.code) q.6 in
+      let s1 : State = record s { accumulator = i.k } in
+      let second = known_step p n t (Some LoadHeaderLength) s1 t_is ∙ ap (λ m. into Index (option_map header_length (field p m Byte)) s1) q.5 in
+      let new = known_step p n h (Some LoadHeaderLength) (other s a x) (ap operation_of (sym q.4) ∙ t_is) in
+      let some : 0 < l.place - 1 = omega (arith, ap length at, length-drop (length c - (l.place - 1)) c) in
+      let rest : j ∷ code_from c (l.place - 1 - 1) ≡ code_from c (l.place - 1) = ap (λ z. j ∷ z) (sym (tail_after c (l.place - 1) j js some (omega arith) (sym at))) ∙ at in
+      let d = j ∷ code_from c (l.place - 1 - 1) in
+      let rest_is = u ∷ v ∷ w ∷ is in
+      let after = measured c is ls l t u v w all low q.9 i j load.0 (ap operation_of q.2 ∙ code_is (Compute arithmetic.Add IndexRegister)) (ap operation_of q.3 ∙ code_is CopyToIndex) load.1 (ap operation_of (sym q.7) ∙ load.1) q.8 s1 a in
+      subst (λ z. AsGood (h ∷ z) (i ∷ t ∷ rest_is) p n 0 0 (other s a x) s) rest
+      (old_alone (h ∷ d) (t ∷ rest_is) i 0 (other s a x) s s1 (coded_step (Load Accumulator Immediate) i s q.0)
+      (both d rest_is h t (other s a x) s1 _ _ new second
+      (into_both p n (Follows d rest_is p n) (ends d rest_is) (lost d rest_is) Index (option_map header_length (field p h.k Byte)) (other s a x) s1 (λ y e. after y refl))))
+  header_good c _ ls l all low h i _ at f s a x = cc
+
+  -- an instruction that is left out
+  rejected : (j : Insn) (js : List Insn) (s : State) → rejects j ≡ true → (answer_of (j ∷ js) p n 0 s ≡ Some 0) × (steps_of (j ∷ js) p n 0 s ≡ 1)
+  rejected j js s e =
+      let q : (j.code ≡ 6) × (j.k ≡ 0) = grind (arith, nat_tests) in
+      let does = coded_step ReturnConstant j s q.0 in
+      (ap (answer_after (answer_of js p n)) does ∙ ap Some q.1, ap (λ o. suc (steps_after (steps_of js p n) o)) does)
+
+  -- what an operation does that can't fail: A and X are others, if it sets them
+  record Sets (op : Operation) (o : Next) (s : State) : Type 0 where
+    a : ℕ
+    x : ℕ
+    goes : o ≡ Goes 0 (other s a x)
+    keeps_a : not (sets_accumulator op) ≡ true → a ≡ s.accumulator
+    keeps_x : not (sets_index op) ≡ true → x ≡ s.index
+
+  sets_a : (op : Operation) (o : Next) (s : State) (v : ℕ) → o ≡ Goes 0 (other s v s.index) → sets_accumulator op ≡ true → Sets op o s
+  sets_a op o s v e t = record { a = v; x = s.index; goes = e; keeps_a = λ h. cc; keeps_x = λ h. refl }
+
+  sets_x : (op : Operation) (o : Next) (s : State) (v : ℕ) → o ≡ Goes 0 (other s s.accumulator v) → sets_index op ≡ true → Sets op o s
+  sets_x op o s v e t = record { a = s.accumulator; x = v; goes = e; keeps_a = λ h. refl; keeps_x = λ h. cc }
+
+  sure_sets : (op : Operation) (i : Insn) (s : State) → is_sure op ≡ true → Sets op (does op i p n s) s
+  sure_sets (Load Accumulator Immediate) i s e = sets_a _ _ s i.k refl refl
+  sure_sets (Load Accumulator Length) i s e = sets_a _ _ s n refl refl
+  sure_sets (Load Index Immediate) i s e = sets_x _ _ s i.k refl refl
+  sure_sets (Load Index Length) i s e = sets_x _ _ s n refl refl
+  sure_sets (Compute arithmetic.Divide o) i s e = cc
+  sure_sets (Compute arithmetic.Remainder o) i s e = cc
+  sure_sets (Compute operator o) i s e = sets_a _ _ s _ refl refl
+  sure_sets Negate i s e = sets_a _ _ s _ refl refl
+  sure_sets CopyToIndex i s e = sets_x _ _ s _ refl refl
+  sure_sets CopyToAccumulator i s e = sets_a _ _ s _ refl refl
+  sure_sets _ i s e = cc
+
   module _ (c is : List Insn) (ls : List Landing) (l : Landing) (all : AllLand c is ls) (i : Insn) (s : State) (a x : ℕ) (ha : Same l.accumulator a s.accumulator) (hx : Same l.index x s.index) where
     abbrev Left : Type 0
     Left = AsGood (code_from c l.place) (i ∷ is) p n 0 0 (other s a x) s
-
-    landed : (k : ℕ) (a x : Bool) → lands_at c ls k l.place a x ≡ true → (s : State) (u v : ℕ) → Same a u s.accumulator → Same x v s.index → AsGood (code_from c l.place) is p n 0 k (other s u v) s
-    landed k a x f s u v h g = by (slice_get ls k) refl f
-      where
-        by : (o : Option Landing) → slice_get ls k ≡ o → lands_at_if c o l.place a x ≡ true → AsGood (code_from c l.place) is p n 0 k (other s u v) s
-        by None e f = cc
-        by (Some m) e f =
-            let q : (0 < m.place) × (implies m.accumulator a ≡ true) × (implies m.index x ≡ true) × ((m.place == l.place || are_copies (code_from c m.place) (code_from c l.place)) ≡ true) = grind (arith, nat_tests) in
-            let good = all k m e q.0 s u v (implied_same m.accumulator a u s.accumulator q.1 h) (implied_same m.index x v s.index q.2 g) in
-            elim (or_cases (m.place == l.place) (are_copies (code_from c m.place) (code_from c l.place)) q.3) [
-              | inl z ↦ let same : m.place ≡ l.place = grind (arith, nat_tests) in subst (λ z. AsGood (code_from c z) is p n 0 k (other s u v) s) same good
-              | inr z ↦
-                  let copy = copies_good c (code_from c m.place) (code_from c l.place) (length c - m.place) (length c - l.place) refl refl z (other s u v) in
-                  let far = copy.1 in
-                  let near = good.1 in
-                  (λ b eb. copy.0 b (good.0 b eb), omega arith)
-            ]
 
     kept : (b c : Bool) (u v w : ℕ) → Same b u v → (c ≡ true → w ≡ v) → Same (b && c) u w
     kept true c u v w h g = λ e. h refl ∙ sym (g e)
@@ -417,34 +385,17 @@ module _ (p : List ℕ) (n : ℕ) where
     sure_left op o e f =
         let g = sure_sets op i s e in
         old_alone (code_from c l.place) is i 0 (other s a x) s (other s g.a g.x) (known_step p n i (Some op) s o ∙ g.goes)
-        (landed 0 (l.accumulator && not (sets_accumulator op)) (l.index && not (sets_index op)) f (other s g.a g.x) a x (kept l.accumulator (not (sets_accumulator op)) a s.accumulator g.a ha g.keeps_a) (kept l.index (not (sets_index op)) x s.index g.x hx g.keeps_x))
+        (landed c is ls all 0 l.place (l.accumulator && not (sets_accumulator op)) (l.index && not (sets_index op)) f (other s g.a g.x) a x (kept l.accumulator (not (sets_accumulator op)) a s.accumulator g.a ha g.keeps_a) (kept l.index (not (sets_index op)) x s.index g.x hx g.keeps_x))
 
     rejected_left : (op : Operation) (j : Insn) (js : List Insn) → code_from c l.place ≡ j ∷ js → operation_of i.code ≡ Some op → rejects j ≡ true → goes_on_or_rejects op ≡ true → lands_at c ls 0 l.place (l.accumulator && not (sets_accumulator op)) (l.index && not (sets_index op)) ≡ true → Left
-    rejected_left op j js d o r e f = elim (goes_or_ends op i s e) [ inl g ↦ ends_here g | inr (inl g) ↦ is_lost g | inr (inr g) ↦ goes g.0 g.1 ]
+    rejected_left op j js d o r e f =
+        let only : (b : ℕ) → answer_after (answer_of is p n) (does op i p n s) ≡ Some b → Some 0 ≡ Some b = plain_both p n (λ u v. (b : ℕ) → answer_after (answer_of is p n) v ≡ Some b → Some 0 ≡ Some b) (λ b eb. eb) (λ b eb. cc) op i i s e
+        (λ t b eb. sym (there t).0 ∙ (landed c is ls all 0 l.place _ _ f t t.accumulator t.index (λ z. refl) (λ z. refl)).0 b eb) in
+        let steps = (there (other s a x)).1 in
+        (λ b eb. (there (other s a x)).0 ∙ only b (sym (ap (answer_after (answer_of is p n)) (known_step p n i (Some op) s o)) ∙ eb), omega arith)
       where
         there : (t : State) → (answer_of (code_from c l.place) p n 0 t ≡ Some 0) × (steps_of (code_from c l.place) p n 0 t ≡ 1)
         there t = subst (λ z. (answer_of z p n 0 t ≡ Some 0) × (steps_of z p n 0 t ≡ 1)) (sym d) (rejected j js t r)
-
-        ends_here : does op i p n s ≡ Ends 0 → Left
-        ends_here g =
-            let new = there (other s a x) in
-            let steps = new.1 in
-            (λ b eb. new.0 ∙ sym (ap (answer_after (answer_of is p n)) (known_step p n i (Some op) s o ∙ g)) ∙ eb, omega arith)
-
-        is_lost : does op i p n s ≡ Lost → Left
-        is_lost g =
-            let new = there (other s a x) in
-            let steps = new.1 in
-            let none = sym (ap (answer_after (answer_of is p n)) (known_step p n i (Some op) s o ∙ g)) in
-            (λ b eb. absurd (let q : None ≡ Some b = none ∙ eb in cc), omega arith)
-
-        goes : (t : State) → does op i p n s ≡ Goes 0 t → Left
-        goes t g =
-            let new = there (other s a x) in
-            let again = there t in
-            let steps = new.1 in
-            let old = landed 0 _ _ f t t.accumulator t.index (λ z. refl) (λ z. refl) in
-            (λ b eb. new.0 ∙ sym again.0 ∙ old.0 b (sym (ap (answer_after (answer_of is p n)) (known_step p n i (Some op) s o ∙ g)) ∙ eb), omega arith)
 
     left_good : (op : Option Operation) (j : Insn) (js : List Insn) → code_from c l.place ≡ j ∷ js → operation_of i.code ≡ op → left_out c op j l i ls ≡ true → Left
     unfolding left_out
@@ -454,8 +405,8 @@ module _ (p : List ℕ) (n : ℕ) where
         old_alone (code_from c l.place) is i _ (other s a x) s s (known_step p n i (Some (JumpIf t v)) s o) (way (test_holds t s.accumulator (operand_value v i.k s.index)) q.0 q.1)
       where
         way : (b : Bool) → lands_at c ls i.jt l.place l.accumulator l.index ≡ true → lands_at c ls i.jf l.place l.accumulator l.index ≡ true → AsGood (code_from c l.place) is p n 0 (if b then i.jt else i.jf) (other s a x) s
-        way true f g = landed i.jt l.accumulator l.index f s a x ha hx
-        way false f g = landed i.jf l.accumulator l.index g s a x ha hx
+        way true f g = landed c is ls all i.jt l.place l.accumulator l.index f s a x ha hx
+        way false f g = landed c is ls all i.jf l.place l.accumulator l.index g s a x ha hx
     left_good (Some op) j js d o f =
         let q = and_parts (is_sure op || (rejects j && goes_on_or_rejects op)) (lands_at c ls 0 l.place (l.accumulator && not (sets_accumulator op)) (l.index && not (sets_index op))) f in
         elim (or_cases (is_sure op) (rejects j && goes_on_or_rejects op) q.0) [
@@ -473,12 +424,12 @@ module _ (p : List ℕ) (n : ℕ) where
   Good c l j i s a x is = AsGood (j ∷ code_from c (l.place - 1)) (i ∷ is) p n 0 0 (other s a x) s
 
   -- by one of five ways
-  one_of : (c is : List Insn) (ls : List Landing) (l : Landing) (all : AllLand c is ls) (low : l.place ≤ length c) (j i : Insn) (js : List Insn) → code_from c l.place ≡ j ∷ js → js ≡ code_from c (l.place - 1) → ((same_step (operation_of i.code) j l i ls || one_test j l i is ls) || ((direct_load j l i is ls || header_load (j ∷ js) l i is ls) || left_out c (operation_of i.code) j l i ls)) ≡ true → (s : State) (a x : ℕ) → Same l.accumulator a s.accumulator → Same l.index x s.index → AsGood (j ∷ code_from c (l.place - 1)) (i ∷ is) p n 0 0 (other s a x) s
+  one_of : (c is : List Insn) (ls : List Landing) (l : Landing) (all : AllLand c is ls) (low : l.place ≤ length c) (j i : Insn) (js : List Insn) → code_from c l.place ≡ j ∷ js → js ≡ code_from c (l.place - 1) → ((same_step c (operation_of i.code) j l i ls || one_test c j l i is ls) || ((direct_load c j l i is ls || header_load c (j ∷ js) l i is ls) || left_out c (operation_of i.code) j l i ls)) ≡ true → (s : State) (a x : ℕ) → Same l.accumulator a s.accumulator → Same l.index x s.index → AsGood (j ∷ code_from c (l.place - 1)) (i ∷ is) p n 0 0 (other s a x) s
   one_of c is ls l all low j i js first next f s a x ha hx =
-      or_either (Good c l j i s a x is) (same_step (operation_of i.code) j l i ls || one_test j l i is ls) ((direct_load j l i is ls || header_load (j ∷ js) l i is ls) || left_out c (operation_of i.code) j l i ls) f
-      (λ e. or_either (Good c l j i s a x is) (same_step (operation_of i.code) j l i ls) (one_test j l i is ls) e (λ g. same_good c is ls l all low j i (operation_of i.code) refl g s a x ha hx) (λ g. one_good c is ls l all low j i g s a x ha hx))
-      (λ e. or_either (Good c l j i s a x is) (direct_load j l i is ls || header_load (j ∷ js) l i is ls) (left_out c (operation_of i.code) j l i ls) e
-      (λ f. or_either (Good c l j i s a x is) (direct_load j l i is ls) (header_load (j ∷ js) l i is ls) f (λ g. direct_good c is ls l all low j i g s a x) (λ g. header_good c is ls l all low j i js next g s a x))
+      or_either (Good c l j i s a x is) (same_step c (operation_of i.code) j l i ls || one_test c j l i is ls) ((direct_load c j l i is ls || header_load c (j ∷ js) l i is ls) || left_out c (operation_of i.code) j l i ls) f
+      (λ e. or_either (Good c l j i s a x is) (same_step c (operation_of i.code) j l i ls) (one_test c j l i is ls) e (λ g. same_good c is ls l all low j i (operation_of i.code) refl g s a x ha hx) (λ g. one_good c is ls l all low j i g s a x ha hx))
+      (λ e. or_either (Good c l j i s a x is) (direct_load c j l i is ls || header_load c (j ∷ js) l i is ls) (left_out c (operation_of i.code) j l i ls) e
+      (λ f. or_either (Good c l j i s a x is) (direct_load c j l i is ls) (header_load c (j ∷ js) l i is ls) f (λ g. direct_good c is ls l all low j i g s a x) (λ g. header_good c is ls l all low j i js next g s a x))
       (λ f. subst (λ d. AsGood d (i ∷ is) p n 0 0 (other s a x) s) (first ∙ ap (λ z. j ∷ z) next) (left_good c is ls l all i s a x ha hx (operation_of i.code) j js first refl f)))
 
   here : (c is : List Insn) (ls : List Landing) (l : Landing) (i : Insn) → AllLand c is ls → 0 < l.place → l.place ≤ length c → (d : List Insn) → code_from c l.place ≡ d → stands_at c d l i is ls ≡ true → Lands c (i ∷ is) l 0
@@ -540,6 +491,14 @@ module _ (p : List ℕ) (n : ℕ) where
   met_of prog (suc left) place count s a m e =
       met_there prog left place count s a m (λ k u f. met_of prog left (place + 1 + k) (count + 1) u a m f) (slice_get prog place) refl e
 
+  -- a run of code that has an answer
+  pub comes_of : (c : List Insn) (answer most : ℕ) → answer_of c p n 0 start ≡ Some answer → steps_of c p n 0 start ≤ most → Comes c p n answer most
+  comes_of c answer most a l =
+      let m = machine_answers c p n answer a in
+      let steps = (met_of c (length c) 0 0 start answer m.met m.answered).steps in
+      let inside = m.upper_bound in
+      record { count = m.met; answered = m.answered; upper_bound = omega arith; inside = omega arith }
+
   -- the new code gives the old one's answer in no more instructions
   pub shortened : (new old : List Insn) (ls : List Landing) (answer count : ℕ) → length ls ≡ length old → begins ls (length new) ≡ true → are_alike new old ls ≡ true → machine old p n (length old) ≡ Answered answer count → Comes new p n answer count
   shortened new old [] answer count same b e m = cc
@@ -552,14 +511,10 @@ module _ (p : List ℕ) (n : ℕ) where
       let whole : code_from new l.place ≡ new = ap (λ k. drop k new) none in
       let was = met_of old (length old) 0 0 start answer count m in
       let a = ap (λ c. answer_of c p n 0 start) (sym whole) ∙ good.0 answer was.answer in
-      let c = machine_answers new p n answer a in
-      let now = met_of new (length new) 0 0 start answer c.met c.answered in
       let steps_new = ap (λ z. steps_of z p n 0 start) whole in
       let upper_bound = good.1 in
       let old_steps = was.steps in
-      let new_steps = now.steps in
-      let inside = c.upper_bound in
-      record { count = c.met; answered = c.answered; upper_bound = omega arith; inside = omega arith }
+      comes_of new answer count a (omega arith)
 
 pub replaced : (new old : List Insn) (ls : List Landing) → length new ≤ length old → length ls ≡ length old → begins ls (length new) ≡ true → are_alike new old ls ≡ true → count_by (λ i. is_branch (operation_of i.code)) new ≤ count_by (λ i. is_branch (operation_of i.code)) old → All (λ i. i.code ≢ JUMP) new → IsValidUnlessLong new → Shortens new old
 replaced new old ls short same b e few free valid =
@@ -579,7 +534,7 @@ itself old =
       shorter = omega arith;
       fewer = omega arith;
       valid = λ v. v;
-      runs = λ p n answer count m. let k = met_of p n old (length old) 0 0 start answer count m in let steps = k.steps in let c = machine_answers old p n answer k.answer in let r = met_of p n old (length old) 0 0 start answer c.met c.answered in let again = r.steps in let upper_bound = c.upper_bound in record { count = c.met; answered = c.answered; upper_bound = omega arith; inside = omega arith };
+      runs = λ p n answer count m. let k = met_of p n old (length old) 0 0 start answer count m in let steps = k.steps in comes_of p n old answer count k.answer (omega arith);
       needed = λ h. h;
       no_jump = λ h. h;
     }

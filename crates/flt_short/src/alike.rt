@@ -9,16 +9,17 @@
 //! Most clauses cite definitions that mirror the code, with the same names or without `is_`; the
 //! contract of `replaces` states what follows from them (`Shortens`).
 
-ghost use Rattle.std.specs.Prelude.{◌≡◌, ◌≢◌, ◌↔◌, ◌+◌, ◌-◌, ◌%◌, ◌^◌, ◌==◌, ◌&&◌, nat_lt, length};
+ghost use Rattle.std.specs.Prelude.{◌≡◌, ◌≢◌, ◌↔◌, ◌+◌, ◌-◌, ◌%◌, ◌^◌, ◌==◌, ◌&&◌, length};
 ghost use Rattle.std.specs.Prelude.{IsTrue, All, true, false};
 ghost use Rattle.std.specs.Option.{option_map_or};
 ghost use Rattle.flt_bpf.specs.Instructions.{operation_of};
 ghost use Rattle.flt_short.specs.Alike.{Shortens};
-ghost use Rattle.flt_short.specs.inside.Alike.{implies, landing_fits, goes_on, same_step, ANY_BIT};
+ghost use Rattle.flt_short.specs.inside.Alike.{goes_on, same_step};
 ghost use Rattle.flt_short.specs.inside.Alike.{is_masked_test, one_test, direct_code, direct_load};
-ghost use Rattle.flt_short.specs.inside.Alike.{puts_number_into_index, is_indirect, adds_header};
-ghost use Rattle.flt_short.specs.inside.Alike.{loads_alike, header_load, rejects, is_sure, begins};
-ghost use Rattle.flt_short.specs.inside.Alike.{goes_on_or_rejects, code_from, are_copies, lands_at};
+ghost use Rattle.flt_short.specs.inside.Alike.{puts_number_into_index, adds_header};
+ghost use Rattle.flt_short.specs.inside.Alike.{header_load, rejects, is_sure, begins};
+ghost use Rattle.flt_bpf.specs.inside.Flow.{goes_on_or_rejects};
+ghost use Rattle.flt_short.specs.inside.Alike.{code_from, are_copies, lands_at};
 ghost use Rattle.flt_short.specs.inside.Alike.{left_out, stands, are_alike};
 ghost use Rattle.flt_bpf.specs.Layout.{JUMP};
 
@@ -38,287 +39,6 @@ pub struct Landing {
     /// Whether X may be read from there on before it is set, so that X must be the same in both
     /// programs there.
     pub index: bool,
-}
-
-/// Whether `other` holds if `one` does.
-fn implies(one: bool, other: bool) -> bool
-    ensures { result ≡ implies one other }
-{
-    if one { other } else { true }
-}
-
-/// Whether an instruction at `place` of the new program, skipping `skipped` others, leads to the
-/// place `to`. Nothing leads to 0 (nowhere).
-fn leads_to(place: usize, skipped: usize, to: usize) -> bool
-    ensures { result ≡ ((nat_lt 0 to && nat_lt to place) && place - to - 1 == skipped) }
-{
-    (0 < to && to < place) && place - to - 1 == skipped
-}
-
-/// Whether both programs go on at the same landing, the old one after `old` skipped instructions,
-/// the new one after `new` skipped ones from `place`; and whether the registers that may be read
-/// from there on are the same. `accumulator` and `index` are whether A and X are the same.
-fn landing_fits(
-    following: &[Landing],
-    old: usize,
-    new: usize,
-    place: usize,
-    accumulator: bool,
-    index: bool,
-) -> bool
-    ensures { result ≡ landing_fits following.now old new place accumulator index }
-{
-    match following.get(old) {
-        None => false,
-        Some(landing) => {
-            leads_to(place, new, landing.place)
-                && (implies(landing.accumulator, accumulator) && implies(landing.index, index))
-        }
-    }
-}
-
-/// Whether both programs go on the same way after an instruction that both have, with this
-/// operation: each way from it leads to a landing that fits. A jump (`ja`) is never accepted.
-fn goes_on(
-    operation: Operation,
-    new: Wide,
-    landing: Landing,
-    old: Wide,
-    following: &[Landing],
-) -> bool
-    ensures { result ≡ goes_on operation new landing old following.now }
-{
-    let Landing {
-        place,
-        accumulator,
-        index,
-    } = landing;
-    match operation {
-        Operation::Jump => false,
-        Operation::JumpIf(_, _) => {
-            let (yes, no) = (old.yes as usize, old.no as usize);
-            landing_fits(following, yes, new.yes as usize, place, accumulator, index)
-                && landing_fits(following, no, new.no as usize, place, accumulator, index)
-        }
-        Operation::ReturnConstant | Operation::ReturnAccumulator => true,
-        _ => {
-            let same_a = sets_accumulator(operation) || accumulator;
-            let same_x = sets_index(operation) || index;
-            landing_fits(following, 0, 0, place, same_a, same_x)
-        }
-    }
-}
-
-/// Rule 1: the instruction of the new program is that of the old one, perhaps with other offsets.
-/// The registers that it reads are the same in both programs, and both go on the same way.
-#[tactic(auto, unfolding(crate::specs::inside::Alike::same_step))]
-fn is_same_step(new: Wide, landing: Landing, old: Wide, following: &[Landing]) -> bool
-    ensures { result ≡ same_step (operation_of old.code) new landing old following.now }
-{
-    match decode(old.code) {
-        None => false,
-        Some(operation) => {
-            (old.code == new.code && old.k == new.k)
-                && (implies(reads_accumulator(operation), landing.accumulator)
-                    && implies(reads_index(operation), landing.index))
-                && goes_on(operation, new, landing, old, following)
-        }
-    }
-}
-
-/// Whether two instructions are a mask of A, and a test whether the result is 0.
-pub fn is_masked_test(mask: Wide, test: Wide) -> bool
-    ensures { result ≡ is_masked_test mask test }
-{
-    (mask.code == Operation::Compute(AluOperation::And, Operand::Constant).code()
-        && test.code == Operation::JumpIf(Test::Equal, Operand::Constant).code())
-        && test.k == 0
-}
-
-/// Whether `new` is the test of bits that replaces a mask and a test whether the result is 0. Its
-/// outcome is the opposite.
-fn is_bits_test(new: Wide, mask: Wide, test: Wide) -> bool
-    ensures { result ≡ (is_masked_test mask test && (new.code == ANY_BIT && mask.k == new.k)) }
-{
-    is_masked_test(mask, test)
-        && (new.code == Operation::JumpIf(Test::AnyBit, Operand::Constant).code()
-            && mask.k == new.k)
-}
-
-/// Rule 2: one test of bits (`69 k`) replaces a mask and a test whether the result is 0 (`84 k`,
-/// `21 0`). A is the same in both programs before them, and isn't read after them.
-#[tactic(auto, unfolding(crate::specs::inside::Alike::one_test))]
-fn is_one_test(
-    new: Wide,
-    landing: Landing,
-    old: Wide,
-    after: &[Wide],
-    following: &[Landing],
-) -> bool
-    ensures { result ≡ one_test new landing old after.now following.now }
-{
-    match after {
-        [] => false,
-        [test, ..] => {
-            let (place, index) = (landing.place, landing.index);
-            let (zero, other) = (1 + test.yes as usize, 1 + test.no as usize);
-            is_bits_test(new, old, *test)
-                && (landing.accumulator
-                    && (landing_fits(following, zero, new.no as usize, place, false, index)
-                        && landing_fits(following, other, new.yes as usize, place, false, index)))
-        }
-    }
-}
-
-/// The code of the load at a fixed place that loads as many bytes as the load at X with the code
-/// `indirect`; `None` if `indirect` isn't the code of a load at X.
-pub fn direct_code(indirect: u16) -> Option<u16>
-    ensures { result ≡ direct_code (operation_of indirect) }
-{
-    match decode(indirect) {
-        Some(Operation::LoadIndirect(width)) => Some(Operation::LoadAbsolute(width).code()),
-        _ => None,
-    }
-}
-
-/// Whether two instructions put a number into A, and copy A to X.
-pub fn puts_number_into_index(number: Wide, copy: Wide) -> bool
-    ensures { result ≡ puts_number_into_index number copy }
-{
-    number.code == Operation::Load(Register::Accumulator, Source::Immediate).code()
-        && copy.code == Operation::CopyToIndex.code()
-}
-
-/// Whether `new` loads, at a fixed place, the bytes that `load` loads if X is this number.
-fn is_direct(new: Wide, number: u32, load: Wide) -> bool
-    ensures { result ≡ (option_map_or (λ code. code == new.code)
-        (direct_code (operation_of load.code)) false && (number + load.k) % 2 ^ 32 == new.k) }
-{
-    match direct_code(load.code) {
-        None => false,
-        Some(code) => code == new.code && number.wrapping_add(load.k) == new.k,
-    }
-}
-
-/// Rule 3: one load at a fixed place (`40 i + k`) replaces three instructions: a number into A, A
-/// into X, a load at X (`0 i`, `7`, `72 k`). X isn't read after them.
-#[tactic(auto, unfolding(crate::specs::inside::Alike::direct_load))]
-fn is_direct_load(
-    new: Wide,
-    landing: Landing,
-    old: Wide,
-    after: &[Wide],
-    following: &[Landing],
-) -> bool
-    ensures { result ≡ direct_load new landing old after.now following.now }
-{
-    match after {
-        [to_index, load, ..] => {
-            (puts_number_into_index(old, *to_index) && is_direct(new, old.k, *load))
-                && landing_fits(following, 2, 0, landing.place, true, false)
-        }
-        _ => false,
-    }
-}
-
-/// Whether four instructions put a number into A and the length of a header into X, add them in A,
-/// and copy the sum to X.
-pub fn adds_header(number: Wide, length: Wide, add: Wide, to_index: Wide) -> bool
-    ensures { result ≡ adds_header number length add to_index }
-{
-    (number.code == Operation::Load(Register::Accumulator, Source::Immediate).code()
-        && length.code == Operation::LoadHeaderLength.code())
-        && (add.code == Operation::Compute(AluOperation::Add, Operand::IndexRegister).code()
-            && to_index.code == Operation::CopyToIndex.code())
-}
-
-/// Whether two pairs of instructions begin with the same one, and then load equally many bytes at
-/// X, each at its own `k`. (`adds_header` checks that the first one loads the length of a header.)
-fn loads_alike(old_length: Wide, new_length: Wide, old_load: Wide, new_load: Wide) -> bool
-    ensures { result ≡ loads_alike old_length new_length old_load new_load }
-{
-    (old_length.code == new_length.code && old_length.k == new_length.k)
-        && (is_indirect(old_load.code) && old_load.code == new_load.code)
-}
-
-/// Whether a code is that of a load at X.
-pub fn is_indirect(code: u16) -> bool
-    ensures { result ≡ is_indirect (operation_of code) }
-{
-    matches!(decode(code), Some(Operation::LoadIndirect(_)))
-}
-
-/// Rule 4: the length of a header and a load at X (`177 L`, `80 i + k`) replace five instructions:
-/// a number into A, the length of the header into X, their sum into A, A into X, a load at X
-/// (`0 i`, `177 L`, `12`, `7`, `80 k`). X isn't read after them.
-#[tactic(auto, unfolding(crate::specs::inside::Alike::header_load))]
-fn is_header_load(
-    new: &[Wide],
-    landing: Landing,
-    old: Wide,
-    after: &[Wide],
-    following: &[Landing],
-) -> bool
-    ensures { result ≡ header_load new.now landing old after.now following.now }
-{
-    match (new, after) {
-        ([length, load, ..], [header_length, add, to_index, indirect, ..]) => {
-            adds_header(old, *header_length, *add, *to_index)
-                && (loads_alike(*header_length, *length, *indirect, *load)
-                    && is_sum_loaded(old.k, indirect.k, load.k, landing.place, following))
-        }
-        _ => false,
-    }
-}
-
-/// Whether the `k` of the new load at X is the sum of a number and the `k` of the load that it
-/// replaces, and the registers that may be read after it are the same in both programs. `place` is
-/// that of the instruction before the new load, which loads the length of the header.
-fn is_sum_loaded(number: u32, old_k: u32, new_k: u32, place: usize, following: &[Landing]) -> bool
-    ensures { result ≡ ((number + old_k) % 2 ^ 32 == new_k
-        && landing_fits following.now 4 0 (place - 1) true false) }
-{
-    let second = place.saturating_sub(1);
-    number.wrapping_add(old_k) == new_k && landing_fits(following, 4, 0, second, true, false)
-}
-
-/// Whether an instruction returns the number 0, and so rejects the packet.
-pub fn is_rejection(insn: Wide) -> bool
-    ensures { result ≡ rejects insn }
-{
-    insn.code == Operation::ReturnConstant.code() && insn.k == 0
-}
-
-/// Whether an operation is one of these: a load of a number or of the packet's length, a copy, a
-/// negation, or arithmetic other than `/` and `%`. After it the run goes on at the next instruction
-/// on every packet, and memory is unchanged.
-pub fn is_sure(operation: Operation) -> bool
-    ensures { result ≡ is_sure operation }
-{
-    match operation {
-        Operation::Load(_, Source::Immediate | Source::Length)
-        | Operation::Negate
-        | Operation::CopyToIndex
-        | Operation::CopyToAccumulator => true,
-        Operation::Compute(operator, _) => {
-            !matches!(operator, AluOperation::Divide | AluOperation::Remainder)
-        }
-        _ => false,
-    }
-}
-
-/// Whether after an operation the run goes on at the next instruction or ends with 0: the operation
-/// isn't a jump, a test or a return.
-pub fn goes_on_or_rejects(operation: Operation) -> bool
-    ensures { result ≡ goes_on_or_rejects operation }
-{
-    !matches!(
-        operation,
-        Operation::Jump
-            | Operation::JumpIf(_, _)
-            | Operation::ReturnConstant
-            | Operation::ReturnAccumulator
-    )
 }
 
 /// The last `place` instructions of the code; all of it if it has fewer.
@@ -375,9 +95,244 @@ fn lands_at(
             (landing.place > 0
                 && (landing.place == place
                     || are_copies(code_from(code, landing.place), code_from(code, place))))
-                && (implies(landing.accumulator, accumulator) && implies(landing.index, index))
+                && ((!landing.accumulator || accumulator) && (!landing.index || index))
         }
     }
+}
+
+/// The place where an instruction at `place` leads that skips this number of others; nowhere if
+/// the code ends before.
+fn place_past(place: usize, skipped: u32) -> usize
+    ensures { result ≡ place - (1 + skipped) }
+{
+    place.saturating_sub(1 + skipped as usize)
+}
+
+/// Whether both programs go on the same way after an instruction that both have, with this
+/// operation: each way from it leads to a landing that fits. A jump (`ja`) is never accepted.
+fn goes_on(
+    code: &[Wide],
+    operation: Operation,
+    new: Wide,
+    landing: Landing,
+    old: Wide,
+    following: &[Landing],
+) -> bool
+    ensures { result ≡ goes_on code.now operation new landing old following.now }
+{
+    let (place, accumulator, index) = (landing.place, landing.accumulator, landing.index);
+    match operation {
+        Operation::Jump => false,
+        Operation::JumpIf(_, _) => {
+            let (yes, no) = (place_past(place, new.yes), place_past(place, new.no));
+            lands_at(code, following, old.yes as usize, yes, accumulator, index)
+                && lands_at(code, following, old.no as usize, no, accumulator, index)
+        }
+        Operation::ReturnConstant | Operation::ReturnAccumulator => true,
+        _ => {
+            let same_a = sets_accumulator(operation) || accumulator;
+            let same_x = sets_index(operation) || index;
+            lands_at(code, following, 0, place_past(place, 0), same_a, same_x)
+        }
+    }
+}
+
+/// Rule 1: the instruction of the new program is that of the old one, perhaps with other offsets.
+/// The registers that it reads are the same in both programs, and both go on the same way.
+#[tactic(auto, unfolding(crate::specs::inside::Alike::same_step))]
+fn is_same_step(
+    code: &[Wide],
+    new: Wide,
+    landing: Landing,
+    old: Wide,
+    following: &[Landing],
+) -> bool
+    ensures { result ≡ same_step code.now (operation_of old.code) new landing old following.now }
+{
+    match decode(old.code) {
+        None => false,
+        Some(operation) => {
+            (old.code == new.code && old.k == new.k)
+                && ((!reads_accumulator(operation) || landing.accumulator)
+                    && (!reads_index(operation) || landing.index))
+                && goes_on(code, operation, new, landing, old, following)
+        }
+    }
+}
+
+/// Whether two instructions are a mask of A, and a test whether the result is 0.
+pub fn is_masked_test(mask: Wide, test: Wide) -> bool
+    ensures { result ≡ is_masked_test mask test }
+{
+    (mask.code == Operation::Compute(AluOperation::And, Operand::Constant).code()
+        && test.code == Operation::JumpIf(Test::Equal, Operand::Constant).code())
+        && test.k == 0
+}
+
+/// Rule 2: one test of bits (`69 k`) replaces a mask and a test whether the result is 0 (`84 k`,
+/// `21 0`), with the opposite outcome. A is the same in both programs before them, and isn't read
+/// after them.
+#[tactic(auto, unfolding(crate::specs::inside::Alike::one_test))]
+fn is_one_test(
+    code: &[Wide],
+    new: Wide,
+    landing: Landing,
+    old: Wide,
+    after: &[Wide],
+    following: &[Landing],
+) -> bool
+    ensures { result ≡ one_test code.now new landing old after.now following.now }
+{
+    match after {
+        [] => false,
+        [test, ..] => {
+            let (zero, other) = (1 + test.yes as usize, 1 + test.no as usize);
+            let place = landing.place;
+            let (yes, no) = (place_past(place, new.yes), place_past(place, new.no));
+            (is_masked_test(old, *test)
+                && (new.code == Operation::JumpIf(Test::AnyBit, Operand::Constant).code()
+                    && old.k == new.k))
+                && (landing.accumulator
+                    && (lands_at(code, following, zero, no, false, landing.index)
+                        && lands_at(code, following, other, yes, false, landing.index)))
+        }
+    }
+}
+
+/// The code of the load at a fixed place that loads as many bytes as the load at X with the code
+/// `indirect`; `None` if `indirect` isn't the code of a load at X.
+pub fn direct_code(indirect: u16) -> Option<u16>
+    ensures { result ≡ direct_code (operation_of indirect) }
+{
+    match decode(indirect) {
+        Some(Operation::LoadIndirect(width)) => Some(Operation::LoadAbsolute(width).code()),
+        _ => None,
+    }
+}
+
+/// Whether two instructions put a number into A, and copy A to X.
+pub fn puts_number_into_index(number: Wide, copy: Wide) -> bool
+    ensures { result ≡ puts_number_into_index number copy }
+{
+    number.code == Operation::Load(Register::Accumulator, Source::Immediate).code()
+        && copy.code == Operation::CopyToIndex.code()
+}
+
+/// Whether `new` loads, at a fixed place, the bytes that `load` loads if X is this number.
+fn is_direct(new: Wide, number: u32, load: Wide) -> bool
+    ensures { result ≡ (option_map_or (λ code. code == new.code)
+        (direct_code (operation_of load.code)) false && (number + load.k) % 2 ^ 32 == new.k) }
+{
+    match direct_code(load.code) {
+        None => false,
+        Some(code) => code == new.code && number.wrapping_add(load.k) == new.k,
+    }
+}
+
+/// Rule 3: one load at a fixed place (`40 i + k`) replaces three instructions: a number into A, A
+/// into X, a load at X (`0 i`, `7`, `72 k`). X isn't read after them.
+#[tactic(auto, unfolding(crate::specs::inside::Alike::direct_load))]
+fn is_direct_load(
+    code: &[Wide],
+    new: Wide,
+    landing: Landing,
+    old: Wide,
+    after: &[Wide],
+    following: &[Landing],
+) -> bool
+    ensures { result ≡ direct_load code.now new landing old after.now following.now }
+{
+    match after {
+        [to_index, load, ..] => {
+            (puts_number_into_index(old, *to_index) && is_direct(new, old.k, *load))
+                && lands_at(
+                    code,
+                    following,
+                    2,
+                    place_past(landing.place, 0),
+                    true,
+                    false,
+                )
+        }
+        _ => false,
+    }
+}
+
+/// Whether four instructions put a number into A and the length of a header into X, add them in A,
+/// and copy the sum to X.
+pub fn adds_header(number: Wide, length: Wide, add: Wide, to_index: Wide) -> bool
+    ensures { result ≡ adds_header number length add to_index }
+{
+    (number.code == Operation::Load(Register::Accumulator, Source::Immediate).code()
+        && length.code == Operation::LoadHeaderLength.code())
+        && (add.code == Operation::Compute(AluOperation::Add, Operand::IndexRegister).code()
+            && to_index.code == Operation::CopyToIndex.code())
+}
+
+/// Rule 4: the length of a header and a load at X (`177 L`, `80 i + k`) replace five instructions:
+/// a number into A, the length of the header into X, their sum into A, A into X, a load at X
+/// (`0 i`, `177 L`, `12`, `7`, `80 k`). X isn't read after them.
+#[tactic(auto, unfolding(crate::specs::inside::Alike::header_load))]
+fn is_header_load(
+    code: &[Wide],
+    new: &[Wide],
+    landing: Landing,
+    old: Wide,
+    after: &[Wide],
+    following: &[Landing],
+) -> bool
+    ensures { result ≡ header_load code.now new.now landing old after.now following.now }
+{
+    match (new, after) {
+        ([length, load, ..], [header_length, add, to_index, indirect, ..]) => {
+            let second = place_past(place_past(landing.place, 0), 0);
+            adds_header(old, *header_length, *add, *to_index)
+                && ((header_length.code == length.code && header_length.k == length.k)
+                    && (direct_code(indirect.code).is_some() && indirect.code == load.code)
+                    && (old.k.wrapping_add(indirect.k) == load.k
+                        && lands_at(code, following, 4, second, true, false)))
+        }
+        _ => false,
+    }
+}
+
+/// Whether an instruction returns the number 0, and so rejects the packet.
+pub fn is_rejection(insn: Wide) -> bool
+    ensures { result ≡ rejects insn }
+{
+    insn.code == Operation::ReturnConstant.code() && insn.k == 0
+}
+
+/// Whether an operation is one of these: a load of a number or of the packet's length, a copy, a
+/// negation, or arithmetic other than `/` and `%`. After it the run goes on at the next instruction
+/// on every packet, and memory is unchanged.
+pub fn is_sure(operation: Operation) -> bool
+    ensures { result ≡ is_sure operation }
+{
+    match operation {
+        Operation::Load(_, Source::Immediate | Source::Length)
+        | Operation::Negate
+        | Operation::CopyToIndex
+        | Operation::CopyToAccumulator => true,
+        Operation::Compute(operator, _) => {
+            !matches!(operator, AluOperation::Divide | AluOperation::Remainder)
+        }
+        _ => false,
+    }
+}
+
+/// Whether after an operation the run goes on at the next instruction or ends with 0: the operation
+/// isn't a jump, a test or a return.
+pub fn goes_on_or_rejects(operation: Operation) -> bool
+    ensures { result ≡ goes_on_or_rejects operation }
+{
+    !matches!(
+        operation,
+        Operation::Jump
+            | Operation::JumpIf(_, _)
+            | Operation::ReturnConstant
+            | Operation::ReturnAccumulator
+    )
 }
 
 /// Rule 5: the new program omits the instruction. Each way from it leads to its own landing; and it
@@ -386,11 +341,7 @@ fn lands_at(
 fn is_left_out(code: &[Wide], new: Wide, landing: Landing, old: Wide, following: &[Landing]) -> bool
     ensures { result ≡ left_out code.now (operation_of old.code) new landing old following.now }
 {
-    let Landing {
-        place,
-        accumulator,
-        index,
-    } = landing;
+    let (place, accumulator, index) = (landing.place, landing.accumulator, landing.index);
     match decode(old.code) {
         None => false,
         Some(Operation::JumpIf(_, _)) => {
@@ -427,10 +378,10 @@ fn stands(code: &[Wide], landing: Landing, old: Wide, after: &[Wide], following:
         [] => false,
         [new, ..] => {
             let new = *new;
-            (is_same_step(new, landing, old, following)
-                || is_one_test(new, landing, old, after, following))
-                || ((is_direct_load(new, landing, old, after, following)
-                    || is_header_load(from, landing, old, after, following))
+            (is_same_step(code, new, landing, old, following)
+                || is_one_test(code, new, landing, old, after, following))
+                || ((is_direct_load(code, new, landing, old, after, following)
+                    || is_header_load(code, from, landing, old, after, following))
                     || is_left_out(code, new, landing, old, following))
         }
     }
@@ -442,12 +393,9 @@ fn are_alike(code: &[Wide], old: &[Wide], landings: &[Landing]) -> bool
     requires { length landings.now ≡ length old.now }
     ensures { result ≡ are_alike code.now old.now landings.now }
 {
-    let mut at = 0;
-    // The label names the loop in its proof.
-    'insns: while at < old.len() {
-        let (landing, insn) = (landings[at], old[at]);
-        at += 1;
-        if !stands(code, landing, insn, &old[at..], &landings[at..]) {
+    for at in 0..old.len() {
+        let next = at + 1;
+        if !stands(code, landings[at], old[at], &old[next..], &landings[next..]) {
             return false;
         }
     }

@@ -8,15 +8,14 @@
 ghost use Rattle.std.specs.Prelude.{◌≡◌, ◌≤◌, length, map};
 ghost use Rattle.flt_bpf.specs.Instructions.{operation_of};
 ghost use Rattle.flt_short.specs.inside.Facts.{same_optional, same_field, claims_nothing, allows};
-ghost use Rattle.flt_short.specs.inside.Facts.{denies, entails, joined_claim, nothing_claimed};
+ghost use Rattle.flt_short.specs.inside.Facts.{entails, joined_claim};
 ghost use Rattle.flt_short.specs.inside.Facts.{joined_with_any, joined_fact, joined_held, joined};
-ghost use Rattle.flt_short.specs.inside.Facts.{common_header, outcome_by_claim, decided, gives_way};
+ghost use Rattle.flt_short.specs.inside.Facts.{outcome_by_claim, decided, gives_way};
 ghost use Rattle.flt_short.specs.inside.Facts.{other_by_claim, other_number, place_for, with_fact};
-ghost use Rattle.flt_short.specs.inside.Facts.{captures};
 ghost use Rattle.flt_short.specs.inside.Facts.{any_captures, holds_field, is_captured, field_of};
 ghost use Rattle.flt_short.specs.inside.Facts.{masked_field, masked_held, held_without_index};
 ghost use Rattle.flt_short.specs.inside.Facts.{held_after, index_after, known_after, claim_after};
-ghost use Rattle.flt_short.specs.inside.Facts.{known_by, known_by_test, nothing_known, unreached};
+ghost use Rattle.flt_short.specs.inside.Facts.{known_by_test, nothing_known, unreached};
 
 use flt_bpf::Wide;
 use flt_bpf::operation::{AluOperation, Operand, Operation, Register, Source, Test, decode};
@@ -72,22 +71,15 @@ pub struct Known {
     pub facts: [Fact; MOST_FACTS],
 }
 
-/// The field of a fact that claims nothing.
-const NO_FIELD: Field = Field {
-    code: 0,
-    k: 0,
-    mask: None,
-};
-
 /// A fact that claims nothing.
-fn nothing_claimed() -> Fact
-    ensures { result ≡ nothing_claimed }
-{
-    Fact {
-        field: NO_FIELD,
-        claim: Claim::Nothing,
-    }
-}
+const NOTHING_CLAIMED: Fact = Fact {
+    field: Field {
+        code: 0,
+        k: 0,
+        mask: None,
+    },
+    claim: Claim::Nothing,
+};
 
 /// The state at a place if nothing is known of the runs that reach it.
 pub fn nothing_known() -> Known
@@ -96,7 +88,7 @@ pub fn nothing_known() -> Known
     Known {
         held: Held::Unknown,
         index: None,
-        facts: [nothing_claimed(); MOST_FACTS],
+        facts: [NOTHING_CLAIMED; MOST_FACTS],
     }
 }
 
@@ -147,16 +139,6 @@ fn allows(claim: Claim, number: u32) -> bool
     }
 }
 
-/// Whether a claim is that a number isn't this one.
-fn denies(claim: Claim, number: u32) -> bool
-    ensures { result ≡ denies claim number }
-{
-    match claim {
-        Claim::IsNot(another) => another == number,
-        _ => false,
-    }
-}
-
 /// Whether the claim `other` holds of each number of which `claim` holds.
 fn entails(claim: Claim, other: Claim) -> bool
     ensures { result ≡ entails claim other }
@@ -167,7 +149,7 @@ fn entails(claim: Claim, other: Claim) -> bool
     match claim {
         Claim::Nothing => false,
         Claim::Is(number) => allows(other, number),
-        Claim::IsNot(number) => denies(other, number),
+        Claim::IsNot(number) => matches!(other, Claim::IsNot(another) if another == number),
         Claim::IsOneOf(one, another) => allows(other, one) && allows(other, another),
     }
 }
@@ -196,7 +178,7 @@ fn joined_with_any(fact: &Fact, others: &[Fact]) -> Fact
     ensures { result ≡ joined_with_any fact.now others.now }
 {
     match others {
-        [] => nothing_claimed(),
+        [] => NOTHING_CLAIMED,
         [first, others @ ..] => {
             if !same_field(fact.field, first.field) {
                 return joined_with_any(fact, others);
@@ -230,11 +212,8 @@ fn joined_fact(fact: Fact, others: &[Fact]) -> Fact
 fn join_facts(facts: &mut [Fact], others: &[Fact])
     ensures { facts.new ≡ map (λ fact. joined_fact fact others.now) facts.old }
 {
-    let mut at = 0;
-    // The label names the loop in its proof.
-    'facts: while at < facts.len() {
+    for at in 0..facts.len() {
         facts[at] = joined_fact(facts[at], others);
-        at += 1;
     }
 }
 
@@ -264,13 +243,6 @@ fn joined_held(one: Held, other: Held) -> Held
     }
 }
 
-/// The header whose length X holds on both of two paths; `None` if they differ.
-fn common_header(one: Option<u32>, other: Option<u32>) -> Option<u32>
-    ensures { result ≡ common_header one other }
-{
-    if same_optional(one, other) { one } else { None }
-}
-
 /// The join of states: changes the state at a place so that it also holds in one more run, which
 /// has the state `came`. If no run came before, it becomes `came`.
 pub fn join(known: &mut Known, came: &Known)
@@ -282,7 +254,9 @@ pub fn join(known: &mut Known, came: &Known)
     }
     join_facts(&mut known.facts, &came.facts);
     known.held = joined_held(known.held, came.held);
-    known.index = common_header(known.index, came.index);
+    if !same_optional(known.index, came.index) {
+        known.index = None;
+    }
 }
 
 /// The outcome of the test whether a number is this one, by a claim about it; `None` if the claim
@@ -397,20 +371,17 @@ fn add_fact(known: &mut Known, field: Field, claim: Claim)
     }
 }
 
-/// Whether a fact says that the bytes that a load takes are captured: any claim of its number does.
-fn captures(fact: Fact, code: u16, k: u32) -> bool
-    ensures { result ≡ captures fact code k }
-{
-    (fact.field.code == code && fact.field.k == k) && !claims_nothing(fact.claim)
-}
-
-/// Whether one of some facts says that the bytes that a load takes are captured.
+/// Whether one of some facts says that the bytes that a load takes are captured: any claim of their
+/// number does.
 fn any_captures(facts: &[Fact], code: u16, k: u32) -> bool
     ensures { result ≡ any_captures facts.now code k }
 {
     match facts {
         [] => false,
-        [first, others @ ..] => captures(*first, code, k) || any_captures(others, code, k),
+        [first, others @ ..] => {
+            ((first.field.code == code && first.field.k == k) && !claims_nothing(first.claim))
+                || any_captures(others, code, k)
+        }
     }
 }
 
@@ -537,14 +508,6 @@ fn claim_by_outcome(facts: &[Fact], field: &Field, number: u32, outcome: bool) -
     }
 }
 
-/// Adds to the state the fact that the test whether a field is a number had this outcome.
-fn learn_number(known: &mut Known, field: Field, number: u32, outcome: bool)
-    ensures { known.new ≡ known_by known.old field number outcome }
-{
-    let claim = claim_by_outcome(&known.facts, &field, number, outcome);
-    add_fact(known, field, claim);
-}
-
 /// Adds to the state the fact that a test had this outcome. Only a test for equality shows one, if
 /// A holds a field.
 pub fn learn(known: &mut Known, insn: Wide, outcome: bool)
@@ -553,7 +516,8 @@ pub fn learn(known: &mut Known, insn: Wide, outcome: bool)
 {
     if let Some(Operation::JumpIf(Test::Equal, Operand::Constant)) = decode(insn.code) {
         if let Held::Field(field) = known.held {
-            learn_number(known, field, insn.k, outcome);
+            let claim = claim_by_outcome(&known.facts, &field, insn.k, outcome);
+            add_fact(known, field, claim);
         }
     }
 }

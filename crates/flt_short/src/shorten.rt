@@ -16,8 +16,8 @@ ghost use Rattle.std.specs.Option.{IfSome};
 ghost use Rattle.flt_short.specs.Alike.{Shortens};
 
 use crate::alike::{
-    Landing, adds_header, direct_code, goes_on_or_rejects, is_indirect, is_masked_test,
-    is_rejection, is_sure, puts_number_into_index, replaces,
+    Landing, adds_header, direct_code, goes_on_or_rejects, is_masked_test, is_rejection, is_sure,
+    puts_number_into_index, replaces,
 };
 use flt_bpf::operation::{AluOperation, Operand, Operation, Register, Source, Test, decode};
 use flt_bpf::{Wide, reads_accumulator, reads_index, sets_accumulator, sets_index};
@@ -53,11 +53,11 @@ fn landing_before(operation: Operation, place: usize, next: Landing) -> Landing 
     }
 }
 
-/// The registers that are read after a test which goes on at one of two landings, as a landing
-/// without a place.
+/// The registers that are read after a test which goes on at one of two landings, as a landing at
+/// the place of the first.
 fn landing_after_test(yes: Landing, no: Landing) -> Landing {
     Landing {
-        place: 0,
+        place: yes.place,
         accumulator: yes.accumulator || no.accumulator,
         index: yes.index || no.index,
     }
@@ -66,11 +66,6 @@ fn landing_after_test(yes: Landing, no: Landing) -> Landing {
 /// The index in the old code of the instruction `offset` past the next one.
 fn index_after(at: usize, offset: usize) -> usize {
     at.saturating_add(offset).saturating_add(1)
-}
-
-/// The place in the new code of the instruction right in front of a place.
-fn place_in_front_of(place: usize) -> usize {
-    place.saturating_add(1)
 }
 
 /// Whether an instruction ends a block: it is a test or a return. (A `ja` would too, but code in
@@ -106,14 +101,8 @@ fn with_farther_targets(insn: Wide, farther: usize) -> Option<Wide> {
 /// The number of entries in the table of tests for code of a length: a power of two, greater than
 /// the number of tests in the code.
 fn table_len(len: usize) -> usize {
-    let mut entries: usize = 16;
-    for _ in 0..32 {
-        if entries > len {
-            break;
-        }
-        entries = entries.saturating_mul(2);
-    }
-    entries
+    let entries = len.max(15).saturating_add(1);
+    entries.checked_next_power_of_two().unwrap_or(entries)
 }
 
 /// The new code, which grows from its end to its beginning while the old code is read in that order
@@ -178,11 +167,6 @@ impl Shortening<'_> {
                 _ => entry = self.entry_after(entry),
             }
         }
-    }
-
-    /// The instruction of the old code at an index, if there is one.
-    fn insn_at(&self, at: usize) -> Option<Wide> {
-        self.insns.get(at).copied()
     }
 
     /// The landing of the instruction of the old code at an index; past its end nowhere.
@@ -266,8 +250,11 @@ impl Shortening<'_> {
         let [number, copy, load, ..] = self.insns_from(at) else {
             return None;
         };
+        if !puts_number_into_index(*number, *copy) {
+            return None;
+        }
         let next = self.landing_at(index_after(at, 2));
-        if !puts_number_into_index(*number, *copy) || next.index || self.rejects(next.place) {
+        if next.index || self.rejects(next.place) {
             return None;
         }
         let code = direct_code(load.code)?;
@@ -283,7 +270,7 @@ impl Shortening<'_> {
         let [number, length, add, copy, load, ..] = self.insns_from(at) else {
             return None;
         };
-        if !adds_header(*number, *length, *add, *copy) || !is_indirect(load.code) {
+        if !adds_header(*number, *length, *add, *copy) || direct_code(load.code).is_none() {
             return None;
         }
         let next = self.landing_at(index_after(at, 4));
@@ -294,21 +281,15 @@ impl Shortening<'_> {
         Some((*length, Wide { k, ..*load }))
     }
 
-    /// Whether the instruction `before` ones before `at` puts a number into A, and is joined with
-    /// the next two (`direct_load_at`) or four (`header_load_at`) instructions, so with the one at
-    /// `at`.
-    fn is_joined_by(&self, at: usize, before: usize) -> bool {
-        let number = at.saturating_sub(before);
-        at >= before
-            && (before <= 2 && self.direct_load_at(number).is_some()
-                || self.header_load_at(number).is_some())
-    }
-
     /// Whether one of the four instructions before `at` puts a number into A, and is joined with
-    /// the one at `at`.
+    /// the next two (`direct_load_at`) or four (`header_load_at`), so with the one at `at`.
     fn is_joined_by_number(&self, at: usize) -> bool {
         for before in 1..5 {
-            if self.is_joined_by(at, before) {
+            let number = at.saturating_sub(before);
+            if at >= before
+                && (before <= 2 && self.direct_load_at(number).is_some()
+                    || self.header_load_at(number).is_some())
+            {
                 return true;
             }
         }
@@ -345,9 +326,9 @@ impl Shortening<'_> {
     /// Whether the instruction right in front of a place of the new code equals the one right in
     /// front of `at` in the old code; tests may have other targets.
     fn is_front_at(&self, place: usize, at: usize) -> bool {
-        match self.insn_at(at.wrapping_sub(1)) {
+        match self.insns.get(at.wrapping_sub(1)) {
             None => false,
-            Some(front) => self.stands_before(place, front),
+            Some(front) => self.stands_before(place, *front),
         }
     }
 
@@ -389,7 +370,7 @@ impl Shortening<'_> {
         let top = self.len;
         let test = with_offsets(insn, top.saturating_sub(yes), top.saturating_sub(no))?;
         self.push(test);
-        Some(place_in_front_of(top))
+        Some(top.saturating_add(1))
     }
 
     /// Emits a test for the instruction at `at`, and notes the landing. The test replaces the
@@ -398,24 +379,15 @@ impl Shortening<'_> {
     fn emit_test(&mut self, at: usize, insn: Wide, last: usize) {
         let yes = self.landing_at(index_after(last, insn.yes as usize));
         let no = self.landing_at(index_after(last, insn.no as usize));
+        let next = landing_after_test(yes, no);
         if yes.place == no.place && yes.place > 0 {
             // Both ways lead to one place: no test is needed.
-            let place = yes.place;
-            self.land(
-                at,
-                Landing {
-                    place,
-                    ..landing_after_test(yes, no)
-                },
-            );
+            self.land(at, next);
             return;
         }
         let place = self.place_test(at, insn, yes.place, no.place);
         if let (Some(operation), Some(place)) = (decode(insn.code), place) {
-            self.land(
-                at,
-                landing_before(operation, place, landing_after_test(yes, no)),
-            );
+            self.land(at, landing_before(operation, place, next));
         }
     }
 
@@ -506,7 +478,7 @@ impl Shortening<'_> {
         }
         if landing.place < self.len {
             if self.stands_before(landing.place, insn) {
-                let place = place_in_front_of(landing.place);
+                let place = landing.place.saturating_add(1);
                 self.land(at, landing_before(operation, place, landing));
                 return;
             }
@@ -529,18 +501,20 @@ impl Shortening<'_> {
         }
     }
 
-    /// Emits a mask of A, joined with the test after it if that is shorter.
-    fn emit_mask(&mut self, at: usize, insn: Wide) {
-        match self.bits_test_at(at) {
-            Some(test) => self.emit_test(at, test, index_after(at, 0)),
-            None => self.emit_alone(at, insn),
-        }
-    }
-
-    /// Emits the instruction that puts a number into A, joined with the load at X after it if that
-    /// is shorter.
-    fn emit_number(&mut self, at: usize, insn: Wide) {
-        if let Some(load) = self.direct_load_at(at) {
+    /// Emits an instruction of the old code, joined with those after it if that is shorter.
+    fn emit(&mut self, at: usize, insn: Wide) {
+        let may_join = matches!(
+            decode(insn.code),
+            Some(
+                Operation::Compute(AluOperation::And, Operand::Constant)
+                    | Operation::Load(Register::Accumulator, Source::Immediate)
+            )
+        );
+        if !may_join {
+            self.emit_alone(at, insn);
+        } else if let Some(test) = self.bits_test_at(at) {
+            self.emit_test(at, test, index_after(at, 0));
+        } else if let Some(load) = self.direct_load_at(at) {
             self.emit_plain(at, load, index_after(at, 2));
         } else if let Some((length, load)) = self.header_load_at(at) {
             self.emit_plain(at, load, index_after(at, 4));
@@ -548,19 +522,6 @@ impl Shortening<'_> {
             self.emit_plain(at, length, at);
         } else {
             self.emit_alone(at, insn);
-        }
-    }
-
-    /// Emits an instruction of the old code, joined with those after it if that is shorter.
-    fn emit(&mut self, at: usize, insn: Wide) {
-        match decode(insn.code) {
-            Some(Operation::Compute(AluOperation::And, Operand::Constant)) => {
-                self.emit_mask(at, insn);
-            }
-            Some(Operation::Load(Register::Accumulator, Source::Immediate)) => {
-                self.emit_number(at, insn);
-            }
-            _ => self.emit_alone(at, insn),
         }
     }
 
@@ -636,6 +597,7 @@ fn replacement<A: Allocator>(
 /// Replaces code by code that returns the same on each packet, in no more instructions. If no such
 /// code is found, for example because a run reaches a jump (`ja`), the old code is returned. The
 /// error is a failed allocation, or an allocator that can't be cloned.
+#[tactic(auto, using(crate::proofs::Likeness::itself))]
 pub fn shortened<A: Allocator + Clone>(
     alloc: A,
     insns: Vec<Wide, A>,

@@ -3,25 +3,12 @@
 //! this is proved; if it fails, nothing is.
 
 ghost use Rattle.std.specs.Prelude.{◌≡◌, None, true, IsTrue, count_by};
-ghost use Rattle.flt_bpf.specs.Check.{fault_of, constant_fault, is_return};
-ghost use Rattle.flt_bpf.specs.Check.{ends_in_return, IsFaultless, IsValidUnlessLong};
+ghost use Rattle.flt_bpf.specs.Check.{fault_of, ends_in_return, IsFaultless, IsValidUnlessLong};
 ghost use Rattle.flt_bpf.specs.Instructions.{operation_of};
 ghost use Rattle.flt_bpf.specs.Layout.{is_branch};
 
-use flt_bpf::operation::{AluOperation, Operand, Operation, Source, decode};
-use flt_bpf::{WORDS, Wide};
-
-/// Whether arithmetic with this constant is allowed: no division by 0, no shift by 32 or more.
-fn allows_constant(operator: AluOperation, k: u32) -> bool
-    ensures { IsTrue result → constant_fault operator k ≡ None }
-{
-    use AluOperation::{Divide, Remainder, ShiftLeft, ShiftRight};
-    match operator {
-        Divide | Remainder => k != 0,
-        ShiftLeft | ShiftRight => k < 32,
-        _ => true,
-    }
-}
+use flt_bpf::operation::{Operand, Operation, Source, decode};
+use flt_bpf::{WORDS, Wide, constant_fault, is_return};
 
 /// Whether an instruction that has `following` others after it breaks no rule.
 #[tactic(auto, unfolding(flt_bpf::specs::Check::fault_of))]
@@ -35,7 +22,9 @@ fn is_faultless(insn: Wide, following: usize) -> bool
             (insn.yes as usize) < following && (insn.no as usize) < following
         }
         Some(Operation::Load(_, Source::Memory) | Operation::Store(_)) => (insn.k as usize) < WORDS,
-        Some(Operation::Compute(operator, Operand::Constant)) => allows_constant(operator, insn.k),
+        Some(Operation::Compute(operator, Operand::Constant)) => {
+            constant_fault(operator, insn.k).is_none()
+        }
         Some(_) => true,
     }
 }
@@ -44,25 +33,12 @@ fn is_faultless(insn: Wide, following: usize) -> bool
 fn are_faultless(code: &[Wide]) -> bool
     ensures { IsTrue result → IsFaultless code.now }
 {
-    let mut at = code.len();
-    // The label names the loop in its proof.
-    'insns: while at > 0 {
-        at -= 1;
+    for at in (0..code.len()).rev() {
         if !is_faultless(code[at], code.len() - 1 - at) {
             return false;
         }
     }
     true
-}
-
-/// Whether an instruction's code is that of one of the two returns.
-fn returns(code: u16) -> bool
-    ensures { result ≡ is_return (operation_of code) }
-{
-    matches!(
-        decode(code),
-        Some(Operation::ReturnConstant | Operation::ReturnAccumulator)
-    )
 }
 
 /// Whether the last instruction is a return.
@@ -74,7 +50,7 @@ fn ends_in_return(code: &[Wide]) -> bool
         return false;
     }
     let last = code[len - 1];
-    returns(last.code)
+    is_return(last.code)
 }
 
 /// Whether code breaks no rule, that on its length aside.

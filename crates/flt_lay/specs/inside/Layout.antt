@@ -31,9 +31,15 @@ with_offsets i jt jf = record { code = i.code; jt = jt; jf = jf; k = i.k }
 abbrev pub with_jump : ℕ → List Insn → List Insn
 with_jump to c = record { code = JUMP; jt = 0; jf = 0; k = length c - to } ∷ c
 
--- the last four jumps, once code begins with one more, which leads to a place
-abbrev pub latest : ℕ → List Insn → List PlacedJump → List PlacedJump
-latest to c jumps = record { place = length c; to = to } ∷ take 3 jumps
+-- one more instruction in front
+abbrev pub emitted : Insn → PlacedCode → PlacedCode
+emitted i l = record l { code = i ∷ l.code }
+
+-- a jump to a place in front, which is noted as the last one
+abbrev pub with_noted_jump : ℕ → PlacedCode → PlacedCode
+with_noted_jump to l =
+    let c = with_jump to l.code in
+    record l { code = c; jumps = record { place = length c; to = to } ∷ take 3 l.jumps }
 
 -- the place of the first of these jumps that leads to a place and is near a test in front of `top`
 -- instructions, though a jump comes between; the place itself if there is none
@@ -57,51 +63,35 @@ test_reach hit miss c =
     else (if nat_le (length c + 1 - miss) MOST_OFFSET then YesFar
     else (if nat_le (length c + 1 - hit) MOST_OFFSET then NoFar else BothFar))
 
--- code with a test put in front that reaches its two places so
-abbrev pub with_test_by : Reach → Insn → ℕ → ℕ → List Insn → List Insn
-with_test_by Near i hit miss c = with_offsets i (length c - hit) (length c - miss) ∷ c
-with_test_by YesFar i hit miss c = with_offsets i 0 (length c + 1 - miss) ∷ with_jump hit c
-with_test_by NoFar i hit miss c = with_offsets i (length c + 1 - hit) 0 ∷ with_jump miss c
-with_test_by BothFar i hit miss c = with_offsets i 0 1 ∷ with_jump hit (with_jump miss c)
+-- a test in front that reaches its two places so
+abbrev pub with_test_by : Reach → Insn → ℕ → ℕ → PlacedCode → PlacedCode
+with_test_by Near i hit miss l =
+    emitted (with_offsets i (length l.code - hit) (length l.code - miss)) l
+with_test_by YesFar i hit miss l =
+    emitted (with_offsets i 0 (length l.code + 1 - miss)) (with_noted_jump hit l)
+with_test_by NoFar i hit miss l =
+    emitted (with_offsets i (length l.code + 1 - hit) 0) (with_noted_jump miss l)
+with_test_by BothFar i hit miss l =
+    emitted (with_offsets i 0 1) (with_noted_jump hit (with_noted_jump miss l))
 
--- code with a test put in front that goes on at one of two places, and the jumps that it needs
--- right after it
-unfoldable pub with_test : Insn → ℕ → ℕ → List Insn → List Insn
-with_test i hit miss c = with_test_by (test_reach hit miss c) i hit miss c
+-- a test in front that goes on at one of two places, and the jumps that it needs right after it
+unfoldable pub with_test : Insn → ℕ → ℕ → PlacedCode → PlacedCode
+with_test i hit miss l = with_test_by (test_reach hit miss l.code) i hit miss l
 
--- the last four jumps, once a test that reaches its two places so is put in front
-abbrev pub jumps_by : Reach → ℕ → ℕ → List Insn → List PlacedJump → List PlacedJump
-jumps_by Near hit miss c jumps = jumps
-jumps_by YesFar hit miss c jumps = latest hit (with_jump hit c) jumps
-jumps_by NoFar hit miss c jumps = latest miss (with_jump miss c) jumps
-jumps_by BothFar hit miss c jumps =
-    latest hit (with_jump hit (with_jump miss c)) (latest miss (with_jump miss c) jumps)
-
--- the code with a wide instruction, which has this operation, laid out in front
-abbrev pub with_insn : Option Operation → Insn → PlacedCode → List Insn
+-- a wide instruction, which has this operation, laid out in front
+abbrev pub with_insn : Option Operation → Insn → PlacedCode → PlacedCode
 with_insn (Some (JumpIf test operand)) i l =
-    with_test i (near_place l (place_at l i.jt)) (near_place l (place_at l i.jf)) l.code
-with_insn (Some Jump) i l = with_jump (place_at l i.k) l.code
-with_insn _ i l = with_offsets i 0 0 ∷ l.code
+    with_test i (near_place l (place_at l i.jt)) (near_place l (place_at l i.jf)) l
+with_insn (Some Jump) i l = with_noted_jump (place_at l i.k) l
+with_insn _ i l = emitted (with_offsets i 0 0) l
 
--- the last four jumps, once it is laid out
-abbrev pub jumps_with : Option Operation → Insn → PlacedCode → List PlacedJump
-jumps_with (Some (JumpIf test operand)) i l =
-    let hit = near_place l (place_at l i.jt) in
-    let miss = near_place l (place_at l i.jf) in
-    jumps_by (test_reach hit miss l.code) hit miss l.code l.jumps
-jumps_with (Some Jump) i l =
-    latest (place_at l i.k) (with_jump (place_at l i.k) l.code) l.jumps
-jumps_with _ i l = l.jumps
-
--- what is laid out is now this code, in which one more wide instruction comes first, with these
--- last jumps
-abbrev pub with_entry : List Insn → List PlacedJump → PlacedCode → PlacedCode
-with_entry c jumps l = record { code = c; places = length c ∷ l.places; jumps = jumps }
+-- the place of a wide instruction is the beginning of the code
+abbrev pub with_place : PlacedCode → PlacedCode
+with_place l = record l { places = length l.code ∷ l.places }
 
 -- one more wide instruction laid out in front, with its place noted
 abbrev pub put : Insn → PlacedCode → PlacedCode
-put i l = with_entry (with_insn (operation_of i.code) i l) (jumps_with (operation_of i.code) i l) l
+put i l = with_place (with_insn (operation_of i.code) i l)
 
 -- wide code, laid out from its last instruction to its first
 abbrev pub placed_code : List Insn → PlacedCode

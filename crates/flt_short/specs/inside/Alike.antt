@@ -2,7 +2,7 @@
 -- instruction i on, which lands at l. `is` are the old instructions after i, `ls` their landings, j
 -- the instruction of the new program where i lands, and `js` those after it.
 use Rattle.std.specs.Prelude.{ℕ, ◌+◌, ◌-◌, ◌%◌, ◌^◌, ◌==◌, nat_lt, nat_le, Bool, true, false, ◌&&◌, ◌||◌, not, List, [], ◌∷◌, length, Option, Some, None, slice_get, drop}
-use Rattle.std.specs.Option.{option_map_or}
+use Rattle.std.specs.Option.{is_some, option_map_or}
 use Rattle.flt_bpf.specs.declared.insn.Insn.{Insn}
 use Rattle.flt_bpf.specs.declared.operation.Operation.{Operation}
 use Rattle.flt_bpf.specs.declared.operation.Operation.TheVariants.{LoadAbsolute, LoadIndirect, Load, LoadHeaderLength, Compute, Negate, Jump, JumpIf, ReturnConstant, ReturnAccumulator, CopyToIndex, CopyToAccumulator}
@@ -12,145 +12,9 @@ use Rattle.flt_bpf.specs.declared.operation.Operand.TheVariants.{Constant, Index
 use Rattle.flt_bpf.specs.declared.operation.Test.TheVariants as test
 use Rattle.flt_bpf.specs.declared.operation.AluOperation.TheVariants.{Add, And, Divide, Remainder}
 use Rattle.flt_bpf.specs.Instructions.{code_of, operation_of}
+use Rattle.flt_bpf.specs.inside.Flow.{goes_on_or_rejects}
 use Rattle.flt_bpf.specs.Registers.{reads_accumulator, reads_index, sets_accumulator, sets_index}
 use Rattle.flt_short.specs.declared.alike.Landing.{Landing}
-
--- the second holds if the first does
-abbrev pub implies : Bool → Bool → Bool
-implies true b = b
-implies false b = true
-
--- there is a landing, the instruction at a place of the new program, skipping `far` others, leads
--- to it, and what is read from there on is the same in both programs: a and x are whether A and X
--- are
-abbrev pub landing_fits_at : Option Landing → ℕ → ℕ → Bool → Bool → Bool
-landing_fits_at None far place a x = false
-landing_fits_at (Some l) far place a x =
-    ((nat_lt 0 l.place && nat_lt l.place place) && place - l.place - 1 == far)
-    && (implies l.accumulator a && implies l.index x)
-
--- a way fits: the instruction at a place of the new program, skipping `far` others, leads to the
--- landing with index k, and what is read from there on is the same in both programs
-abbrev pub landing_fits : List Landing → ℕ → ℕ → ℕ → Bool → Bool → Bool
-landing_fits ls k far place a x = landing_fits_at (slice_get ls k) far place a x
-
--- both programs go on the same way after an instruction that both have, here with this operation:
--- all its ways fit, and it isn't `ja`
-abbrev pub goes_on : Operation → Insn → Landing → Insn → List Landing → Bool
-goes_on Jump j l i ls = false
-goes_on (JumpIf test operand) j l i ls =
-    landing_fits ls i.jt j.jt l.place l.accumulator l.index
-    && landing_fits ls i.jf j.jf l.place l.accumulator l.index
-goes_on ReturnConstant j l i ls = true
-goes_on ReturnAccumulator j l i ls = true
-goes_on op j l i ls =
-    landing_fits ls 0 0 l.place (sets_accumulator op || l.accumulator) (sets_index op || l.index)
-
--- j is the same instruction as i except the offsets, what it reads is the same in both programs,
--- and both go on the same way
-unfoldable pub same_step : Option Operation → Insn → Landing → Insn → List Landing → Bool
-same_step None j l i ls = false
-same_step (Some op) j l i ls =
-    (i.code == j.code && i.k == j.k)
-    && ((implies (reads_accumulator op) l.accumulator && implies (reads_index op) l.index)
-    && goes_on op j l i ls)
-
--- the code of a mask
-abbrev pub MASK : ℕ
-MASK = code_of (Compute And Constant)
-
--- the code of a test whether A is k
-abbrev pub EQUAL : ℕ
-EQUAL = code_of (JumpIf test.Equal Constant)
-
--- the code of a test whether A and k have a bit in common
-abbrev pub ANY_BIT : ℕ
-ANY_BIT = code_of (JumpIf test.AnyBit Constant)
-
--- i is a mask, and t a test whether 0 is left
-abbrev pub is_masked_test : Insn → Insn → Bool
-is_masked_test i t = (i.code == MASK && t.code == EQUAL) && t.k == 0
-
--- j is one test of bits instead of i, which is a mask, and of the test after it whether 0 is left;
--- before them A is the same in both programs, and after them it isn't read
-unfoldable pub one_test : Insn → Landing → Insn → List Insn → List Landing → Bool
-one_test j l i [] ls = false
-one_test j l i (t ∷ is) ls =
-    (is_masked_test i t && (j.code == ANY_BIT && i.k == j.k))
-    && (l.accumulator
-    && (landing_fits ls (1 + t.jt) j.jf l.place false l.index
-    && landing_fits ls (1 + t.jf) j.jt l.place false l.index))
-
--- the code of the load at a fixed place that takes as many bytes as this load at X
-abbrev pub direct_code : Option Operation → Option ℕ
-direct_code (Some (LoadIndirect width)) = Some (code_of (LoadAbsolute width))
-direct_code _ = None
-
--- i puts a number into A, and t copies it to X
-abbrev pub puts_number_into_index : Insn → Insn → Bool
-puts_number_into_index i t = i.code == code_of (Load Accumulator Immediate) && t.code == code_of CopyToIndex
-
--- j is one load at a fixed place instead of i, which puts a number into A, its copy to X, and a
--- load at X; X isn't read after them
-unfoldable pub direct_load : Insn → Landing → Insn → List Insn → List Landing → Bool
-direct_load j l i [] ls = false
-direct_load j l i (t ∷ []) ls = false
-direct_load j l i (t ∷ u ∷ is) ls =
-    (puts_number_into_index i t
-    && (option_map_or (λ n. n == j.code) (direct_code (operation_of u.code)) false && (i.k + u.k) % 2 ^ 32 == j.k))
-    && landing_fits ls 2 0 l.place true false
-
--- a load at X
-abbrev pub is_indirect : Option Operation → Bool
-is_indirect (Some (LoadIndirect width)) = true
-is_indirect _ = false
-
--- four instructions put a number and a header's length into A and X, add them in A, and copy the
--- sum to X
-abbrev pub adds_header : Insn → Insn → Insn → Insn → Bool
-adds_header i t u v =
-    (i.code == code_of (Load Accumulator Immediate) && t.code == code_of LoadHeaderLength)
-    && (u.code == code_of (Compute Add IndexRegister) && v.code == code_of CopyToIndex)
-
--- t and h are the same instruction, and w and j are loads of equally many bytes at X
-abbrev pub loads_alike : Insn → Insn → Insn → Insn → Bool
-loads_alike t h w j =
-    (t.code == h.code && t.k == h.k) && (is_indirect (operation_of w.code) && w.code == j.code)
-
--- the new code loads a header's length and then at X, instead of i, which puts a number into A,
--- the load of the header's length, their sum, its copy to X, and a load at X; X isn't read after
--- them
-unfoldable pub header_load : List Insn → Landing → Insn → List Insn → List Landing → Bool
-header_load (h ∷ j ∷ js) l i (t ∷ u ∷ v ∷ w ∷ is) ls =
-    adds_header i t u v && (loads_alike t h w j
-    && ((i.k + w.k) % 2 ^ 32 == j.k && landing_fits ls 4 0 (l.place - 1) true false))
-header_load js l i is ls = false
-
--- an instruction returns 0
-abbrev pub rejects : Insn → Bool
-rejects i = i.code == code_of ReturnConstant && i.k == 0
-
--- an operation is one of these: a load of a number or of the length, a copy, a negation, or
--- arithmetic other than `/` and `%`; after it the run goes on at the next instruction on every
--- packet, and memory is unchanged
-abbrev pub is_sure : Operation → Bool
-is_sure (Load register Immediate) = true
-is_sure (Load register Length) = true
-is_sure (Compute Divide operand) = false
-is_sure (Compute Remainder operand) = false
-is_sure (Compute operator operand) = true
-is_sure Negate = true
-is_sure CopyToIndex = true
-is_sure CopyToAccumulator = true
-is_sure _ = false
-
--- after an operation the run goes on at the next instruction, if it doesn't end with 0
-abbrev pub goes_on_or_rejects : Operation → Bool
-goes_on_or_rejects Jump = false
-goes_on_or_rejects (JumpIf test operand) = false
-goes_on_or_rejects ReturnConstant = false
-goes_on_or_rejects ReturnAccumulator = false
-goes_on_or_rejects op = true
 
 -- the code from a place on, which is named by the number of instructions from there to the end; all
 -- of it if it has fewer
@@ -189,11 +53,103 @@ lands_at_if c None place a x = false
 lands_at_if c (Some l) place a x =
     (nat_lt 0 l.place
     && (l.place == place || are_copies (code_from c l.place) (code_from c place)))
-    && (implies l.accumulator a && implies l.index x)
+    && ((not l.accumulator || a) && (not l.index || x))
 
 -- the landing with index k is at this place, and what is read from there on is the same
 abbrev pub lands_at : List Insn → List Landing → ℕ → ℕ → Bool → Bool → Bool
 lands_at c ls k place a x = lands_at_if c (slice_get ls k) place a x
+
+-- both programs go on the same way after an instruction that both have, here with this operation:
+-- all its ways fit, and it isn't `ja`
+abbrev pub goes_on : List Insn → Operation → Insn → Landing → Insn → List Landing → Bool
+goes_on c Jump j l i ls = false
+goes_on c (JumpIf test operand) j l i ls =
+    lands_at c ls i.jt (l.place - (1 + j.jt)) l.accumulator l.index
+    && lands_at c ls i.jf (l.place - (1 + j.jf)) l.accumulator l.index
+goes_on c ReturnConstant j l i ls = true
+goes_on c ReturnAccumulator j l i ls = true
+goes_on c op j l i ls =
+    lands_at c ls 0 (l.place - 1) (sets_accumulator op || l.accumulator)
+    (sets_index op || l.index)
+
+-- j is the same instruction as i except the offsets, what it reads is the same in both programs,
+-- and both go on the same way
+unfoldable pub same_step : List Insn → Option Operation → Insn → Landing → Insn → List Landing → Bool
+same_step c None j l i ls = false
+same_step c (Some op) j l i ls =
+    (i.code == j.code && i.k == j.k)
+    && (((not (reads_accumulator op) || l.accumulator) && (not (reads_index op) || l.index))
+    && goes_on c op j l i ls)
+
+-- i is a mask, and t a test whether 0 is left
+abbrev pub is_masked_test : Insn → Insn → Bool
+is_masked_test i t =
+    (i.code == code_of (Compute And Constant) && t.code == code_of (JumpIf test.Equal Constant))
+    && t.k == 0
+
+-- j is one test of bits instead of i, which is a mask, and of the test after it whether 0 is left;
+-- before them A is the same in both programs, and after them it isn't read
+unfoldable pub one_test : List Insn → Insn → Landing → Insn → List Insn → List Landing → Bool
+one_test c j l i [] ls = false
+one_test c j l i (t ∷ is) ls =
+    (is_masked_test i t && (j.code == code_of (JumpIf test.AnyBit Constant) && i.k == j.k))
+    && (l.accumulator
+    && (lands_at c ls (1 + t.jt) (l.place - (1 + j.jf)) false l.index
+    && lands_at c ls (1 + t.jf) (l.place - (1 + j.jt)) false l.index))
+
+-- the code of the load at a fixed place that takes as many bytes as this load at X
+abbrev pub direct_code : Option Operation → Option ℕ
+direct_code (Some (LoadIndirect width)) = Some (code_of (LoadAbsolute width))
+direct_code _ = None
+
+-- i puts a number into A, and t copies it to X
+abbrev pub puts_number_into_index : Insn → Insn → Bool
+puts_number_into_index i t = i.code == code_of (Load Accumulator Immediate) && t.code == code_of CopyToIndex
+
+-- j is one load at a fixed place instead of i, which puts a number into A, its copy to X, and a
+-- load at X; X isn't read after them
+unfoldable pub direct_load : List Insn → Insn → Landing → Insn → List Insn → List Landing → Bool
+direct_load c j l i [] ls = false
+direct_load c j l i (t ∷ []) ls = false
+direct_load c j l i (t ∷ u ∷ is) ls =
+    (puts_number_into_index i t
+    && (option_map_or (λ n. n == j.code) (direct_code (operation_of u.code)) false && (i.k + u.k) % 2 ^ 32 == j.k))
+    && lands_at c ls 2 (l.place - 1) true false
+
+-- four instructions put a number and a header's length into A and X, add them in A, and copy the
+-- sum to X
+abbrev pub adds_header : Insn → Insn → Insn → Insn → Bool
+adds_header i t u v =
+    (i.code == code_of (Load Accumulator Immediate) && t.code == code_of LoadHeaderLength)
+    && (u.code == code_of (Compute Add IndexRegister) && v.code == code_of CopyToIndex)
+
+-- the new code loads the same header's length and then equally many bytes at X, instead of i, which
+-- puts a number into A, the load of the header's length, their sum, its copy to X, and a load at X;
+-- X isn't read after them
+unfoldable pub header_load : List Insn → List Insn → Landing → Insn → List Insn → List Landing → Bool
+header_load c (h ∷ j ∷ js) l i (t ∷ u ∷ v ∷ w ∷ is) ls =
+    adds_header i t u v && (((t.code == h.code && t.k == h.k)
+    && (is_some (direct_code (operation_of w.code)) && w.code == j.code))
+    && ((i.k + w.k) % 2 ^ 32 == j.k && lands_at c ls 4 (l.place - 1 - 1) true false))
+header_load c js l i is ls = false
+
+-- an instruction returns 0
+abbrev pub rejects : Insn → Bool
+rejects i = i.code == code_of ReturnConstant && i.k == 0
+
+-- an operation is one of these: a load of a number or of the length, a copy, a negation, or
+-- arithmetic other than `/` and `%`; after it the run goes on at the next instruction on every
+-- packet, and memory is unchanged
+abbrev pub is_sure : Operation → Bool
+is_sure (Load register Immediate) = true
+is_sure (Load register Length) = true
+is_sure (Compute Divide operand) = false
+is_sure (Compute Remainder operand) = false
+is_sure (Compute operator operand) = true
+is_sure Negate = true
+is_sure CopyToIndex = true
+is_sure CopyToAccumulator = true
+is_sure _ = false
 
 -- i, of which this is the operation, has no instruction in the new code: all its ways land as it
 -- lands, at j; and it does nothing that is seen from there on, or the packet is rejected there
@@ -212,8 +168,8 @@ left_out c (Some op) j l i ls =
 abbrev pub stands_at : List Insn → List Insn → Landing → Insn → List Insn → List Landing → Bool
 stands_at c [] l i is ls = false
 stands_at c (j ∷ js) l i is ls =
-    (same_step (operation_of i.code) j l i ls || one_test j l i is ls)
-    || ((direct_load j l i is ls || header_load (j ∷ js) l i is ls)
+    (same_step c (operation_of i.code) j l i ls || one_test c j l i is ls)
+    || ((direct_load c j l i is ls || header_load c (j ∷ js) l i is ls)
     || left_out c (operation_of i.code) j l i ls)
 
 -- the code does at the landing of i what i and those after it do; nothing is asked if i lands
