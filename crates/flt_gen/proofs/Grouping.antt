@@ -1,6 +1,6 @@
 -- The formula of a truth in which hosts or ports are looked for together reads as the truth's own,
 -- and has no more tests.
-use Rattle.flt_gen.proofs.Common.{◌≡◌, ℕ, suc, ◌+◌, ◌-◌, ◌*◌, ◌^◌, ◌<◌, ◌≤◌, max, min, List, [], ◌∷◌, length, Bool, true, false, Option, Some, None, refl, sym, ap, ap₂, ◌∙◌, subst, arith, ◌==◌, ◌||◌, ◌&&◌, nat_lt, nat_le, bit_and, if◌then◌else◌, suc-mul, nat_tests, and_parts, or_parts, Protocol, Ip, Tcp, Udp, Source, Destination, And, Or, ValueType, Host, Net, Port, PortRange, Direction, CompleteQualifiers, Value, Interval, Sides, FrameKind, network_offset, not, map, and-false, inl, inr, Sought, sought_tests, interval, is_address, joined_all, left_out, high_mask, cut, address_places, port_places, ip_transport, ip6_transport, are_at_index, sought, Entry, Comparison, NumberTree, TruthTree, check, cast, sized, bare, valued, qualified, compared, denied, joined, is_unfilled, any_primitive, Link, MatchResult, Yes, Several, Formula, Compare, Both, Either, Except, is_in, is_within, both, either, negation, Numbers, reads, check_formula, cast_formula, sized_formula, hosts_formula, port_test, port_formula, qualified_formula, protocols_of, relation_formula, qualified_needed, formula, first_ends, tests, nodes, words, insert_ascending, Group, no_group, entry, with_member, same_type, same_protocol, same_direction, goes_with, net_numbers, member_of, group_and, larger_group, is_searched, numbers_of, several_formula, all_of, kind_test, elementary_reads, value_formula, Proto, rows_formula, group_formula, or_any, or_group, truth_member, choice, grouped_formula, MOST_TOGETHER, FEWEST_RANGES}
+use Rattle.flt_gen.proofs.Common.{◌≡◌, ℕ, suc, ◌+◌, ◌-◌, ◌*◌, ◌^◌, ◌<◌, ◌≤◌, max, min, List, [], ◌∷◌, length, Bool, true, false, Option, Some, None, refl, sym, ap, ap₂, ◌∙◌, subst, arith, ◌==◌, ◌||◌, ◌&&◌, nat_lt, nat_le, bit_and, if◌then◌else◌, suc-mul, nat_tests, and_parts, or_parts, Protocol, Ip, Tcp, Udp, Source, Destination, And, Or, ValueType, Host, Net, Port, PortRange, Direction, CompleteQualifiers, Value, Interval, Sides, FrameKind, network_offset, not, map, and-false, inl, inr, Sought, sought_tests, interval, is_address, joined_all, left_out, high_mask, cut, address_places, port_places, ip_transport, ip6_transport, sought, Entry, Comparison, NumberTree, TruthTree, check, cast, sized, bare, valued, qualified, compared, denied, joined, is_unfilled, any_primitive, Link, MatchResult, Yes, Several, Formula, Compare, Both, Either, Except, is_in, is_within, both, either, negation, Numbers, reads, check_formula, cast_formula, sized_formula, hosts_formula, port_test, port_formula, qualified_formula, protocols_of, relation_formula, qualified_needed, formula, first_ends, tests, nodes, words, insert_ascending, Group, no_group, entry, with_member, same_type, same_protocol, same_direction, goes_with, net_numbers, member_of, group_and, larger_group, is_searched, numbers_of, several_formula, all_of, kind_test, elementary_reads, value_formula, Proto, rows_formula, group_formula, or_any, or_group, truth_member, choice, grouped_formula, MOST_TOGETHER, FEWEST_RANGES}
 use Rattle.std.specs.Prelude.{◌⊎◌, count_by}
 use Rattle.flt_words.specs.declared.token.Protocol.TheVariants as protocol
 use Rattle.flt_gen.specs.declared.cases.Case.{Case}
@@ -96,7 +96,7 @@ sought_few (direction.One Destination) numbers n (inl h) = let k = h.0 in let l 
 sought_few (direction.One Destination) numbers n (inr h) = let k = h.0 in let l = h.1 in let few = ends_few numbers.all in omega arith
 sought_few (direction.Both And) numbers n (inl h) = let l = h.2 in omega arith
 sought_few (direction.Both And) numbers n (inr h) = let l = h.1 in omega arith
-sought_few (direction.Both Or) numbers n h = by (are_at_index numbers) refl h
+sought_few (direction.Both Or) numbers n h = by (nat_le 5 (length numbers.all)) refl h
   where
     f : ℕ
     f = first_ends numbers.all
@@ -104,7 +104,7 @@ sought_few (direction.Both Or) numbers n h = by (are_at_index numbers) refl h
     g : ℕ
     g = first_ends (numbers.first ∷ [])
 
-    by : (b : Bool) → are_at_index numbers ≡ b → Numbered numbers n → 2 * max 1 (length numbers.all) + max f g + (if b then 2 else 1) ≤ n * count.side_tests (direction.Both Or) 1 + (n - 1)
+    by : (b : Bool) → nat_le 5 (length numbers.all) ≡ b → Numbered numbers n → 2 * max 1 (length numbers.all) + max f g + (if b then 2 else 1) ≤ n * count.side_tests (direction.Both Or) 1 + (n - 1)
     by true e (inl h) = let k = h.0 in let l = h.1 in let m = h.2 in let five : 5 ≤ length numbers.all = grind (arith, nat_tests) in omega arith
     by true e (inr h) = let k = h.0 in let l = h.1 in let few = ends_few numbers.all in let one = ends_few (numbers.first ∷ []) in let five : 5 ≤ length numbers.all = grind (arith, nat_tests) in omega arith
     by false e (inl h) = let k = h.0 in let l = h.1 in let m = h.2 in omega arith

@@ -1,6 +1,6 @@
 -- The code of a formula has no fault and no jump, and no more instructions and branches than are
 -- counted.
-use Rattle.flt_gen.proofs.Common.{◌≡◌, ℕ, zero, suc, ◌+◌, ◌-◌, ◌*◌, ◌/◌, ◌<◌, ◌≤◌, List, [], ◌∷◌, length, take, drop, Bool, true, false, cond, Option, Some, None, refl, sym, ap, ◌∙◌, arith, length-drop, length-take, ◌≢◌, nat_lt, ◌==◌, not, ◌&&◌, if◌then◌else◌, count_by, nat_tests, sum_by-cons, All-cons, Insn, Operand, Constant, IndexRegister, Operation, LoadAbsolute, LoadIndirect, Load, LoadHeaderLength, Store, Compute, Negate, Jump, JumpIf, CopyToIndex, Accumulator, Index, Immediate, Memory, Length, Test, Width, fault_if_known, operation_fault, unless, ends_in_return, IsValidUnlessLong, code_of, is_branch, JUMP, HasNoJump, Comparison, Equal, NotEqual, Less, AtMost, Greater, AtLeast, Operator, Protocol, Tcp, Udp, Icmp, number_words, number_size, NumberTree, literal, len, named, load, negated, applied, Link, network_offset, Interval, Elementary, Outcome, Field, Offset, Fixed, AfterHeader, width_of, Formula, Single, Compare, Both, Either, Except, Split, Sought, Numbers, Sides, Direction, Source, Destination, And, Or, max, subst, plain, computation, takes_constant, constant, constant_operand, branch_insn, emit_branch, emit_comparison, emit_field, emit_mask, emit_accessor, emit_number, Block, at_top, emit_interval, emit_chain, are_few, low_of, MOST_HALVINGS, emit_elementary, emit_formula, emit_masked, emit_side, emit_others, emit_few, emit_index, emit_at_index, emit_many, are_at_index, emit_among, words, nodes, first_ends, sought_tests, tests}
+use Rattle.flt_gen.proofs.Common.{◌≡◌, ℕ, zero, suc, ◌+◌, ◌-◌, ◌*◌, ◌/◌, ◌<◌, ◌≤◌, List, [], ◌∷◌, length, take, drop, Bool, true, false, cond, Option, Some, None, refl, sym, ap, ◌∙◌, arith, length-drop, length-take, ◌≢◌, nat_lt, nat_le, ◌==◌, not, ◌&&◌, if◌then◌else◌, count_by, nat_tests, sum_by-cons, All-cons, Insn, Operand, Constant, IndexRegister, Operation, LoadAbsolute, LoadIndirect, Load, LoadHeaderLength, Store, Compute, Negate, Jump, JumpIf, CopyToIndex, Word, Accumulator, Index, Immediate, Memory, Length, Test, Width, fault_if_known, operation_fault, unless, ends_in_return, IsValidUnlessLong, code_of, is_branch, JUMP, HasNoJump, Comparison, Equal, NotEqual, Less, AtMost, Greater, AtLeast, Operator, Protocol, Tcp, Udp, Icmp, number_words, number_size, NumberTree, literal, len, named, load, negated, applied, Link, network_offset, Interval, Elementary, Outcome, Field, Offset, Fixed, AfterHeader, width_of, Formula, Single, Compare, Both, Either, Except, Split, Sought, Numbers, Sides, Direction, Source, Destination, And, Or, max, subst, plain, computation, takes_constant, constant, constant_operand, branch_insn, emit_branch, emit_comparison, emit_field, emit_mask, emit_accessor, emit_number, Block, at_top, emit_interval, emit_chain, are_few, low_of, MOST_HALVINGS, emit_elementary, emit_formula, emit_masked, emit_side, emit_others, emit_few, emit_index, emit_at_index, emit_many, fewest_at_index, are_at_index, emit_among, words, nodes, first_ends, sought_tests, tests}
 use Rattle.flt_ast.specs.declared.qualifiers.Direction.TheVariants as direction
 use Rattle.flt_bpf.specs.declared.fault.CheckFault.{CheckFault}
 use Rattle.flt_bpf.specs.declared.fault.CheckFault.TheVariants.{JumpOut, NoSuchWord, DivisionByZero, ShiftTooFar}
@@ -363,6 +363,15 @@ many_fits at numbers hit miss c r s h m =
     let two = first_few numbers.all in
     fits_more _ _ (omega arith) (omega arith) (fits_on (fits_on (fits_on fn.grows fl).grows fi).grows fs)
 
+at_index_many : (w : Width) (b : Bool) (n : ℕ) → nat_le (fewest_at_index w b) n ≡ true → nat_le 5 n ≡ true
+at_index_many w false n e = e
+at_index_many Word true n e = grind (arith, nat_tests)
+at_index_many _ true n e = grind (arith, nat_tests)
+
+one_or_two : (b : Bool) → 1 ≤ (if b then 2 else 1)
+one_or_two true = omega arith
+one_or_two false = omega arith
+
 among_fits : (d : Direction) (at : Sides) (numbers : Numbers) (hit miss : ℕ) (c : List Insn) → Ready at numbers → Sound c → Inside c hit → Inside c miss → Fits c (emit_among d at numbers hit miss c) (4 * sought_tests d numbers) (6 * sought_tests d numbers)
 among_fits (direction.One Source) at numbers hit miss c r s h m =
     let some = some_searched numbers.all r.all in
@@ -371,14 +380,17 @@ among_fits (direction.One Destination) at numbers hit miss c r s h m =
     let some = some_searched numbers.all r.all in
     fits_more _ _ (omega arith) (omega arith) (side_fits at.destination at.width numbers.mask numbers.all hit miss c (source_lean at.index numbers.mask at.source at.destination r.reached).1 s h m)
 among_fits (direction.Both And) at numbers hit miss c r s h m = fits_more _ _ (omega arith) (omega arith) (record { grows = grows_none s; entry = m })
-among_fits (direction.Both Or) at numbers hit miss c r s h m = by (are_at_index numbers)
+among_fits (direction.Both Or) at numbers hit miss c r s h m = by (are_at_index at numbers) refl
   where
+    more : ℕ
+    more = if nat_le 5 (length numbers.all) then 2 else 1
+
     t : ℕ
     t = 2 * max 1 (length numbers.all) + max (first_ends numbers.all) (first_ends (numbers.first ∷ []))
 
-    by : (b : Bool) → Fits c (if b then emit_many at numbers hit miss c else emit_few at numbers hit miss c) (4 * (t + (if b then 2 else 1))) (6 * (t + (if b then 2 else 1)))
-    by true = many_fits at numbers hit miss c r s h m
-    by false = few_fits at numbers hit miss c r s h m
+    by : (b : Bool) → are_at_index at numbers ≡ b → Fits c (if b then emit_many at numbers hit miss c else emit_few at numbers hit miss c) (4 * (t + more)) (6 * (t + more))
+    by true e = subst (λ b. let k = t + (if b then 2 else 1) in Fits c (emit_many at numbers hit miss c) (4 * k) (6 * k)) (sym (at_index_many at.width (numbers.first.low == numbers.first.high) (length numbers.all) e)) (many_fits at numbers hit miss c r s h m)
+    by false e = let one = one_or_two (nat_le 5 (length numbers.all)) in fits_more _ _ (omega arith) (omega arith) (few_fits at numbers hit miss c r s h m)
 
 pub emitted_fits : (link : Link) (f : Formula) (hit miss : ℕ) (c : List Insn) → words f ≤ 16 → Searches f → Sound c → Inside c hit → Inside c miss → Fits c (emit_formula link f hit miss c) (4 * tests f + 6 * nodes f) (6 * (tests f + nodes f))
 emitted_fits link (Single t) hit miss c few up s h m = fits_more _ _ (omega arith) (omega arith) (elementary_fits t hit miss c s h m)

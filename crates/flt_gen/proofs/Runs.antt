@@ -419,7 +419,7 @@ module _ (p : List ℕ) (n : ℕ) where
   among_leads (direction.One Destination) at numbers hit miss v w c r h m = side_leads at.destination at.width numbers.mask numbers.all hit miss v w c r.all h m
   among_leads (direction.Both And) at numbers hit miss v w c r h m = m
   among_leads (direction.Both Or) at numbers hit miss v w c r h m =
-      if_case (λ (e : Block). Leads p n HasWords e.code e.entry (pick (either_reads numbers (field_at at.source at.width p) (field_at at.destination at.width p)) v w)) (are_at_index numbers) _ _
+      if_case (λ (e : Block). Leads p n HasWords e.code e.entry (pick (either_reads numbers (field_at at.source at.width p) (field_at at.destination at.width p)) v w)) (are_at_index at numbers) _ _
       (λ e. many_leads at numbers hit miss v w c r h m) (λ e. few_leads at numbers hit miss v w c r h m)
 
   -- a relation: the test of both numbers, or of one and a constant

@@ -142,7 +142,7 @@ among_extends (direction.One Source) at numbers hit miss c = side_extends at.sou
 among_extends (direction.One Destination) at numbers hit miss c = side_extends at.destination at.width numbers.mask numbers.all hit miss c
 among_extends (direction.Both And) at numbers hit miss c = extends_none c
 among_extends (direction.Both Or) at numbers hit miss c =
-    if_case (λ (e : Block). Extends c e.code) (are_at_index numbers) _ _ (λ e. many_extends at numbers hit miss c) (λ e. few_extends at numbers hit miss c)
+    if_case (λ (e : Block). Extends c e.code) (are_at_index at numbers) _ _ (λ e. many_extends at numbers hit miss c) (λ e. few_extends at numbers hit miss c)
 
 pub emitted_extends : (link : Link) (f : Formula) (hit miss : ℕ) (c : List Insn) → Extends c (emit_formula link f hit miss c).code
 emitted_extends link (Single t) hit miss c = elementary_extends t hit miss c

@@ -4,6 +4,7 @@ ghost use Rattle.std.specs.Prelude.{◌≡◌, OnOk};
 ghost use Rattle.flt_gen.specs.inside.Code.{are_few, low_of, emit_interval, emit_chain};
 ghost use Rattle.flt_gen.specs.inside.Code.{emit_search, emit_masked, emit_side, emit_few};
 ghost use Rattle.flt_gen.specs.inside.Code.{emit_index, emit_at_index, emit_many, emit_among};
+ghost use Rattle.flt_gen.specs.inside.Code.{fewest_at_index, are_at_index};
 ghost use Rattle.flt_gen.specs.inside.Emits.{Emits};
 
 use crate::code::{Code, Targets};
@@ -16,10 +17,6 @@ use std::alloc::{AllocError, Allocator};
 
 /// How often intervals are halved at most, down to few: 4,096 of them take twelve times.
 const MOST_HALVINGS: usize = 16;
-
-/// How many are looked for on either side at X at least: fewer are shorter without it if they come
-/// after another test of addresses, as in `host a and (host b or host c)`.
-const FEWEST_AT_INDEX: usize = 5;
 
 /// Whether intervals aren't halved: one at most, or two single numbers, since that would be one
 /// more test.
@@ -41,6 +38,28 @@ fn low_of(items: &[Interval]) -> u32
         [] => 0,
         [first, ..] => first.low,
     }
+}
+
+/// The fewest intervals that are looked for on either side at X. Fewer are shorter without it if
+/// only headers of one kind are searched, as on raw IP or in `tcp and (host a or host b)`, or after
+/// another test of addresses. Single numbers (`is_plain`) have to be more than networks or
+/// ranges, and addresses, which are words, more than ports.
+fn fewest_at_index(width: Width, is_plain: bool) -> usize
+    ensures { result ≡ fewest_at_index width is_plain }
+{
+    match width {
+        _ if !is_plain => 5,
+        Width::Word => 24,
+        _ => 8,
+    }
+}
+
+/// Whether numbers are looked for at X.
+fn are_at_index<A: Allocator>(at: Sides, numbers: &Steps<A>) -> bool
+    ensures { result ≡ are_at_index at numbers.now.numbers }
+{
+    let first = numbers.first();
+    numbers.all().len() >= fewest_at_index(at.width, first.low == first.high)
 }
 
 impl<A: Allocator> Code<A> {
@@ -237,7 +256,7 @@ impl<A: Allocator> Code<A> {
         let offset = match direction {
             Direction::One(Side::Source) => at.source,
             Direction::One(Side::Destination) => at.destination,
-            Direction::Both(Join::Or) if numbers.all().len() >= FEWEST_AT_INDEX => {
+            Direction::Both(Join::Or) if are_at_index(at, numbers) => {
                 return self.emit_many(at, numbers, to);
             }
             Direction::Both(Join::Or) => return self.emit_few(at, numbers, to),

@@ -25,4 +25,4 @@ pub use Rattle.flt_bpf.specs.inside.Flow.{goes_on_or_rejects}
 pub use Rattle.flt_short.specs.inside.Alike.{goes_on, direct_code, rejects, is_sure, same_target, goes_on_alike, are_copies, lands_at_if, lands_at, code_from, stands_at, stands, are_alike, begins}
 pub use Rattle.flt_short.specs.declared.facts.Field.{Field}
 pub use Rattle.flt_short.specs.declared.facts.Held.{Held}
-pub use Rattle.flt_short.specs.inside.Threads.{threaded_offset, threaded_by, threaded_insn, is_reached, with_arrivals_by, with_arrivals, flow, field_at, other_field, spot_at, holds_load, past_insn, ignores_accumulator, is_free_by, is_free, can_stop, walk_on, FUEL, walk_from, best_after, target_by, target}
+pub use Rattle.flt_short.specs.inside.Threads.{threaded_offset, threaded_by, threaded_insn, is_reached, with_arrivals_by, with_arrivals, flow, field_at, other_field, spot_at, holds_load, past_insn, ignores_accumulator, ignores_accumulator_at, is_free_by, is_free, can_stop, walk_on, FUEL, walk_from, best_after, target_by, target}

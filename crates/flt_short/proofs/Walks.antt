@@ -1,5 +1,5 @@
 -- A run may go on where a walk ends in place of where it began.
-use Rattle.flt_short.proofs.Common.{◌≡◌, ℕ, zero, suc, ◌+◌, ◌%◌, ◌^◌, ◌<◌, List, [], ◌∷◌, length, Bool, true, false, Option, Some, None, refl, sym, ap, ◌∙◌, subst, arith, inl, inr, ◌==◌, nat_lt, ◌&&◌, ◌||◌, if◌then◌else◌, slice_get, bit_and, is_none, option_map, option_map_or, option_and_then, option_and_then_some, nat_tests, Insn, State, Operation, LoadAbsolute, LoadIndirect, Load, LoadHeaderLength, Compute, JumpIf, ReturnConstant, CopyToAccumulator, Accumulator, Index, Immediate, Memory, Length, Constant, Byte, answer_of, answer_after, operand_value, test_holds, Field, Held, Known, same_field, same_optional, decided, is_captured, field_of, masked_field, masked_by, field_at, other_field, spot_at, holds_load, past_insn, ignores_accumulator, is_free_by, is_free, can_stop, walk_on, FUEL, walk_from, best_after, target_by, target, threaded_offset, and_parts, or_cases}
+use Rattle.flt_short.proofs.Common.{◌≡◌, ℕ, zero, suc, ◌+◌, ◌%◌, ◌^◌, ◌<◌, List, [], ◌∷◌, length, Bool, true, false, Option, Some, None, refl, sym, ap, ◌∙◌, subst, arith, inl, inr, ◌==◌, nat_lt, ◌&&◌, ◌||◌, if◌then◌else◌, slice_get, bit_and, is_none, option_map, option_map_or, option_and_then, option_and_then_some, nat_tests, Insn, State, Operation, LoadAbsolute, LoadIndirect, Load, LoadHeaderLength, Compute, JumpIf, ReturnConstant, CopyToAccumulator, Accumulator, Index, Immediate, Memory, Length, Constant, Byte, answer_of, answer_after, operand_value, test_holds, Field, Held, Known, same_field, same_optional, decided, is_captured, field_of, masked_field, masked_by, field_at, other_field, spot_at, holds_load, past_insn, ignores_accumulator, ignores_accumulator_at, is_free_by, is_free, can_stop, walk_on, FUEL, walk_from, best_after, target_by, target, threaded_offset, and_parts, or_cases}
 use Rattle.flt_bpf.specs.declared.operation.Test.{Test}
 use Rattle.flt_bpf.specs.declared.operation.Test.TheVariants as test
 use Rattle.flt_bpf.specs.declared.operation.Operand.{Operand}
@@ -50,33 +50,37 @@ module _ (p : List ℕ) (n : ℕ) where
     sets_does (Some CopyToAccumulator) rest i s a e = refl
     sets_does _ rest i s a e = cc
 
-    sets_same : (place : ℕ) (o : Option Insn) (s : State) (a : ℕ) → slice_get c place ≡ o → option_map_or (λ i. ignores_accumulator (operation_of i.code)) o false ≡ true → answer_of c p n place (with_a s a) ≡ answer_of c p n place s
-    sets_same place None s a g e = cc
-    sets_same place (Some i) s a g e =
-        let rest = λ (far : ℕ) (w : State). answer_of c p n (place + 1 + far) w in
+    -- the answer after an instruction
+    abbrev after : ℕ → ℕ → State → Option ℕ
+    after place far w = answer_of c p n (place + 1 + far) w
+
+    same_after : (place : ℕ) (i : Insn) (s : State) (a : ℕ) → slice_get c place ≡ Some i → Same (after place) (does_if_known (operation_of i.code) i p n (with_a s a)) (does_if_known (operation_of i.code) i p n s) → answer_of c p n place (with_a s a) ≡ answer_of c p n place s
+    same_after place i s a g e =
         at_step c place i (with_a s a) g
-        ∙ ap (answer_after rest) (known_step p n i (operation_of i.code) (with_a s a) refl)
-        ∙ sets_does (operation_of i.code) rest i s a e
-        ∙ sym (ap (answer_after rest) (known_step p n i (operation_of i.code) s refl))
+        ∙ ap (answer_after (after place)) (known_step p n i (operation_of i.code) (with_a s a) refl)
+        ∙ e
+        ∙ sym (ap (answer_after (after place)) (known_step p n i (operation_of i.code) s refl))
         ∙ sym (at_step c place i s g)
 
-    free_by : (op : Option Operation) (place : ℕ) (i : Insn) (s : State) (a : ℕ) → slice_get c place ≡ Some i → operation_of i.code ≡ op → is_free_by op c place ≡ true → answer_of c p n place (with_a s a) ≡ answer_of c p n place s
-    free_by (Some LoadHeaderLength) place i s a g k e =
-        let rest = λ (far : ℕ) (w : State). answer_of c p n (place + 1 + far) w in
-        at_step c place i (with_a s a) g
-        ∙ ap (answer_after rest) (known_step p n i (Some LoadHeaderLength) (with_a s a) k)
-        ∙ into_both p n (Same rest) refl refl Index (option_map header_length (field p i.k Byte)) (with_a s a) s (λ v f.
-        let none : place + 1 + 0 ≡ place + 1 = omega arith in
-        ap (λ m. answer_of c p n m (with_a (record s { index = v }) a)) none
-        ∙ sets_same (place + 1) (slice_get c (place + 1)) (record s { index = v }) a refl e
-        ∙ sym (ap (λ m. answer_of c p n m (record s { index = v })) none))
-        ∙ sym (ap (answer_after rest) (known_step p n i (Some LoadHeaderLength) s k))
-        ∙ sym (at_step c place i s g)
-    free_by op place i s a g k e = sets_same place (Some i) s a g (subst (λ o. ignores_accumulator o ≡ true) (sym k) e)
+    sets_same : (place : ℕ) (o : Option Insn) (s : State) (a : ℕ) → slice_get c place ≡ o → option_map_or (λ i. ignores_accumulator (operation_of i.code)) o false ≡ true → answer_of c p n place (with_a s a) ≡ answer_of c p n place s
+    sets_same place None s a g e = cc
+    sets_same place (Some i) s a g e = same_after place i s a g (sets_does (operation_of i.code) (after place) i s a e)
+
+    -- where the next instruction is such an operation, this one puts something into X
+    index_same : (place v : ℕ) (s : State) (a : ℕ) → ignores_accumulator_at c (place + 1) ≡ true → after place 0 (with_a (record s { index = v }) a) ≡ after place 0 (record s { index = v })
+    index_same place v s a e =
+        let next : place + 1 + 0 ≡ place + 1 = omega arith in
+        subst (λ m. answer_of c p n m (with_a (record s { index = v }) a) ≡ answer_of c p n m (record s { index = v })) (sym next)
+        (sets_same (place + 1) (slice_get c (place + 1)) (record s { index = v }) a refl e)
+
+    frees : (op : Option Operation) (place : ℕ) (i : Insn) (s : State) (a : ℕ) → is_free_by op c place ≡ true → Same (after place) (does_if_known op i p n (with_a s a)) (does_if_known op i p n s)
+    frees (Some LoadHeaderLength) place i s a e = into_both p n (Same (after place)) refl refl Index (option_map header_length (field p i.k Byte)) (with_a s a) s (λ v f. index_same place v s a e)
+    frees (Some (Load Index Immediate)) place i s a e = index_same place i.k s a e
+    frees op place i s a e = sets_does op (after place) i s a e
 
     free_same : (place : ℕ) (o : Option Insn) (s : State) (a : ℕ) → slice_get c place ≡ o → option_map_or (λ i. is_free_by (operation_of i.code) c place) o false ≡ true → answer_of c p n place (with_a s a) ≡ answer_of c p n place s
     free_same place None s a g e = cc
-    free_same place (Some i) s a g e = free_by (operation_of i.code) place i s a g refl e
+    free_same place (Some i) s a g e = same_after place i s a g (frees (operation_of i.code) place i s a e)
 
     -- what A would hold on a walk
     abbrev AtSpot : State → Option Field → ℕ → Type 0

@@ -202,14 +202,17 @@ fn ignores_accumulator_at(code: &[Wide], place: usize) -> bool
 }
 
 /// Whether the value of A doesn't matter at a place: the instruction there overwrites A, or ends
-/// the run, without reading A. If it loads the length of a header into X, the next one must do so.
+/// the run, without reading A. If it loads the length of a header or a number into X, the next one
+/// must do so.
 fn is_free(code: &[Wide], place: usize) -> bool
     ensures { result ≡ is_free code.now place }
 {
     match code.get(place) {
         None => false,
         Some(insn) => match decode(insn.code) {
-            Some(Operation::LoadHeaderLength) => ignores_accumulator_at(code, place + 1),
+            Some(
+                Operation::LoadHeaderLength | Operation::Load(Register::Index, Source::Immediate),
+            ) => ignores_accumulator_at(code, place + 1),
             _ => ignores_accumulator(insn.code),
         },
     }

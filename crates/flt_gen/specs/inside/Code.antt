@@ -2,6 +2,7 @@
 use Rattle.std.specs.Prelude.{ℕ, zero, suc, ◌+◌, ◌-◌, ◌/◌, true, false, nat_lt, nat_le, ◌==◌, ◌&&◌, not, if◌then◌else◌, Bool, List, [], ◌∷◌, length, take, drop, Option, Some, None}
 use Rattle.flt_bpf.specs.declared.insn.Insn.{Insn}
 use Rattle.flt_bpf.specs.declared.operation.Width.{Width}
+use Rattle.flt_bpf.specs.declared.operation.Width.TheVariants.{Word}
 use Rattle.flt_bpf.specs.declared.operation.Test.{Test}
 use Rattle.flt_bpf.specs.declared.operation.Test.TheVariants as test
 use Rattle.flt_bpf.specs.declared.operation.Operand.{Operand}
@@ -288,13 +289,17 @@ abbrev pub emit_many : Sides → Numbers → ℕ → ℕ → List Insn → Block
 emit_many at numbers hit miss c =
     at_top (emit_index at.source at.index (emit_at_sides at numbers hit miss c))
 
--- the fewest intervals that are looked for at X on either side
-abbrev pub FEWEST_AT_INDEX : ℕ
-FEWEST_AT_INDEX = 5
+-- the fewest intervals that are looked for at X on either side: networks or ranges, or else single
+-- addresses, which are words, or single ports
+abbrev pub fewest_at_index : Width → Bool → ℕ
+fewest_at_index width false = 5
+fewest_at_index Word true = 24
+fewest_at_index _ true = 8
 
 -- numbers are looked for at X
-abbrev pub are_at_index : Numbers → Bool
-are_at_index numbers = nat_le FEWEST_AT_INDEX (length numbers.all)
+abbrev pub are_at_index : Sides → Numbers → Bool
+are_at_index at numbers =
+    nat_le (fewest_at_index at.width (numbers.first.low == numbers.first.high)) (length numbers.all)
 
 -- the sides that a direction asks for are some numbers
 abbrev pub emit_among : Direction → Sides → Numbers → ℕ → ℕ → List Insn → Block
@@ -303,7 +308,7 @@ emit_among (direction.One side.Source) at numbers hit miss c =
 emit_among (direction.One side.Destination) at numbers hit miss c =
     emit_side at.destination at.width numbers.mask numbers.all hit miss c
 emit_among (direction.Both join.Or) at numbers hit miss c =
-    if are_at_index numbers then emit_many at numbers hit miss c
+    if are_at_index at numbers then emit_many at numbers hit miss c
     else emit_few at numbers hit miss c
 emit_among (direction.Both join.And) at numbers hit miss c = block c miss
 

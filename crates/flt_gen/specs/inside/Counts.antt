@@ -1,11 +1,10 @@
 -- How many words of memory, nodes of arithmetic and tests a formula has.
-use Rattle.std.specs.Prelude.{ℕ, ◌+◌, ◌*◌, ◌==◌, max, if◌then◌else◌, List, [], ◌∷◌, length}
+use Rattle.std.specs.Prelude.{ℕ, ◌+◌, ◌*◌, ◌==◌, max, nat_le, if◌then◌else◌, List, [], ◌∷◌, length}
 use Rattle.flt_ast.specs.Counts.{number_words, number_size}
 use Rattle.flt_words.specs.declared.token.Join.TheVariants.{And, Or}
 use Rattle.flt_ast.specs.declared.qualifiers.Direction.{Direction}
 use Rattle.flt_ast.specs.declared.qualifiers.Direction.TheVariants as direction
 use Rattle.flt_gen.specs.declared.elementary.Interval.{Interval}
-use Rattle.flt_gen.specs.inside.Code.{are_at_index}
 use Rattle.flt_gen.specs.Formula.{Formula, Single, Compare, Both, Either, Except, Split, Sought, Numbers}
 
 -- how many words of memory the code of a formula needs at most
@@ -39,7 +38,7 @@ abbrev pub sought_tests : Direction → Numbers → ℕ
 sought_tests (direction.Both Or) numbers =
     2 * max 1 (length numbers.all)
     + max (first_ends numbers.all) (first_ends (numbers.first ∷ []))
-    + (if are_at_index numbers then 2 else 1)
+    + (if nat_le 5 (length numbers.all) then 2 else 1)
 sought_tests (direction.Both And) numbers = 1
 sought_tests _ numbers = max 1 (length numbers.all) + first_ends numbers.all
 

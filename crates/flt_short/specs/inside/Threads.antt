@@ -6,8 +6,8 @@ use Rattle.std.specs.Option.{is_none, option_and_then, option_map, option_map_or
 use Rattle.flt_bpf.specs.declared.insn.Insn.{Insn}
 use Rattle.flt_bpf.specs.declared.operation.Operation.{Operation}
 use Rattle.flt_bpf.specs.declared.operation.Operation.TheVariants.{LoadAbsolute, LoadIndirect, Load, LoadHeaderLength, Compute, Jump, JumpIf, ReturnConstant, ReturnAccumulator, CopyToAccumulator}
-use Rattle.flt_bpf.specs.declared.operation.Register.TheVariants.{Accumulator}
-use Rattle.flt_bpf.specs.declared.operation.Source.TheVariants.{Length}
+use Rattle.flt_bpf.specs.declared.operation.Register.TheVariants.{Accumulator, Index}
+use Rattle.flt_bpf.specs.declared.operation.Source.TheVariants.{Immediate, Length}
 use Rattle.flt_bpf.specs.declared.operation.Operand.TheVariants.{Constant}
 use Rattle.flt_bpf.specs.declared.operation.Test.TheVariants.{Equal}
 use Rattle.flt_bpf.specs.declared.operation.AluOperation.TheVariants.{And}
@@ -89,10 +89,12 @@ ignores_accumulator_at c place =
 -- `is_free` of a place whose instruction has this operation
 abbrev pub is_free_by : Option Operation → List Insn → ℕ → Bool
 is_free_by (Some LoadHeaderLength) c place = ignores_accumulator_at c (place + 1)
+is_free_by (Some (Load Index Immediate)) c place = ignores_accumulator_at c (place + 1)
 is_free_by op c place = ignores_accumulator op
 
 -- Whether the value of A doesn't matter at a place: the instruction there overwrites A, or ends the
--- run, without reading A. If it loads the length of a header into X, the next one must do so.
+-- run, without reading A. If it loads the length of a header or a number into X, the next one must
+-- do so.
 abbrev pub is_free : List Insn → ℕ → Bool
 is_free c place =
     option_map_or (λ i. is_free_by (operation_of i.code) c place) (slice_get c place) false
