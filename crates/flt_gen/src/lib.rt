@@ -6,8 +6,8 @@
 //! - `walk` takes the nodes from the last to the first and emits their code, with `waiting` (left
 //!   operands and accessors, whose code is emitted later) and `number` (arithmetic).
 //! - `elementary` has the tests of fields as data, with their table for each link. `code` is the
-//!   code, which grows from its last instruction to its first; `emit` has the code of a test, and
-//!   `among` that of a search.
+//!   code, which grows from its last instruction to its first; `emit` has the code of a test,
+//!   `among` that of a search, and `cases` that of a decision tree.
 //! - `steps` has a primitive's formula as tests and operators. `protocol`, `address` and `port` put
 //!   the rows of the table of primitives (`specs/Primitives.antt`) into steps; `group` puts hosts
 //!   or ports that are looked for together, `value` any other value.

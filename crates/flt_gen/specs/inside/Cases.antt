@@ -61,12 +61,12 @@ case_frame (Ip6 n a) = kind.Ip6
 case_frame (IpProto n) = kind.Ip
 case_frame (Ip6Proto n) = kind.Ip6
 
--- where the address of a side stands in an Ethernet frame
+-- the place of a side's address in an Ethernet frame
 abbrev pub mac_place : Direction → ℕ
 mac_place (direction.One Source) = 6
 mac_place _ = 0
 
--- where the address of a side stands in an IPv6 header
+-- the place of a side's address in an IPv6 header
 abbrev pub ip6_place : Direction → ℕ
 ip6_place (direction.One Source) = 8
 ip6_place _ = 24
@@ -150,7 +150,7 @@ same_word None u following = Single (Outcome false)
 same_word (Some t) None following = Single t
 same_word (Some t) (Some u) following = Both (Single t) following
 
--- cases by halves, or by the word that all have, where the rest is decided so
+-- cases by halves, or by the word that all have; `next` decides the parts
 abbrev pub decided : (ℕ → List Case → Formula) → (Case → List Elementary) → ℕ → List Case → Formula
 decided next tests word cs =
     let t = test_at tests word cs 0 in
