@@ -5,34 +5,30 @@ usage: collide.py [--packets N] [--capkit PROGRAM]
 
 The window finds a packet by the low ten bits of its MD5 where it has 1,000 packets. Of N packets (10,000) all digests
 agree in these bits; of as many others they don't. Printed are the instructions a packet of both, counted by valgrind's
-callgrind, or the processor time where that isn't installed. Choosing takes some 25 seconds.
+callgrind. Choosing takes some 25 seconds.
 """
 import argparse
 import hashlib
 import pathlib
 import random
-import shutil
 import struct
 import tempfile
 
 import run
 
-WINDOW = 1000
-# The bits of a digest, from its first byte on, little-endian, that choose a place among 1,024.
-MASK = 0x3FF
 # Packets of 60 bytes that differ in the last eight.
 START = bytes(52)
 
 
 def chosen(count):
-    """Packets whose digests agree in the bits of the mask."""
+    """Packets whose digests, little-endian, agree in the ten bits that choose a place among 1,024."""
     packets, number, begun = [], 0, hashlib.md5(START)
     while len(packets) < count:
         number += 1
         end = struct.pack("<Q", number)
         digest = begun.copy()
         digest.update(end)
-        if int.from_bytes(digest.digest()[:2], "little") & MASK == 0x107:
+        if int.from_bytes(digest.digest()[:2], "little") & 0x3FF == 0x107:
             packets.append(START + end)
     return packets
 
@@ -53,12 +49,8 @@ def main():
         for name, choose in (("others", others), ("chosen", chosen)):
             capture = str(pathlib.Path(temporary) / f"{name}.pcap")
             run.make_capture.write_capture(capture, enumerate(choose(arguments.packets)))
-            words = [capkit, "edit", "-F", "pcap", "-D", str(WINDOW), capture, "OUT"]
-            if shutil.which("valgrind"):
-                cost = f"{run.instructions_of(words) / arguments.packets:.0f} instructions a packet"
-            else:
-                cost = f"{run.run(words, '/dev/null'):.3f} seconds"
-            print(f"{name:8} {cost}")
+            words = [capkit, "edit", "-F", "pcap", "-D", "1000", capture, "OUT"]
+            print(f"{name:8} {run.instructions_of(words) / arguments.packets:.0f} instructions a packet")
 
 
 if __name__ == "__main__":

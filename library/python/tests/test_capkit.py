@@ -11,7 +11,6 @@ import pickle
 import random
 import shutil
 import subprocess
-import sys
 import tempfile
 import threading
 import time
