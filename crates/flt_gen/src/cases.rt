@@ -169,7 +169,7 @@ fn keeps(bound: Bound, test: Option<Elementary>) -> bool
     }
 }
 
-/// The test that a word is a number at least; of the word and its place is `test`.
+/// The test that the word of `test` is a number at least.
 fn from_test(test: Option<Elementary>, number: u32) -> Elementary
     ensures { result ≡ from_test test number }
 {
