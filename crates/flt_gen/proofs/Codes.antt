@@ -1,22 +1,8 @@
 -- An instruction with the code of an operation is one of it.
-use Rattle.flt_gen.proofs.Common.{◌≡◌, ℕ, List, ◌∷◌, Some, refl, ap, ◌∙◌, Insn, State, Operation, LoadAbsolute, LoadIndirect, Load, Store, Compute, JumpIf, Accumulator, Index, Word, Immediate, Constant, answer_of, answer_after, code_of, does, does_if_known, plain}
-use Rattle.flt_bpf.specs.declared.operation.AluOperation.TheVariants.{Add}
-use Rattle.flt_bpf.specs.declared.operation.Test.TheVariants.{Equal}
+use Rattle.flt_gen.proofs.Common.{◌≡◌, ℕ, List, ◌∷◌, refl, ap, ◌∙◌, Insn, State, Operation, answer_of, answer_after, code_of, does, does_if_known, plain}
+pub use Rattle.flt_bpf.proofs.Codes.{code_is}
 use Rattle.flt_bpf.specs.Instructions.{operation_of}
 use Rattle.flt_bpf.specs.Machine.{step}
-
-pub code_is : (o : Operation) → operation_of (code_of o) ≡ Some o
-unfolding operation_of
-code_is (LoadAbsolute Word) = refl
-code_is (LoadIndirect Word) = refl
-code_is (Load Accumulator Immediate) = refl
-code_is (Load Index Immediate) = refl
-code_is (Store Accumulator) = refl
-code_is (Compute Add Constant) = refl
-code_is (Compute _ Constant) = refl
-code_is (JumpIf Equal Constant) = refl
-code_is (JumpIf _ Constant) = refl
-code_is _ = refl
 
 module _ (p : List ℕ) (n : ℕ) where
   -- what an instruction does in front of code

@@ -41,11 +41,6 @@ partial_is : (m : ℕ) → unwrap_or (partial_mask m) (2 ^ 32 - 1) ≡ m
 partial_is m =
     if_case (λ o. unwrap_or o (2 ^ 32 - 1) ≡ m) (m == 2 ^ 32 - 1) None (Some m) (λ e. grind (arith, nat_tests)) (λ e. refl)
 
-four_are : (a b c d e f g h : ℕ) → a ≡ e → b ≡ f → c ≡ g → d ≡ h → number_from_digits (2 ^ 32) (a ∷ b ∷ c ∷ d ∷ []) ≡ number_from_digits (2 ^ 32) (e ∷ f ∷ g ∷ h ∷ [])
-four_are a b c d e f g h i j k l = cc
-
 pub joined : (prefix : Option ℕ) (address at : ℕ) → number_from_digits (2 ^ 32) (map word_mask (ip6_tests prefix address at)) ≡ ip6_mask prefix
 joined None address at = refl
-joined (Some bits) address at =
-    four_are _ _ _ _ _ _ _ _ (partial_is (first_bits 32 (bits - 32 * 0))) (partial_is (first_bits 32 (bits - 32 * 1))) (partial_is (first_bits 32 (bits - 32 * 2))) (partial_is (first_bits 32 (bits - 32 * 3)))
-    ∙ masks_join bits
+joined (Some bits) address at = simp partial_is (masks_join bits)

@@ -1,72 +1,69 @@
 -- The test of a kind of network header reads what the packet's network header is.
-use Rattle.flt_gen.proofs.Common.{◌≡◌, get_or-drop, ℕ, ◌+◌, ◌*◌, ◌/◌, ◌%◌, ◌<◌, List, length, drop, Bool, true, false, nat_lt, nat_le, ◌==◌, Option, Some, None, refl, sym, ap, subst, ◌∙◌, arith, if◌then◌else◌, ◌↔◌, ◌^◌, All, bit_and, slice_index, nat_tests, eqb-true, HalfWord, big_endian_at, Link, MatchResult, Yes, No, Rejected, reading_of, with, elementary_reads, is_at, kind_test, type_test, link_of, link_type, type_offset, frame_kind, carries_kind, carries}
+use Rattle.flt_gen.proofs.Common.{◌≡◌, get_or-drop, ℕ, ◌+◌, ◌*◌, ◌/◌, ◌%◌, ◌<◌, List, length, drop, Bool, true, false, nat_lt, nat_le, ◌==◌, not, Option, Some, None, refl, sym, ap, subst, ◌∙◌, arith, if◌then◌else◌, ◌↔◌, ◌^◌, All, bit_and, slice_index, nat_tests, HalfWord, big_endian_at, Link, MatchResult, Yes, No, Rejected, reading_of, with, elementary_reads, is_at, kind_test, type_test, link_of, link_type, type_offset, frame_kind, carries_kind, carries}
 use Rattle.std.proofs.lemmas.Grind.{and_high_numeral}
 use Rattle.cap_octet.specs.Assigned.{ETHERTYPE_IPV4, ETHERTYPE_IPV6, ETHERTYPE_ARP, ETHERTYPE_RARP}
 use Rattle.cap_octet.specs.NetworkHeader.{header_after, network_header, header_by_ethertype, header_by_version}
 use Rattle.cap_octet.specs.Number.{u16_in, number_in}
 use Rattle.cap_octet.specs.declared.network.NetworkHeader.{NetworkHeader}
-use Rattle.cap_octet.specs.declared.network.NetworkHeader.TheVariants.{Known, OtherType, OtherVersion, Short}
+use Rattle.cap_octet.specs.declared.network.NetworkHeader.TheVariants.{Known, OtherVersion, Short}
 use Rattle.cap_octet.specs.declared.network.NetworkKind.{NetworkKind}
 use Rattle.cap_octet.specs.declared.network.NetworkKind.TheVariants.{Ipv4, Ipv6, Arp, Rarp}
 use Rattle.cap_octet.specs.declared.number.Order.TheVariants.{Big}
 use Rattle.cap_octet.specs.declared.link.Link.TheVariants.{Ether}
 use Rattle.cap_octet.specs.Link.{all_links}
-use Rattle.flt_gen.proofs.Exclusive.{is_yes}
+
+-- what the test of a kind reads of a packet with this header
+abbrev reads_kind : NetworkHeader → NetworkKind → Bool → MatchResult
+reads_kind Short kind true = Rejected
+reads_kind (Known Ipv4) Ipv4 carried = Yes
+reads_kind (Known Ipv6) Ipv6 carried = Yes
+reads_kind (Known Arp) Arp carried = Yes
+reads_kind (Known Rarp) Rarp carried = Yes
+reads_kind header kind carried = No
 
 -- a test reads what a packet's header is
-pub record Agrees (reading : MatchResult) (header : NetworkHeader) (kind : NetworkKind) (carries_kind : Bool) : Type 0 where
+pub record Agrees (reading : MatchResult) (header : NetworkHeader) (kind : NetworkKind) (carried : Bool) : Type 0 where
   pub matches : (reading ≡ Yes) ↔ (header ≡ Known kind)
-  pub rejects : (reading ≡ Rejected) ↔ ((header ≡ Short) × (carries_kind ≡ true))
+  pub rejects : (reading ≡ Rejected) ↔ ((header ≡ Short) × (carried ≡ true))
 
+kind_agrees : (header : NetworkHeader) (kind : NetworkKind) (carried : Bool) → Agrees (reads_kind header kind carried) header kind carried
+kind_agrees Short kind true = record { matches = (λ e. cc, λ e. cc); rejects = (λ e. (refl, refl), λ e. refl) }
+kind_agrees (Known Ipv4) Ipv4 carried = record { matches = (λ e. refl, λ e. refl); rejects = (λ e. absurd (cc), λ e. let short = e.0 in cc) }
+kind_agrees (Known Ipv6) Ipv6 carried = record { matches = (λ e. refl, λ e. refl); rejects = (λ e. absurd (cc), λ e. let short = e.0 in cc) }
+kind_agrees (Known Arp) Arp carried = record { matches = (λ e. refl, λ e. refl); rejects = (λ e. absurd (cc), λ e. let short = e.0 in cc) }
+kind_agrees (Known Rarp) Rarp carried = record { matches = (λ e. refl, λ e. refl); rejects = (λ e. absurd (cc), λ e. let short = e.0 in cc) }
+kind_agrees _ _ _ = record { matches = (λ e. cc, λ e. cc); rejects = (λ e. absurd (cc), λ e. let short = e.0 in let is = e.1 in cc) }
+
+-- the first bytes are captured, or they aren't
+captured : (kind : NetworkKind) (long short : Bool) (v : ℕ) (test : ℕ → Bool) (header : NetworkHeader) → short ≡ not long → (long ≡ true → reading_of (Some (test v)) ≡ reads_kind header kind true)
+    → reading_of (with (if long then Some v else None) (λ x. Some (test x))) ≡ reads_kind (if short then Short else header) kind true
+captured kind true false v test header e there = there refl
+captured kind false true v test header e there = refl
+captured kind _ _ v test header e there = cc
+
+-- the type of a header tells its kind
 abbrev type_of : NetworkKind → ℕ
 type_of Ipv4 = ETHERTYPE_IPV4
 type_of Ipv6 = ETHERTYPE_IPV6
 type_of Arp = ETHERTYPE_ARP
 type_of Rarp = ETHERTYPE_RARP
 
-type_is : (kind : NetworkKind) → header_by_ethertype (type_of kind) ≡ Known kind
-type_is Ipv4 = refl
-type_is _ = refl
+number_reads : (v : ℕ) (kind : NetworkKind) → reading_of (Some (v == type_of kind)) ≡ reads_kind (header_by_ethertype v) kind true
+number_reads v Ipv4 = grind (arith, nat_tests)
+number_reads v _ = grind (arith, nat_tests)
 
-not_rejected : (b : Bool) → reading_of (Some b) ≡ Rejected → ⊥
-not_rejected true e = absurd (cc)
-not_rejected false e = absurd (cc)
+-- raw IP tells it by the version, which the first four bits are
+four_reads : (w : ℕ) → reading_of (Some (w == 4)) ≡ reads_kind (header_by_version w) Ipv4 true
+four_reads w = grind (arith, nat_tests)
 
--- a number that is the type of a kind is equal to it
-type_back : (v : ℕ) (kind : NetworkKind) → header_by_ethertype v ≡ Known kind → (v == type_of kind) ≡ true
-type_back v kind = go (v == ETHERTYPE_IPV4) (v == ETHERTYPE_IPV6) (v == ETHERTYPE_ARP) (v == ETHERTYPE_RARP) refl refl refl refl
-  where
-    at : (k : NetworkKind) → (v == type_of k) ≡ true → Known k ≡ Known kind → (v == type_of kind) ≡ true
-    at k test e = let same : k ≡ kind = cc in subst (λ (x : NetworkKind). (v == type_of x) ≡ true) same test
+six_reads : (w : ℕ) → reading_of (Some (w == 6)) ≡ reads_kind (header_by_version w) Ipv6 true
+six_reads w = grind (arith, nat_tests)
 
-    go : (a b c d : Bool) → (v == ETHERTYPE_IPV4) ≡ a → (v == ETHERTYPE_IPV6) ≡ b → (v == ETHERTYPE_ARP) ≡ c → (v == ETHERTYPE_RARP) ≡ d
-        → (if a then Known Ipv4 else if b then Known Ipv6 else if c then Known Arp else if d then Known Rarp else OtherType v) ≡ Known kind
-        → (v == type_of kind) ≡ true
-    go true b c d ta tb tc td e = at Ipv4 ta e
-    go false true c d ta tb tc td e = at Ipv6 tb e
-    go false false true d ta tb tc td e = at Arp tc e
-    go false false false true ta tb tc td e = at Rarp td e
-    go false false false false ta tb tc td e = absurd (cc)
-
-type_not_short : (v : ℕ) → header_by_ethertype v ≡ Short → ⊥
-type_not_short v = go (v == ETHERTYPE_IPV4) (v == ETHERTYPE_IPV6) (v == ETHERTYPE_ARP) (v == ETHERTYPE_RARP)
-  where
-    go : (a b c d : Bool) → (if a then Known Ipv4 else if b then Known Ipv6 else if c then Known Arp else if d then Known Rarp else OtherType v) ≡ Short → ⊥
-    go false false false true e = absurd (cc)
-    go _ _ _ _ e = absurd (cc)
-
--- nothing is captured of the type, or it is a number
-nothing_there : (kind : NetworkKind) → Agrees (reading_of None) Short kind true
-nothing_there kind = record { matches = (λ e. absurd (cc), λ e. absurd (cc)); rejects = (λ e. (refl, refl), λ e. refl) }
-
-number_there : (v : ℕ) (kind : NetworkKind) → Agrees (reading_of (Some (v == type_of kind))) (header_by_ethertype v) kind true
-number_there v kind = record {
-  matches = (
-    λ e. ap header_by_ethertype (eqb-true v (type_of kind) (is_yes (v == type_of kind) e)) ∙ type_is kind,
-    λ e. ap (λ b. reading_of (Some b)) (type_back v kind e),
-  );
-  rejects = (λ e. absurd (not_rejected (v == type_of kind) e), λ e. absurd (type_not_short v e.0));
-}
+version_test : (v n m : ℕ) → m ≡ 16 * n → v < 2 ^ 8 → (bit_and v 0xf0 == m) ≡ (v / 16 == n)
+version_test v n m times upper_bound =
+    let parts : bit_and v 240 + v % 16 ≡ v = and_high_numeral v 239 refl upper_bound in
+    let high : bit_and v 0xf0 ≡ 16 * (v / 16) = omega arith in
+    grind (arith, nat_tests)
 
 same_number : (p : List ℕ) (at : ℕ) → u16_in Big p at ≡ big_endian_at p at HalfWord
 unfolding number_in
@@ -75,96 +72,36 @@ same_number p at =
     let second : slice_index (drop at p) 1 ≡ slice_index p (at + 1) = get_or-drop at p 1 0 in
     omega (arith, first, second)
 
--- by the type at a place
-at_type : (at : ℕ) (kind : NetworkKind) (p : List ℕ) → Agrees (elementary_reads (is_at at HalfWord (type_of kind)) p) (if nat_lt (length p) (at + 2) then Short else header_by_ethertype (u16_in Big p at)) kind true
-at_type at kind p = rw (same_number p at) (go (nat_le (at + 2) (length p)) (nat_lt (length p) (at + 2)) refl refl)
-  where
-    go : (long short : Bool) → nat_le (at + 2) (length p) ≡ long → nat_lt (length p) (at + 2) ≡ short
-        → Agrees (reading_of (with (if long then Some (big_endian_at p at HalfWord) else None) (λ (x : ℕ). Some (x == type_of kind)))) (if short then Short else header_by_ethertype (big_endian_at p at HalfWord)) kind true
-    go true false long short = number_there (big_endian_at p at HalfWord) kind
-    go false true long short = nothing_there kind
-    go _ _ long short = absurd (grind (arith, nat_tests))
+type_reads : (at : ℕ) (kind : NetworkKind) (p : List ℕ) → elementary_reads (is_at at HalfWord (type_of kind)) p ≡ reads_kind (header_after (Some at) p) kind true
+type_reads at kind p =
+    let v = big_endian_at p at HalfWord in
+    let other : nat_lt (length p) (at + 2) ≡ not (nat_le (at + 2) (length p)) = grind (arith, nat_tests) in
+    rw (same_number p at) (captured kind (nat_le (at + 2) (length p)) (nat_lt (length p) (at + 2)) v (λ x. x == type_of kind) (header_by_ethertype v) other (λ long. number_reads v kind))
 
--- the mask leaves the version, which the first four bits are
-version_test : (v n m : ℕ) → m ≡ 16 * n → v < 2 ^ 8 → (bit_and v 0xf0 == m) ≡ (v / 16 == n)
-version_test v n m times upper_bound =
-    let parts : bit_and v 240 + v % 16 ≡ v = and_high_numeral v 239 refl upper_bound in
-    let high : bit_and v 0xf0 ≡ 16 * (v / 16) = omega arith in
-    grind (arith, nat_tests)
+-- by the version n, which the mask leaves as m
+version_reads : (kind : NetworkKind) (n m : ℕ) → m ≡ 16 * n → ((w : ℕ) → reading_of (Some (w == n)) ≡ reads_kind (header_by_version w) kind true) → (p : List ℕ) → All (λ b. b < 2 ^ 8) p
+    → reading_of (with (if nat_le (0 + 1) (length p) then Some (slice_index p 0) else None) (λ (x : ℕ). Some (bit_and x 0xf0 == m))) ≡ reads_kind (header_after None p) kind true
+version_reads kind n m times is p bytes =
+    let v = slice_index p 0 in
+    let other : (length p == 0) ≡ not (nat_le (0 + 1) (length p)) = grind (arith, nat_tests) in
+    captured kind (nat_le (0 + 1) (length p)) (length p == 0) v (λ x. bit_and x 0xf0 == m) (header_by_version (v / 16)) other
+    (λ long. ap (λ b. reading_of (Some b)) (version_test v n m times (bytes 0 0 (grind (arith, nat_tests)))) ∙ is (v / 16))
 
-is_four : (w : ℕ) → (w == 4) ≡ true ↔ (header_by_version w ≡ Known Ipv4)
-is_four w = (λ test. ap header_by_version (eqb-true w 4 test), go (w == 4) (w == 6) refl)
-  where
-    go : (a b : Bool) → (w == 4) ≡ a → (if a then Known Ipv4 else if b then Known Ipv6 else OtherVersion w) ≡ Known Ipv4 → (w == 4) ≡ true
-    go false true test e = cc
-    go _ _ test e = cc
+-- raw IP carries neither ARP nor RARP
+arp_not_carried : (empty four six : Bool) (w : ℕ) → No ≡ reads_kind (if empty then Short else if four then Known Ipv4 else if six then Known Ipv6 else OtherVersion w) Arp false
+arp_not_carried empty four six w = grind (arith, nat_tests)
 
-is_six : (w : ℕ) → (w == 6) ≡ true ↔ (header_by_version w ≡ Known Ipv6)
-is_six w = (λ test. ap header_by_version (eqb-true w 6 test), go (w == 4) (w == 6) refl)
-  where
-    go : (a b : Bool) → (w == 6) ≡ b → (if a then Known Ipv4 else if b then Known Ipv6 else OtherVersion w) ≡ Known Ipv6 → (w == 6) ≡ true
-    go false true test e = cc
-    go _ _ test e = cc
-
--- raw IP has no other header
-abbrev IsIp : NetworkHeader → Type 0
-IsIp (Known Ipv4) = Unit {0}
-IsIp (Known Ipv6) = Unit {0}
-IsIp (OtherVersion w) = Unit {0}
-IsIp _ = ⊥
-
-version_ip : (w : ℕ) → IsIp (header_by_version w)
-version_ip w = go (w == 4) (w == 6)
-  where
-    go : (a b : Bool) → IsIp (if a then Known Ipv4 else if b then Known Ipv6 else OtherVersion w)
-    go false true = tt
-    go _ _ = tt
-
-not_ip : {header : NetworkHeader} (w : ℕ) → (IsIp header → ⊥) → header_by_version w ≡ header → ⊥
-not_ip w other e = other (subst IsIp e (version_ip w))
-
-first_byte : (p : List ℕ) → All (λ b. b < 2 ^ 8) p → nat_le (0 + 1) (length p) ≡ true → slice_index p 0 < 2 ^ 8
-first_byte p bytes long = bytes 0 0 (grind (arith, nat_tests))
-
--- by the version of IP n, which the mask leaves as m
-module _ (kind : NetworkKind) (n m : ℕ) (times : m ≡ 16 * n) (is : (w : ℕ) → (w == n) ≡ true ↔ (header_by_version w ≡ Known kind)) where
-  version_there : (v : ℕ) → v < 2 ^ 8 → Agrees (reading_of (Some (bit_and v 0xf0 == m))) (header_by_version (v / 16)) kind true
-  version_there v upper_bound = record {
-    matches = (
-      λ e. (is (v / 16)).0 (sym (version_test v n m times upper_bound) ∙ is_yes (bit_and v 0xf0 == m) e),
-      λ e. ap (λ b. reading_of (Some b)) (version_test v n m times upper_bound ∙ (is (v / 16)).1 e),
-    );
-    rejects = (λ e. absurd (not_rejected (bit_and v 0xf0 == m) e), λ e. absurd (not_ip (v / 16) (λ x. x) e.0));
-  }
-
-  by_version : (p : List ℕ) → All (λ b. b < 2 ^ 8) p
-      → Agrees (reading_of (with (if nat_le (0 + 1) (length p) then Some (slice_index p 0) else None) (λ (x : ℕ). Some (bit_and x 0xf0 == m)))) (if length p == 0 then Short else header_by_version (slice_index p 0 / 16)) kind true
-  by_version p bytes = go (nat_le (0 + 1) (length p)) (length p == 0) refl refl
-    where
-      go : (long none : Bool) → nat_le (0 + 1) (length p) ≡ long → (length p == 0) ≡ none
-          → Agrees (reading_of (with (if long then Some (slice_index p 0) else None) (λ (x : ℕ). Some (bit_and x 0xf0 == m)))) (if none then Short else header_by_version (slice_index p 0 / 16)) kind true
-      go true false long none = version_there (slice_index p 0) (first_byte p bytes long)
-      go false true long none = nothing_there kind
-      go _ _ long none = absurd (grind (arith, nat_tests))
-
--- raw IP isn't asked for ARP and RARP, and has none
-not_carried : (kind : NetworkKind) (p : List ℕ) → (IsIp (Known kind) → ⊥) → Agrees No (header_after None p) kind false
-not_carried kind p other = record {
-  matches = (λ e. absurd (cc), λ e. absurd (go (length p == 0) e));
-  rejects = (λ e. absurd (cc), λ e. absurd (let true_is = e.1 in cc));
-}
-  where
-    go : (none : Bool) → (if none then Short else header_by_version (slice_index p 0 / 16)) ≡ Known kind → ⊥
-    go true e = absurd (cc)
-    go false e = not_ip (slice_index p 0 / 16) other e
+rarp_not_carried : (empty four six : Bool) (w : ℕ) → No ≡ reads_kind (if empty then Short else if four then Known Ipv4 else if six then Known Ipv6 else OtherVersion w) Rarp false
+rarp_not_carried empty four six w = grind (arith, nat_tests)
 
 by_place : (place : Option ℕ) (kind : NetworkKind) (p : List ℕ) → All (λ b. b < 2 ^ 8) p
-    → Agrees (elementary_reads (type_test place (frame_kind kind)) p) (header_after place p) kind (carries_kind place kind)
-by_place (Some at) Ipv4 p bytes = at_type at Ipv4 p
-by_place (Some at) kind p bytes = at_type at kind p
-by_place None Ipv4 p bytes = by_version Ipv4 4 0x40 refl is_four p bytes
-by_place None Ipv6 p bytes = by_version Ipv6 6 0x60 refl is_six p bytes
-by_place None kind p bytes = not_carried kind p (λ x. x)
+    → elementary_reads (type_test place (frame_kind kind)) p ≡ reads_kind (header_after place p) kind (carries_kind place kind)
+by_place (Some at) Ipv4 p bytes = type_reads at Ipv4 p
+by_place (Some at) kind p bytes = type_reads at kind p
+by_place None Ipv4 p bytes = version_reads Ipv4 4 0x40 refl four_reads p bytes
+by_place None Ipv6 p bytes = version_reads Ipv6 6 0x60 refl six_reads p bytes
+by_place None Arp p bytes = arp_not_carried (length p == 0) (slice_index p 0 / 16 == 4) (slice_index p 0 / 16 == 6) (slice_index p 0 / 16)
+by_place None Rarp p bytes = rarp_not_carried (length p == 0) (slice_index p 0 / 16 == 4) (slice_index p 0 / 16 == 6) (slice_index p 0 / 16)
 
 -- a link type tells its link
 its_link : (link : Link) → link_of (link_type link) ≡ Some link
@@ -174,5 +111,5 @@ its_link _ = refl
 
 pub agrees : (link : Link) (kind : NetworkKind) (p : List ℕ) → All (λ b. b < 2 ^ 8) p
     → Agrees (elementary_reads (kind_test link (frame_kind kind)) p) (network_header (link_type link) p) kind (carries link kind)
-agrees link Ipv4 p bytes = rw (its_link link) (by_place (type_offset link) Ipv4 p bytes)
-agrees link kind p bytes = rw (its_link link) (by_place (type_offset link) kind p bytes)
+agrees link Ipv4 p bytes = rw (its_link link) (subst (λ r. Agrees r (header_after (type_offset link) p) Ipv4 (carries link Ipv4)) (sym (by_place (type_offset link) Ipv4 p bytes)) (kind_agrees _ Ipv4 _))
+agrees link kind p bytes = rw (its_link link) (subst (λ r. Agrees r (header_after (type_offset link) p) kind (carries link kind)) (sym (by_place (type_offset link) kind p bytes)) (kind_agrees _ kind _))

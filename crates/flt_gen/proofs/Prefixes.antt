@@ -88,7 +88,7 @@ Small last x = 0 < last → x < 2 ^ 32
 two_more : (k : ℕ) → 2 ≤ 2 ^ suc k
 two_more k = let some = pow_pos k in let more : 2 ^ suc k ≡ 2 * 2 ^ k = pow-succ' 2 k in omega arith
 
-masked_is : (k x : ℕ) → k ≤ 31 → (0 < 2 ^ k - 1 → x < 2 ^ 32) → under_mask (high_mask (2 ^ k - 1)) x ≡ x / 2 ^ k * 2 ^ k
+masked_is : (k x : ℕ) → k ≤ 32 → (0 < 2 ^ k - 1 → x < 2 ^ 32) → under_mask (high_mask (2 ^ k - 1)) x ≡ x / 2 ^ k * 2 ^ k
 masked_is zero x l s = omega arith
 masked_is (suc k) x l s =
     let two = two_more k in
@@ -105,7 +105,7 @@ cut_at k x i l e s =
     let low = h.low_is in
     let high = h.high_is in
     let end : i.high - (J - 1) ≡ i.high / J * J = omega arith in
-    ap (λ y. nat_le i.low y && nat_le y (i.high - (J - 1))) (masked_is k x l s)
+    ap (λ y. nat_le i.low y && nat_le y (i.high - (J - 1))) (masked_is k x (omega arith) s)
     ∙ ap₂ (λ a b. nat_le a (x / J * J) && nat_le (x / J * J) b) low end
     ∙ blocks_in x (i.low / J) (i.high / J) J (pow_pos k)
     ∙ ap₂ (λ a b. nat_le a x && nat_le x b) (sym low) (sym high)
@@ -136,42 +136,25 @@ cut_apart last a first is h up = go a is h.all_aligned up
         let t = and_parts (is_aligned last j) (list_all (is_aligned last) js) e in
         (up.0, cut_order last first j is h t.0 up.1, apart_less ((cut last j).high + 1) (j.high + 1) (map (cut last) js) (omega arith) (go (j.high + 1) js t.1 up.2))
 
--- the test of a network's address
-abbrev high : ℕ → ℕ
-high j = 2 ^ 32 - 2 ^ j
-
-part_mask : (b : ℕ) → b < 32 → partial_mask (first_bits 32 b) ≡ Some (first_bits 32 b)
-part_mask b l =
-    let next : 32 - b ≡ suc (32 - b - 1) = omega arith in
-    let two = two_more (32 - b - 1) in
-    let pow : 2 ^ (32 - b) ≡ 2 ^ suc (32 - b - 1) = ap (λ k. 2 ^ k) next in
-    let not_all : (first_bits 32 b == 2 ^ 32 - 1) ≡ false = grind (arith, nat_tests) in
-    ap (λ t. if t then None else Some (first_bits 32 b)) not_all
+-- the test of a network's address: its mask leaves the first number of a block
+net_mask : (b : ℕ) → partial_mask (first_bits 32 b) ≡ high_mask (2 ^ (32 - b) - 1)
+net_mask b =
+    let some = pow_pos (32 - b) in
+    let few : 2 ^ (32 - b) ≤ 2 ^ 32 = pow_mono {i = 32 - b} {j = 32} (omega arith) in
+    let all : (first_bits 32 b == 2 ^ 32 - 1) ≡ (2 ^ (32 - b) - 1 == 0) = grind (arith, nat_tests) in
+    let rest : first_bits 32 b ≡ 2 ^ 32 - 1 - (2 ^ (32 - b) - 1) = omega arith in
+    ap₂ (λ t m. if t then None else Some m) all rest
 
 pub net_hit : (b a x : ℕ) → x < 2 ^ 32 → bit_and a (first_bits 32 b) ≡ a → (under_mask (partial_mask (first_bits 32 b)) x == a) ≡ is_in x (interval a (a + (2 ^ 32 - 1 - first_bits 32 b)))
-net_hit b a x lx e = elim (cases_lt b 32) [
-  | inl short ↦ part short
-  | inr long ↦ all long
-]
-  where
-    part : b < 32 → (under_mask (partial_mask (first_bits 32 b)) x == a) ≡ is_in x (interval a (a + (2 ^ 32 - 1 - first_bits 32 b)))
-    part l =
-        let J = 2 ^ (32 - b) in
-        let some = pow_pos (32 - b) in
-        let under = and_le_r a (first_bits 32 b) in
-        let z : bit_and x (high (32 - b)) ≡ x / J * J = and_high_mask 32 (32 - b) (omega arith) x lx in
-        let round : a ≡ a / J * J = sym e ∙ and_high_mask 32 (32 - b) (omega arith) a (omega arith) in
-        let few : J ≤ 2 ^ 32 = pow_mono {i = 32 - b} {j = 32} (omega arith) in
-        let size : a + (2 ^ 32 - 1 - high (32 - b)) ≡ a / J * J + (J - 1) = omega arith in
-        ap (λ o. under_mask o x == a) (part_mask b l)
-        ∙ ap₂ (λ y c. y == c) z round
-        ∙ one_number (x / J * J) (a / J * J) (a / J * J) refl
-        ∙ blocks_in x (a / J) (a / J) J some
-        ∙ ap₂ (λ c d. nat_le c x && nat_le x d) (sym round) (sym size)
-
-    all : 32 ≤ b → (under_mask (partial_mask (first_bits 32 b)) x == a) ≡ is_in x (interval a (a + (2 ^ 32 - 1 - first_bits 32 b)))
-    all l =
-        let none : 32 - b ≡ 0 = omega arith in
-        let ones : first_bits 32 b ≡ 2 ^ 32 - 1 = ap (λ k. 2 ^ 32 - 2 ^ k) none in
-        let ends : a ≡ a + (2 ^ 32 - 1 - first_bits 32 b) = omega arith in
-        ap (λ m. under_mask (partial_mask m) x == a) ones ∙ one_number x a (a + (2 ^ 32 - 1 - first_bits 32 b)) ends
+net_hit b a x lx e =
+    let J = 2 ^ (32 - b) in
+    let some = pow_pos (32 - b) in
+    let few : J ≤ 2 ^ 32 = pow_mono {i = 32 - b} {j = 32} (omega arith) in
+    let under = and_le_r a (first_bits 32 b) in
+    let round : a ≡ a / J * J = sym e ∙ and_high_mask 32 (32 - b) (omega arith) a (omega arith) in
+    let size : a + (2 ^ 32 - 1 - first_bits 32 b) ≡ a / J * J + (J - 1) = omega arith in
+    ap (λ o. under_mask o x == a) (net_mask b)
+    ∙ ap₂ (λ y c. y == c) (masked_is (32 - b) x (omega arith) (λ s. lx)) round
+    ∙ one_number (x / J * J) (a / J * J) (a / J * J) refl
+    ∙ blocks_in x (a / J) (a / J) J some
+    ∙ ap₂ (λ c d. nat_le c x && nat_le x d) (sym round) (sym size)

@@ -19,6 +19,7 @@ use crate::code::{Code, Targets};
 use crate::elementary::{FrameKind, first_fragment, has_ip_proto, kind_test, network_offset};
 use cap_octet::Link;
 use cap_octet::assigned::{IPPROTO_ICMP, IPPROTO_TCP, IPPROTO_UDP};
+use flt_bpf::constant_fault;
 use flt_bpf::operation::{AluOperation, Operand, Operation, Register, Source, Width};
 use flt_words::{Operator, Protocol};
 use std::alloc::{AllocError, Allocator};
@@ -53,11 +54,7 @@ pub fn computation(operator: Operator, operand: Operand) -> Operation
 pub fn takes_constant(operator: Operator, constant: u32) -> bool
     ensures { result ≡ takes_constant operator constant }
 {
-    match operator {
-        Operator::Divide | Operator::Remainder => constant != 0,
-        Operator::ShiftLeft | Operator::ShiftRight => constant < 32,
-        _ => true,
-    }
+    constant_fault(alu_operation(operator), constant).is_none()
 }
 
 /// The width of an accessor, by its size in bytes: 1, 2 or 4. Any other size, which was refused

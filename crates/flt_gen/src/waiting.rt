@@ -4,7 +4,7 @@
 //! its operands are.
 
 ghost use Rattle.std.specs.Prelude.{◌≡◌, OnOk};
-ghost use Rattle.flt_gen.specs.inside.Emitted.{equals, without_protocol, with_accessor};
+ghost use Rattle.flt_gen.specs.inside.Emitted.{without_protocol, with_accessor};
 
 use crate::code::Targets;
 use crate::stack::Stack;
@@ -38,24 +38,6 @@ pub enum Pending {
     Or,
 }
 
-/// Whether two protocols are the same.
-fn equals(one: Protocol, other: Protocol) -> bool
-    ensures { result ≡ equals one other }
-{
-    match (one, other) {
-        (Protocol::Ether, Protocol::Ether)
-        | (Protocol::Ip, Protocol::Ip)
-        | (Protocol::Ip6, Protocol::Ip6)
-        | (Protocol::Arp, Protocol::Arp)
-        | (Protocol::Rarp, Protocol::Rarp)
-        | (Protocol::Tcp, Protocol::Tcp)
-        | (Protocol::Udp, Protocol::Udp)
-        | (Protocol::Icmp, Protocol::Icmp)
-        | (Protocol::Icmp6, Protocol::Icmp6) => true,
-        _ => false,
-    }
-}
-
 /// Removes a protocol from the list. It calls itself for each entry: they are few, since the list
 /// has each protocol once.
 fn leave_out<A: Allocator>(
@@ -68,7 +50,7 @@ fn leave_out<A: Allocator>(
         return Ok(());
     };
     leave_out(protocols, protocol)?;
-    if equals(protocol, latest) {
+    if protocol == latest {
         return Ok(());
     }
     protocols.push(latest)

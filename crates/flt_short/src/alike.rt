@@ -79,6 +79,7 @@ fn are_copies(one: &[Wide], other: &[Wide]) -> bool
 /// Whether a way lands at `place`, or at a copy of the code there, and the registers that may be
 /// read from there on are the same in both programs. The way skips `way` instructions of the old
 /// program; `accumulator` and `index` are whether A and X are the same.
+#[inline(always)]
 fn lands_at(
     code: &[Wide],
     following: &[Landing],

@@ -15,7 +15,7 @@ ghost use Rattle.flt_short.specs.inside.Facts.{other_by_claim, other_number, pla
 ghost use Rattle.flt_short.specs.inside.Facts.{any_captures, holds_field, is_captured, field_of};
 ghost use Rattle.flt_short.specs.inside.Facts.{masked_field, masked_held, held_without_index};
 ghost use Rattle.flt_short.specs.inside.Facts.{held_after, index_after, known_after, claim_after};
-ghost use Rattle.flt_short.specs.inside.Facts.{known_by_test, nothing_known, unreached};
+ghost use Rattle.flt_short.specs.inside.Facts.{known_by, known_by_test, nothing_known, unreached};
 
 use flt_bpf::Wide;
 use flt_bpf::operation::{AluOperation, Operand, Operation, Register, Source, Test, decode};
@@ -225,20 +225,9 @@ fn joined_held(one: Held, other: Held) -> Held
     match (one, other) {
         (Held::Unreached, other) => other,
         (one, Held::Unreached) => one,
-        (Held::Field(field), Held::Field(another)) => {
-            if same_field(field, another) {
-                one
-            } else {
-                Held::Unknown
-            }
-        }
-        (Held::AtIndex(code, k), Held::AtIndex(another, other_k)) => {
-            if code == another && k == other_k {
-                one
-            } else {
-                Held::Unknown
-            }
-        }
+        (Held::Field(field), Held::Field(another)) if same_field(field, another) => one,
+        (Held::AtIndex(code, k), Held::AtIndex(another, other_k))
+            if code == another && k == other_k => { one }
         _ => Held::Unknown,
     }
 }
@@ -266,13 +255,8 @@ fn outcome_by_claim(claim: Claim, number: u32) -> Option<bool>
 {
     match claim {
         Claim::Is(one) => Some(one == number),
-        claim => {
-            if allows(claim, number) {
-                None
-            } else {
-                Some(false)
-            }
-        }
+        _ if allows(claim, number) => None,
+        _ => Some(false),
     }
 }
 
@@ -300,15 +284,8 @@ fn other_by_claim(claim: Claim, number: u32) -> Option<u32>
     ensures { result ≡ other_by_claim claim number }
 {
     match claim {
-        Claim::IsOneOf(one, other) => {
-            if number == one {
-                Some(other)
-            } else if number == other {
-                Some(one)
-            } else {
-                None
-            }
-        }
+        Claim::IsOneOf(one, other) if number == one => Some(other),
+        Claim::IsOneOf(one, other) if number == other => Some(one),
         _ => None,
     }
 }
@@ -389,10 +366,7 @@ fn any_captures(facts: &[Fact], code: u16, k: u32) -> bool
 fn holds_field(held: Held, code: u16, k: u32) -> bool
     ensures { result ≡ holds_field held code k }
 {
-    match held {
-        Held::Field(field) => field.code == code && field.k == k,
-        _ => false,
-    }
+    matches!(held, Held::Field(field) if field.code == code && field.k == k)
 }
 
 /// Whether the bytes that a load takes are captured, by what A holds or by a fact.
@@ -508,6 +482,14 @@ fn claim_by_outcome(facts: &[Fact], field: &Field, number: u32, outcome: bool) -
     }
 }
 
+/// Adds to the state the fact that the test whether a field is a number had this outcome.
+fn learn_number(known: &mut Known, field: Field, number: u32, outcome: bool)
+    ensures { known.new ≡ known_by known.old field number outcome }
+{
+    let claim = claim_by_outcome(&known.facts, &field, number, outcome);
+    add_fact(known, field, claim);
+}
+
 /// Adds to the state the fact that a test had this outcome. Only a test for equality shows one, if
 /// A holds a field.
 pub fn learn(known: &mut Known, insn: Wide, outcome: bool)
@@ -516,8 +498,7 @@ pub fn learn(known: &mut Known, insn: Wide, outcome: bool)
 {
     if let Some(Operation::JumpIf(Test::Equal, Operand::Constant)) = decode(insn.code) {
         if let Held::Field(field) = known.held {
-            let claim = claim_by_outcome(&known.facts, &field, insn.k, outcome);
-            add_fact(known, field, claim);
+            learn_number(known, field, insn.k, outcome);
         }
     }
 }

@@ -1,5 +1,7 @@
 -- The code of a formula, which is emitted in front of the code that is present.
-use Rattle.std.specs.Prelude.{ℕ, zero, suc, ◌+◌, ◌-◌, ◌/◌, true, false, nat_lt, nat_le, ◌==◌, ◌&&◌, not, if◌then◌else◌, Bool, List, [], ◌∷◌, length, take, drop, Option, Some, None}
+use Rattle.std.specs.Prelude.{ℕ, zero, suc, ◌+◌, ◌-◌, ◌/◌, true, false, nat_le, ◌==◌, ◌&&◌, if◌then◌else◌, Bool, List, [], ◌∷◌, length, take, drop, Option, Some, None}
+use Rattle.std.specs.Option.{is_none}
+use Rattle.flt_bpf.specs.Check.{constant_fault}
 use Rattle.flt_bpf.specs.declared.insn.Insn.{Insn}
 use Rattle.flt_bpf.specs.declared.operation.Width.{Width}
 use Rattle.flt_bpf.specs.declared.operation.Width.TheVariants.{Word}
@@ -62,11 +64,7 @@ computation operator operand = Compute (alu_operation operator) operand
 -- whether an operator's instruction may have a constant: a division by 0 and a shift by 32 or more
 -- aren't valid with one
 abbrev pub takes_constant : Operator → ℕ → Bool
-takes_constant Divide k = not (k == 0)
-takes_constant Remainder k = not (k == 0)
-takes_constant ShiftLeft k = nat_lt k 32
-takes_constant ShiftRight k = nat_lt k 32
-takes_constant _ k = true
+takes_constant operator k = is_none (constant_fault (alu_operation operator) k)
 
 -- the number that arithmetic is, or none if it is anything else
 abbrev pub constant : NumberTree → Option ℕ
