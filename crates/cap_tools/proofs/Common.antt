@@ -50,10 +50,9 @@ pub use Rattle.cap_process.proofs.Outcomes.{progress-next, course-stop, progress
 pub use Rattle.cap_process.specs.Messages.{fault_message, refusal_message, write_failed_message, IsTold, no_memory_message}
 pub use Rattle.cap_process.specs.declared.output.Writing.{Writing}
 pub use Rattle.cap_tools.specs.Packets.{JobState, Meets, a_packet, PacketsDecided, GoesOn, StopsWriting, EndLeaves, StepLeaves, progress_at, progress_of, progress_over, output_form, wholes_of, work_of, written_by, CompletesOutput, EndsByCut, WantsMemory, all_ends, an_end, failures_by, room_by, StepGives, AppendsOnce, BreaksAt, WhyBroken, asks_report, nothing, packet, report, closes, finish_at}
-pub use Rattle.cap_tools.specs.inside.Packets.{DecidesPacket, Offers, end_after, end_of_failed_write, sieve, NextPacket, texts, Closes, ClosesBy, unless_failed, report_at, Spends, NextReport, NextClosing}
-pub use Rattle.cap_tools.specs.inside.Listing.{Runs, ListingLeaves}
+pub use Rattle.cap_tools.specs.inside.Packets.{DecidesPacket, Offers, end_after, end_of_failed_write, sieve, texts, Closes, ClosesBy, unless_failed, report_at, Spends}
 pub use Rattle.cap_tools.specs.FirstStep.{filtering, RefusesStart}
-pub use Rattle.cap_tools.specs.inside.FirstStep.{output_of, output_name, output_by, EndsList}
+pub use Rattle.cap_tools.specs.inside.FirstStep.{EndsList}
 pub use Rattle.cap_tools.specs.Jobs.{JobView, end_status, end_message, first_job, Decided, JobGives, EndsJob, state_at, StaysDecided, turn_goes_on}
 pub use Rattle.cap_tools.specs.declared.step.JobEnd.{JobEnd}
 pub use Rattle.cap_tools.specs.Run.{CommandRuns, HasLeft, HasLostOutput, IsPolicy, IsWhyRefused, IsWork, ends, fault_outcome, form_asked, listing_answer, listing_outcome, of_cut_input, of_events, of_listing, of_packets, of_refusal, output_failed, packets_answer, refusal_outcome, whole_inputs, of_nothing}
@@ -62,6 +61,7 @@ pub use Rattle.cap_tools.specs.declared.job.Turn.{Turn}
 pub use Rattle.cap_tools.specs.Commands.{CompileGives, DecidedBy, FilterGives, ListsSome, PreparesBy, RefusesExpression, PreparesOnly, StepKeeps, StepReadsBy, job_left}
 pub use Rattle.cap_tools.specs.Messages.{MessagesView}
 pub use Rattle.cap_tools.specs.inside.Step.{ending, IsStep}
+pub use Rattle.cap_tools.specs.inside.Jobs.{IsCounted, IsSound}
 pub use Rattle.cap_tools.specs.inside.Commands.{IsReadyIf, with_preparing}
 pub use Rattle.cap_tools.specs.Bounds.{most_turns, StepReads, reads_on, decides_one, leaves_one, reads_nothing, reads_of, IsBounded, IsLight, IsSmall, declared_weight, inputs_weight, names_weight, target_weight, is_fault}
 pub use Rattle.cap_tools.specs.inside.Bounds.{HasFewTurns, IsPaid, steps_owed_in_all, owed_in}
