@@ -1,5 +1,5 @@
 -- The steps that decide the current packet.
-use Rattle.cap_tools.proofs.Common.{◌≡◌, ◌⊎◌, inl, inr, ℕ, ◌+◌, ◌<◌, ◌≤◌, Bool, true, false, List, [], ◌∷◌, ◌++◌, length, map, Option, None, Some, Result, Ok, Err, refl, sym, ◌∙◌, ap, arith, subst, ◌-◌, append-nil, map-append, slice_get, slice_set, Stops, Captured, Fault, NoMemory, WriteFailed, Placed, IsAt, SinkView, text, added_text, refusal_of, takes_memory, IsAt-decided, Tally, InputItems, Event, Packet, SequenceEnd, Complete, FaultIn, Sequence, sequence_of, with_front, PacketOrder, Policy, SelectorState, Verdict, Pass, PassLast, PassesAs, Skip, judge, IsWithin, PolicyState, GrowsByOne, IsVerdict, Form, AsCapture, JobProgress, IsNextEvent, no_progress, decide, unless_refused, apply_verdict, apply_event, apply_events, final_progress, form_refuses, end_with, final_text, first_link, output_text, Target, Capture, Text, Lines, HasWrittenTo, form_to, written_to, failures_to, PutsIntoOutput, InputView, Future, InputPast, AreInputsAfter, AreSettled, IsInput, input_after_decided, items_left, inputs_left, sequence_left, actual_future, most_steps, JobEnd, BreaksAt, JobState, Meets, a_packet, PacketsDecided, GoesOn, EndLeaves, StepLeaves, progress_at, progress_of, progress_over, wholes_of, work_of, DecidesPacket, Offers, end_after, end_of_failed_write, sieve, drained-text, PutOk, put-ok, WhyUnput, unput, closing-some, progress-next, course-stop, greatest-decided, greatest-here, limits-at, set-here, next-is-of}
+use Rattle.cap_tools.proofs.Common.{◌≡◌, ◌⊎◌, inl, inr, ℕ, ◌+◌, ◌<◌, ◌≤◌, Bool, true, false, List, [], ◌∷◌, ◌++◌, length, map, Option, None, Some, Result, Ok, Err, refl, sym, ◌∙◌, ap, arith, subst, ◌-◌, append-nil, map-append, slice_get, slice_set, Stops, Captured, Fault, NoMemory, WriteFailed, Placed, IsAt, SinkView, text, added_text, refusal_of, takes_memory, IsAt-decided, Tally, InputItems, Event, Packet, SequenceEnd, Complete, FaultIn, Sequence, sequence_of, with_front, PacketOrder, Policy, SelectorState, Verdict, Pass, PassLast, PassesAs, Skip, judge, IsWithin, PolicyState, GrowsByOne, IsVerdict, Form, AsCapture, JobProgress, IsNextEvent, no_progress, decide, unless_refused, apply_verdict, apply_event, apply_events, final_progress, form_refuses, end_with, final_text, first_link, output_text, Target, Capture, Text, Lines, HasWrittenTo, form_to, written_to, failures_to, PutsIntoOutput, InputView, Future, InputPast, AreInputsAfter, AreSettled, IsInput, input_after_decided, items_left, inputs_left, sequence_left, actual_future, most_steps, JobEnd, BreaksAt, JobState, Meets, a_packet, PacketsDecided, GoesOn, EndLeaves, StepLeaves, progress_at, progress_of, progress_over, wholes_of, work_of, DecidesPacket, Offers, end_after, end_of_failed_write, sieve, drained-text, PutOk, put-ok, WhyUnput, unput, closing-some, course-stop, greatest-decided, set-here, next-is-of}
 use Rattle.cap_process.specs.declared.selector.Verdict as code
 use Rattle.cap_process.specs.declared.selector.Verdict.TheVariants as code_verdict
 use Rattle.cap_inputs.specs.declared.inputs.Next.TheVariants as next
@@ -8,25 +8,21 @@ use Rattle.cap_print.specs.Rendering.{printed_text}
 use Rattle.cap_process.specs.Outcome as course_spec
 use Rattle.cap_inputs.specs.inside.Inputs as input_spec
 use Rattle.cap_tools.proofs.Places.{get-at}
-use Rattle.cap_tools.proofs.Splits.{At, stands-split, stands-join, stands-length, rests-join, finish-here, come-on}
-use Rattle.cap_tools.proofs.Coming.{carries-decided, come-first, true-wholes, true-fit, true-fits}
+use Rattle.cap_tools.proofs.Splits.{At, stands-split, stands-join, rests-join, come-on}
+use Rattle.cap_tools.proofs.Coming.{carries-decided, true-wholes, true-fit, true-fits}
 use Rattle.cap_tools.proofs.Laws.{DecideLaws, DecideAt, decide-at}
 use Rattle.cap_tools.proofs.Once.{once-nothing, once-packet}
 use Rattle.cap_tools.proofs.Nexts.{packet-answer, stops-at}
-use Rattle.cap_tools.proofs.Fetches.{mk, among-same, comes-broken, inputs_at}
+use Rattle.cap_tools.proofs.Fetches.{mk, among-same, comes-broken, goes-one, inputs_at, past-of}
 
 -- ---- a packet that is judged
 
-abbrev pub end_if : code.Verdict → Option SequenceEnd
-end_if code_verdict.PassLast = Some Complete
-end_if verdict = None
-
 -- what is written and how far the job is where a packet is decided
-pub record Took (policy : Policy) (w : JobProgress) (before : List ℕ) (i : ℕ) (x : Placed) (state' : SelectorState) (names : List (List ℕ)) (old new : Target) (end : Option SequenceEnd) : Type 0 where
+pub record Took (policy : Policy) (w : JobProgress) (before : List ℕ) (i : ℕ) (x : Placed) (state' : SelectorState) (names : List (List ℕ)) (old new : Target) : Type 0 where
   pub passed : List Captured
   -- one at most
   pub upper_bound : (passed ≡ []) ⊎ ((q : Captured) × (passed ≡ q ∷ []))
-  pub went : apply_event policy (form_to names old) w (Packet i x) ≡ course_spec.decide w state' passed end
+  pub went : apply_event policy (form_to names old) w (Packet i x) ≡ course_spec.decide w state' passed None
   pub output : HasWrittenTo before names new (w.packets ++ passed) w.reports
   pub form : form_to names new ≡ form_to names old
   pub failures : failures_to new ≡ failures_to old
@@ -35,27 +31,21 @@ goes-by : (policy : Policy) (form : Form) (w : JobProgress) (i : ℕ) (x : Place
     → apply_event policy form w (Packet i x) ≡ apply_verdict form w i x v state'
 goes-by policy form w i x v state' one other = rw (one, other) refl
 
-put-took : (policy : Policy) (w : JobProgress) (before : List ℕ) (i : ℕ) (x : Placed) (q : Captured) (state' : SelectorState) (names : List (List ℕ)) (old new : Target) (end : Option SequenceEnd) → HasWrittenTo before names old w.packets w.reports → PutsIntoOutput q old (Ok tt) new
-    → apply_event policy (form_to names old) w (Packet i x) ≡ unless_refused (form_refuses (form_to names old) w.packets q) w i x (decide w state' (q ∷ []) end)
-    → Took policy w before i x state' names old new end
-put-took policy w before i x q state' names old new end has puts went =
-    let ok : PutOk before w.packets w.reports q names old new = put-ok before w.packets w.reports q names old new has puts in
+-- the job goes on after it
+pub took : (policy : Policy) (w : JobProgress) (before : List ℕ) (i : ℕ) (x : Placed) (names : List (List ℕ)) (old new : Target) (state' : SelectorState) (v : code.Verdict) (q : Captured) → HasWrittenTo before names old w.packets w.reports
+    → IsVerdict (judge policy w.state (w.decided + 1) x.packet) (Ok v) q state' → Offers v q old (Ok tt) new → (v ≡ code_verdict.PassLast → ⊥) → Took policy w before i x state' names old new
+took policy w before i x names old new state' code_verdict.Pass q has exact offers on =
+    let ok : PutOk before w.packets w.reports q names old new = put-ok before w.packets w.reports q names old new has offers in
     record {
       passed = q ∷ [];
       upper_bound = inr (q, refl);
-      went = went ∙ ap (λ (f : Option Fault). unless_refused f w i x (decide w state' (q ∷ []) end)) ok.none;
+      went = goes-by policy (form_to names old) w i x (Pass q) state' exact.0 exact.1 ∙ ap (λ (f : Option Fault). unless_refused f w i x (decide w state' (q ∷ []) None)) ok.none;
       output = ok.output;
       form = ok.form;
       failures = ok.failures;
     }
-
-pub took : (policy : Policy) (w : JobProgress) (before : List ℕ) (i : ℕ) (x : Placed) (names : List (List ℕ)) (old new : Target) (state' : SelectorState) (v : code.Verdict) (q : Captured) → HasWrittenTo before names old w.packets w.reports
-    → IsVerdict (judge policy w.state (w.decided + 1) x.packet) (Ok v) q state' → Offers v q old (Ok tt) new → Took policy w before i x state' names old new (end_if v)
-took policy w before i x names old new state' code_verdict.Pass q has exact offers =
-    put-took policy w before i x q state' names old new None has offers (goes-by policy (form_to names old) w i x (Pass q) state' exact.0 exact.1)
-took policy w before i x names old new state' code_verdict.PassLast q has exact offers =
-    put-took policy w before i x q state' names old new (Some Complete) has offers (goes-by policy (form_to names old) w i x (PassLast q) state' exact.0 exact.1)
-took policy w before i x names old new state' code_verdict.Skip q has exact offers =
+took policy w before i x names old new state' code_verdict.PassLast q has exact offers on = absurd (on refl)
+took policy w before i x names old new state' code_verdict.Skip q has exact offers on =
     let same : new ≡ old = offers.1 in
     rw same (record {
       passed = [];
@@ -67,9 +57,6 @@ took policy w before i x names old new state' code_verdict.Skip q has exact offe
     })
 
 -- ---- the true order begins with it
-
-laters : List InputView → List Future
-laters hs = map (λ (v : InputView). actual_future v.source) hs
 
 pub record Ahead (ss : List InputPast) (cursors : List InputView) (order : PacketOrder) (es : List Event) (e : Event) : Type 0 where
   pub more : Sequence
@@ -124,53 +111,28 @@ counted-more n t t' within grows =
 pub decided-goes : (us vs : List InputPast) (s : InputPast) (before : List ℕ) (xs ys : List InputView) (h : InputView) (order : PacketOrder) (turn : ℕ) (policy : Policy) (state state' : SelectorState) (names : List (List ℕ)) (output output' : Target) (decided : ℕ) (p : Captured)
     → DecideLaws order turn xs ys h → AreInputsAfter us xs → At s h → AreInputsAfter vs ys → h.source.packet ≡ Some p → state'.passed ≤ decided + 1 → GrowsByOne state.tally state'.tally
     → (d : PacketsDecided (us ++ s ∷ vs) before (mk (xs ++ h ∷ ys) order policy state names output decided))
-    → Took policy (progress_at (mk (xs ++ h ∷ ys) order policy state names output decided) d.packets d.reports) before turn (record { offset = h.source.offset; packet = p }) state' names output output' None
+    → Took policy (progress_at (mk (xs ++ h ∷ ys) order policy state names output decided) d.packets d.reports) before turn (record { offset = h.source.offset; packet = p }) state' names output output'
     → GoesOn d (mk (xs ++ input_after_decided h ∷ ys) order policy state' names output' (decided + 1))
 decided-goes us vs s before xs ys h order turn policy state state' names output output' decided p laws front at back held within grows d t =
     let waits : h.waiting ≡ true = laws.waits in
+    let h' : InputView = input_after_decided h in
     let x : Placed = record { offset = h.source.offset; packet = p } in
     let P : Bool → Type 0 = λ b. IsAt s.text s.done s.packets b h.source in
     let was : IsAt s.text s.done s.packets true h.source = subst P waits at in
     let same : (was.waits refl).packet ≡ p = (let e : Some (was.waits refl).packet ≡ Some p = sym (was.waits refl).held ∙ held in cc) in
-    let after : InputPast = record { text = s.text; done = s.done ++ h.source.block; packets = s.packets ++ x ∷ [] } in
+    let past : InputPast = past-of s h.source.block (x ∷ []) in
     let A : Captured → Type 0 = λ q. IsAt s.text (s.done ++ h.source.block) (s.packets ++ record { offset = h.source.offset; packet = q } ∷ []) false h.source in
-    let here : At after (input_after_decided h) = subst A same (IsAt-decided s.text s.done s.packets h.source was).1 in
-    let old : JobState = mk (xs ++ h ∷ ys) order policy state names output decided in
-    let new : JobState = mk (xs ++ input_after_decided h ∷ ys) order policy state' names output' (decided + 1) in
-    let following : AreInputsAfter (us ++ after ∷ vs) new.inputs.cursors = stands-join us vs after xs ys (input_after_decided h) front here back in
-    let come : AreSettled (us ++ after ∷ vs) new.inputs (d.events ++ Packet turn x ∷ []) = come-on us vs s after xs ys h (input_after_decided h) order d.events (Packet turn x ∷ []) front d.come
+    let here : At past h' = subst A same (IsAt-decided s.text s.done s.packets h.source was).1 in
+    let come : AreSettled (us ++ past ∷ vs) (inputs_at order (xs ++ h' ∷ ys)) (d.events ++ Packet turn x ∷ []) = come-on us vs s past xs ys h h' order d.events (Packet turn x ∷ []) front d.come
     (λ f' fit. carries-decided s xs ys h turn order h.source.block p waits held (λ f fit fs gs before with_front. laws.decided_left p held f fit fs gs before with_front) f' fit) in
-    record {
-      input = turn;
-      finished = h.source.block;
-      packets = x ∷ [];
-      past = us ++ after ∷ vs;
-      past_is = sym (finish-here us vs s turn h.source.block (x ∷ []) (stands-length us xs front ∙ laws.here));
-      decided = record {
-        following = following;
-        greatest = greatest-here us vs s after xs ys h (input_after_decided h) front d.greatest (greatest-decided h p h.source.offset s.packets held);
-        events = d.events ++ Packet turn x ∷ [];
-        first = come-first (us ++ after ∷ vs) new.inputs (d.events ++ Packet turn x ∷ []) following come;
-        come = come;
-        packets = d.packets ++ t.passed;
-        reports = d.reports;
-        progress = ap (λ (f : Form). apply_events policy f no_progress (d.events ++ Packet turn x ∷ [])) t.form ∙ progress-next policy (form_to names output) d.events (Packet turn x) (progress_at old d.packets d.reports) (progress_at new (d.packets ++ t.passed) d.reports) d.progress t.went;
-        output = t.output;
-        passed = within;
-        counted = counted-more decided state.tally state'.tally d.counted grows;
-      };
-      at_most_one = omega arith;
-      form = t.form;
-      once = elim t.upper_bound [
-        | inl none ↦ once-nothing (form_to names output) (first_link (wholes_of (us ++ s ∷ vs))) (progress_of d) (progress_at new (d.packets ++ t.passed) d.reports) output output'
-            (ap (λ (l : List Captured). d.packets ++ l) none ∙ append-nil d.packets) refl (took-nothing none)
-        | inr one ↦ once-packet (first_link (wholes_of (us ++ s ∷ vs))) before (progress_of d) (progress_at new (d.packets ++ t.passed) d.reports) names output output' one.0 d.output (took-one one.0 one.1) t.form
-            (ap (λ (l : List Captured). d.packets ++ l) one.1) refl
-      ];
-      output = t.failures;
-      order = refl;
-      limits = limits-at xs ys h (input_after_decided h) refl;
-    }
+    let w' : JobProgress = record { decided = decided + 1; state = state'; packets = d.packets ++ t.passed; reports = d.reports; end = None } in
+    goes-one us vs s before xs ys h h' order turn policy state state' names output output' decided (decided + 1) h.source.block (x ∷ []) (Packet turn x ∷ []) (d.packets ++ t.passed) d.reports
+    laws.here front (stands-join us vs past xs ys h' front here back) (greatest-decided h p h.source.offset s.packets held) refl d come t.went t.output t.form t.failures
+    (elim t.upper_bound [
+      | inl none ↦ once-nothing (form_to names output) (first_link (wholes_of (us ++ s ∷ vs))) (progress_of d) w' output output' (ap (λ (l : List Captured). d.packets ++ l) none ∙ append-nil d.packets) refl (took-nothing none)
+      | inr one ↦ once-packet (first_link (wholes_of (us ++ s ∷ vs))) before (progress_of d) w' names output output' one.0 d.output (took-one one.0 one.1) t.form (ap (λ (l : List Captured). d.packets ++ l) one.1) refl
+    ])
+    within (counted-more decided state.tally state'.tally d.counted grows) (omega arith)
   where
     took-one : (q : Captured) → t.passed ≡ q ∷ [] → HasWrittenTo before names output' (d.packets ++ q ∷ []) d.reports
     took-one q is = let P : List Captured → Type 0 = λ l. HasWrittenTo before names output' (d.packets ++ l) d.reports in subst P is t.output
@@ -191,29 +153,7 @@ pub stops-course : (ss : List InputPast) (cursors : List InputView) (order : Pac
 stops-course ss cursors order es e policy form w w' c ahead far on went end =
     course-stop policy form (sequence_of order (wholes_of ss)) ahead.more es e w w' c ahead.is far (ap (λ (o : Option SequenceEnd). course_spec.unless_ended o w (apply_event policy form w e)) on ∙ went) end
 
--- the last packet passed
-pub record LastTook (policy : Policy) (w : JobProgress) (before : List ℕ) (i : ℕ) (x : Placed) (state' : SelectorState) (names : List (List ℕ)) (old new : Target) : Type 0 where
-  pub packet : Captured
-  pub went : apply_event policy (form_to names old) w (Packet i x) ≡ course_spec.decide w state' (packet ∷ []) (Some Complete)
-  pub output : HasWrittenTo before names new (w.packets ++ packet ∷ []) w.reports
-  pub form : form_to names new ≡ form_to names old
-  pub failures : failures_to new ≡ failures_to old
-
-pub last-took : (policy : Policy) (w : JobProgress) (before : List ℕ) (i : ℕ) (x : Placed) (names : List (List ℕ)) (old new : Target) (state' : SelectorState) (q : Captured) → IsVerdict (judge policy w.state (w.decided + 1) x.packet) (Ok code_verdict.PassLast) q state' → PutsIntoOutput q old (Ok tt) new
-    → HasWrittenTo before names old w.packets w.reports → LastTook policy w before i x state' names old new
-last-took policy w before i x names old new state' q exact puts has =
-    let ok : PutOk before w.packets w.reports q names old new = put-ok before w.packets w.reports q names old new has puts in
-    record {
-      packet = q;
-      went = goes-by policy (form_to names old) w i x (PassLast q) state' exact.0 exact.1 ∙ ap (λ (f : Option Fault). unless_refused f w i x (decide w state' (q ∷ []) (Some Complete))) ok.none;
-      output = ok.output;
-      form = ok.form;
-      failures = ok.failures;
-    }
-
 -- ---- it is not put
-
--- ---- what an answer leaves
 
 -- a packet that passes isn't put into a capture
 unput-capture : (ss : List InputPast) (before : List ℕ) (cursors : List InputView) (order : PacketOrder) (turn : ℕ) (policy : Policy) (state state' : SelectorState) (names : List (List ℕ)) (sink sink' : SinkView) (decided : ℕ) (new : JobState) (x : Placed) (q : Captured) (o : Option SequenceEnd) (fault : Fault)
@@ -305,24 +245,26 @@ answer-core : (us vs : List InputPast) (s : InputPast) (before : List ℕ) (xs y
     → AnswerLeaves d r (mk (xs ++ input_after_decided h ∷ ys) order policy state' names output' (decided + 1)) (mk (xs ++ h ∷ ys) order policy state' names output' decided)
 answer-core us vs s before xs ys h order turn policy state state' names output output' decided p (Ok code_verdict.Pass) laws tells front at back held within grows d decides =
     decided-goes us vs s before xs ys h order turn policy state state' names output output' decided p laws front at back held within grows d
-    (took policy (progress_at (mk (xs ++ h ∷ ys) order policy state names output decided) d.packets d.reports) before turn (record { offset = h.source.offset; packet = p }) names output output' state' code_verdict.Pass decides.packet d.output decides.exact decides.offers)
+    (took policy (progress_at (mk (xs ++ h ∷ ys) order policy state names output decided) d.packets d.reports) before turn (record { offset = h.source.offset; packet = p }) names output output' state' code_verdict.Pass decides.packet d.output decides.exact decides.offers (λ is. (cc)))
 answer-core us vs s before xs ys h order turn policy state state' names output output' decided p (Ok code_verdict.Skip) laws tells front at back held within grows d decides =
     decided-goes us vs s before xs ys h order turn policy state state' names output output' decided p laws front at back held within grows d
-    (took policy (progress_at (mk (xs ++ h ∷ ys) order policy state names output decided) d.packets d.reports) before turn (record { offset = h.source.offset; packet = p }) names output output' state' code_verdict.Skip decides.packet d.output decides.exact decides.offers)
+    (took policy (progress_at (mk (xs ++ h ∷ ys) order policy state names output decided) d.packets d.reports) before turn (record { offset = h.source.offset; packet = p }) names output output' state' code_verdict.Skip decides.packet d.output decides.exact decides.offers (λ is. (cc)))
 answer-core us vs s before xs ys h order turn policy state state' names output output' decided p (Ok code_verdict.PassLast) laws tells front at back held within grows d decides =
     let w : JobProgress = progress_at (mk (xs ++ h ∷ ys) order policy state names output decided) d.packets d.reports in
     let x : Placed = record { offset = h.source.offset; packet = p } in
-    let l = last-took policy w before turn x names output output' state' decides.packet decides.exact decides.offers d.output in
-    let stop = stops-course (us ++ s ∷ vs) (xs ++ h ∷ ys) order d.events (Packet turn x) policy (form_to names output) w (course_spec.decide w state' (l.packet ∷ []) (Some Complete)) Complete
-    (next-true us vs s before xs ys h order turn policy state names output decided p laws front at back held d) d.progress refl l.went refl in
+    let q : Captured = decides.packet in
+    let ok : PutOk before w.packets w.reports q names output output' = put-ok before w.packets w.reports q names output output' d.output decides.offers in
+    let went = goes-by policy (form_to names output) w turn x (PassLast q) state' decides.exact.0 decides.exact.1 ∙ ap (λ (f : Option Fault). unless_refused f w turn x (decide w state' (q ∷ []) (Some Complete))) ok.none in
+    let stop = stops-course (us ++ s ∷ vs) (xs ++ h ∷ ys) order d.events (Packet turn x) policy (form_to names output) w (course_spec.decide w state' (q ∷ []) (Some Complete)) Complete
+    (next-true us vs s before xs ys h order turn policy state names output decided p laws front at back held d) d.progress refl went refl in
     record {
       ends = ap (λ (v : JobProgress). v.end) stop;
       written =
-          closing-some before names (form_to names output) output' (first_link (wholes_of (us ++ s ∷ vs))) (d.packets ++ l.packet ∷ []) d.reports (decided + 1) state' l.output l.form (some d.packets l.packet)
+          closing-some before names (form_to names output) output' (first_link (wholes_of (us ++ s ∷ vs))) (d.packets ++ q ∷ []) d.reports (decided + 1) state' ok.output ok.form (some d.packets q)
           ∙ ap (λ (v : JobProgress). before ++ final_text (form_to names output) (first_link (wholes_of (us ++ s ∷ vs))) v) (sym stop);
-      once = once-packet (first_link (wholes_of (us ++ s ∷ vs))) before w (progress_over (mk (xs ++ h ∷ ys) order policy state names output decided) (wholes_of (us ++ s ∷ vs))) names output output' l.packet d.output l.output l.form
+      once = once-packet (first_link (wholes_of (us ++ s ∷ vs))) before w (progress_over (mk (xs ++ h ∷ ys) order policy state names output decided) (wholes_of (us ++ s ∷ vs))) names output output' q d.output ok.output ok.form
           (ap (λ (v : JobProgress). v.packets) stop) (ap (λ (v : JobProgress). v.reports) stop);
-      device = l.failures;
+      device = ok.failures;
     }
   where
     some : (ps : List Captured) (q : Captured) → 0 ≡ length (ps ++ q ∷ []) → ⊥

@@ -7,7 +7,7 @@ use Rattle.cap_inputs.specs.inside.Fresh.{fresh_limits}
 use Rattle.cap_tools.specs.declared.step.JobEnd.TheVariants as end
 use Rattle.cap_tools.specs.declared.job.Turn.TheVariants as turn
 use Rattle.cap_tools.specs.inside.Commands.{MakesStep}
-use Rattle.cap_tools.proofs.Runs.{Begun, IsUnderWay, Under, begins, first-failures, first-written, fresh, goes}
+use Rattle.cap_tools.proofs.Runs.{Begun, IsUnderWay, Under, begins, first-output, fresh, goes}
 
 -- where the output failed, it took as many bytes as it has room for
 abbrev pub IsFilled : Call → RunResult → Type 0
@@ -220,8 +220,8 @@ packets-run asked call job new r filled was ended is_left = by_end ended.end ref
 
 refused-run : (asked : Assignment) (call : Call) (new : JobView) (r : RunResult) (why : Refusal) → IsWhyRefused asked.preparing why → RefusesStart why call.tells (first_job asked call) r.status new → IsLeft new r → CommandRuns asked call r
 refused-run asked call new r why refused refuses left = ends (refusal_outcome why) (of_refusal why refused) (record {
-  output = left.written ∙ ap (λ (j : JobView). written_by j.state) refuses.new_is ∙ first-written asked.writing call.output.written call.output.failures call.room ∙ sym (append-nil call.output.written);
-  failures = left.failures ∙ ap (λ (j : JobView). failures_by j.state) refuses.new_is ∙ first-failures asked.writing call.output.written call.output.failures call.room;
+  output = left.written ∙ ap (λ (j : JobView). written_by j.state) refuses.new_is ∙ (first-output call.names asked.writing call.output.written call.output.failures call.room).written ∙ sym (append-nil call.output.written);
+  failures = left.failures ∙ ap (λ (j : JobView). failures_by j.state) refuses.new_is ∙ (first-output call.names asked.writing call.output.written call.output.failures call.room).failures_are;
   message = (let T : OutputView → Type 0 = λ v. IsTold call.tells call.messages (refusal_message why) v in subst T (sym left.messages) refuses.exact);
   quiet = λ zero. absurd (never-zero why (sym refuses.status_is ∙ zero));
   status = refuses.status_is;
@@ -230,8 +230,8 @@ refused-run asked call new r why refused refuses left = ends (refusal_outcome wh
 listed-run : (asked : Assignment) (call : Call) (new : JobView) (r : RunResult) (words : List ℕ) (link : Link) → IsFilled call r → asked.preparing ≡ Some (Compiles words link) → ListsSome words link call.tells (first_job asked call) r.status new → IsLeft new r → CommandRuns asked call r
 listed-run asked call new r words link filled is lists left =
     let bytes : List ℕ = listing lists.prog in
-    let written = first-written asked.writing call.output.written call.output.failures call.room in
-    let failures = first-failures asked.writing call.output.written call.output.failures call.room in
+    let written = (first-output call.names asked.writing call.output.written call.output.failures call.room).written in
+    let failures = (first-output call.names asked.writing call.output.written call.output.failures call.room).failures_are in
     elim lists.lists [
       | inl whole ↦
           let quiet : r.messages ≡ call.messages = left.messages ∙ whole.quiet in

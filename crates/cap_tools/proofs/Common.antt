@@ -13,12 +13,12 @@ pub use Rattle.cap_filter.specs.Refusals.{refusal_status}
 pub use Rattle.cap_filter.specs.Filters.{AreNew, place_by, spent_on, programs_of, rule_of}
 pub use Rattle.cap_filter.specs.Compilation.{IsCompiled}
 pub use Rattle.cap_filter.specs.Programs.{spent_in, AreMade, ran_at, ran_if}
-pub use Rattle.cap_inputs.specs.Inputs.{InputView, Future, InputPast, AreInputsAfter, AreSettled, IsInput, input_after_decided, items_left, inputs_left, sequence_left, DeviceLimits, InputsView, input_after, device_limits, limits_of, offset_at, AreFutures, waiting_packets, input_items, inputs_with, no_future, ReadsInput, ended_count, is_open, key_of, packet_time, MarksDecided, ReadSteps, input_steps_left, is_packet_found, steps_left_in, steps_owed, with_cursor, KnowGreatest, is_clean_end}
-pub use Rattle.cap_inputs.specs.inside.Inputs.{actual_future, most_steps, offset_of, IsNext, is_in_turn, AllEnded, first_declared_link, AllReady, IsNextIn, IsOpen, IsReady, KeysOver, KeysFrom, NoneEnded, NoneWaits, owed_by, steps_left}
+pub use Rattle.cap_inputs.specs.Inputs.{InputView, Future, InputPast, AreInputsAfter, AreSettled, IsInput, input_after_decided, items_left, inputs_left, sequence_left, DeviceLimits, InputsView, input_after, device_limits, limits_of, offset_at, AreFutures, waiting_packets, input_items, inputs_with, no_future, ReadsInput, ended_count, is_open, key_of, packet_time, MarksDecided, ReadSteps, input_steps_left, is_packet_found, steps_left_in, steps_owed, with_cursor, KnowGreatest, greatest_of, is_clean_end}
+pub use Rattle.cap_inputs.specs.inside.Inputs.{actual_future, most_steps, offset_of, IsNext, is_in_turn, AllEnded, first_declared_link, AllReady, IsNextIn, IsOpen, IsReady, KeysFrom, NoneEnded, NoneWaits, owed_by, steps_left}
 pub use Rattle.cap_inputs.proofs.Cursors.{greatest-decided, greatest-here, limits-at, set-here, greatest-same, limits-kept}
 pub use Rattle.cap_inputs.proofs.Nexts.{next-is-of, count-open, count-all}
 pub use Rattle.cap_inputs.specs.Fresh.{fresh_view, nothing_done, fresh_inputs}
-pub use Rattle.cap_inputs.proofs.Order.{merged-broken, IsOver, IsFrom, end_at, AllOver, AllFrom, merged-next}
+pub use Rattle.cap_inputs.proofs.Order.{merged-broken, IsFrom, end_at, AllFrom, merged-next}
 pub use Rattle.cap_io.specs.Capture.{Placed, Declared, placed_at, Items, Ending, End, FaultAt, NoUnit, items, items_from, after_packets, no_items, front_of, kind_of, first_link_of, Nothing, PcapFile, PcapngFile}
 pub use Rattle.cap_io.specs.Position.{IsAt, ReadFailsAt, given_in_all, pending}
 pub use Rattle.cap_io.specs.Sink.{SinkView, FinishesEmpty, HasPackets, link_or_ethernet}

@@ -1,5 +1,5 @@
 -- The steps that read an input on.
-use Rattle.cap_tools.proofs.Common.{an_end, InputEnd, ◌≡◌, inl, inr, ℕ, suc, ◌+◌, ◌<◌, ◌≤◌, Bool, true, false, List, [], ◌∷◌, ◌++◌, length, map, get_or, Option, None, Some, Result, Ok, Err, refl, sym, ◌∙◌, ap, arith, subst, append_assoc, append-nil, slice_set, HasGiven, Stops, DeviceFault, Fault, ReadFailed, Kind, Placed, Items, FaultAt, no_items, kind_of, after_packets, SourceView, Phase, Reading, Ended, Failed, Steps, FindsPacket, FindsEnd, FindsFault, Advances, IsAt, IsAt-found, IsAt-closed, IsAt-fault, JobEnd, Report, Tally, InputItems, Event, FaultIn, PacketOrder, InTurn, ByTime, Sequence, sequence_of, with_front, whole_input, Policy, Edit, Filter, KeepAll, Count, SelectorState, IsWithin, is_count, PolicyState, with_empty_tally, Form, JobProgress, cut_at, no_progress, apply_events, final_progress, end_with, final_text, output_text, first_link, Target, Capture, Text, Lines, HasWrittenTo, form_to, written_to, failures_to, Reports, InputView, InputsView, Future, InputPast, AreInputsAfter, AreSettled, IsInput, ReadsInput, waiting_packets, input_after, input_items, inputs_with, inputs_left, limits_of, sequence_left, IsNext, actual_future, is_in_turn, report_text, JobState, AppendsOnce, PacketsDecided, GoesOn, CompletesOutput, WhyBroken, StopsWriting, StepLeaves, asks_report, progress_at, progress_of, progress_over, output_form, failures_by, written_by, wholes_of, Closes, ClosesBy, unless_failed, sieve, report_at, drained-text, ReportOk, report-ok, progress-append, course-close, greatest-here, greatest-same, limits-at, limits-kept, set-here, next-is-of}
+use Rattle.cap_tools.proofs.Common.{Captured, greatest_of, an_end, InputEnd, ◌≡◌, inl, inr, ℕ, suc, ◌+◌, ◌<◌, ◌≤◌, Bool, true, false, List, [], ◌∷◌, ◌++◌, length, map, get_or, Option, None, Some, Result, Ok, Err, refl, sym, ◌∙◌, ap, arith, subst, append_assoc, append-nil, slice_set, HasGiven, Stops, DeviceFault, Fault, ReadFailed, Kind, Placed, Items, FaultAt, no_items, kind_of, after_packets, SourceView, Phase, Reading, Ended, Failed, Steps, FindsPacket, FindsEnd, FindsFault, Advances, IsAt, IsAt-found, IsAt-closed, IsAt-fault, JobEnd, Report, Tally, InputItems, Event, FaultIn, PacketOrder, InTurn, ByTime, Sequence, sequence_of, with_front, whole_input, Policy, Edit, Filter, KeepAll, Count, SelectorState, IsWithin, is_count, PolicyState, with_empty_tally, Form, JobProgress, cut_at, no_progress, apply_events, final_progress, end_with, final_text, output_text, first_link, Target, Capture, Text, Lines, HasWrittenTo, form_to, written_to, failures_to, Reports, InputView, InputsView, Future, InputPast, AreInputsAfter, AreSettled, IsInput, ReadsInput, waiting_packets, input_after, input_items, inputs_with, inputs_left, limits_of, sequence_left, IsNext, actual_future, is_in_turn, report_text, JobState, AppendsOnce, PacketsDecided, GoesOn, CompletesOutput, WhyBroken, StopsWriting, StepLeaves, asks_report, progress_at, progress_of, progress_over, output_form, failures_by, written_by, wholes_of, Closes, ClosesBy, unless_failed, sieve, report_at, drained-text, ReportOk, report-ok, progress-append, course-close, greatest-here, greatest-same, limits-at, limits-kept, set-here, next-is-of}
 use Rattle.cap_inputs.specs.declared.inputs.Next.TheVariants as next
 use Rattle.cap_tools.specs.declared.step.JobEnd.TheVariants as end
 use Rattle.cap_process.specs.inside.Selector as selecting_inside
@@ -26,6 +26,49 @@ among-same cursors i h h' a b =
     ∙ ap (λ (l : List InputView). get_or l i h) b.splits
     ∙ at-here b.front b.back h' h i b.place
 
+-- ---- more is done of one input
+
+abbrev pub past-of : InputPast → List ℕ → List Placed → InputPast
+past-of s bytes packets = record { text = s.text; done = s.done ++ bytes; packets = s.packets ++ packets }
+
+-- the job goes on, with what these events make of its progress
+pub goes-one : (us vs : List InputPast) (s : InputPast) (before : List ℕ) (xs ys : List InputView) (h h' : InputView) (order : PacketOrder) (turn : ℕ) (policy : Policy) (state state' : SelectorState) (names : List (List ℕ)) (output output' : Target) (decided decided' : ℕ) (finished : List ℕ) (placed : List Placed) (new : List Event) (packets : List Captured) (reports : List Report)
+    → length xs ≡ turn → AreInputsAfter us xs → AreInputsAfter (us ++ past-of s finished placed ∷ vs) (xs ++ h' ∷ ys) → (h.greatest ≡ greatest_of s.packets → h'.greatest ≡ greatest_of (s.packets ++ placed)) → limits_of h'.source ≡ limits_of h.source
+    → (d : PacketsDecided (us ++ s ∷ vs) before (mk (xs ++ h ∷ ys) order policy state names output decided))
+    → AreSettled (us ++ past-of s finished placed ∷ vs) (inputs_at order (xs ++ h' ∷ ys)) (d.events ++ new)
+    → apply_events policy (form_to names output) (progress_of d) new ≡ record { decided = decided'; state = state'; packets = packets; reports = reports; end = None }
+    → HasWrittenTo before names output' packets reports → form_to names output' ≡ form_to names output → failures_to output' ≡ failures_to output
+    → AppendsOnce (form_to names output) (first_link (wholes_of (us ++ s ∷ vs))) (progress_of d) (record { decided = decided'; state = state'; packets = packets; reports = reports; end = None }) output output'
+    → state'.passed ≤ decided' → IsWithin decided' state'.tally → decided' ≤ decided + 1
+    → GoesOn d (mk (xs ++ h' ∷ ys) order policy state' names output' decided')
+goes-one us vs s before xs ys h h' order turn policy state state' names output output' decided decided' finished placed new packets reports here front following greatest limits d come goes written form failures once passed counted few = record {
+  input = turn;
+  finished = finished;
+  packets = placed;
+  past = us ++ past-of s finished placed ∷ vs;
+  past_is = sym (finish-here us vs s turn finished placed (stands-length us xs front ∙ here));
+  decided = record {
+    following = following;
+    greatest = greatest-here us vs s (past-of s finished placed) xs ys h h' front d.greatest greatest;
+    events = d.events ++ new;
+    first = come-first (us ++ past-of s finished placed ∷ vs) (inputs_at order (xs ++ h' ∷ ys)) (d.events ++ new) following come;
+    come = come;
+    packets = packets;
+    reports = reports;
+    progress = ap (λ (f : Form). apply_events policy f no_progress (d.events ++ new)) form
+        ∙ progress-append policy (form_to names output) no_progress d.events new ∙ ap (λ (v : JobProgress). apply_events policy (form_to names output) v new) d.progress ∙ goes;
+    output = written;
+    passed = passed;
+    counted = counted;
+  };
+  at_most_one = few;
+  form = form;
+  once = once;
+  output = failures;
+  order = refl;
+  limits = limits-at xs ys h h' limits;
+}
+
 -- ---- a packet is found
 
 found-goes : (us vs : List InputPast) (s : InputPast) (before : List ℕ) (xs ys : List InputView) (h : InputView) (s' : SourceView) (order : PacketOrder) (turn : ℕ) (policy : Policy) (state : SelectorState) (names : List (List ℕ)) (output : Target) (decided : ℕ)
@@ -33,54 +76,24 @@ found-goes : (us vs : List InputPast) (s : InputPast) (before : List ℕ) (xs ys
     → (d : PacketsDecided (us ++ s ∷ vs) before (mk (xs ++ h ∷ ys) order policy state names output decided))
     → GoesOn d (mk (xs ++ input_after h (Ok true) s' ∷ ys) order policy state names output decided)
 found-goes us vs s before xs ys h s' order turn policy state names output decided laws front at back advances limits d =
-    let waits : h.waiting ≡ false = laws.waits in
-    let found : FindsPacket h.source s' = finds s h s' (Ok true) at waits advances in
+    let h' : InputView = input_after h (Ok true) s' in
+    let found : FindsPacket h.source s' = finds s h s' (Ok true) at laws.waits advances in
     let P : Bool → Type 0 = λ b. IsAt s.text s.done s.packets b h.source in
-    let new : JobState = mk (xs ++ input_after h (Ok true) s' ∷ ys) order policy state names output decided in
     let same : s.packets ++ [] ≡ s.packets = append-nil s.packets in
-    let here : At (record { text = s.text; done = s.done ++ found.passes.passed; packets = s.packets ++ [] }) (input_after h (Ok true) s') =
-    rw same (IsAt-found s.text s.done s.packets h.source s' (subst P waits at) found) in
-    let past : List InputPast = us ++ record { text = s.text; done = s.done ++ found.passes.passed; packets = s.packets ++ [] } ∷ vs in
-    let following : AreInputsAfter past new.inputs.cursors = stands-join us vs (record { text = s.text; done = s.done ++ found.passes.passed; packets = s.packets ++ [] }) xs ys (input_after h (Ok true) s') front here back in
-    let come : AreSettled past new.inputs (d.events ++ []) = come-on us vs s (record { text = s.text; done = s.done ++ found.passes.passed; packets = s.packets ++ [] }) xs ys h (input_after h (Ok true) s') order d.events [] front d.come
-    (λ f' fit. carries-found s xs ys h s' order (laws.found_left (input_after h (Ok true) s') (λ e. (let p = found.phase in cc (e, p)))) waits advances found f') in
-    record {
-      input = turn;
-      finished = found.passes.passed;
-      packets = [];
-      past = past;
-      past_is = sym (finish-here us vs s turn found.passes.passed [] (stands-length us xs front ∙ laws.here));
-      decided = record {
-        following = following;
-        greatest = greatest-here us vs s (record { text = s.text; done = s.done ++ found.passes.passed; packets = s.packets ++ [] }) xs ys h (input_after h (Ok true) s') front d.greatest (greatest-same h.greatest s.packets);
-        events = d.events ++ [];
-        first = come-first past new.inputs (d.events ++ []) following come;
-        come = come;
-        packets = d.packets;
-        reports = d.reports;
-        progress = ap (λ (l : List Event). apply_events policy (form_to names output) no_progress l) (append-nil d.events) ∙ d.progress;
-        output = d.output;
-        passed = d.passed;
-        counted = d.counted;
-      };
-      at_most_one = omega arith;
-      form = refl;
-      once = once-nothing (form_to names output) (first_link (wholes_of (us ++ s ∷ vs))) (progress_of d) (progress_at new d.packets d.reports) output output refl refl refl;
-      output = refl;
-      order = refl;
-      limits = limits-at xs ys h (input_after h (Ok true) s') limits;
-    }
+    let past : InputPast = past-of s found.passes.passed [] in
+    let here : At past h' = rw same (IsAt-found s.text s.done s.packets h.source s' (subst P laws.waits at) found) in
+    let come : AreSettled (us ++ past ∷ vs) (inputs_at order (xs ++ h' ∷ ys)) (d.events ++ []) = come-on us vs s past xs ys h h' order d.events [] front d.come
+    (λ f' fit. carries-found s xs ys h s' order (laws.found_left h' (λ e. (let p = found.phase in cc (e, p)))) laws.waits advances found f') in
+    goes-one us vs s before xs ys h h' order turn policy state state names output output decided decided found.passes.passed [] [] d.packets d.reports
+    laws.here front (stands-join us vs past xs ys h' front here back) (greatest-same h.greatest s.packets) limits d come refl d.output refl refl
+    (once-nothing (form_to names output) (first_link (wholes_of (us ++ s ∷ vs))) (progress_of d) (progress_of d) output output refl refl refl) d.passed d.counted (omega arith)
 
 -- ---- a clean end is met
 
--- the input after its last bytes
-abbrev read-out : InputPast → List ℕ → InputPast
-read-out s bytes = record { text = s.text; done = s.done ++ bytes; packets = s.packets ++ [] }
-
 -- what holds of the inputs then
 record ReadOut (us vs : List InputPast) (s : InputPast) (xs ys : List InputView) (h' : InputView) (order : PacketOrder) (events : List Event) (bytes : List ℕ) : Type 0 where
-  pub following : AreInputsAfter (us ++ read-out s bytes ∷ vs) (xs ++ h' ∷ ys)
-  pub come : AreSettled (us ++ read-out s bytes ∷ vs) (record { order = order; cursors = xs ++ h' ∷ ys }) events
+  pub following : AreInputsAfter (us ++ past-of s bytes [] ∷ vs) (xs ++ h' ∷ ys)
+  pub come : AreSettled (us ++ past-of s bytes [] ∷ vs) (inputs_at order (xs ++ h' ∷ ys)) events
 
 closed-out : (us vs : List InputPast) (s : InputPast) (before : List ℕ) (xs ys : List InputView) (h : InputView) (s' : SourceView) (order : PacketOrder) (turn : ℕ) (policy : Policy) (state : SelectorState) (names : List (List ℕ)) (output : Target) (decided : ℕ)
     → (laws : ReadLaws order turn xs ys h) → AreInputsAfter us xs → At s h → AreInputsAfter vs ys → Advances h.source.phase h.source (Ok false) s' → (found : FindsEnd h.source s')
@@ -91,11 +104,11 @@ closed-out us vs s before xs ys h s' order turn policy state names output decide
     let P : Bool → Type 0 = λ b. IsAt s.text s.done s.packets b h.source in
     let same : s.packets ++ [] ≡ s.packets = append-nil s.packets in
     let es : List Event = laws.closed_events (kind_of s'.declared) s'.offset in
-    let here : At (read-out s found.passes.passed) (input_after h (Ok false) s') =
+    let here : At (past-of s found.passes.passed []) (input_after h (Ok false) s') =
     rw same (IsAt-closed s.text s.done s.packets h.source s' (subst P waits at) found) in
     record {
-      following = stands-join us vs (read-out s found.passes.passed) xs ys (input_after h (Ok false) s') front here back;
-      come = come-on us vs s (read-out s found.passes.passed) xs ys h (input_after h (Ok false) s') order d.events es front d.come
+      following = stands-join us vs (past-of s found.passes.passed []) xs ys (input_after h (Ok false) s') front here back;
+      come = come-on us vs s (past-of s found.passes.passed []) xs ys h (input_after h (Ok false) s') order d.events es front d.come
           (λ f' fit. carries-closed s xs ys h s' order es (λ fs gs before with_front. laws.closed_left (input_after h (Ok false) s') found.phase s'.declared h.greatest s'.offset fs gs before with_front) waits advances found f' fit);
     }
 
@@ -112,35 +125,8 @@ closed-goes us vs s before xs ys h s' order turn policy state names output decid
     let found : FindsEnd h.source s' = finds s h s' (Ok false) at laws.waits advances in
     let out = closed-out us vs s before xs ys h s' order turn policy state names output decided laws front at back advances found d in
     let w : JobProgress = progress_at (mk (xs ++ h ∷ ys) order policy state names output decided) d.packets d.reports in
-    let es : List Event = laws.closed_events (kind_of s'.declared) s'.offset in
-    record {
-      input = turn;
-      finished = found.passes.passed;
-      packets = [];
-      past = us ++ read-out s found.passes.passed ∷ vs;
-      past_is = sym (finish-here us vs s turn found.passes.passed [] (stands-length us xs front ∙ laws.here));
-      decided = record {
-        following = out.following;
-        greatest = greatest-here us vs s (read-out s found.passes.passed) xs ys h (input_after h (Ok false) s') front d.greatest (greatest-same h.greatest s.packets);
-        events = d.events ++ es;
-        first = come-first (us ++ read-out s found.passes.passed ∷ vs) (record { order = order; cursors = xs ++ input_after h (Ok false) s' ∷ ys }) (d.events ++ es) out.following out.come;
-        come = out.come;
-        packets = d.packets;
-        reports = reports;
-        progress = ap (λ (f : Form). apply_events policy f no_progress (d.events ++ es)) form
-            ∙ progress-append policy (form_to names output) no_progress d.events es ∙ ap (λ (v : JobProgress). apply_events policy (form_to names output) v es) d.progress
-            ∙ laws.closed_way policy (form_to names output) w (kind_of s'.declared) s'.offset refl ∙ goes;
-        output = final_text;
-        passed = passed;
-        counted = counted;
-      };
-      at_most_one = omega arith;
-      form = form;
-      once = once;
-      output = failures;
-      order = refl;
-      limits = limits-at xs ys h (input_after h (Ok false) s') limits;
-    }
+    goes-one us vs s before xs ys h (input_after h (Ok false) s') order turn policy state state' names output output' decided decided found.passes.passed [] (laws.closed_events (kind_of s'.declared) s'.offset) d.packets reports
+    laws.here front out.following (greatest-same h.greatest s.packets) limits d out.come (laws.closed_way policy (form_to names output) w (kind_of s'.declared) s'.offset refl ∙ goes) final_text form failures once passed counted (omega arith)
 
 -- ---- it ends by a fault
 
@@ -301,12 +287,12 @@ report-stops us vs s before xs ys h s' order turn policy state names (Text bytes
     let found : FindsEnd h.source s' = finds s h s' (Ok false) at laws.waits advances in
     let out = closed-out us vs s before xs ys h s' order turn policy state names output decided laws front at back advances found d in
     let es : List Event = laws.closed_events (kind_of s'.declared) s'.offset in
-    let ss' : List InputPast = us ++ read-out s found.passes.passed ∷ vs in
+    let ss' : List InputPast = us ++ past-of s found.passes.passed [] ∷ vs in
     let hs' : List InputView = xs ++ h' ∷ ys in
     let fs : List Future = map (λ (v : InputView). actual_future v.source) hs' in
     let later : List Event = (sequence_left order hs' (inputs_left hs' fs)).events in
     let is : sequence_of order (wholes_of (us ++ s ∷ vs)) ≡ with_front (d.events ++ es) (sequence_left order hs' (inputs_left hs' fs)) =
-    ap (sequence_of order) (wholes_of-join us vs s ∙ sym (wholes_of-join us vs (read-out s found.passes.passed)) ∙ sym (true-wholes ss' hs' out.following))
+    ap (sequence_of order) (wholes_of-join us vs s ∙ sym (wholes_of-join us vs (past-of s found.passes.passed [])) ∙ sym (true-wholes ss' hs' out.following))
     ∙ out.come fs (true-fits ss' hs' out.following) in
     let S : Target → Type 0 = λ t. Stops bytes own (written_to t) in
     let old : JobState = mk (xs ++ h ∷ ys) order policy state names output decided in

@@ -1,5 +1,5 @@
 -- A run of a job, from its first view on, in terms of its call.
-use Rattle.cap_tools.proofs.Common.{◌≡◌, ℕ, Bool, zero, suc, List, [], ◌∷◌, map, Option, None, Some, IsTrue, refl, sym, ◌∙◌, ap, subst, Placed, InputPast, DeviceLimits, FreshInput, fresh_view, nothing_done, device_limits, Writing, target_at, written_to, failures_to, form_to, room_to, room_by, failures_by, finish_at, texts, work_of, JobView, Decided, JobGives, StaysDecided, first_job, Policy, IsPolicy, IsWork, form_asked, Call, Content, Assignment, Preparing, ReadsFilter, Compiles, Filter, DecidedBy, PreparesBy}
+use Rattle.cap_tools.proofs.Common.{◌≡◌, ℕ, Bool, zero, suc, List, [], ◌∷◌, map, Option, None, Some, IsTrue, refl, sym, ◌∙◌, ap, subst, Placed, InputPast, DeviceLimits, FreshInput, fresh_view, nothing_done, device_limits, Writing, target_at, written_to, failures_to, form_to, room_to, failures_by, finish_at, texts, work_of, JobView, Decided, JobGives, StaysDecided, first_job, Policy, IsPolicy, IsWork, form_asked, Call, Content, Assignment, Preparing, ReadsFilter, Compiles, Filter, DecidedBy, PreparesBy}
 use Rattle.cap_inputs.specs.inside.Fresh.{fresh_limits}
 use Rattle.cap_process.specs.declared.output.Writing.TheVariants as writing
 use Rattle.cap_tools.specs.declared.job.Turn.TheVariants as turn
@@ -29,28 +29,17 @@ Begun asked call = DecidedBy asked.preparing (map nothing_done call.inputs) call
 
 -- ---- the first view, by its call
 
-first-form : (names : List (List ℕ)) (w : Writing) (bytes : List ℕ) (failures room : ℕ) → form_to names (target_at w bytes failures room) ≡ form_asked names w
-first-form names (writing.Capture format) bytes failures room = refl
-first-form names writing.Text bytes failures room = refl
-first-form names (writing.Lines options) bytes failures room = refl
+-- the output of the first view, by what is asked
+pub record FirstOutput (names : List (List ℕ)) (w : Writing) (bytes : List ℕ) (failures room : ℕ) : Type 0 where
+  pub form : form_to names (target_at w bytes failures room) ≡ form_asked names w
+  pub written : written_to (target_at w bytes failures room) ≡ bytes
+  pub failures_are : failures_to (target_at w bytes failures room) ≡ failures
+  pub room_is : room_to (target_at w bytes failures room) ≡ room
 
-pub first-failures : (w : Writing) (bytes : List ℕ) (failures room : ℕ) → failures_to (target_at w bytes failures room) ≡ failures
-first-failures (writing.Capture format) bytes failures room = refl
-first-failures writing.Text bytes failures room = refl
-first-failures (writing.Lines options) bytes failures room = refl
-
-pub first-written : (w : Writing) (bytes : List ℕ) (failures room : ℕ) → written_to (target_at w bytes failures room) ≡ bytes
-first-written (writing.Capture format) bytes failures room = refl
-first-written writing.Text bytes failures room = refl
-first-written (writing.Lines options) bytes failures room = refl
-
-target-room : (w : Writing) (bytes : List ℕ) (failures room : ℕ) → room_to (target_at w bytes failures room) ≡ room
-target-room (writing.Capture format) bytes failures room = refl
-target-room writing.Text bytes failures room = refl
-target-room (writing.Lines options) bytes failures room = refl
-
-pub first-room : (asked : Assignment) (call : Call) → room_by (first_job asked call).state ≡ call.room
-first-room asked call = target-room asked.writing call.output.written call.output.failures call.room
+pub first-output : (names : List (List ℕ)) (w : Writing) (bytes : List ℕ) (failures room : ℕ) → FirstOutput names w bytes failures room
+first-output names (writing.Capture format) bytes failures room = record { form = refl; written = refl; failures_are = refl; room_is = refl }
+first-output names writing.Text bytes failures room = record { form = refl; written = refl; failures_are = refl; room_is = refl }
+first-output names (writing.Lines options) bytes failures room = record { form = refl; written = refl; failures_are = refl; room_is = refl }
 
 first-limits : (os : List FreshInput) → device_limits (map fresh_view os) ≡ map fresh_limits os
 first-limits [] = refl
@@ -64,16 +53,18 @@ first-texts (o ∷ os) = ap (λ (l : List (List ℕ)). o.text ∷ l) (first-text
 pub begins : (asked : Assignment) (call : Call) (policy : Policy) (p : Option Preparing) (programs : List Content) (turns : ℕ) (ended : Option ℕ) → IsPolicy asked.preparing asked.policy policy
     → Decided (map nothing_done call.inputs) call.output.written (record { preparing = p; state = record (first_job asked call).state { policy = policy }; programs = programs; err = call.messages; turns = turns; done = ended })
     → IsUnderWay asked call (record { preparing = p; state = record (first_job asked call).state { policy = policy }; programs = programs; err = call.messages; turns = turns; done = ended })
-begins asked call policy p programs turns ended is decided = record {
-  past = map nothing_done call.inputs;
-  texts = first-texts call.inputs;
-  decided = decided;
-  work = record { order = refl; policy = is; form = first-form call.names asked.writing call.output.written call.output.failures call.room };
-  names = refl;
-  output = first-failures asked.writing call.output.written call.output.failures call.room;
-  limits = first-limits call.inputs;
-  err = refl;
-}
+begins asked call policy p programs turns ended is decided =
+    let output = first-output call.names asked.writing call.output.written call.output.failures call.room in
+    record {
+      past = map nothing_done call.inputs;
+      texts = first-texts call.inputs;
+      decided = decided;
+      work = record { order = refl; policy = is; form = output.form };
+      names = refl;
+      output = output.failures_are;
+      limits = first-limits call.inputs;
+      err = refl;
+    }
 
 -- ---- a step more
 

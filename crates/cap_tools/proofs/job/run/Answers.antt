@@ -1,6 +1,6 @@
 use Rattle.cap_tools.proofs.Common.{◌≡◌, [], map, refl, sym, ◌∙◌, ap, subst, string_bytes, arith, append-nil, IsTold, no_memory_message, OutputView, fresh_input, fresh_output, output_view, Assignment, Call, call_of, JobView, room_by, ends, fault_outcome, of_nothing, assignment}
 use Rattle.cap_tools.proofs.CommandStarts.{first-decided}
-use Rattle.cap_tools.proofs.Runs.{first-room, fresh}
+use Rattle.cap_tools.proofs.Runs.{first-output, fresh}
 use Rattle.cap_tools.proofs.Turns.{steps-done, steps-more, steps-room, steps-status, steps-undone}
 use Rattle.cap_tools.proofs.job.run.Goals as goal
 
@@ -22,7 +22,7 @@ returns-in-Done g c = record {
       let asked : Assignment = assignment c.args.command in
       let call : Call = call_of (map string_bytes c.args.names.items) (map (fresh_input g.I.Input) c.args.inputs.items) (fresh_output g.O.Output c.args.out) (fresh_output g.E.Output c.args.err) in
       let room : g.O.Output.room c.close-out.result.0 ≡ call.room = c.close-out.ensures.room ∙ steps-room _ _ _ _ _ _ c.in-Done.ensures ∙ c.loop-status.invariant.room
-      ∙ ap (λ (j : JobView). room_by j.state) c.in-Ok.ensures.fresh ∙ first-room asked call in
+      ∙ ap (λ (j : JobView). room_by j.state) c.in-Ok.ensures.fresh ∙ (first-output call.names asked.writing call.output.written call.output.failures call.room).room_is in
       let begun = first-decided c.args.command call in
       steps-done g.I.Input.tells g.O.Output.tells asked call c.loop-status.job c.make_turn.new.self _ ti to begun (λ failed. omega (arith, room, g.met.O.Output.filled c.close-out.result.0 failed)) c.in-Done.ensures
       (record { written = c.close-out.ensures.written; failures = c.close-out.ensures.failures; messages = c.close-out.ensures.messages })
