@@ -1,22 +1,12 @@
 -- The step that ends the output.
-use Rattle.cap_tools.proofs.Common.{None, all_ends, ◌≡◌, ℕ, ◌+◌, List, [], ◌∷◌, ◌++◌, map, Option, Some, Result, Ok, Err, refl, sym, ◌∙◌, ap, subst, add-zero, append-nil, option_or, Stops, Captured, DeviceFault, Fault, WriteFailed, first_link_of, items, SinkView, FinishesEmpty, HasPackets, link_or_ethernet, file_start, text, Ended, finish-none, finish-none-writes, finish-some, Report, Event, InputItems, Complete, sequence_of, with_front, PacketOrder, Policy, SelectorState, AsCapture, JobProgress, closing_text, final_progress, lines_text, end_with, final_text, first_link, Target, Capture, Text, Lines, HasWrittenTo, form_to, written_to, failures_to, EndsOutput, FinishesInto, InputView, Future, InputPast, AreInputsAfter, IsNext, AllEnded, actual_future, first_declared_link, next-is-of, reports_text, JobState, PacketsDecided, CompletesOutput, StopsWriting, progress_at, progress_of, progress_over, wholes_of, course-close}
+use Rattle.cap_tools.proofs.Common.{None, all_ends, ◌≡◌, ℕ, ◌+◌, List, [], ◌∷◌, ◌++◌, map, Option, Some, Result, Ok, Err, refl, sym, ◌∙◌, ap, subst, add-zero, append-nil, option_or, Stops, Captured, DeviceFault, Fault, WriteFailed, first_link_of, items, SinkView, FinishesEmpty, HasPackets, link_or_ethernet, file_start, text, Ended, finish-none, finish-none-writes, finish-some, Report, Event, InputItems, Complete, sequence_of, with_front, PacketOrder, Policy, SelectorState, AsCapture, JobProgress, closing_text, lines_text, end_with, final_text, first_link, Target, Capture, Text, Lines, HasWrittenTo, form_to, written_to, failures_to, EndsOutput, FinishesInto, InputView, Future, InputPast, AreInputsAfter, IsNext, AllEnded, actual_future, first_declared_link, next-is-of, reports_text, JobState, PacketsDecided, CompletesOutput, StopsWriting, progress_at, progress_of, progress_over, wholes_of}
 use Rattle.cap_inputs.specs.declared.inputs.Next.TheVariants as next
-use Rattle.cap_tools.proofs.Nexts.{stops-at}
+use Rattle.cap_tools.proofs.Nexts.{all-course, stops-at}
 use Rattle.cap_tools.proofs.Splits.{At}
 use Rattle.cap_tools.proofs.Coming.{true-whole, true-wholes, true-fit, true-fits}
 use Rattle.cap_tools.proofs.Laws.{OverAt, over-at}
 use Rattle.cap_tools.proofs.Fetches.{mk, inputs_at}
 use Rattle.cap_tools.proofs.Once.{once-closing}
-
-pub over-course : (ss : List InputPast) (before : List ℕ) (cursors : List InputView) (order : PacketOrder) (policy : Policy) (state : SelectorState) (names : List (List ℕ)) (output : Target) (decided : ℕ) → OverAt order cursors → (d : PacketsDecided ss before (mk cursors order policy state names output decided))
-    → final_progress policy (form_to names output) (sequence_of order (wholes_of ss)) ≡ end_with (progress_at (mk cursors order policy state names output decided) d.packets d.reports) Complete
-over-course ss before cursors order policy state names output decided at d =
-    let fits = true-fits ss cursors d.following in
-    course-close policy (form_to names output) (sequence_of order (wholes_of ss)) d.events (progress_at (mk cursors order policy state names output decided) d.packets d.reports) Complete
-    (ap (sequence_of order) (sym (true-wholes ss cursors d.following))
-    ∙ d.come (map (λ (h : InputView). actual_future h.source) cursors) fits
-    ∙ ap (with_front d.events) (at.over_left (map (λ (h : InputView). actual_future h.source) cursors) fits))
-    d.progress refl
 
 -- all events came
 over-all : (ss : List InputPast) (before : List ℕ) (cursors : List InputView) (order : PacketOrder) (policy : Policy) (state : SelectorState) (names : List (List ℕ)) (output : Target) (decided : ℕ) → OverAt order cursors → (d : PacketsDecided ss before (mk cursors order policy state names output decided))
@@ -118,7 +108,7 @@ pub finish-leaves : (ss : List InputPast) (before : List ℕ) (cursors : List In
 finish-leaves ss before cursors order policy state names output decided (Ok done) new tells inputs finishes d =
     let at : OverAt order cursors = over-at order cursors tells in
     let m : JobState = mk cursors order policy state names output decided in
-    let stop = over-course ss before cursors order policy state names output decided at d in
+    let stop = all-course ss before m d (over-all ss before cursors order policy state names output decided at d) in
     let link = links ss cursors d.following at.ended in
     let text_is : written_to new.output ≡ before ++ final_text (form_to names output) (first_link (wholes_of ss)) (over m d.packets d.reports) =
     finish-text before names d.packets d.reports decided state output new.output (first_declared_link cursors) d.output finishes

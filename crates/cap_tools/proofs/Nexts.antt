@@ -65,6 +65,11 @@ added (AsReports names) ps qs rs (t ∷ ts) = record { tail = report_text names 
 added (AsLines options) ps [] rs ts = record { tail = []; is = ap (lines_text options) (append-nil ps) ∙ sym (append-nil (lines_text options ps)) }
 added (AsLines options) ps (q ∷ qs) rs ts = record { tail = printed_text options q ++ lines_text options qs; is = ap (lines_text options) (sym (append_assoc ps (q ∷ []) qs)) ∙ lines-more options ps q qs }
 
+-- how far the job comes where all events came
+pub all-course : (ss : List InputPast) (before : List ℕ) (old : JobState) (d : PacketsDecided ss before old) → sequence_of old.inputs.order (wholes_of ss) ≡ record { events = d.events; end = Complete } → progress_over old (wholes_of ss) ≡ end_with (progress_of d) Complete
+all-course ss before old d is =
+    course-close old.policy (output_form old) (sequence_of old.inputs.order (wholes_of ss)) d.events (progress_of d) Complete (is ∙ ap (λ (l : List Event). record { events = l; end = Complete }) (sym (append-nil d.events))) d.progress refl
+
 -- the next answer, in all that would be written
 record InWhole {ss : List InputPast} {before : List ℕ} {old : JobState} (d : PacketsDecided ss before old) (bytes : List ℕ) : Type 0 where
   back : List ℕ
@@ -94,11 +99,9 @@ in-whole ss before old bytes d (Some e) answer =
 in-whole ss before old bytes d None answer =
     let form : Form = output_form old in
     let link : Option ℕ = first_link (wholes_of ss) in
-    let stop : progress_over old (wholes_of ss) ≡ end_with (progress_of d) Complete =
-    course-close old.policy form (sequence_of old.inputs.order (wholes_of ss)) d.events (progress_of d) Complete (answer.0.is ∙ ap (λ (l : List Event). record { events = l; end = Complete }) (sym (append-nil d.events))) d.progress refl in
     record {
       back = [];
-      is = ap (final_text form link) stop
+      is = ap (final_text form link) (all-course ss before old d answer.0.is)
           ∙ ap (λ (l : List ℕ). output_text form d.packets d.reports ++ l) (ap (λ (v : JobProgress). closing_text form link v.packets) (sym d.progress) ∙ sym answer.1 ∙ sym (append-nil bytes));
     }
 
