@@ -17,7 +17,7 @@ pub use Rattle.cap_inputs.specs.Inputs.{DeviceLimits, device_limits, limits_of, 
 pub use Rattle.cap_inputs.specs.Fresh.{fresh_view, fresh_inputs}
 pub use Rattle.cap_inputs.specs.declared.queue.Waiting.{Waiting}
 pub use Rattle.cap_inputs.specs.inside.Queue.{NotAfter, Precedes, IsFirstWaiting, is_entered, inputs_of, IsOnceEach}
-pub use Rattle.cap_inputs.specs.inside.Inputs.{NoneWaits, IsLeast, KeysOver, KeysFrom, waiting_count, AllEnded, AllReady, IsNext, IsNextIn, IsOpen, IsReady, NoneEnded, offset_of}
+pub use Rattle.cap_inputs.specs.inside.Inputs.{NoneWaits, IsAtTurn, IsLeast, KeysFrom, waiting_count, AllEnded, AllReady, IsNext, IsNextIn, IsOpen, IsReady, NoneEnded, offset_of}
 pub use Rattle.cap_inputs.specs.declared.inputs.Next.{Next}
 pub use Rattle.cap_io.specs.Capture.{Placed, Items, Ending}
 pub use Rattle.cap_io.specs.Source.{Advances, SectionFits, TakesIfAtHand, SkipsUnits, Phase, Reading, Ended, Failed, SourceView, Steps, end_offset, phase_after}

@@ -1,6 +1,7 @@
 -- The queue of a merge gives the packet with the least key.
-use Rattle.cap_inputs.proofs.Common.{◌≡◌, ◌≢◌, ℕ, zero, suc, ◌+◌, ◌<◌, ◌≤◌, ◌⊎◌, inl, inr, ◌&&◌, ◌||◌, Bool, true, false, IsTrue, List, [], ◌∷◌, ◌++◌, length, Option, None, Some, Result, Ok, Err, refl, sym, ◌∙◌, ap, map, arith, subst, ◌==◌, All, slice_set, IsPermutation, list_any-IsPermutation, length_permutation, cases_order, nat_tests, Waiting, Schedule, Turn, Merge, NotAfter, Precedes, IsFirstWaiting, is_entered, Fault, EntersQueue, HasPlaceFor, HoldsQueue, IsNextAt, IsQueued, Leaves, TakesFirst, first_schedule, is_merge, schedule_after, schedule_after_decided, waiting_total, waits_with, InputView, IsInput, is_packet_found, key_of, NoneWaits, IsLeast, KeysOver, KeysFrom, waiting_count, order_of}
+use Rattle.cap_inputs.proofs.Common.{◌≡◌, ◌≢◌, ℕ, zero, suc, ◌+◌, ◌<◌, ◌≤◌, ◌⊎◌, inl, inr, ◌&&◌, ◌||◌, Bool, true, false, IsTrue, List, [], ◌∷◌, ◌++◌, length, Option, None, Some, Result, Ok, Err, refl, sym, ◌∙◌, ap, map, arith, subst, ◌==◌, All, slice_set, IsPermutation, list_any-IsPermutation, length_permutation, cases_order, nat_tests, Waiting, Schedule, Turn, Merge, NotAfter, Precedes, IsFirstWaiting, is_entered, Fault, EntersQueue, HasPlaceFor, HoldsQueue, IsNextAt, IsQueued, Leaves, TakesFirst, first_schedule, is_merge, schedule_after, schedule_after_decided, waiting_total, waits_with, InputView, IsInput, is_packet_found, key_of, NoneWaits, IsLeast, KeysFrom, waiting_count, order_of}
 use Rattle.std.proofs.Common.{length-append}
+use Rattle.std.proofs.lemmas.Bool.{and_parts, eqb-true}
 use Rattle.cap_inputs.specs.declared.inputs.Next.TheVariants as next
 use Rattle.cap_inputs.specs.Queue.{Queue}
 use Rattle.cap_inputs.proofs.Cursors.{set-here}
@@ -24,13 +25,6 @@ same-or-not j n = elim (cases_order j n) [
   | inr (inl lt) ↦ inr (λ e. omega (arith, lt, e))
   | inr (inr gt) ↦ inr (λ e. omega (arith, gt, e))
 ]
-
-and-true : (a b : Bool) → (a && b) ≡ true → (a ≡ true) × (b ≡ true)
-and-true true b e = (refl, e)
-and-true false b e = absurd (cc)
-
-eq-true : (a b : ℕ) → (a == b) ≡ true → a ≡ b
-eq-true a b e = grind (arith, nat_tests)
 
 -- ---- one input among others
 
@@ -172,9 +166,9 @@ entry-after w (v ∷ vs) t j after e =
   where
     cases : (b : Bool) → ((v.time == t) && (v.input == j)) ≡ b → (is_entered vs t j ≡ true → (w.time < t) ⊎ ((w.time ≡ t) × (w.input ≤ j))) → (w.time < t) ⊎ ((w.time ≡ t) × (w.input ≤ j))
     cases true is following =
-        let parts = and-true (v.time == t) (v.input == j) is in
-        let time = eq-true v.time t parts.0 in
-        let input = eq-true v.input j parts.1 in
+        let parts = and_parts (v.time == t) (v.input == j) is in
+        let time = eqb-true v.time t parts.0 in
+        let input = eqb-true v.input j parts.1 in
         elim (after 0 w (omega arith)) [
           | inl lt ↦ inl (omega (arith, lt, time))
           | inr (same, le) ↦ inr (omega (arith, same, time), omega (arith, le, input))
@@ -190,10 +184,6 @@ waits-back : (xs : List InputView) (h : InputView) (ys : List InputView) (t j : 
 waits-back [] h ys t j e = let zero_more : 0 + suc j ≡ suc j = omega arith in rw zero_more e
 waits-back (x ∷ xs) h ys t j e = let one : length (x ∷ xs) + suc j ≡ suc (length xs + suc j) = omega arith in rw one (waits-back xs h ys t j e)
 
-keys-over : (k : ℕ) (hs : List InputView) → ((t j : ℕ) → waits_with hs t j ≡ true → k < t) → KeysOver k hs
-keys-over k [] all = tt
-keys-over k (h ∷ hs) all = (λ w. all (key_of h) 0 (waits-true h.waiting (key_of h) w), keys-over k hs (λ t j e. all t (suc j) e))
-
 keys-from : (k : ℕ) (hs : List InputView) → ((t j : ℕ) → waits_with hs t j ≡ true → k ≤ t) → KeysFrom k hs
 keys-from k [] all = tt
 keys-from k (h ∷ hs) all = (λ w. all (key_of h) 0 (waits-true h.waiting (key_of h) w), keys-from k hs (λ t j e. all t (suc j) e))
@@ -208,8 +198,8 @@ pub record WaitsAmong (hs : List InputView) (t i : ℕ) : Type 0 where
 waits-among : (hs : List InputView) (t i : ℕ) → waits_with hs t i ≡ true → WaitsAmong hs t i
 waits-among [] t i e = absurd (cc)
 waits-among (h ∷ hs) t zero e =
-    let parts = and-true h.waiting (key_of h == t) e in
-    record { cursor = h; among = record { front = []; back = hs; place = refl; splits = refl }; waits = parts.0; key = eq-true _ _ parts.1 }
+    let parts = and_parts h.waiting (key_of h == t) e in
+    record { cursor = h; among = record { front = []; back = hs; place = refl; splits = refl }; waits = parts.0; key = eqb-true _ _ parts.1 }
 waits-among (h ∷ hs) t (suc i) e =
     let more = waits-among hs t i e in
     record {
@@ -230,7 +220,7 @@ first-least cursors first last q w was is =
       cursor = found.cursor;
       among = a;
       waits = found.waits;
-      over = keys-over (key_of found.cursor) a.front (λ t j e. (
+      over = keys-from (key_of found.cursor + 1) a.front (λ t j e. (
           let there = waits-front a.front (found.cursor ∷ a.back) t j e in
           let key = found.key in
           let place = a.place in
@@ -260,30 +250,21 @@ waits-split (x ∷ xs) back h t (suc j) e = elim (waits-split xs back h t j e) [
   | inr (inr following) ↦ inr (inr (following.0, (let place = following.1 in omega (arith, place)), following.2))
 ]
 
-over-at : (k : ℕ) (hs : List InputView) (t j : ℕ) → KeysOver k hs → waits_with hs t j ≡ true → k < t
-over-at k [] t j over e = absurd (cc)
-over-at k (h ∷ hs) t zero over e =
-    let parts = and-true h.waiting (key_of h == t) e in
-    let less = over.0 parts.0 in
-    let key = eq-true _ _ parts.1 in
-    omega (arith, less, key)
-over-at k (h ∷ hs) t (suc j) over e = over-at k hs t j over.1 e
-
 from-at : (k : ℕ) (hs : List InputView) (t j : ℕ) → KeysFrom k hs → waits_with hs t j ≡ true → k ≤ t
 from-at k [] t j from e = absurd (cc)
 from-at k (h ∷ hs) t zero from e =
-    let parts = and-true h.waiting (key_of h == t) e in
+    let parts = and_parts h.waiting (key_of h == t) e in
     let less = from.0 parts.0 in
-    let key = eq-true _ _ parts.1 in
+    let key = eqb-true _ _ parts.1 in
     omega (arith, less, key)
 from-at k (h ∷ hs) t (suc j) from e = from-at k hs t j from.1 e
 
 -- an entry that no other precedes is that of the least input
-same-input : (front back : List InputView) (h : InputView) (w : Waiting) → h.waiting ≡ true → KeysOver (key_of h) front → KeysFrom (key_of h) back
+same-input : (front back : List InputView) (h : InputView) (w : Waiting) → h.waiting ≡ true → KeysFrom (key_of h + 1) front → KeysFrom (key_of h) back
     → waits_with (front ++ h ∷ back) w.time w.input ≡ true → (w.time < key_of h) ⊎ ((w.time ≡ key_of h) × (w.input ≤ length front)) → w.input ≡ length front
 same-input front back h w waits over from there after = elim (waits-split front back h w.time w.input there) [
   | inl in_front ↦ (
-      let less = over-at (key_of h) front w.time w.input over in_front in
+      let less = from-at (key_of h + 1) front w.time w.input over in_front in
       elim after [ inl lt ↦ absurd (omega (arith, less, lt)) | inr (same, le) ↦ absurd (omega (arith, less, same)) ])
   | inr (inl here) ↦ here
   | inr (inr following) ↦ (
@@ -325,14 +306,14 @@ gone front back h old new w t input there entered split before = cases (is_enter
     cases false is = is
     cases true is =
         let in_old : is_entered old t (length front) ≡ true = split t (length front) ∙ or-right ((w.time == t) && (w.input == length front)) _ is in
-        let key : key_of h ≡ t = eq-true _ _ (and-true _ _ (sym (waits-at front back h t) ∙ sym (entered t (length front)) ∙ in_old)).1 in
-        let own : key_of h ≡ w.time = eq-true _ _ (and-true _ _ (sym (waits-at front back h w.time) ∙ there)).1 in
+        let key : key_of h ≡ t = eqb-true _ _ (and_parts _ _ (sym (waits-at front back h t) ∙ sym (entered t (length front)) ∙ in_old)).1 in
+        let own : key_of h ≡ w.time = eqb-true _ _ (and_parts _ _ (sym (waits-at front back h w.time) ∙ there)).1 in
         let P : ℕ → Type 0 = λ n. is_entered new n (length front) ≡ false in
         let Q : ℕ → Type 0 = λ n. is_entered new w.time n ≡ false in
         subst P (sym own ∙ key) (subst Q input (preceded-other w new before))
 
 pub queued-taken : (front back : List InputView) (h h' : InputView) (first last : ℕ) (q q' : Queue) (w : Waiting) → h.waiting ≡ true → h'.waiting ≡ false
-    → KeysOver (key_of h) front → KeysFrom (key_of h) back → IsPermutation q.waiting (w ∷ q'.waiting) → All (Precedes w) q'.waiting → q.room ≤ q'.room
+    → KeysFrom (key_of h + 1) front → KeysFrom (key_of h) back → IsPermutation q.waiting (w ∷ q'.waiting) → All (Precedes w) q'.waiting → q.room ≤ q'.room
     → IsQueued (front ++ h ∷ back) first last q → IsQueued (front ++ h' ∷ back) (length front) (length front + 1) q'
 queued-taken front back h h' first last q q' w waits decided over from moved before roomy was =
     let split : (t j : ℕ) → is_entered q.waiting t j ≡ (((w.time == t) && (w.input == j)) || is_entered q'.waiting t j) = λ t j. list_any-IsPermutation (λ v. (v.time == t) && (v.input == j)) _ _ moved in
@@ -385,7 +366,7 @@ not-yet cursors i first last h q a is before was =
 -- an input that is read on has room for its entry, and none of its own is there
 pub room-for : (schedule : Schedule) (cursors : List InputView) (i : ℕ) (h : InputView) (waits : Bool) (q : Queue) → IsInput cursors i h → IsNextAt schedule cursors (next.Read i) → HoldsQueue schedule cursors q
     → (waits && is_merge schedule) ≡ true → HasPlaceFor q i
-room-for (Turn turn) cursors i h waits q a tells was merge = absurd (let e = (and-true waits false merge).1 in cc)
+room-for (Turn turn) cursors i h waits q a tells was merge = absurd (let e = (and_parts waits false merge).1 in cc)
 room-for (Merge first last) cursors i h waits q a tells was merge =
     let W : List InputView → Type 0 = λ l. IsQueued l first last q in
     let here = subst W a.splits was in

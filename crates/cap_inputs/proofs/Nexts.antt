@@ -1,5 +1,5 @@
 -- What is next of the inputs, as it is found out.
-use Rattle.cap_inputs.proofs.Common.{◌≡◌, inl, inr, ◌&&◌, ◌||◌, if◌then◌else◌, ℕ, suc, ◌+◌, ◌<◌, ◌≤◌, Bool, true, false, not, cond, nat_le, List, [], ◌∷◌, ◌++◌, length, None, Some, refl, sym, ◌∙◌, ap, arith, list_all, list_any, position_or_len, slice_get, nat_tests, Phase, Reading, Ended, Failed, PacketOrder, InTurn, ByTime, Next, InputView, InputsView, IsInput, ended_count, has_least_key, is_open, is_unready, key_of, next_at, next_of, place_next, AllEnded, AllReady, IsNext, IsNextIn, IsOpen, IsReady, KeysFrom, KeysOver, NoneWaits}
+use Rattle.cap_inputs.proofs.Common.{IsAtTurn, ◌≡◌, inl, inr, ◌&&◌, ◌||◌, if◌then◌else◌, ℕ, suc, ◌+◌, ◌<◌, ◌≤◌, Bool, true, false, not, cond, nat_le, List, [], ◌∷◌, ◌++◌, length, None, Some, refl, sym, ◌∙◌, ap, arith, list_all, list_any, position_or_len, slice_get, nat_tests, Phase, Reading, Ended, Failed, PacketOrder, InTurn, ByTime, Next, InputView, InputsView, IsInput, ended_count, has_least_key, is_open, is_unready, key_of, next_at, next_of, place_next, AllEnded, AllReady, IsNext, IsNextIn, IsOpen, IsReady, KeysFrom, NoneWaits}
 use Rattle.cap_inputs.specs.declared.inputs.Next.TheVariants as next
 
 -- ---- the first input of which a test holds
@@ -110,7 +110,7 @@ none-lower : (key : ℕ) (hs : List InputView) → KeysFrom key hs → list_all 
 none-lower key [] from = refl
 none-lower key (h ∷ hs) from = ap (λ (b : Bool). b && list_all (not_lower key) hs) (not-lower-where key h from.0) ∙ none-lower key hs from.1
 
-none-lower-around : (key : ℕ) (xs ys : List InputView) (h : InputView) → KeysOver key xs → key ≡ key_of h → KeysFrom key ys → list_all (not_lower key) (xs ++ h ∷ ys) ≡ true
+none-lower-around : (key : ℕ) (xs ys : List InputView) (h : InputView) → KeysFrom (key + 1) xs → key ≡ key_of h → KeysFrom key ys → list_all (not_lower key) (xs ++ h ∷ ys) ≡ true
 none-lower-around key [] ys h over is from = none-lower key (h ∷ ys) (λ waits. omega (arith, is), from)
 none-lower-around key (x ∷ xs) ys h over is from =
     ap (λ (b : Bool). b && list_all (not_lower key) (xs ++ h ∷ ys)) (not-lower-where key x (λ waits. let less = over.0 waits in omega (arith, less)))
@@ -124,15 +124,15 @@ none-least cursors [] none = tt
 none-least cursors (h ∷ hs) none = (waits-not cursors h none.0, none-least cursors hs none.1)
 
 -- the inputs before the one with the least key have greater ones
-greater-before : (xs ys zs : List InputView) (h : InputView) → h.waiting ≡ true → KeysOver (key_of h) zs → AllFail (has_least_key (xs ++ h ∷ ys)) zs
+greater-before : (xs ys zs : List InputView) (h : InputView) → h.waiting ≡ true → KeysFrom (key_of h + 1) zs → AllFail (has_least_key (xs ++ h ∷ ys)) zs
 greater-before xs ys [] h waits over = tt
 greater-before xs ys (z ∷ zs) h waits over = (by_waits z.waiting refl, greater-before xs ys zs h waits over.1)
   where
     by_waits : (b : Bool) → z.waiting ≡ b → has_least_key (xs ++ h ∷ ys) z ≡ false
-    by_waits true is = and-false z.waiting (list_all (not_lower (key_of z)) (xs ++ h ∷ ys)) (all-fails (not_lower (key_of z)) xs ys h (lower-where (key_of z) h waits (over.0 is)))
+    by_waits true is = and-false z.waiting (list_all (not_lower (key_of z)) (xs ++ h ∷ ys)) (all-fails (not_lower (key_of z)) xs ys h (lower-where (key_of z) h waits (let less = over.0 is in omega (arith, less))))
     by_waits false is = waits-not (xs ++ h ∷ ys) z is
 
-least-here : (xs ys : List InputView) (h : InputView) → h.waiting ≡ true → KeysOver (key_of h) xs → KeysFrom (key_of h) ys → has_least_key (xs ++ h ∷ ys) h ≡ true
+least-here : (xs ys : List InputView) (h : InputView) → h.waiting ≡ true → KeysFrom (key_of h + 1) xs → KeysFrom (key_of h) ys → has_least_key (xs ++ h ∷ ys) h ≡ true
 least-here xs ys h waits over from = ap (λ (b : Bool). b && list_all (not_lower (key_of h)) (xs ++ h ∷ ys)) waits ∙ none-lower-around (key_of h) xs ys h over refl from
 
 -- ---- what is next
@@ -143,15 +143,15 @@ count-open xs ys h ended on = first-here test_open xs ys h (none-open xs ended) 
 pub count-all : (hs : List InputView) → AllEnded hs → ended_count hs ≡ length hs
 count-all hs ended = first-none test_open hs (none-open hs ended)
 
+at-turn : (cursors : List InputView) (i : ℕ) (waiting : Bool) → IsAtTurn cursors i waiting → next_of (record { order = InTurn; cursors = cursors }) ≡ (if waiting then next.Decide i else next.Read i)
+at-turn cursors i waiting at =
+    let a = at.among in
+    let count : ended_count cursors ≡ length a.front = ap ended_count a.splits ∙ count-open a.front a.back at.cursor at.front at.unended in
+    at-here cursors (ended_count cursors) i at.cursor a count ∙ ap (λ (b : Bool). if b then next.Decide i else next.Read i) at.waits
+
 by-turn : (cursors : List InputView) (r : Next) → IsNextIn InTurn cursors r → next_of (record { order = InTurn; cursors = cursors }) ≡ r
-by-turn cursors (next.Read i) tells =
-    let a = tells.among in
-    let count : ended_count cursors ≡ length a.front = ap ended_count a.splits ∙ count-open a.front a.back tells.cursor tells.front tells.unended in
-    at-here cursors (ended_count cursors) i tells.cursor a count ∙ ap (λ (b : Bool). if b then next.Decide i else next.Read i) tells.waits
-by-turn cursors (next.Decide i) tells =
-    let a = tells.among in
-    let count : ended_count cursors ≡ length a.front = ap ended_count a.splits ∙ count-open a.front a.back tells.cursor tells.front tells.unended in
-    at-here cursors (ended_count cursors) i tells.cursor a count ∙ ap (λ (b : Bool). if b then next.Decide i else next.Read i) tells.waits
+by-turn cursors (next.Read i) tells = at-turn cursors i false tells
+by-turn cursors (next.Decide i) tells = at-turn cursors i true tells
 by-turn cursors next.Finish tells = at-past cursors (ended_count cursors) (count-all cursors tells)
 
 -- where an input is to be read on, or none is

@@ -61,27 +61,19 @@ ahead e x h = grind (arith, nat_tests, h)
 not-after : (e x : Entry) → e.key ≤ x.key → e.input < x.input → comes_before x e ≡ false
 not-after e x h l = grind (arith, nat_tests, h, l)
 
--- the least key of what is left of an input is over the key, or at least the key
-abbrev pub IsOver : ℕ → ℕ → List Placed → Type 0
-IsOver k greatest [] = Unit {0}
-IsOver k greatest (p ∷ ps) = k < max greatest p.packet.time
-
+-- the least key of what is left of an input is at least the key
 abbrev pub IsFrom : ℕ → ℕ → List Placed → Type 0
 IsFrom k greatest [] = Unit {0}
 IsFrom k greatest (p ∷ ps) = k ≤ max greatest p.packet.time
-
-abbrev pub AllOver : ℕ → List InputItems → Type 0
-AllOver k [] = Unit {0}
-AllOver k (r ∷ rs) = IsOver k r.greatest r.items.packets × AllOver k rs
 
 abbrev pub AllFrom : ℕ → List InputItems → Type 0
 AllFrom k [] = Unit {0}
 AllFrom k (r ∷ rs) = IsFrom k r.greatest r.items.packets × AllFrom k rs
 
-entries-over : (e : Entry) (input : ℕ) (ending : Ending) (greatest : ℕ) (ps : List Placed) → IsOver e.key greatest ps → Each (λ x. comes_before e x ≡ true) (entries_of input ending greatest ps)
+entries-over : (e : Entry) (input : ℕ) (ending : Ending) (greatest : ℕ) (ps : List Placed) → IsFrom (e.key + 1) greatest ps → Each (λ x. comes_before e x ≡ true) (entries_of input ending greatest ps)
 entries-over e input ending greatest [] h = tt
 entries-over e input ending greatest (p ∷ ps) h = (
-  ahead e (record { key = max greatest p.packet.time; input = input; p = p; end = end_after input ending ps }) h,
+  ahead e (record { key = max greatest p.packet.time; input = input; p = p; end = end_after input ending ps }) (omega (arith, h)),
   Each-weaker (FollowsIn input (max greatest p.packet.time)) (λ x. comes_before e x ≡ true) (λ x f. ahead e x (omega (arith, h, f.1))) (entries_of input ending (max greatest p.packet.time) ps)
       (entries-follow input ending (max greatest p.packet.time) ps),
 )
@@ -94,7 +86,7 @@ entries-from e input ending greatest (p ∷ ps) l h = (
       (entries-follow input ending (max greatest p.packet.time) ps),
 )
 
-all-over : (e : Entry) (input : ℕ) (rs : List InputItems) → AllOver e.key rs → Each (λ x. comes_before e x ≡ true) (all_entries input rs)
+all-over : (e : Entry) (input : ℕ) (rs : List InputItems) → AllFrom (e.key + 1) rs → Each (λ x. comes_before e x ≡ true) (all_entries input rs)
 all-over e input [] h = tt
 all-over e input (r ∷ rs) h = Each-append (λ x. comes_before e x ≡ true) (input_entries input r) (all_entries (input + 1) rs) (entries-over e input r.items.ending r.greatest r.items.packets h.0) (all-over e (input + 1) rs h.1)
 
@@ -129,7 +121,7 @@ over-right (FaultIn i f o) = refl
 -- An input whose current packet has the least key, the lowest input of those: its packet comes
 -- first, and what is left after it is the merge of what is left.
 pub merged-next : (xs ys : List InputItems) (g : ℕ) (p : Placed) (items : Items) (ps : List Placed) (size : ℕ) → items.packets ≡ p ∷ ps
-    → fault_without_packets 0 (xs ++ record { greatest = g; items = items; size = size } ∷ ys) ≡ Complete → AllOver (max g p.packet.time) xs → AllFrom (max g p.packet.time) ys
+    → fault_without_packets 0 (xs ++ record { greatest = g; items = items; size = size } ∷ ys) ≡ Complete → AllFrom (max g p.packet.time + 1) xs → AllFrom (max g p.packet.time) ys
     → sequence_by_time (xs ++ record { greatest = g; items = items; size = size } ∷ ys)
     ≡ with_front (Packet (length xs) p ∷ []) (sequence_by_time (xs ++ record { greatest = max g p.packet.time; items = record { packets = ps; declared = items.declared; ending = items.ending }; size = size } ∷ ys))
 merged-next xs ys g p items ps size is whole over from =

@@ -1,9 +1,9 @@
 -- How whole commands end: at the first packet that the form refuses, else as the verdicts on
 -- packets say.
-use Rattle.cap_process.proofs.Common.{◌≡◌, ℕ, suc, ◌+◌, ◌-◌, ◌^◌, ◌<◌, ◌≤◌, ◌&&◌, Bool, true, false, if◌then◌else◌, nat_le, List, [], ◌∷◌, ◌++◌, length, Option, None, Some, refl, sym, ◌∙◌, ap, arith, subst, append_assoc, append-nil, IfSome, option_or, nat_tests, Captured, Fault, Format, Placed, Ending, End, FaultAt, kind_of, Carries, Event, Packet, InputEnd, SequenceEnd, Complete, FaultIn, Sequence, InTurn, InputItems, whole_input, end_of, packet_events, input_sequence, sequence_in_turn, sequence_of, Decision, Rule, rule_decides, Policy, Edit, EditRule, Filter, filters, is_last, KeepAll, Count, Judgement, SelectorState, initial_state, Verdict, Pass, PassLast, Skip, Refuse, is_selected, judge, passes, Report, Form, AsCapture, AsReports, JobProgress, Work, no_progress, form_refuses, unless_refused, decide, end_with, apply_verdict, apply_event, apply_events, unless_ended, final_progress, message, status, outcome_at, outcome, is_count, packets_selected, unique_after, arriving, at_most, end_at_time, first_without_time, kept_by, packets_kept, packets_of, CopyEnds, EditEnds, EndsAs, EndsUnlessRefused, InfosEnds, MergeEnds, PrintEnds, edit_end, end_by_decision, is_reached, print_work, rule_end, edit_work, event_packets, file_packets, first_refusal, infos_work, merge_work, no_options, packets_in_order}
+use Rattle.cap_process.proofs.Common.{◌≡◌, ℕ, suc, ◌+◌, ◌-◌, ◌^◌, ◌<◌, ◌≤◌, ◌&&◌, Bool, true, false, if◌then◌else◌, nat_le, List, [], ◌∷◌, ◌++◌, length, Option, None, Some, refl, sym, ◌∙◌, ap, arith, subst, append_assoc, append-nil, option_or, nat_tests, Captured, Fault, Format, Placed, Ending, End, FaultAt, kind_of, Carries, Event, Packet, InputEnd, SequenceEnd, Complete, FaultIn, Sequence, InTurn, InputItems, whole_input, end_of, packet_events, input_sequence, sequence_in_turn, sequence_of, Decision, Rule, rule_decides, Policy, Edit, EditRule, Filter, filters, is_last, KeepAll, Count, Judgement, SelectorState, initial_state, Verdict, Pass, PassLast, Skip, Refuse, is_selected, judge, passes, Report, Form, AsCapture, AsReports, JobProgress, Work, no_progress, form_refuses, unless_refused, decide, end_with, apply_verdict, apply_event, apply_events, unless_ended, final_progress, message, status, outcome_at, outcome, is_count, packets_selected, unique_after, arriving, at_most, end_at_time, first_without_time, kept_by, packets_kept, packets_of, CopyEnds, EditEnds, EndsAs, EndsUnlessRefused, InfosEnds, MergeEnds, PrintEnds, edit_end, end_by_decision, is_reached, print_work, rule_end, edit_work, event_packets, file_packets, first_refusal, infos_work, merge_work, no_options, packets_in_order}
 use Rattle.cap_filter.specs.Decisions as chosen
 use Rattle.cap_process.proofs.Edits.{passes_unique}
-use Rattle.cap_process.proofs.Lists.{ends_without_time}
+use Rattle.cap_process.proofs.Lists.{IsBelow, all-still, below-first, ends_without_time, still}
 use Rattle.cap_process.proofs.Outcomes.{progress-ended}
 use Rattle.cap_process.proofs.Selectors.{upper_bound}
 use Rattle.cap_process.proofs.Wholes.{printed, all-selected, all-unique, in-file, judged, judged_by, judged-all, judged-is, under_way, end-stays}
@@ -199,15 +199,6 @@ edit_ends s format names file less =
 
 -- ---- print
 
--- how many more pass
-abbrev still : Option ℕ → ℕ → Option ℕ
-still None passed = None
-still (Some n) passed = Some (n - passed)
-
-abbrev IsBelow : Option ℕ → ℕ → Type 0
-IsBelow None passed = Unit {0}
-IsBelow (Some n) passed = passed < n
-
 not-reached : (count : Option ℕ) (passed : ℕ) → IsBelow count passed → is_reached (still count passed) 0 ≡ false
 not-reached None passed below = refl
 not-reached (Some n) passed below =
@@ -268,14 +259,6 @@ printed-ends rule count ending k state (p ∷ ps) below less =
     ap (λ (j : Judgement). whole_end (verdict_end 0 p j.verdict (policy_end (Filter rule count) (k + 1) j.state (packet_events 0 ps))) (end_of 0 ending)) (upper_bound (Filter rule count) state (k + 1) p.packet refl (omega (arith, less)))
     ∙ print-next rule count ending k state p ps below (λ state' below'. printed-ends rule count ending (k + 1) state' ps below' (omega (arith, less))) (rule_decides rule p.packet)
 
-starts-below : (count : Option ℕ) → IfSome count (λ (n : ℕ). 0 < n) → IsBelow count 0
-starts-below None some = tt
-starts-below (Some n) some = some
-
-none-passed : (count : Option ℕ) → still count 0 ≡ count
-none-passed None = refl
-none-passed (Some n) = let e : n - 0 ≡ n = omega arith in ap Some e
-
 pub print_ends : PrintEnds
 print_ends rule count form names file some less =
     let r = whole_input file in
@@ -285,8 +268,8 @@ print_ends rule count form names file some less =
     let refusal = first_refusal form [] ps in
     let last = ap (λ (o : Option SequenceEnd). whole_end o (sequence_of InTurn (r ∷ [])).end) (one-policy-end (Filter rule count) r r.items.ending)
     ∙ ap (whole_end (policy_end (Filter rule count) 0 initial_state (packet_events 0 r.items.packets))) (one-end r r.items.ending)
-    ∙ printed-ends rule count r.items.ending 0 initial_state r.items.packets (starts-below count some) few
-    ∙ ap (λ (c : Option ℕ). if is_reached c (length (packets_kept rule (packets_of r.items.packets))) then Complete else rule_end rule r.items.ending r.items.packets) (none-passed count) in
+    ∙ printed-ends rule count r.items.ending 0 initial_state r.items.packets (below-first count some) few
+    ∙ ap (λ (c : Option ℕ). if is_reached c (length (packets_kept rule (packets_of r.items.packets))) then Complete else rule_end rule r.items.ending r.items.packets) (all-still count) in
     subst (λ (c : SequenceEnd). EndsUnlessRefused names refusal c (outcome work names (r ∷ []))) last
     (command-ends work names (r ∷ []) ps refl (printed rule count file some less))
 

@@ -1,7 +1,7 @@
 -- The names that most proofs here cite, passed on from one place. Declares nothing.
 pub use Rattle.std.proofs.Common.{◌≡◌, ℕ, zero, suc, ◌+◌, ◌-◌, ◌^◌, ◌<◌, ◌≤◌, ◌&&◌, ◌==◌, Bool, true, false, if◌then◌else◌, nat_le, List, [], ◌∷◌, ◌++◌, length, Option, None, Some, refl, sym, ◌∙◌, ap, arith, subst, ◌↔◌, not, IsTrue, Ok, drop, codes, Err, min, max, inl, inr, add-zero, take, nat_lt, nat_eq}
 pub use Rattle.std.proofs.lemmas.List.{append_assoc, append-nil, map-append, take-append-drop}
-pub use Rattle.std.specs.Option.{IfSome, is_none, option_or, is_some}
+pub use Rattle.std.specs.Option.{IfSome, option_or, is_some}
 pub use Rattle.std.proofs.lemmas.Bool.Decides.{nat_tests}
 pub use Rattle.std.specs.List.{Contains, sum_by}
 pub use Rattle.std.proofs.lemmas.List.Sums.{sum_by-append}
@@ -26,7 +26,7 @@ pub use Rattle.cap_process.specs.Outcome.{Form, AsCapture, AsReports, JobProgres
 pub use Rattle.cap_process.specs.Selector.{is_count, state_of, spent_by, spent_by_verdict, marks_in, places, SelectorView, most_spent, policy_of, programs_in, window_of}
 pub use Rattle.cap_process.specs.Edits.{packets_selected, unique_after, coming, is_repeated}
 pub use Rattle.cap_process.specs.Lists.{arriving, at_most, end_at_time, first_without_time, kept_by, packets_kept, packets_of, tally_of}
-pub use Rattle.cap_process.specs.Whole.{CopyEnds, EditEnds, EndsAs, EndsUnlessRefused, HasCarried, InfosEnds, MergeEnds, PrintEnds, edit_end, end_by_decision, is_reached, print_end, print_work, rule_end, edit_work, event_packets, file_packets, first_refusal, infos_work, merge_work, no_options, packets_in_order, AreRead, NegationParts, is_rejected_on, is_rejection, packets_rejected, CutsGivePrefixes, EditKeeps, EditWrites, EditsAlike, MergesOne, copy_of, InfosReports, MergeWrites, PrintLines, PrintWrites, closing_if, reports_by, reports_of, packets_written, written_text, written_unless}
+pub use Rattle.cap_process.specs.Whole.{CopyEnds, EditEnds, EndsAs, EndsUnlessRefused, HasCarried, InfosEnds, MergeEnds, PrintEnds, edit_end, end_by_decision, is_reached, print_work, rule_end, edit_work, event_packets, file_packets, first_refusal, infos_work, merge_work, no_options, packets_in_order, AreRead, NegationParts, is_rejected_on, is_rejection, packets_rejected, CutsGivePrefixes, EditKeeps, EditWrites, EditsAlike, MergesOne, copy_of, InfosReports, MergeWrites, PrintLines, PrintWrites, closing_if, reports_by, reports_of, packets_written, written_text, written_unless}
 pub use Rattle.cap_process.specs.inside.Selector.{IsWindowFor, ReturnsVerdict, PolicyState, count_limit, TakesTally, verdict_if, verdict_of, IsVerdict, GrowsByOne, HasFewMarks}
 pub use Rattle.cap_process.specs.Output.{Target, Capture, Text, Lines, HasWrittenTo, form_to, written_to, failures_to}
 pub use Rattle.cap_window.specs.Marks.{has_same, last, mark_of}

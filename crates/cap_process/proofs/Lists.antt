@@ -1,5 +1,6 @@
 -- What is counted, kept and searched of packets that come one after another.
-use Rattle.cap_process.proofs.Common.{◌≡◌, ℕ, zero, suc, drop, ◌+◌, ◌-◌, ◌^◌, ◌<◌, ◌==◌, ◌&&◌, Bool, true, false, if◌then◌else◌, nat_le, min, max, Option, None, Some, List, [], ◌∷◌, ◌++◌, length, refl, sym, ◌∙◌, ap, arith, subst, nat_tests, append_assoc, append-nil, sum_by-append, take-nil, sum_by, IfSome, Captured, TimeOutOfRange, Placed, Decision, Keep, Rule, rule_decides, Mark, mark_of, has_same, last, last-last, Event, Packet, Complete, FaultIn, Policy, Count, Filter, Edit, EditRule, Judgement, PassLast, Pass, SelectorState, initial_state, edited_packet_with, filters, is_last, is_selected, judge_by, shifted_time, passes, refuses, selects, skip_judgement, unique, with_mark, Tally, tally_with, Form, AsReports, JobProgress, apply_verdict, next_progress, end_with, apply_events, coming, is_repeated, packets_selected, unique_after, is_count}
+use Rattle.cap_process.proofs.Common.{map-append, ◌≡◌, ℕ, zero, suc, drop, ◌+◌, ◌-◌, ◌^◌, ◌<◌, ◌==◌, ◌&&◌, Bool, true, false, if◌then◌else◌, nat_le, min, max, Option, None, Some, List, [], ◌∷◌, ◌++◌, length, refl, sym, ◌∙◌, ap, arith, subst, nat_tests, append_assoc, append-nil, sum_by-append, take-nil, sum_by, IfSome, Captured, TimeOutOfRange, Placed, Decision, Keep, Rule, rule_decides, Mark, mark_of, has_same, last, last-last, Event, Packet, Complete, FaultIn, Policy, Count, Filter, Edit, EditRule, Judgement, PassLast, Pass, SelectorState, initial_state, edited_packet_with, filters, is_last, is_selected, judge_by, shifted_time, passes, refuses, selects, skip_judgement, unique, with_mark, Tally, tally_with, Form, AsReports, JobProgress, apply_verdict, next_progress, end_with, apply_events, coming, is_repeated, packets_selected, unique_after, is_count}
+use Rattle.std.proofs.lemmas.List.{length-append}
 use Rattle.cap_filter.specs.Decisions as chosen
 use Rattle.cap_process.specs.Lists.{CountsAll, EndsWithoutTime, HasLastMarks, PassesFiltered, arriving, ascends, at_most, end_at_time, final, first_without_time, greatest, packets_kept as kept, least, marks, packets_of, tally_of, times}
 use Rattle.cap_process.proofs.Outcomes.{progress-ended}
@@ -10,13 +11,8 @@ use Rattle.cap_process.proofs.Selectors.{upper_bound}
 sum-next : (f : Captured → ℕ) (ps : List Captured) (p : Captured) → sum_by f (ps ++ p ∷ []) ≡ sum_by f ps + f p
 sum-next f ps p = let e : 0 + f p ≡ f p = omega arith in sum_by-append f ps (p ∷ []) ∙ ap (λ (n : ℕ). sum_by f ps + n) e
 
-length-next : (ps : List Captured) (p : Captured) → length (ps ++ p ∷ []) ≡ length ps + 1
-length-next [] p = refl
-length-next (q ∷ ps) p = let e = length-next ps p in omega (arith, e)
-
 times-next : (ps : List Captured) (p : Captured) → times (ps ++ p ∷ []) ≡ times ps ++ p.time ∷ []
-times-next [] p = refl
-times-next (q ∷ ps) p = ap (λ (ts : List ℕ). q.time ∷ ts) (times-next ps p)
+times-next ps p = map-append (λ (q : Captured). q.time) ps (p ∷ [])
 
 greatest-next : (ts : List ℕ) (t : ℕ) → greatest (ts ++ t ∷ []) ≡ max (greatest ts) t
 greatest-next [] t = grind arith
@@ -59,7 +55,7 @@ tally a b c d e f g = record { count = a; data_size = b; captured_size = c; leas
 
 pub counted-next : (ps : List Captured) (p : Captured) → tally_with (tally_of ps) p ≡ tally_of (ps ++ p ∷ [])
 counted-next ps p =
-    let a = length-next ps p in
+    let a : length (ps ++ p ∷ []) ≡ length ps + 1 = omega (arith, length-append ps (p ∷ [])) in
     let b = sum-next (λ (q : Captured). q.orig) ps p in
     let c = sum-next (λ (q : Captured). length q.bytes) ps p in
     let d = least-following ps p in
@@ -97,11 +93,11 @@ abbrev placed : Captured → Placed
 placed p = record { offset = 0; packet = p }
 
 -- how many more pass
-abbrev still : Option ℕ → ℕ → Option ℕ
+abbrev pub still : Option ℕ → ℕ → Option ℕ
 still None passed = None
 still (Some n) passed = Some (n - passed)
 
-abbrev IsBelow : Option ℕ → ℕ → Type 0
+abbrev pub IsBelow : Option ℕ → ℕ → Type 0
 IsBelow None passed = Unit {0}
 IsBelow (Some n) passed = passed < n
 
@@ -178,11 +174,11 @@ filtered rule count k state out [] less below = sym (append-nil out) ∙ ap (λ 
 filtered rule count k state out (p ∷ ps) less below =
     filtered-next rule count k state out p ps (omega arith) below (λ state' out' below'. filtered rule count (k + 1) state' out' ps (omega arith) below')
 
-all-still : (count : Option ℕ) → still count 0 ≡ count
+pub all-still : (count : Option ℕ) → still count 0 ≡ count
 all-still None = refl
 all-still (Some n) = let e : n - 0 ≡ n = omega arith in ap Some e
 
-below-first : (count : Option ℕ) → IfSome count (λ (n : ℕ). 0 < n) → IsBelow count 0
+pub below-first : (count : Option ℕ) → IfSome count (λ (n : ℕ). 0 < n) → IsBelow count 0
 below-first None some = tt
 below-first (Some n) some = some
 

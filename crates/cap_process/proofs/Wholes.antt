@@ -1,6 +1,7 @@
 -- What whole commands write: the verdicts on packets make a list, of which the form refuses the
 -- rest.
-use Rattle.cap_process.proofs.Common.{◌≡◌, ℕ, zero, suc, ◌+◌, ◌-◌, ◌^◌, ◌<◌, ◌&&◌, Bool, true, false, if◌then◌else◌, nat_le, max, List, [], ◌∷◌, ◌++◌, length, take, Option, None, Some, refl, sym, ◌∙◌, ap, arith, subst, append_assoc, append-nil, IfSome, nat_lt, nat_eq, nat_tests, take-length, Captured, Fault, TooManyPackets, Format, Kind, Placed, Ending, End, FaultAt, items, kind_of, Carries, ItemsBack, text, Options, Rule, Event, Packet, InputEnd, SequenceEnd, Complete, FaultIn, Sequence, PacketOrder, InTurn, ByTime, InputItems, whole_input, Entry, packet_events, input_sequence, sequence_in_turn, sequence_of, end_of, end_after, entries_of, comes_before, insert_entry, sort_entries, sequence_of_entries, sequence_by_time, first_end, unless_fault, with_front, Policy, Edit, Filter, KeepAll, Count, Judgement, SelectorState, initial_state, Verdict, Pass, PassLast, Skip, Refuse, edited_packet_with, judge, judge_by, passes, refuses, Report, Tally, nothing_counted, tally_with, reports_text, Form, AsCapture, AsReports, AsLines, JobProgress, Work, no_progress, form_refuses, unless_refused, decide, end_with, apply_verdict, apply_event, apply_events, next_progress, end_input, unless_ended, end_unless_ended, final_progress, output_text, text_at_end, first_link, lines_text, status, outcome_at, outcome, is_count, coming, packets_selected, unique_after, at_most, packets_kept, packets_of, tally_of, Mark, mark_of, EditKeeps, EditWrites, EditsAlike, HasCarried, MergesOne, copy_of, no_options, InfosReports, MergeWrites, PrintLines, PrintWrites, closing_if, edit_work, event_packets, merge_work, file_packets, packets_in_order, print_work, reports_by, reports_of, packets_written, written_text, written_unless}
+use Rattle.cap_process.proofs.Common.{◌≡◌, ℕ, zero, suc, ◌+◌, ◌-◌, ◌^◌, ◌<◌, Bool, true, false, if◌then◌else◌, nat_le, max, List, [], ◌∷◌, ◌++◌, length, take, Option, None, Some, refl, sym, ◌∙◌, ap, arith, subst, append_assoc, append-nil, IfSome, nat_lt, nat_eq, nat_tests, take-length, Captured, Fault, TooManyPackets, Format, Kind, Placed, Ending, End, FaultAt, items, kind_of, Carries, ItemsBack, text, Options, Rule, Event, Packet, InputEnd, SequenceEnd, Complete, FaultIn, Sequence, PacketOrder, InTurn, ByTime, InputItems, whole_input, Entry, packet_events, input_sequence, sequence_in_turn, sequence_of, end_of, end_after, entries_of, comes_before, insert_entry, sort_entries, sequence_of_entries, sequence_by_time, first_end, unless_fault, with_front, Policy, Edit, Filter, KeepAll, Count, Judgement, SelectorState, initial_state, Verdict, Pass, PassLast, Skip, Refuse, edited_packet_with, judge, judge_by, passes, refuses, Report, Tally, nothing_counted, tally_with, reports_text, Form, AsCapture, AsReports, AsLines, JobProgress, Work, no_progress, form_refuses, unless_refused, decide, end_with, apply_verdict, apply_event, apply_events, next_progress, end_input, unless_ended, end_unless_ended, final_progress, output_text, text_at_end, first_link, lines_text, status, outcome_at, outcome, is_count, coming, packets_selected, unique_after, at_most, packets_kept, packets_of, tally_of, Mark, mark_of, EditKeeps, EditWrites, EditsAlike, HasCarried, MergesOne, copy_of, no_options, InfosReports, MergeWrites, PrintLines, PrintWrites, closing_if, edit_work, event_packets, merge_work, file_packets, packets_in_order, print_work, reports_by, reports_of, packets_written, written_text, written_unless}
+use Rattle.std.proofs.lemmas.Bool.{and_right}
 use Rattle.cap_process.proofs.Edits.{passes_unique}
 use Rattle.cap_process.proofs.Lists.{passes_filtered, counted-next}
 use Rattle.cap_process.proofs.Outcomes.{progress-append, progress-ended}
@@ -320,10 +321,6 @@ same-events f w (e ∷ es) =
 
 -- ---- one input by time is that input in turn
 
-and-false : (b : Bool) → b && false ≡ false
-and-false true = refl
-and-false false = refl
-
 abbrev entry : ℕ → Ending → ℕ → Placed → List Placed → Entry
 entry input ending greatest p ps = record { key = max greatest p.packet.time; input = input; p = p; end = end_after input ending ps }
 
@@ -331,7 +328,7 @@ not-before : (input : ℕ) (ending : Ending) (greatest : ℕ) (p q : Placed) (ps
 not-before input ending greatest p q ps =
     let later : nat_lt (max (max greatest p.packet.time) q.packet.time) (max greatest p.packet.time) ≡ false = grind (arith, nat_tests) in
     let same : nat_lt input input ≡ false = grind (arith, nat_tests) in
-    rw (later, same) (and-false (nat_eq (max (max greatest p.packet.time) q.packet.time) (max greatest p.packet.time)))
+    rw (later, same) (and_right (nat_eq (max (max greatest p.packet.time) q.packet.time) (max greatest p.packet.time)) false refl)
 
 insert-first : (input : ℕ) (ending : Ending) (greatest : ℕ) (p : Placed) (ps : List Placed)
     → insert_entry (entry input ending greatest p ps) (entries_of input ending (max greatest p.packet.time) ps) ≡ entries_of input ending greatest (p ∷ ps)

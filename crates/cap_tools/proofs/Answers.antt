@@ -1,43 +1,28 @@
 -- The steps that decide the current packet.
-use Rattle.cap_tools.proofs.Common.{◌≡◌, ◌⊎◌, inl, inr, ℕ, ◌+◌, ◌<◌, ◌≤◌, Bool, true, false, List, [], ◌∷◌, ◌++◌, length, map, Option, None, Some, Result, Ok, Err, refl, sym, ◌∙◌, ap, arith, subst, not, nat_eq, if◌then◌else◌, ◌-◌, append_assoc, append-nil, map-append, slice_get, slice_set, Stops, Captured, Fault, NoMemory, TooManyPackets, WriteFailed, Placed, IsAt, SinkView, text, added_text, packets_text, refusal_of, takes_memory, IsAt-decided, text-more, link_of, Rule, rule_decides, read_on, decision_of, answering, Expression, empty, truth, Link, Tally, InputItems, Event, Packet, SequenceEnd, Complete, FaultIn, Sequence, sequence_of, with_front, PacketOrder, Policy, Edit, Filter, KeepAll, Count, EditRule, SelectorState, Verdict, Pass, PassLast, PassesAs, Skip, Refuse, judge, IsWithin, PolicyState, GrowsByOne, IsVerdict, Form, AsCapture, AsLines, JobProgress, IsNextEvent, lines_text, no_progress, decide, unless_refused, apply_verdict, apply_event, apply_events, final_progress, packet_bytes, form_refuses, end_with, final_text, first_link, output_text, Target, Capture, Text, Lines, HasWrittenTo, form_to, written_to, failures_to, PutsIntoOutput, InputView, Future, InputPast, AreInputsAfter, AreSettled, IsInput, input_after_decided, items_left, inputs_left, sequence_left, actual_future, most_steps, JobState, Meets, a_packet, PacketsDecided, GoesOn, StopsWriting, EndLeaves, StepLeaves, progress_at, progress_of, progress_over, output_form, wholes_of, work_of, written_by, DecidesPacket, Offers, end_after, end_of_failed_write, sieve, NextPacket, drained-text, PutOk, put-ok, WhyUnput, lines-more, unput, closing-some, Grows, course-grows, progress-next, course-stop, greatest-decided, greatest-here, limits-at, set-here, next-is-of}
-use Rattle.cap_filter.specs.Decisions as chosen
-use Rattle.cap_filter.specs.Decisions.{Decision}
-use Rattle.cap_filter.specs.FilterRules as rule_spec
-use Rattle.flt_bpf.specs.Machine as bpf
-use Rattle.flt_bpf.specs.Machine.{machine, Answered}
-use Rattle.flt_gen.specs.Elementary.{MatchResult, Yes, No, Rejected}
-use Rattle.flt_gen.specs.Reading.{holds}
+use Rattle.cap_tools.proofs.Common.{◌≡◌, ◌⊎◌, inl, inr, ℕ, ◌+◌, ◌<◌, ◌≤◌, Bool, true, false, List, [], ◌∷◌, ◌++◌, length, map, Option, None, Some, Result, Ok, Err, refl, sym, ◌∙◌, ap, arith, subst, ◌-◌, append-nil, map-append, slice_get, slice_set, Stops, Captured, Fault, NoMemory, WriteFailed, Placed, IsAt, SinkView, text, added_text, refusal_of, takes_memory, IsAt-decided, Tally, InputItems, Event, Packet, SequenceEnd, Complete, FaultIn, Sequence, sequence_of, with_front, PacketOrder, Policy, SelectorState, Verdict, Pass, PassLast, PassesAs, Skip, judge, IsWithin, PolicyState, GrowsByOne, IsVerdict, Form, AsCapture, JobProgress, IsNextEvent, no_progress, decide, unless_refused, apply_verdict, apply_event, apply_events, final_progress, form_refuses, end_with, final_text, first_link, output_text, Target, Capture, Text, Lines, HasWrittenTo, form_to, written_to, failures_to, PutsIntoOutput, InputView, Future, InputPast, AreInputsAfter, AreSettled, IsInput, input_after_decided, items_left, inputs_left, sequence_left, actual_future, most_steps, JobEnd, BreaksAt, JobState, Meets, a_packet, PacketsDecided, GoesOn, EndLeaves, StepLeaves, progress_at, progress_of, progress_over, wholes_of, work_of, DecidesPacket, Offers, end_after, end_of_failed_write, sieve, drained-text, PutOk, put-ok, WhyUnput, unput, closing-some, course-stop, greatest-decided, set-here, next-is-of}
 use Rattle.cap_process.specs.declared.selector.Verdict as code
 use Rattle.cap_process.specs.declared.selector.Verdict.TheVariants as code_verdict
-use Rattle.cap_tools.specs.declared.step.JobEnd.TheVariants as end
 use Rattle.cap_inputs.specs.declared.inputs.Next.TheVariants as next
 use Rattle.cap_process.specs.inside.Reports.{FitsTally}
-use Rattle.cap_window.specs.Marks.{mark_of, has_same}
-use Rattle.cap_process.specs.Verdict as judged_spec
-use Rattle.cap_print.specs.declared.print.Options.{Options}
 use Rattle.cap_print.specs.Rendering.{printed_text}
 use Rattle.cap_process.specs.Outcome as course_spec
 use Rattle.cap_inputs.specs.inside.Inputs as input_spec
 use Rattle.cap_tools.proofs.Places.{get-at}
-use Rattle.cap_tools.proofs.Splits.{At, stands-split, stands-join, stands-length, rests-join, finish-here, come-on}
-use Rattle.cap_tools.proofs.Coming.{carries-decided, come-first, true-wholes, true-fit, true-fits}
+use Rattle.cap_tools.proofs.Splits.{At, stands-split, stands-join, rests-join, come-on}
+use Rattle.cap_tools.proofs.Coming.{carries-decided, true-wholes, true-fit, true-fits}
 use Rattle.cap_tools.proofs.Laws.{DecideLaws, DecideAt, decide-at}
 use Rattle.cap_tools.proofs.Once.{once-nothing, once-packet}
-use Rattle.cap_tools.proofs.Nexts.{told-next}
-use Rattle.cap_tools.proofs.Fetches.{mk, among-same, comes-broken, inputs_at}
+use Rattle.cap_tools.proofs.Nexts.{packet-answer, stops-at}
+use Rattle.cap_tools.proofs.Fetches.{mk, among-same, comes-broken, goes-one, inputs_at, past-of}
 
 -- ---- a packet that is judged
 
-abbrev pub end_if : code.Verdict → Option SequenceEnd
-end_if code_verdict.PassLast = Some Complete
-end_if verdict = None
-
 -- what is written and how far the job is where a packet is decided
-pub record Took (policy : Policy) (w : JobProgress) (before : List ℕ) (i : ℕ) (x : Placed) (state' : SelectorState) (names : List (List ℕ)) (old new : Target) (end : Option SequenceEnd) : Type 0 where
+pub record Took (policy : Policy) (w : JobProgress) (before : List ℕ) (i : ℕ) (x : Placed) (state' : SelectorState) (names : List (List ℕ)) (old new : Target) : Type 0 where
   pub passed : List Captured
   -- one at most
   pub upper_bound : (passed ≡ []) ⊎ ((q : Captured) × (passed ≡ q ∷ []))
-  pub went : apply_event policy (form_to names old) w (Packet i x) ≡ course_spec.decide w state' passed end
+  pub went : apply_event policy (form_to names old) w (Packet i x) ≡ course_spec.decide w state' passed None
   pub output : HasWrittenTo before names new (w.packets ++ passed) w.reports
   pub form : form_to names new ≡ form_to names old
   pub failures : failures_to new ≡ failures_to old
@@ -46,27 +31,21 @@ goes-by : (policy : Policy) (form : Form) (w : JobProgress) (i : ℕ) (x : Place
     → apply_event policy form w (Packet i x) ≡ apply_verdict form w i x v state'
 goes-by policy form w i x v state' one other = rw (one, other) refl
 
-put-took : (policy : Policy) (w : JobProgress) (before : List ℕ) (i : ℕ) (x : Placed) (q : Captured) (state' : SelectorState) (names : List (List ℕ)) (old new : Target) (end : Option SequenceEnd) → HasWrittenTo before names old w.packets w.reports → PutsIntoOutput q old (Ok tt) new
-    → apply_event policy (form_to names old) w (Packet i x) ≡ unless_refused (form_refuses (form_to names old) w.packets q) w i x (decide w state' (q ∷ []) end)
-    → Took policy w before i x state' names old new end
-put-took policy w before i x q state' names old new end has puts went =
-    let ok : PutOk before w.packets w.reports q names old new = put-ok before w.packets w.reports q names old new has puts in
+-- the job goes on after it
+pub took : (policy : Policy) (w : JobProgress) (before : List ℕ) (i : ℕ) (x : Placed) (names : List (List ℕ)) (old new : Target) (state' : SelectorState) (v : code.Verdict) (q : Captured) → HasWrittenTo before names old w.packets w.reports
+    → IsVerdict (judge policy w.state (w.decided + 1) x.packet) (Ok v) q state' → Offers v q old (Ok tt) new → (v ≡ code_verdict.PassLast → ⊥) → Took policy w before i x state' names old new
+took policy w before i x names old new state' code_verdict.Pass q has exact offers on =
+    let ok : PutOk before w.packets w.reports q names old new = put-ok before w.packets w.reports q names old new has offers in
     record {
       passed = q ∷ [];
       upper_bound = inr (q, refl);
-      went = went ∙ ap (λ (f : Option Fault). unless_refused f w i x (decide w state' (q ∷ []) end)) ok.none;
+      went = goes-by policy (form_to names old) w i x (Pass q) state' exact.0 exact.1 ∙ ap (λ (f : Option Fault). unless_refused f w i x (decide w state' (q ∷ []) None)) ok.none;
       output = ok.output;
       form = ok.form;
       failures = ok.failures;
     }
-
-pub took : (policy : Policy) (w : JobProgress) (before : List ℕ) (i : ℕ) (x : Placed) (names : List (List ℕ)) (old new : Target) (state' : SelectorState) (v : code.Verdict) (q : Captured) → HasWrittenTo before names old w.packets w.reports
-    → IsVerdict (judge policy w.state (w.decided + 1) x.packet) (Ok v) q state' → Offers v q old (Ok tt) new → Took policy w before i x state' names old new (end_if v)
-took policy w before i x names old new state' code_verdict.Pass q has exact offers =
-    put-took policy w before i x q state' names old new None has offers (goes-by policy (form_to names old) w i x (Pass q) state' exact.0 exact.1)
-took policy w before i x names old new state' code_verdict.PassLast q has exact offers =
-    put-took policy w before i x q state' names old new (Some Complete) has offers (goes-by policy (form_to names old) w i x (PassLast q) state' exact.0 exact.1)
-took policy w before i x names old new state' code_verdict.Skip q has exact offers =
+took policy w before i x names old new state' code_verdict.PassLast q has exact offers on = absurd (on refl)
+took policy w before i x names old new state' code_verdict.Skip q has exact offers on =
     let same : new ≡ old = offers.1 in
     rw same (record {
       passed = [];
@@ -78,9 +57,6 @@ took policy w before i x names old new state' code_verdict.Skip q has exact offe
     })
 
 -- ---- the true order begins with it
-
-laters : List InputView → List Future
-laters hs = map (λ (v : InputView). actual_future v.source) hs
 
 pub record Ahead (ss : List InputPast) (cursors : List InputView) (order : PacketOrder) (es : List Event) (e : Event) : Type 0 where
   pub more : Sequence
@@ -135,53 +111,28 @@ counted-more n t t' within grows =
 pub decided-goes : (us vs : List InputPast) (s : InputPast) (before : List ℕ) (xs ys : List InputView) (h : InputView) (order : PacketOrder) (turn : ℕ) (policy : Policy) (state state' : SelectorState) (names : List (List ℕ)) (output output' : Target) (decided : ℕ) (p : Captured)
     → DecideLaws order turn xs ys h → AreInputsAfter us xs → At s h → AreInputsAfter vs ys → h.source.packet ≡ Some p → state'.passed ≤ decided + 1 → GrowsByOne state.tally state'.tally
     → (d : PacketsDecided (us ++ s ∷ vs) before (mk (xs ++ h ∷ ys) order policy state names output decided))
-    → Took policy (progress_at (mk (xs ++ h ∷ ys) order policy state names output decided) d.packets d.reports) before turn (record { offset = h.source.offset; packet = p }) state' names output output' None
+    → Took policy (progress_at (mk (xs ++ h ∷ ys) order policy state names output decided) d.packets d.reports) before turn (record { offset = h.source.offset; packet = p }) state' names output output'
     → GoesOn d (mk (xs ++ input_after_decided h ∷ ys) order policy state' names output' (decided + 1))
 decided-goes us vs s before xs ys h order turn policy state state' names output output' decided p laws front at back held within grows d t =
     let waits : h.waiting ≡ true = laws.waits in
+    let h' : InputView = input_after_decided h in
     let x : Placed = record { offset = h.source.offset; packet = p } in
     let P : Bool → Type 0 = λ b. IsAt s.text s.done s.packets b h.source in
     let was : IsAt s.text s.done s.packets true h.source = subst P waits at in
     let same : (was.waits refl).packet ≡ p = (let e : Some (was.waits refl).packet ≡ Some p = sym (was.waits refl).held ∙ held in cc) in
-    let after : InputPast = record { text = s.text; done = s.done ++ h.source.block; packets = s.packets ++ x ∷ [] } in
+    let past : InputPast = past-of s h.source.block (x ∷ []) in
     let A : Captured → Type 0 = λ q. IsAt s.text (s.done ++ h.source.block) (s.packets ++ record { offset = h.source.offset; packet = q } ∷ []) false h.source in
-    let here : At after (input_after_decided h) = subst A same (IsAt-decided s.text s.done s.packets h.source was).1 in
-    let old : JobState = mk (xs ++ h ∷ ys) order policy state names output decided in
-    let new : JobState = mk (xs ++ input_after_decided h ∷ ys) order policy state' names output' (decided + 1) in
-    let following : AreInputsAfter (us ++ after ∷ vs) new.inputs.cursors = stands-join us vs after xs ys (input_after_decided h) front here back in
-    let come : AreSettled (us ++ after ∷ vs) new.inputs (d.events ++ Packet turn x ∷ []) = come-on us vs s after xs ys h (input_after_decided h) order d.events (Packet turn x ∷ []) front d.come
+    let here : At past h' = subst A same (IsAt-decided s.text s.done s.packets h.source was).1 in
+    let come : AreSettled (us ++ past ∷ vs) (inputs_at order (xs ++ h' ∷ ys)) (d.events ++ Packet turn x ∷ []) = come-on us vs s past xs ys h h' order d.events (Packet turn x ∷ []) front d.come
     (λ f' fit. carries-decided s xs ys h turn order h.source.block p waits held (λ f fit fs gs before with_front. laws.decided_left p held f fit fs gs before with_front) f' fit) in
-    record {
-      input = turn;
-      finished = h.source.block;
-      packets = x ∷ [];
-      past = us ++ after ∷ vs;
-      past_is = sym (finish-here us vs s turn h.source.block (x ∷ []) (stands-length us xs front ∙ laws.here));
-      decided = record {
-        following = following;
-        greatest = greatest-here us vs s after xs ys h (input_after_decided h) front d.greatest (greatest-decided h p h.source.offset s.packets held);
-        events = d.events ++ Packet turn x ∷ [];
-        first = come-first (us ++ after ∷ vs) new.inputs (d.events ++ Packet turn x ∷ []) following come;
-        come = come;
-        packets = d.packets ++ t.passed;
-        reports = d.reports;
-        progress = ap (λ (f : Form). apply_events policy f no_progress (d.events ++ Packet turn x ∷ [])) t.form ∙ progress-next policy (form_to names output) d.events (Packet turn x) (progress_at old d.packets d.reports) (progress_at new (d.packets ++ t.passed) d.reports) d.progress t.went;
-        output = t.output;
-        passed = within;
-        counted = counted-more decided state.tally state'.tally d.counted grows;
-      };
-      at_most_one = omega arith;
-      form = t.form;
-      once = elim t.upper_bound [
-        | inl none ↦ once-nothing (form_to names output) (first_link (wholes_of (us ++ s ∷ vs))) (progress_of d) (progress_at new (d.packets ++ t.passed) d.reports) output output'
-            (ap (λ (l : List Captured). d.packets ++ l) none ∙ append-nil d.packets) refl (took-nothing none)
-        | inr one ↦ once-packet (first_link (wholes_of (us ++ s ∷ vs))) before (progress_of d) (progress_at new (d.packets ++ t.passed) d.reports) names output output' one.0 d.output (took-one one.0 one.1) t.form
-            (ap (λ (l : List Captured). d.packets ++ l) one.1) refl
-      ];
-      output = t.failures;
-      order = refl;
-      limits = limits-at xs ys h (input_after_decided h) refl;
-    }
+    let w' : JobProgress = record { decided = decided + 1; state = state'; packets = d.packets ++ t.passed; reports = d.reports; end = None } in
+    goes-one us vs s before xs ys h h' order turn policy state state' names output output' decided (decided + 1) h.source.block (x ∷ []) (Packet turn x ∷ []) (d.packets ++ t.passed) d.reports
+    laws.here front (stands-join us vs past xs ys h' front here back) (greatest-decided h p h.source.offset s.packets held) refl d come t.went t.output t.form t.failures
+    (elim t.upper_bound [
+      | inl none ↦ once-nothing (form_to names output) (first_link (wholes_of (us ++ s ∷ vs))) (progress_of d) w' output output' (ap (λ (l : List Captured). d.packets ++ l) none ∙ append-nil d.packets) refl (took-nothing none)
+      | inr one ↦ once-packet (first_link (wholes_of (us ++ s ∷ vs))) before (progress_of d) w' names output output' one.0 d.output (took-one one.0 one.1) t.form (ap (λ (l : List Captured). d.packets ++ l) one.1) refl
+    ])
+    within (counted-more decided state.tally state'.tally d.counted grows) (omega arith)
   where
     took-one : (q : Captured) → t.passed ≡ q ∷ [] → HasWrittenTo before names output' (d.packets ++ q ∷ []) d.reports
     took-one q is = let P : List Captured → Type 0 = λ l. HasWrittenTo before names output' (d.packets ++ l) d.reports in subst P is t.output
@@ -202,114 +153,21 @@ pub stops-course : (ss : List InputPast) (cursors : List InputView) (order : Pac
 stops-course ss cursors order es e policy form w w' c ahead far on went end =
     course-stop policy form (sequence_of order (wholes_of ss)) ahead.more es e w w' c ahead.is far (ap (λ (o : Option SequenceEnd). course_spec.unless_ended o w (apply_event policy form w e)) on ∙ went) end
 
--- the last packet passed
-pub record LastTook (policy : Policy) (w : JobProgress) (before : List ℕ) (i : ℕ) (x : Placed) (state' : SelectorState) (names : List (List ℕ)) (old new : Target) : Type 0 where
-  pub packet : Captured
-  pub went : apply_event policy (form_to names old) w (Packet i x) ≡ course_spec.decide w state' (packet ∷ []) (Some Complete)
-  pub output : HasWrittenTo before names new (w.packets ++ packet ∷ []) w.reports
-  pub form : form_to names new ≡ form_to names old
-  pub failures : failures_to new ≡ failures_to old
-
-pub last-took : (policy : Policy) (w : JobProgress) (before : List ℕ) (i : ℕ) (x : Placed) (names : List (List ℕ)) (old new : Target) (state' : SelectorState) (q : Captured) → IsVerdict (judge policy w.state (w.decided + 1) x.packet) (Ok code_verdict.PassLast) q state' → PutsIntoOutput q old (Ok tt) new
-    → HasWrittenTo before names old w.packets w.reports → LastTook policy w before i x state' names old new
-last-took policy w before i x names old new state' q exact puts has =
-    let ok : PutOk before w.packets w.reports q names old new = put-ok before w.packets w.reports q names old new has puts in
-    record {
-      packet = q;
-      went = goes-by policy (form_to names old) w i x (PassLast q) state' exact.0 exact.1 ∙ ap (λ (f : Option Fault). unless_refused f w i x (decide w state' (q ∷ []) (Some Complete))) ok.none;
-      output = ok.output;
-      form = ok.form;
-      failures = ok.failures;
-    }
-
 -- ---- it is not put
-
--- the next packet that would be written, as a failed write has it
-abbrev AnswersNext : {ss : List InputPast} {before : List ℕ} {old : JobState} → PacketsDecided ss before old → JobState → Captured → Type 0
-AnswersNext {ss} {before} {old} d new q = form_refuses (output_form old) d.packets q ≡ None → (bytes : List ℕ) → bytes ≡ packet_bytes (output_form old) d.packets q → NextPacket d new bytes
-
--- the device failed at a packet
-stops-writing : (ss : List InputPast) (before : List ℕ) (cursors : List InputView) (order : PacketOrder) (policy : Policy) (state state' : SelectorState) (names : List (List ℕ)) (sink sink' : SinkView) (decided : ℕ) (new : JobState) (e : Event) (q : Captured) (o : Option SequenceEnd)
-    → (d : PacketsDecided ss before (mk cursors order policy state names (Capture sink) decided)) → Ahead ss cursors order d.events e
-    → apply_event policy (AsCapture sink.format) (progress_of d) e ≡ course_spec.decide (progress_of d) state' (q ∷ []) o
-    → AnswersNext d new q → WhyUnput WriteFailed sink d.packets q sink' → new.output ≡ Capture sink'
-    → StopsWriting d new
-stops-writing ss before cursors order policy state state' names sink sink' decided new e q o d ahead went answers why is =
-    let form : Form = AsCapture sink.format in
-    let packets : List Captured = d.packets in
-    let w : JobProgress = progress_of d in
-    let w' : JobProgress = course_spec.decide w state' (q ∷ []) o in
-    let all : JobProgress = final_progress policy form (sequence_of order (wholes_of ss)) in
-    let grows : Grows w' all = course-grows policy form (sequence_of order (wholes_of ss)) ahead.more (d.events ++ e ∷ []) w'
-    (ahead.is ∙ ap (λ (l : List Event). record { events = l; end = ahead.more.end }) (sym (append_assoc d.events (e ∷ []) ahead.more.events)))
-    (progress-next policy form d.events e w w' d.progress went) in
-    let closes : List ℕ = course_spec.text_at_end all.end form (first_link (wholes_of ss)) all.packets in
-    let tail : List ℕ = packets_text sink.format (packets ++ q ∷ []) grows.packets in
-    let told = told-next ss before (mk cursors order policy state names (Capture sink) decided) new (added_text sink.format packets q) d (inl (answers why.0 (added_text sink.format packets q) refl)) in
-    record {
-      failures = ap failures_to is ∙ why.1;
-      event = told.event;
-      met = told.met;
-      bytes = added_text sink.format packets q;
-      answer = told.answer;
-      back = tail ++ closes;
-      whole =
-          ap (λ (l : List Captured). text sink.format l ++ closes) (grows.packets_is ∙ append_assoc packets (q ∷ []) grows.packets)
-          ∙ ap (λ (l : List ℕ). l ++ closes) (text-more sink.format packets q grows.packets)
-          ∙ append_assoc (text sink.format packets) (added_text sink.format packets q ++ tail) closes
-          ∙ ap (λ (l : List ℕ). text sink.format packets ++ l) (append_assoc (added_text sink.format packets q) tail closes);
-      so_far = d.output.written;
-      stops = (let S : Target → Type 0 = λ t. Stops sink.written (added_text sink.format packets q) (written_to t) in subst S (sym is) why.2);
-    }
-
--- the device failed at the line of a packet
-stops-line : (ss : List InputPast) (before : List ℕ) (cursors : List InputView) (order : PacketOrder) (policy : Policy) (state state' : SelectorState) (names : List (List ℕ)) (options : Options) (bytes after : List ℕ) (failures room decided : ℕ) (new : JobState) (e : Event) (q : Captured) (o : Option SequenceEnd)
-    → (d : PacketsDecided ss before (mk cursors order policy state names (Lines options bytes failures room) decided)) → Ahead ss cursors order d.events e
-    → apply_event policy (AsLines options) (progress_of d) e ≡ course_spec.decide (progress_of d) state' (q ∷ []) o
-    → AnswersNext d new q → Stops bytes (printed_text options q) after → new.output ≡ Lines options after (failures + 1) room
-    → StopsWriting d new
-stops-line ss before cursors order policy state state' names options bytes after failures room decided new e q o d ahead went answers stops is =
-    let form : Form = AsLines options in
-    let packets : List Captured = d.packets in
-    let w : JobProgress = progress_of d in
-    let w' : JobProgress = course_spec.decide w state' (q ∷ []) o in
-    let all : JobProgress = final_progress policy form (sequence_of order (wholes_of ss)) in
-    let grows : Grows w' all = course-grows policy form (sequence_of order (wholes_of ss)) ahead.more (d.events ++ e ∷ []) w'
-    (ahead.is ∙ ap (λ (l : List Event). record { events = l; end = ahead.more.end }) (sym (append_assoc d.events (e ∷ []) ahead.more.events)))
-    (progress-next policy form d.events e w w' d.progress went) in
-    let closes : List ℕ = course_spec.text_at_end all.end form (first_link (wholes_of ss)) all.packets in
-    let tail : List ℕ = lines_text options grows.packets in
-    let T : Target → Type 0 = λ t. Stops bytes (printed_text options q) (written_to t) in
-    let told = told-next ss before (mk cursors order policy state names (Lines options bytes failures room) decided) new (printed_text options q) d (inl (answers refl (printed_text options q) refl)) in
-    record {
-      failures = ap failures_to is;
-      event = told.event;
-      met = told.met;
-      bytes = printed_text options q;
-      answer = told.answer;
-      back = tail ++ closes;
-      whole =
-          ap (λ (l : List Captured). lines_text options l ++ closes) grows.packets_is
-          ∙ ap (λ (l : List ℕ). l ++ closes) (lines-more options packets q grows.packets)
-          ∙ append_assoc (lines_text options packets) (printed_text options q ++ tail) closes
-          ∙ ap (λ (l : List ℕ). lines_text options packets ++ l) (append_assoc (printed_text options q) tail closes);
-      so_far = d.output;
-      stops = subst T (sym is) stops;
-    }
-
--- ---- what an answer leaves
 
 -- a packet that passes isn't put into a capture
 unput-capture : (ss : List InputPast) (before : List ℕ) (cursors : List InputView) (order : PacketOrder) (turn : ℕ) (policy : Policy) (state state' : SelectorState) (names : List (List ℕ)) (sink sink' : SinkView) (decided : ℕ) (new : JobState) (x : Placed) (q : Captured) (o : Option SequenceEnd) (fault : Fault)
     → (d : PacketsDecided ss before (mk cursors order policy state names (Capture sink) decided)) → Ahead ss cursors order d.events (Packet turn x)
     → apply_event policy (AsCapture sink.format) (progress_of d) (Packet turn x) ≡ unless_refused (refusal_of sink.format d.packets q) (progress_of d) turn x (decide (progress_of d) state' (q ∷ []) o)
     → Meets (inputs_at order cursors) new.inputs (Some (Packet turn x)) → (cursor : InputView) → slice_get new.inputs.cursors turn ≡ Some cursor → cursor.source.offset ≡ x.offset
-    → PassesAs (judge policy state (decided + 1) x.packet).verdict q → AnswersNext d new q → WhyUnput fault sink d.packets q sink' → new.output ≡ Capture sink'
+    → PassesAs (judge policy state (decided + 1) x.packet).verdict q → WhyUnput fault sink d.packets q sink' → new.output ≡ Capture sink'
     → EndLeaves d (end_of_failed_write turn fault) new
-unput-capture ss before cursors order turn policy state state' names sink sink' decided new x q o WriteFailed d ahead went met cursor among offset passes answers why is =
-    stops-writing ss before cursors order policy state state' names sink sink' decided new (Packet turn x) q o d ahead
-    (went ∙ ap (λ (f : Option Fault). unless_refused f (progress_of d) turn x (decide (progress_of d) state' (q ∷ []) o)) why.0) answers why is
-unput-capture ss before cursors order turn policy state state' names sink sink' decided new x q o NoMemory d ahead went met cursor among offset passes answers why is =
+unput-capture ss before cursors order turn policy state state' names sink sink' decided new x q o WriteFailed d ahead went met cursor among offset passes why is =
+    let S : Target → Type 0 = λ t. Stops sink.written (added_text sink.format d.packets q) (written_to t) in
+    let m : JobState = mk cursors order policy state names (Capture sink) decided in
+    stops-at ss before m new (added_text sink.format d.packets q) d (Some (Packet turn x)) met
+    (packet-answer ss before m d turn x q (is-next ss before cursors order policy state names (Capture sink) decided (Packet turn x) d ahead) passes why.0) (subst S (sym is) why.2) (ap failures_to is ∙ why.1)
+unput-capture ss before cursors order turn policy state state' names sink sink' decided new x q o NoMemory d ahead went met cursor among offset passes why is =
     record {
       cursor = cursor;
       among = among;
@@ -329,7 +187,7 @@ unput-capture ss before cursors order turn policy state state' names sink sink' 
         device = ap failures_to is ∙ why.3;
       }));
     }
-unput-capture ss before cursors order turn policy state state' names sink sink' decided new x q o fault d ahead went met cursor among offset passes answers why is =
+unput-capture ss before cursors order turn policy state state' names sink sink' decided new x q o fault d ahead went met cursor among offset passes why is =
     let m : JobState = mk cursors order policy state names (Capture sink) decided in
     let w : JobProgress = progress_of d in
     let stop : final_progress policy (AsCapture sink.format) (sequence_of order (wholes_of ss)) ≡ end_with w (FaultIn turn fault x.offset) =
@@ -345,145 +203,77 @@ unput-leaves : (ss : List InputPast) (before : List ℕ) (cursors : List InputVi
     → (d : PacketsDecided ss before (mk cursors order policy state names target decided)) → Ahead ss cursors order d.events (Packet turn x)
     → apply_event policy (form_to names target) (progress_of d) (Packet turn x) ≡ unless_refused (form_refuses (form_to names target) d.packets q) (progress_of d) turn x (decide (progress_of d) state' (q ∷ []) o)
     → Meets (inputs_at order cursors) new.inputs (Some (Packet turn x)) → (cursor : InputView) → slice_get new.inputs.cursors turn ≡ Some cursor → cursor.source.offset ≡ x.offset
-    → PassesAs (judge policy state (decided + 1) x.packet).verdict q → AnswersNext d new q → PutsIntoOutput q target (Err fault) new.output
+    → PassesAs (judge policy state (decided + 1) x.packet).verdict q → PutsIntoOutput q target (Err fault) new.output
     → EndLeaves d (end_of_failed_write turn fault) new
-unput-leaves ss before cursors order turn policy state state' names (Capture sink) decided new x q o fault d ahead went met cursor among offset passes answers puts =
-    unput-capture ss before cursors order turn policy state state' names sink puts.sink decided new x q o fault d ahead went met cursor among offset passes answers
+unput-leaves ss before cursors order turn policy state state' names (Capture sink) decided new x q o fault d ahead went met cursor among offset passes puts =
+    unput-capture ss before cursors order turn policy state state' names sink puts.sink decided new x q o fault d ahead went met cursor among offset passes
     (unput before d.packets q sink puts.sink fault d.output puts.puts puts.writes) puts.is
-unput-leaves ss before cursors order turn policy state state' names (Text bytes failures room) decided new x q o fault d ahead went met cursor among offset passes answers puts = absurd (let e = puts.0 in cc)
-unput-leaves ss before cursors order turn policy state state' names (Lines options bytes failures room) decided new x q o fault d ahead went met cursor among offset passes answers puts =
+unput-leaves ss before cursors order turn policy state state' names (Text bytes failures room) decided new x q o fault d ahead went met cursor among offset passes puts = absurd (let e = puts.0 in cc)
+unput-leaves ss before cursors order turn policy state state' names (Lines options bytes failures room) decided new x q o fault d ahead went met cursor among offset passes puts =
     let L : Fault → Type 0 = λ f. EndLeaves d (end_of_failed_write turn f) new in
+    let S : Target → Type 0 = λ t. Stops bytes (printed_text options q) (written_to t) in
+    let m : JobState = mk cursors order policy state names (Lines options bytes failures room) decided in
     subst L (sym puts.fault)
-    (stops-line ss before cursors order policy state state' names options bytes puts.after failures room decided new (Packet turn x) q o d ahead went answers puts.appends puts.is)
+    (stops-at ss before m new (printed_text options q) d (Some (Packet turn x)) met
+    (packet-answer ss before m d turn x q (is-next ss before cursors order policy state names m.output decided (Packet turn x) d ahead) passes refl) (subst S (sym puts.is) puts.appends) (ap failures_to puts.is))
 
 reject-leaves : (ss : List InputPast) (before : List ℕ) (cursors : List InputView) (order : PacketOrder) (turn : ℕ) (policy : Policy) (state state' : SelectorState) (names : List (List ℕ)) (output : Target) (decided : ℕ) (new : JobState) (x : Placed) (fault : Fault)
     → (d : PacketsDecided ss before (mk cursors order policy state names output decided)) → Ahead ss cursors order d.events (Packet turn x)
     → IsVerdict (judge policy state (decided + 1) x.packet) (Err fault) x.packet state'
-    → (cursor : InputView) → slice_get new.inputs.cursors turn ≡ Some cursor → cursor.source.offset ≡ x.offset → new.output ≡ output → (fault ≡ WriteFailed → ⊥)
-    → EndLeaves d (end_of_failed_write turn fault) new
-reject-leaves ss before cursors order turn policy state state' names output decided new x fault d ahead exact cursor among offset same device =
+    → (cursor : InputView) → slice_get new.inputs.cursors turn ≡ Some cursor → cursor.source.offset ≡ x.offset → new.output ≡ output
+    → BreaksAt d new turn fault
+reject-leaves ss before cursors order turn policy state state' names output decided new x fault d ahead exact cursor among offset same =
     let w : JobProgress = progress_of d in
-    let kept : written_by new ≡ written_to output = ap written_to same in
-    let B : Type 0 = EndLeaves d (end.FaultIn turn fault) new in
-    let breaks : B = record {
+    record {
       cursor = cursor;
       among = among;
       why = inl (rw offset (comes-broken ss before (mk cursors order policy state names output decided) (wholes_of ss) d new turn fault x.offset
           (stops-course ss cursors order d.events (Packet turn x) policy (form_to names output) w (end_with w (FaultIn turn fault x.offset)) (FaultIn turn fault x.offset) ahead d.progress refl
           (ap (λ (v : Verdict). apply_verdict (form_to names output) w turn x v (judge policy state (decided + 1) x.packet).state) exact) refl)
-          kept (ap failures_to same)));
-    } in
-    other fault device breaks
-  where
-    other : (f : Fault) → (f ≡ WriteFailed → ⊥) → EndLeaves d (end.FaultIn turn f) new → EndLeaves d (end_of_failed_write turn f) new
-    other WriteFailed device breaks = absurd (device refl)
-    other f device breaks = breaks
-
--- a selector never tells of the device
-abbrev OwnDecision : Decision → Type 0
-OwnDecision chosen.Keep = Unit {0}
-OwnDecision chosen.Skip = Unit {0}
-OwnDecision (chosen.Refuse fault) = fault ≡ WriteFailed → ⊥
-
-abbrev Own : Verdict → Type 0
-Own (Refuse fault) = fault ≡ WriteFailed → ⊥
-Own (Pass p) = Unit {0}
-Own (PassLast p) = Unit {0}
-Own Skip = Unit {0}
-
-own-link : (e : Expression) (o : Option Link) (p : Captured) → OwnDecision (read_on e o p)
-own-link e None p = λ is. (cc)
-own-link e (Some link) p = by_reading (holds e link p.bytes p.orig)
-  where
-    by_reading : (r : MatchResult) → OwnDecision (decision_of r)
-    by_reading Yes = tt
-    by_reading No = tt
-    by_reading Rejected = tt
-
-own-decision : (rule : Rule) (p : Captured) → OwnDecision (rule_decides rule p)
-own-decision (rule_spec.by_reading empty) p = tt
-own-decision (rule_spec.by_reading (truth a)) p = own-link (truth a) (link_of p.link) p
-own-decision (rule_spec.by_answer prog) p = by_progress (machine prog p.bytes p.orig (length prog))
-  where
-    by_bool : (b : Bool) → OwnDecision (chosen.keep_if b)
-    by_bool true = tt
-    by_bool false = tt
-
-    by_progress : (m : bpf.Progress) → OwnDecision (answering m)
-    by_progress (Answered answer count) = by_bool (not (nat_eq answer 0))
-    by_progress _ = tt
-
-own-filters : (d : Decision) (count : Option ℕ) (state : SelectorState) (p : Captured) → OwnDecision d → Own (judged_spec.filters d count state p).verdict
-own-filters chosen.Keep count state p own = elim (judged_spec.is_last count (state.passed + 1)) as (λ b. Own (if b then PassLast p else Pass p)) [ true ↦ tt | false ↦ tt ]
-own-filters chosen.Skip count state p own = tt
-own-filters (chosen.Refuse fault) count state p own = own
-
-own-unique : (window : Option ℕ) (state : SelectorState) (p : Captured) → Own (judged_spec.unique window state p).verdict
-own-unique None state p = tt
-own-unique (Some n) state p =
-    elim (has_same state.window (mark_of p.bytes))
-    as (λ b. Own (if b then judged_spec.skip_judgement (judged_spec.with_mark (n - 1) (mark_of p.bytes) state) else judged_spec.passes (judged_spec.with_mark (n - 1) (mark_of p.bytes) state) p).verdict)
-    [ true ↦ tt | false ↦ tt ]
-
-own-timed : (s : EditRule) (state : SelectorState) (p : Captured) (o : Option ℕ) → Own (judged_spec.judgement_by_time s state p o).verdict
-own-timed s state p None = λ is. (cc)
-own-timed s state p (Some time) = own-unique s.window state (judged_spec.edited_packet_with s p time)
-
-own-judged : (policy : Policy) (state : SelectorState) (number : ℕ) (p : Captured) → Own (judged_spec.judge_by policy state number p).verdict
-own-judged (Edit s) state number p =
-    elim (judged_spec.is_selected s number p) as (λ b. Own (if b then judged_spec.judgement_by_time s state p (judged_spec.shifted_time s.shift p.time) else judged_spec.skip_judgement state).verdict)
-    [ true ↦ own-timed s state p (judged_spec.shifted_time s.shift p.time) | false ↦ tt ]
-own-judged (Filter rule count) state number p = own-filters (rule_decides rule p) count state p (own-decision rule p)
-own-judged KeepAll state number p = tt
-own-judged Count state number p = tt
-
-own-verdict : (policy : Policy) (state : SelectorState) (number : ℕ) (p : Captured) → Own (judge policy state number p).verdict
-own-verdict policy state number p =
-    elim (judged_spec.is_too_many policy number) as (λ b. Own (if b then judged_spec.refuses state TooManyPackets else judged_spec.judge_by policy state number p).verdict)
-    [ true ↦ (λ is. (cc)) | false ↦ own-judged policy state number p ]
-
-never-device : (policy : Policy) (state state' : SelectorState) (number : ℕ) (p : Captured) (fault : Fault) → IsVerdict (judge policy state number p) (Err fault) p state' → fault ≡ WriteFailed → ⊥
-never-device policy state state' number p fault exact is = (let P : Verdict → Type 0 = λ v. Own v in subst P exact (own-verdict policy state number p)) is
+          (ap written_to same) (ap failures_to same)));
+    }
 
 -- what an answer leaves: `new` is the machine where the packet is decided, `failed` where it isn't
-abbrev pub AnswerLeaves : {ss : List InputPast} {before : List ℕ} {old : JobState} → PacketsDecided ss before old → ℕ → Result code.Verdict Fault → JobState → JobState → Type 0
-AnswerLeaves {ss} {before} {old} d i (Ok verdict) new failed = StepLeaves d (end_after verdict) new
-AnswerLeaves {ss} {before} {old} d i (Err fault) new failed = EndLeaves d (end_of_failed_write i fault) failed
+abbrev pub AnswerLeaves : {ss : List InputPast} {before : List ℕ} {old : JobState} → PacketsDecided ss before old → Result code.Verdict JobEnd → JobState → JobState → Type 0
+AnswerLeaves {ss} {before} {old} d (Ok verdict) new failed = StepLeaves d (end_after verdict) new
+AnswerLeaves {ss} {before} {old} d (Err e) new failed = EndLeaves d e failed
 
-answer-core : (us vs : List InputPast) (s : InputPast) (before : List ℕ) (xs ys : List InputView) (h : InputView) (order : PacketOrder) (turn : ℕ) (policy : Policy) (state state' : SelectorState) (names : List (List ℕ)) (output output' : Target) (decided : ℕ) (p : Captured) (r : Result code.Verdict Fault)
+answer-core : (us vs : List InputPast) (s : InputPast) (before : List ℕ) (xs ys : List InputView) (h : InputView) (order : PacketOrder) (turn : ℕ) (policy : Policy) (state state' : SelectorState) (names : List (List ℕ)) (output output' : Target) (decided : ℕ) (p : Captured) (r : Result code.Verdict JobEnd)
     → DecideLaws order turn xs ys h → input_spec.IsNext (inputs_at order (xs ++ h ∷ ys)) (next.Decide turn) → AreInputsAfter us xs → At s h → AreInputsAfter vs ys → h.source.packet ≡ Some p → state'.passed ≤ decided + 1 → GrowsByOne state.tally state'.tally
     → (d : PacketsDecided (us ++ s ∷ vs) before (mk (xs ++ h ∷ ys) order policy state names output decided))
-    → DecidesPacket (Some p) (decided + 1) (sieve (record { policy = policy; state = state }) output) r (sieve (record { policy = policy; state = state' }) output')
-    → AnswerLeaves d turn r (mk (xs ++ input_after_decided h ∷ ys) order policy state' names output' (decided + 1)) (mk (xs ++ h ∷ ys) order policy state' names output' decided)
+    → DecidesPacket (Some p) turn (decided + 1) (sieve (record { policy = policy; state = state }) output) r (sieve (record { policy = policy; state = state' }) output')
+    → AnswerLeaves d r (mk (xs ++ input_after_decided h ∷ ys) order policy state' names output' (decided + 1)) (mk (xs ++ h ∷ ys) order policy state' names output' decided)
 answer-core us vs s before xs ys h order turn policy state state' names output output' decided p (Ok code_verdict.Pass) laws tells front at back held within grows d decides =
     decided-goes us vs s before xs ys h order turn policy state state' names output output' decided p laws front at back held within grows d
-    (took policy (progress_at (mk (xs ++ h ∷ ys) order policy state names output decided) d.packets d.reports) before turn (record { offset = h.source.offset; packet = p }) names output output' state' code_verdict.Pass decides.packet d.output decides.exact decides.offers)
+    (took policy (progress_at (mk (xs ++ h ∷ ys) order policy state names output decided) d.packets d.reports) before turn (record { offset = h.source.offset; packet = p }) names output output' state' code_verdict.Pass decides.packet d.output decides.exact decides.offers (λ is. (cc)))
 answer-core us vs s before xs ys h order turn policy state state' names output output' decided p (Ok code_verdict.Skip) laws tells front at back held within grows d decides =
     decided-goes us vs s before xs ys h order turn policy state state' names output output' decided p laws front at back held within grows d
-    (took policy (progress_at (mk (xs ++ h ∷ ys) order policy state names output decided) d.packets d.reports) before turn (record { offset = h.source.offset; packet = p }) names output output' state' code_verdict.Skip decides.packet d.output decides.exact decides.offers)
+    (took policy (progress_at (mk (xs ++ h ∷ ys) order policy state names output decided) d.packets d.reports) before turn (record { offset = h.source.offset; packet = p }) names output output' state' code_verdict.Skip decides.packet d.output decides.exact decides.offers (λ is. (cc)))
 answer-core us vs s before xs ys h order turn policy state state' names output output' decided p (Ok code_verdict.PassLast) laws tells front at back held within grows d decides =
     let w : JobProgress = progress_at (mk (xs ++ h ∷ ys) order policy state names output decided) d.packets d.reports in
     let x : Placed = record { offset = h.source.offset; packet = p } in
-    let l = last-took policy w before turn x names output output' state' decides.packet decides.exact decides.offers d.output in
-    let stop = stops-course (us ++ s ∷ vs) (xs ++ h ∷ ys) order d.events (Packet turn x) policy (form_to names output) w (course_spec.decide w state' (l.packet ∷ []) (Some Complete)) Complete
-    (next-true us vs s before xs ys h order turn policy state names output decided p laws front at back held d) d.progress refl l.went refl in
+    let q : Captured = decides.packet in
+    let ok : PutOk before w.packets w.reports q names output output' = put-ok before w.packets w.reports q names output output' d.output decides.offers in
+    let went = goes-by policy (form_to names output) w turn x (PassLast q) state' decides.exact.0 decides.exact.1 ∙ ap (λ (f : Option Fault). unless_refused f w turn x (decide w state' (q ∷ []) (Some Complete))) ok.none in
+    let stop = stops-course (us ++ s ∷ vs) (xs ++ h ∷ ys) order d.events (Packet turn x) policy (form_to names output) w (course_spec.decide w state' (q ∷ []) (Some Complete)) Complete
+    (next-true us vs s before xs ys h order turn policy state names output decided p laws front at back held d) d.progress refl went refl in
     record {
       ends = ap (λ (v : JobProgress). v.end) stop;
       written =
-          closing-some before names (form_to names output) output' (first_link (wholes_of (us ++ s ∷ vs))) (d.packets ++ l.packet ∷ []) d.reports (decided + 1) state' l.output l.form (some d.packets l.packet)
+          closing-some before names (form_to names output) output' (first_link (wholes_of (us ++ s ∷ vs))) (d.packets ++ q ∷ []) d.reports (decided + 1) state' ok.output ok.form (some d.packets q)
           ∙ ap (λ (v : JobProgress). before ++ final_text (form_to names output) (first_link (wholes_of (us ++ s ∷ vs))) v) (sym stop);
-      once = once-packet (first_link (wholes_of (us ++ s ∷ vs))) before w (progress_over (mk (xs ++ h ∷ ys) order policy state names output decided) (wholes_of (us ++ s ∷ vs))) names output output' l.packet d.output l.output l.form
+      once = once-packet (first_link (wholes_of (us ++ s ∷ vs))) before w (progress_over (mk (xs ++ h ∷ ys) order policy state names output decided) (wholes_of (us ++ s ∷ vs))) names output output' q d.output ok.output ok.form
           (ap (λ (v : JobProgress). v.packets) stop) (ap (λ (v : JobProgress). v.reports) stop);
-      device = l.failures;
+      device = ok.failures;
     }
   where
     some : (ps : List Captured) (q : Captured) → 0 ≡ length (ps ++ q ∷ []) → ⊥
     some [] q e = absurd (omega (arith, e))
     some (x ∷ ps) q e = absurd (omega (arith, e))
-answer-core us vs s before xs ys h order turn policy state state' names output output' decided p (Err fault) laws tells front at back held within grows d decides =
+answer-core us vs s before xs ys h order turn policy state state' names output output' decided p (Err e) laws tells front at back held within grows d decides =
     elim decides [
-      | inl j ↦ by_verdict_of j.0 j.1.packet j.1.exact j.1.offers
-      | inr j ↦ reject-leaves (us ++ s ∷ vs) before (xs ++ h ∷ ys) order turn policy state state' names output decided failed x fault d ahead j.exact h here refl j.same (never-device policy state state' (decided + 1) p fault j.exact)
+      | inl f ↦ rw f.is (by_verdict_of f.fault f.verdict f.judges.packet f.judges.exact f.judges.offers)
+      | inr j ↦ rw j.is (reject-leaves (us ++ s ∷ vs) before (xs ++ h ∷ ys) order turn policy state state' names output decided failed x j.fault d ahead j.exact h here refl j.same)
     ]
   where
     x : Placed
@@ -501,36 +291,20 @@ answer-core us vs s before xs ys h order turn policy state state' names output o
     w : JobProgress
     w = progress_at (mk (xs ++ h ∷ ys) order policy state names output decided) d.packets d.reports
 
-    answers : (q : Captured) → PassesAs (judge policy state (decided + 1) p).verdict q → AnswersNext d failed q
-    answers q passes = λ taken bytes is. record {
-      input = turn;
-      next = next-is-of (inputs_at order (xs ++ h ∷ ys)) (next.Decide turn) tells;
-      cursor = h;
-      among = here;
-      packet = p;
-      held = held;
-      comes = is-next (us ++ s ∷ vs) before (xs ++ h ∷ ys) order policy state names output decided (Packet turn x) d ahead;
-      passed = q;
-      passes = passes;
-      taken = taken;
-      bytes_are = is;
-      inputs = refl;
-    }
-
-    by_verdict_of : (v : code.Verdict) (q : Captured) → IsVerdict (judge policy state (decided + 1) p) (Ok v) q state' → Offers v q output (Err fault) output' → EndLeaves d (end_of_failed_write turn fault) failed
-    by_verdict_of code_verdict.Pass q exact offers =
+    by_verdict_of : (fault : Fault) (v : code.Verdict) (q : Captured) → IsVerdict (judge policy state (decided + 1) p) (Ok v) q state' → Offers v q output (Err fault) output' → EndLeaves d (end_of_failed_write turn fault) failed
+    by_verdict_of fault code_verdict.Pass q exact offers =
         unput-leaves (us ++ s ∷ vs) before (xs ++ h ∷ ys) order turn policy state state' names output decided failed x q None fault d ahead
-        (goes-by policy (form_to names output) w turn x (Pass q) state' exact.0 exact.1) (a_packet turn h p (next-is-of (inputs_at order (xs ++ h ∷ ys)) (next.Decide turn) tells) here held refl) h here refl (let A : Verdict → Type 0 = λ v. PassesAs v q in subst A exact.0 refl) (answers q (let A : Verdict → Type 0 = λ v. PassesAs v q in subst A exact.0 refl)) offers
-    by_verdict_of code_verdict.PassLast q exact offers =
+        (goes-by policy (form_to names output) w turn x (Pass q) state' exact.0 exact.1) (a_packet turn h p (next-is-of (inputs_at order (xs ++ h ∷ ys)) (next.Decide turn) tells) here held refl) h here refl (let A : Verdict → Type 0 = λ v. PassesAs v q in subst A exact.0 refl) offers
+    by_verdict_of fault code_verdict.PassLast q exact offers =
         unput-leaves (us ++ s ∷ vs) before (xs ++ h ∷ ys) order turn policy state state' names output decided failed x q (Some Complete) fault d ahead
-        (goes-by policy (form_to names output) w turn x (PassLast q) state' exact.0 exact.1) (a_packet turn h p (next-is-of (inputs_at order (xs ++ h ∷ ys)) (next.Decide turn) tells) here held refl) h here refl (let A : Verdict → Type 0 = λ v. PassesAs v q in subst A exact.0 refl) (answers q (let A : Verdict → Type 0 = λ v. PassesAs v q in subst A exact.0 refl)) offers
-    by_verdict_of code_verdict.Skip q exact offers = absurd (let e = offers.0 in cc)
+        (goes-by policy (form_to names output) w turn x (PassLast q) state' exact.0 exact.1) (a_packet turn h p (next-is-of (inputs_at order (xs ++ h ∷ ys)) (next.Decide turn) tells) here held refl) h here refl (let A : Verdict → Type 0 = λ v. PassesAs v q in subst A exact.0 refl) offers
+    by_verdict_of fault code_verdict.Skip q exact offers = absurd (let e = offers.0 in cc)
 
-pub answer-leaves : (ss : List InputPast) (before : List ℕ) (cursors : List InputView) (order : PacketOrder) (policy : Policy) (state : SelectorState) (names : List (List ℕ)) (output : Target) (decided i : ℕ) (r : Result code.Verdict Fault) (h : InputView) (selector' : PolicyState) (output' : Target)
+pub answer-leaves : (ss : List InputPast) (before : List ℕ) (cursors : List InputView) (order : PacketOrder) (policy : Policy) (state : SelectorState) (names : List (List ℕ)) (output : Target) (decided i : ℕ) (r : Result code.Verdict JobEnd) (h : InputView) (selector' : PolicyState) (output' : Target)
     → input_spec.IsNext (inputs_at order cursors) (next.Decide i) → IsInput cursors i h → selector'.policy ≡ policy → (state.passed ≤ decided + 1 → selector'.state.passed ≤ decided + 1) → GrowsByOne state.tally selector'.state.tally → decided ≤ most_steps
-    → (state.passed < decided + 1 → FitsTally state.tally → DecidesPacket h.source.packet (decided + 1) (sieve (record { policy = policy; state = state }) output) r (sieve selector' output'))
+    → (state.passed < decided + 1 → FitsTally state.tally → DecidesPacket h.source.packet i (decided + 1) (sieve (record { policy = policy; state = state }) output) r (sieve selector' output'))
     → (d : PacketsDecided ss before (mk cursors order policy state names output decided))
-    → AnswerLeaves d i r (mk (slice_set cursors i (input_after_decided h)) order policy selector'.state names output' (decided + 1)) (mk cursors order policy selector'.state names output' decided)
+    → AnswerLeaves d r (mk (slice_set cursors i (input_after_decided h)) order policy selector'.state names output' (decided + 1)) (mk cursors order policy selector'.state names output' decided)
 answer-leaves ss before cursors order policy state names output decided i r other selector' output' tells among_other asks passes grows upper_bound decides d =
     let at : DecideAt order cursors i = decide-at order ss cursors i tells d.following in
     let among = at.among in
@@ -544,19 +318,19 @@ answer-leaves ss before cursors order policy state names output decided i r othe
     let was : IsAt st.here.text st.here.done st.here.packets true h.source = subst W at.laws.waits st.at in
     let has = was.waits refl in
     let within : state.passed < decided + 1 = (let l = d.passed in omega (arith, l)) in
-    let C : Option Captured → Type 0 = λ o. DecidesPacket o (decided + 1) (sieve (record { policy = policy; state = state }) output) r (sieve selector' output') in
-    let C' : Policy → Type 0 = λ k. DecidesPacket (Some has.packet) (decided + 1) (sieve (record { policy = policy; state = state }) output) r (sieve (record { policy = k; state = selector'.state }) output') in
+    let C : Option Captured → Type 0 = λ o. DecidesPacket o i (decided + 1) (sieve (record { policy = policy; state = state }) output) r (sieve selector' output') in
+    let C' : Policy → Type 0 = λ k. DecidesPacket (Some has.packet) i (decided + 1) (sieve (record { policy = policy; state = state }) output) r (sieve (record { policy = k; state = selector'.state }) output') in
     let held : other.source.packet ≡ Some has.packet = ap (λ (v : InputView). v.source.packet) same ∙ has.held in
     let chosen = subst C' asks (subst C held (decides within (within-room decided state.tally upper_bound d.counted))) in
     let cursors' : slice_set cursors i (input_after_decided h) ≡ among.front ++ input_after_decided h ∷ among.back = ap (λ (l : List InputView). slice_set l i (input_after_decided h)) among.splits ∙ set-here among.front among.back h (input_after_decided h) i among.place in
     let new : List InputView → JobState = λ l. mk l order policy selector'.state names output' (decided + 1) in
     let failed : List InputView → JobState = λ l. mk l order policy selector'.state names output' decided in
     let passes_on : selector'.state.passed ≤ decided + 1 = passes (let l = d.passed in omega (arith, l)) in
-    let core : (e : PacketsDecided (st.front ++ st.here ∷ st.back) before (mk (among.front ++ h ∷ among.back) order policy state names output decided)) → AnswerLeaves e i r (new (among.front ++ input_after_decided h ∷ among.back)) (failed (among.front ++ h ∷ among.back)) = λ e.
+    let core : (e : PacketsDecided (st.front ++ st.here ∷ st.back) before (mk (among.front ++ h ∷ among.back) order policy state names output decided)) → AnswerLeaves e r (new (among.front ++ input_after_decided h ∷ among.back)) (failed (among.front ++ h ∷ among.back)) = λ e.
     answer-core st.front st.back st.here before among.front among.back h order i policy state selector'.state names output output' decided has.packet r at.laws (subst T among.splits tells) st.before st.at st.following has.held passes_on grows e chosen in
-    let G : List InputPast → Type 0 = λ l. (e : PacketsDecided l before (mk (among.front ++ h ∷ among.back) order policy state names output decided)) → AnswerLeaves e i r (new (among.front ++ input_after_decided h ∷ among.back)) (failed (among.front ++ h ∷ among.back)) in
-    let H : List InputView → Type 0 = λ l. (e : PacketsDecided ss before (mk l order policy state names output decided)) → AnswerLeaves e i r (new (among.front ++ input_after_decided h ∷ among.back)) (failed l) in
-    let I : List InputView → Type 0 = λ l. AnswerLeaves d i r (new l) (failed cursors) in
-    let J : InputView → Type 0 = λ v. AnswerLeaves d i r (new (slice_set cursors i (input_after_decided v))) (failed cursors) in
+    let G : List InputPast → Type 0 = λ l. (e : PacketsDecided l before (mk (among.front ++ h ∷ among.back) order policy state names output decided)) → AnswerLeaves e r (new (among.front ++ input_after_decided h ∷ among.back)) (failed (among.front ++ h ∷ among.back)) in
+    let H : List InputView → Type 0 = λ l. (e : PacketsDecided ss before (mk l order policy state names output decided)) → AnswerLeaves e r (new (among.front ++ input_after_decided h ∷ among.back)) (failed l) in
+    let I : List InputView → Type 0 = λ l. AnswerLeaves d r (new l) (failed cursors) in
+    let J : InputView → Type 0 = λ v. AnswerLeaves d r (new (slice_set cursors i (input_after_decided v))) (failed cursors) in
     let whole : H cursors = subst H (sym among.splits) (subst G (sym st.is) core) in
     subst J (sym same) (subst I (sym cursors') (whole d))

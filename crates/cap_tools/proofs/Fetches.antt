@@ -1,8 +1,9 @@
 -- The steps that read an input on.
-use Rattle.cap_tools.proofs.Common.{◌≡◌, inl, inr, ℕ, suc, ◌+◌, ◌<◌, ◌≤◌, Bool, true, false, List, [], ◌∷◌, ◌++◌, length, map, get_or, Option, None, Some, Result, Ok, Err, refl, sym, ◌∙◌, ap, arith, subst, append_assoc, append-nil, slice_set, HasGiven, Stops, DeviceFault, Fault, ReadFailed, Kind, Placed, Items, FaultAt, no_items, kind_of, after_packets, SourceView, Phase, Reading, Ended, Failed, Steps, FindsPacket, FindsEnd, FindsFault, Advances, IsAt, IsAt-found, IsAt-closed, IsAt-fault, JobEnd, Report, Tally, InputItems, Event, FaultIn, PacketOrder, InTurn, ByTime, Sequence, sequence_of, with_front, whole_input, Policy, Edit, Filter, KeepAll, Count, SelectorState, IsWithin, is_count, PolicyState, with_empty_tally, Form, AsReports, JobProgress, cut_at, no_progress, apply_events, final_progress, end_with, final_text, output_text, text_at_end, first_link, Target, Capture, Text, Lines, HasWrittenTo, form_to, written_to, failures_to, Reports, InputView, InputsView, Future, InputPast, AreInputsAfter, AreSettled, IsInput, ReadsInput, waiting_packets, input_after, input_items, inputs_with, inputs_left, limits_of, sequence_left, IsNext, actual_future, is_in_turn, report_text, reports_text, JobState, AppendsOnce, PacketsDecided, GoesOn, CompletesOutput, BreaksAt, WhyBroken, StopsWriting, StepLeaves, asks_report, progress_at, progress_of, progress_over, output_form, failures_by, written_by, wholes_of, Closes, ClosesBy, unless_failed, sieve, report_at, drained-text, ReportOk, report-ok, reports-more, Grows, course-grows, progress-append, course-close, greatest-here, greatest-same, limits-at, limits-kept, set-here, next-is-of}
+use Rattle.cap_tools.proofs.Common.{Captured, greatest_of, an_end, InputEnd, ◌≡◌, inl, inr, ℕ, suc, ◌+◌, ◌<◌, ◌≤◌, Bool, true, false, List, [], ◌∷◌, ◌++◌, length, map, get_or, Option, None, Some, Result, Ok, Err, refl, sym, ◌∙◌, ap, arith, subst, append_assoc, append-nil, slice_set, HasGiven, Stops, DeviceFault, Fault, ReadFailed, Kind, Placed, Items, FaultAt, no_items, kind_of, after_packets, SourceView, Phase, Reading, Ended, Failed, Steps, FindsPacket, FindsEnd, FindsFault, Advances, IsAt, IsAt-found, IsAt-closed, IsAt-fault, JobEnd, Report, Tally, InputItems, Event, FaultIn, PacketOrder, InTurn, ByTime, Sequence, sequence_of, with_front, whole_input, Policy, Edit, Filter, KeepAll, Count, SelectorState, IsWithin, is_count, PolicyState, with_empty_tally, Form, JobProgress, cut_at, no_progress, apply_events, final_progress, end_with, final_text, output_text, first_link, Target, Capture, Text, Lines, HasWrittenTo, form_to, written_to, failures_to, Reports, InputView, InputsView, Future, InputPast, AreInputsAfter, AreSettled, IsInput, ReadsInput, waiting_packets, input_after, input_items, inputs_with, inputs_left, limits_of, sequence_left, IsNext, actual_future, is_in_turn, report_text, JobState, AppendsOnce, PacketsDecided, GoesOn, CompletesOutput, WhyBroken, StopsWriting, StepLeaves, asks_report, progress_at, progress_of, progress_over, output_form, failures_by, written_by, wholes_of, Closes, ClosesBy, unless_failed, sieve, report_at, drained-text, ReportOk, report-ok, progress-append, course-close, greatest-here, greatest-same, limits-at, limits-kept, set-here, next-is-of}
 use Rattle.cap_inputs.specs.declared.inputs.Next.TheVariants as next
+use Rattle.cap_tools.specs.declared.step.JobEnd.TheVariants as end
 use Rattle.cap_process.specs.inside.Selector as selecting_inside
-use Rattle.cap_tools.proofs.Nexts.{told-next}
+use Rattle.cap_tools.proofs.Nexts.{report-answer, stops-at}
 use Rattle.cap_tools.proofs.Places.{get-at}
 use Rattle.cap_tools.proofs.Splits.{At, Fit, stands-split, stands-join, stands-length, fits-join, wholes-join, rests-join, finish-here, come-on}
 use Rattle.cap_tools.proofs.Coming.{carries-found, carries-closed, come-first, true-wholes, true-fits, finds}
@@ -25,6 +26,49 @@ among-same cursors i h h' a b =
     ∙ ap (λ (l : List InputView). get_or l i h) b.splits
     ∙ at-here b.front b.back h' h i b.place
 
+-- ---- more is done of one input
+
+abbrev pub past-of : InputPast → List ℕ → List Placed → InputPast
+past-of s bytes packets = record { text = s.text; done = s.done ++ bytes; packets = s.packets ++ packets }
+
+-- the job goes on, with what these events make of its progress
+pub goes-one : (us vs : List InputPast) (s : InputPast) (before : List ℕ) (xs ys : List InputView) (h h' : InputView) (order : PacketOrder) (turn : ℕ) (policy : Policy) (state state' : SelectorState) (names : List (List ℕ)) (output output' : Target) (decided decided' : ℕ) (finished : List ℕ) (placed : List Placed) (new : List Event) (packets : List Captured) (reports : List Report)
+    → length xs ≡ turn → AreInputsAfter us xs → AreInputsAfter (us ++ past-of s finished placed ∷ vs) (xs ++ h' ∷ ys) → (h.greatest ≡ greatest_of s.packets → h'.greatest ≡ greatest_of (s.packets ++ placed)) → limits_of h'.source ≡ limits_of h.source
+    → (d : PacketsDecided (us ++ s ∷ vs) before (mk (xs ++ h ∷ ys) order policy state names output decided))
+    → AreSettled (us ++ past-of s finished placed ∷ vs) (inputs_at order (xs ++ h' ∷ ys)) (d.events ++ new)
+    → apply_events policy (form_to names output) (progress_of d) new ≡ record { decided = decided'; state = state'; packets = packets; reports = reports; end = None }
+    → HasWrittenTo before names output' packets reports → form_to names output' ≡ form_to names output → failures_to output' ≡ failures_to output
+    → AppendsOnce (form_to names output) (first_link (wholes_of (us ++ s ∷ vs))) (progress_of d) (record { decided = decided'; state = state'; packets = packets; reports = reports; end = None }) output output'
+    → state'.passed ≤ decided' → IsWithin decided' state'.tally → decided' ≤ decided + 1
+    → GoesOn d (mk (xs ++ h' ∷ ys) order policy state' names output' decided')
+goes-one us vs s before xs ys h h' order turn policy state state' names output output' decided decided' finished placed new packets reports here front following greatest limits d come goes written form failures once passed counted few = record {
+  input = turn;
+  finished = finished;
+  packets = placed;
+  past = us ++ past-of s finished placed ∷ vs;
+  past_is = sym (finish-here us vs s turn finished placed (stands-length us xs front ∙ here));
+  decided = record {
+    following = following;
+    greatest = greatest-here us vs s (past-of s finished placed) xs ys h h' front d.greatest greatest;
+    events = d.events ++ new;
+    first = come-first (us ++ past-of s finished placed ∷ vs) (inputs_at order (xs ++ h' ∷ ys)) (d.events ++ new) following come;
+    come = come;
+    packets = packets;
+    reports = reports;
+    progress = ap (λ (f : Form). apply_events policy f no_progress (d.events ++ new)) form
+        ∙ progress-append policy (form_to names output) no_progress d.events new ∙ ap (λ (v : JobProgress). apply_events policy (form_to names output) v new) d.progress ∙ goes;
+    output = written;
+    passed = passed;
+    counted = counted;
+  };
+  at_most_one = few;
+  form = form;
+  once = once;
+  output = failures;
+  order = refl;
+  limits = limits-at xs ys h h' limits;
+}
+
 -- ---- a packet is found
 
 found-goes : (us vs : List InputPast) (s : InputPast) (before : List ℕ) (xs ys : List InputView) (h : InputView) (s' : SourceView) (order : PacketOrder) (turn : ℕ) (policy : Policy) (state : SelectorState) (names : List (List ℕ)) (output : Target) (decided : ℕ)
@@ -32,54 +76,24 @@ found-goes : (us vs : List InputPast) (s : InputPast) (before : List ℕ) (xs ys
     → (d : PacketsDecided (us ++ s ∷ vs) before (mk (xs ++ h ∷ ys) order policy state names output decided))
     → GoesOn d (mk (xs ++ input_after h (Ok true) s' ∷ ys) order policy state names output decided)
 found-goes us vs s before xs ys h s' order turn policy state names output decided laws front at back advances limits d =
-    let waits : h.waiting ≡ false = laws.waits in
-    let found : FindsPacket h.source s' = finds s h s' (Ok true) at waits advances in
+    let h' : InputView = input_after h (Ok true) s' in
+    let found : FindsPacket h.source s' = finds s h s' (Ok true) at laws.waits advances in
     let P : Bool → Type 0 = λ b. IsAt s.text s.done s.packets b h.source in
-    let new : JobState = mk (xs ++ input_after h (Ok true) s' ∷ ys) order policy state names output decided in
     let same : s.packets ++ [] ≡ s.packets = append-nil s.packets in
-    let here : At (record { text = s.text; done = s.done ++ found.passes.passed; packets = s.packets ++ [] }) (input_after h (Ok true) s') =
-    rw same (IsAt-found s.text s.done s.packets h.source s' (subst P waits at) found) in
-    let past : List InputPast = us ++ record { text = s.text; done = s.done ++ found.passes.passed; packets = s.packets ++ [] } ∷ vs in
-    let following : AreInputsAfter past new.inputs.cursors = stands-join us vs (record { text = s.text; done = s.done ++ found.passes.passed; packets = s.packets ++ [] }) xs ys (input_after h (Ok true) s') front here back in
-    let come : AreSettled past new.inputs (d.events ++ []) = come-on us vs s (record { text = s.text; done = s.done ++ found.passes.passed; packets = s.packets ++ [] }) xs ys h (input_after h (Ok true) s') order d.events [] front d.come
-    (λ f' fit. carries-found s xs ys h s' order (laws.found_left (input_after h (Ok true) s') (λ e. (let p = found.phase in cc (e, p)))) waits advances found f') in
-    record {
-      input = turn;
-      finished = found.passes.passed;
-      packets = [];
-      past = past;
-      past_is = sym (finish-here us vs s turn found.passes.passed [] (stands-length us xs front ∙ laws.here));
-      decided = record {
-        following = following;
-        greatest = greatest-here us vs s (record { text = s.text; done = s.done ++ found.passes.passed; packets = s.packets ++ [] }) xs ys h (input_after h (Ok true) s') front d.greatest (greatest-same h.greatest s.packets);
-        events = d.events ++ [];
-        first = come-first past new.inputs (d.events ++ []) following come;
-        come = come;
-        packets = d.packets;
-        reports = d.reports;
-        progress = ap (λ (l : List Event). apply_events policy (form_to names output) no_progress l) (append-nil d.events) ∙ d.progress;
-        output = d.output;
-        passed = d.passed;
-        counted = d.counted;
-      };
-      at_most_one = omega arith;
-      form = refl;
-      once = once-nothing (form_to names output) (first_link (wholes_of (us ++ s ∷ vs))) (progress_of d) (progress_at new d.packets d.reports) output output refl refl refl;
-      output = refl;
-      order = refl;
-      limits = limits-at xs ys h (input_after h (Ok true) s') limits;
-    }
+    let past : InputPast = past-of s found.passes.passed [] in
+    let here : At past h' = rw same (IsAt-found s.text s.done s.packets h.source s' (subst P laws.waits at) found) in
+    let come : AreSettled (us ++ past ∷ vs) (inputs_at order (xs ++ h' ∷ ys)) (d.events ++ []) = come-on us vs s past xs ys h h' order d.events [] front d.come
+    (λ f' fit. carries-found s xs ys h s' order (laws.found_left h' (λ e. (let p = found.phase in cc (e, p)))) laws.waits advances found f') in
+    goes-one us vs s before xs ys h h' order turn policy state state names output output decided decided found.passes.passed [] [] d.packets d.reports
+    laws.here front (stands-join us vs past xs ys h' front here back) (greatest-same h.greatest s.packets) limits d come refl d.output refl refl
+    (once-nothing (form_to names output) (first_link (wholes_of (us ++ s ∷ vs))) (progress_of d) (progress_of d) output output refl refl refl) d.passed d.counted (omega arith)
 
 -- ---- a clean end is met
 
--- the input after its last bytes
-abbrev read-out : InputPast → List ℕ → InputPast
-read-out s bytes = record { text = s.text; done = s.done ++ bytes; packets = s.packets ++ [] }
-
 -- what holds of the inputs then
 record ReadOut (us vs : List InputPast) (s : InputPast) (xs ys : List InputView) (h' : InputView) (order : PacketOrder) (events : List Event) (bytes : List ℕ) : Type 0 where
-  pub following : AreInputsAfter (us ++ read-out s bytes ∷ vs) (xs ++ h' ∷ ys)
-  pub come : AreSettled (us ++ read-out s bytes ∷ vs) (record { order = order; cursors = xs ++ h' ∷ ys }) events
+  pub following : AreInputsAfter (us ++ past-of s bytes [] ∷ vs) (xs ++ h' ∷ ys)
+  pub come : AreSettled (us ++ past-of s bytes [] ∷ vs) (inputs_at order (xs ++ h' ∷ ys)) events
 
 closed-out : (us vs : List InputPast) (s : InputPast) (before : List ℕ) (xs ys : List InputView) (h : InputView) (s' : SourceView) (order : PacketOrder) (turn : ℕ) (policy : Policy) (state : SelectorState) (names : List (List ℕ)) (output : Target) (decided : ℕ)
     → (laws : ReadLaws order turn xs ys h) → AreInputsAfter us xs → At s h → AreInputsAfter vs ys → Advances h.source.phase h.source (Ok false) s' → (found : FindsEnd h.source s')
@@ -90,11 +104,11 @@ closed-out us vs s before xs ys h s' order turn policy state names output decide
     let P : Bool → Type 0 = λ b. IsAt s.text s.done s.packets b h.source in
     let same : s.packets ++ [] ≡ s.packets = append-nil s.packets in
     let es : List Event = laws.closed_events (kind_of s'.declared) s'.offset in
-    let here : At (read-out s found.passes.passed) (input_after h (Ok false) s') =
+    let here : At (past-of s found.passes.passed []) (input_after h (Ok false) s') =
     rw same (IsAt-closed s.text s.done s.packets h.source s' (subst P waits at) found) in
     record {
-      following = stands-join us vs (read-out s found.passes.passed) xs ys (input_after h (Ok false) s') front here back;
-      come = come-on us vs s (read-out s found.passes.passed) xs ys h (input_after h (Ok false) s') order d.events es front d.come
+      following = stands-join us vs (past-of s found.passes.passed []) xs ys (input_after h (Ok false) s') front here back;
+      come = come-on us vs s (past-of s found.passes.passed []) xs ys h (input_after h (Ok false) s') order d.events es front d.come
           (λ f' fit. carries-closed s xs ys h s' order es (λ fs gs before with_front. laws.closed_left (input_after h (Ok false) s') found.phase s'.declared h.greatest s'.offset fs gs before with_front) waits advances found f' fit);
     }
 
@@ -111,35 +125,8 @@ closed-goes us vs s before xs ys h s' order turn policy state names output decid
     let found : FindsEnd h.source s' = finds s h s' (Ok false) at laws.waits advances in
     let out = closed-out us vs s before xs ys h s' order turn policy state names output decided laws front at back advances found d in
     let w : JobProgress = progress_at (mk (xs ++ h ∷ ys) order policy state names output decided) d.packets d.reports in
-    let es : List Event = laws.closed_events (kind_of s'.declared) s'.offset in
-    record {
-      input = turn;
-      finished = found.passes.passed;
-      packets = [];
-      past = us ++ read-out s found.passes.passed ∷ vs;
-      past_is = sym (finish-here us vs s turn found.passes.passed [] (stands-length us xs front ∙ laws.here));
-      decided = record {
-        following = out.following;
-        greatest = greatest-here us vs s (read-out s found.passes.passed) xs ys h (input_after h (Ok false) s') front d.greatest (greatest-same h.greatest s.packets);
-        events = d.events ++ es;
-        first = come-first (us ++ read-out s found.passes.passed ∷ vs) (record { order = order; cursors = xs ++ input_after h (Ok false) s' ∷ ys }) (d.events ++ es) out.following out.come;
-        come = out.come;
-        packets = d.packets;
-        reports = reports;
-        progress = ap (λ (f : Form). apply_events policy f no_progress (d.events ++ es)) form
-            ∙ progress-append policy (form_to names output) no_progress d.events es ∙ ap (λ (v : JobProgress). apply_events policy (form_to names output) v es) d.progress
-            ∙ laws.closed_way policy (form_to names output) w (kind_of s'.declared) s'.offset refl ∙ goes;
-        output = final_text;
-        passed = passed;
-        counted = counted;
-      };
-      at_most_one = omega arith;
-      form = form;
-      once = once;
-      output = failures;
-      order = refl;
-      limits = limits-at xs ys h (input_after h (Ok false) s') limits;
-    }
+    goes-one us vs s before xs ys h (input_after h (Ok false) s') order turn policy state state' names output output' decided decided found.passes.passed [] (laws.closed_events (kind_of s'.declared) s'.offset) d.packets reports
+    laws.here front out.following (greatest-same h.greatest s.packets) limits d out.come (laws.closed_way policy (form_to names output) w (kind_of s'.declared) s'.offset refl ∙ goes) final_text form failures once passed counted (omega arith)
 
 -- ---- it ends by a fault
 
@@ -294,66 +281,37 @@ report-stops : (us vs : List InputPast) (s : InputPast) (before : List ℕ) (xs 
 report-stops us vs s before xs ys h s' order turn policy state names (Capture sink) decided state' output' fault laws tells front at back advances steps d asks reports = absurd (let e = reports.0 in cc)
 report-stops us vs s before xs ys h s' order turn policy state names (Lines options bytes failures room) decided state' output' fault laws tells front at back advances steps d asks reports = absurd (let e = reports.0 in cc)
 report-stops us vs s before xs ys h s' order turn policy state names (Text bytes failures room) decided state' output' fault laws tells front at back advances steps d asks reports =
-    let form : Form = AsReports names in
     let output : Target = Text bytes failures room in
     let h' : InputView = input_after h (Ok false) s' in
-    let report : Report = report_at turn h' state.tally in
+    let own : List ℕ = report_text names (report_at turn h' state.tally) in
     let found : FindsEnd h.source s' = finds s h s' (Ok false) at laws.waits advances in
     let out = closed-out us vs s before xs ys h s' order turn policy state names output decided laws front at back advances found d in
-    let w : JobProgress = progress_at (mk (xs ++ h ∷ ys) order policy state names output decided) d.packets d.reports in
     let es : List Event = laws.closed_events (kind_of s'.declared) s'.offset in
-    let w' : JobProgress = with_report w report in
-    let ss' : List InputPast = us ++ read-out s found.passes.passed ∷ vs in
+    let ss' : List InputPast = us ++ past-of s found.passes.passed [] ∷ vs in
     let hs' : List InputView = xs ++ h' ∷ ys in
     let fs : List Future = map (λ (v : InputView). actual_future v.source) hs' in
-    let far : apply_events policy form no_progress (d.events ++ es) ≡ w' =
-    progress-append policy form no_progress d.events es ∙ ap (λ (v : JobProgress). apply_events policy form v es) d.progress
-    ∙ laws.closed_way policy form w (kind_of s'.declared) s'.offset refl ∙ told-closed order policy w turn (kind_of s'.declared) s'.offset asks in
+    let later : List Event = (sequence_left order hs' (inputs_left hs' fs)).events in
     let is : sequence_of order (wholes_of (us ++ s ∷ vs)) ≡ with_front (d.events ++ es) (sequence_left order hs' (inputs_left hs' fs)) =
-    ap (sequence_of order) (wholes_of-join us vs s ∙ sym (wholes_of-join us vs (read-out s found.passes.passed)) ∙ sym (true-wholes ss' hs' out.following))
+    ap (sequence_of order) (wholes_of-join us vs s ∙ sym (wholes_of-join us vs (past-of s found.passes.passed [])) ∙ sym (true-wholes ss' hs' out.following))
     ∙ out.come fs (true-fits ss' hs' out.following) in
-    let all : JobProgress = final_progress policy form (sequence_of order (wholes_of (us ++ s ∷ vs))) in
-    let grows : Grows w' all = course-grows policy form (sequence_of order (wholes_of (us ++ s ∷ vs))) (sequence_left order hs' (inputs_left hs' fs)) (d.events ++ es) w' is far in
-    let ending : List ℕ = text_at_end all.end form (first_link (wholes_of (us ++ s ∷ vs))) all.packets in
-    let own : List ℕ = report_text names report in
-    let fetched : ReadsInput (record { order = order; cursors = xs ++ h ∷ ys }) turn (Ok false) (record { order = order; cursors = hs' }) = record {
+    let S : Target → Type 0 = λ t. Stops bytes own (written_to t) in
+    let old : JobState = mk (xs ++ h ∷ ys) order policy state names output decided in
+    stops-at (us ++ s ∷ vs) before old (mk hs' order policy state' names output' decided) own d (Some (InputEnd turn (kind_of s'.declared) s'.offset))
+    (an_end turn (next-is-of (inputs_at order (xs ++ h ∷ ys)) (next.Read turn) tells) (record {
       cursor = h;
       among = record { front = xs; back = ys; place = laws.here; splits = refl };
       source = s';
       advances = advances;
       steps = steps;
       is = ap (λ (l : List InputView). record { order = order; cursors = l }) (sym (set-here xs ys h h' turn laws.here));
-    } in
-    let told = told-next (us ++ s ∷ vs) before (mk (xs ++ h ∷ ys) order policy state names output decided) (mk hs' order policy state' names output' decided) own d (
-    inr (inl (record {
-      input = turn;
-      next = next-is-of (inputs_at order (xs ++ h ∷ ys)) (next.Read turn) tells;
-      fetches = fetched;
-      comes = record {
-        later = (sequence_left order hs' (inputs_left hs' fs)).events;
-        is = ap (λ (q : Sequence). q.events) is ∙ append_assoc d.events es (sequence_left order hs' (inputs_left hs' fs)).events
-            ∙ ap (λ (l : List Event). d.events ++ (l ++ (sequence_left order hs' (inputs_left hs' fs)).events)) (laws.closed_one (in-turn order policy asks) (kind_of s'.declared) s'.offset);
-        goes = ap (λ (v : JobProgress). v.end) d.progress;
-      };
-      policy = asks;
-      bytes_are = refl;
     }))
-    ) in
-    record {
-      failures = ap failures_to reports.is;
-      event = told.event;
-      met = told.met;
-      bytes = own;
-      answer = told.answer;
-      back = reports_text names grows.reports ++ ending;
-      whole =
-          ap (λ (l : List Report). reports_text names l ++ ending) grows.reports_is
-          ∙ ap (λ (l : List ℕ). l ++ ending) (reports-more names d.reports report grows.reports)
-          ∙ append_assoc (reports_text names d.reports) (own ++ reports_text names grows.reports) ending
-          ∙ ap (λ (l : List ℕ). reports_text names d.reports ++ l) (append_assoc own (reports_text names grows.reports) ending);
-      so_far = d.output;
-      stops = (let S : Target → Type 0 = λ t. Stops bytes own (written_to t) in subst S (sym reports.is) reports.appends);
-    }
+    (report-answer (us ++ s ∷ vs) before old d turn (kind_of s'.declared) s'.offset (record {
+      later = later;
+      is = ap (λ (q : Sequence). q.events) is ∙ append_assoc d.events es later
+          ∙ ap (λ (l : List Event). d.events ++ (l ++ later)) (laws.closed_one (in-turn order policy asks) (kind_of s'.declared) s'.offset);
+      goes = ap (λ (v : JobProgress). v.end) d.progress;
+    }) asks)
+    (subst S (sym reports.is) reports.appends) (ap failures_to reports.is)
 
 closed-core : (us vs : List InputPast) (s : InputPast) (before : List ℕ) (xs ys : List InputView) (h : InputView) (s' : SourceView) (order : PacketOrder) (turn : ℕ) (policy : Policy) (state : SelectorState) (names : List (List ℕ)) (output : Target) (decided : ℕ) (r : Option JobEnd) (selector' : PolicyState) (output' : Target)
     → (laws : ReadLaws order turn xs ys h) → IsNext (inputs_at order (xs ++ h ∷ ys)) (next.Read turn) → AreInputsAfter us xs → At s h → AreInputsAfter vs ys → Advances h.source.phase h.source (Ok false) s' → Steps h.source.phase h.source (Ok false) s'
@@ -386,24 +344,19 @@ closed-core us vs s before xs ys h s' order turn policy state names output decid
 
 -- ---- all of them
 
-abbrev pub FetchLeaves : {ss : List InputPast} {before : List ℕ} {old : JobState} → PacketsDecided ss before old → ℕ → Result Bool Fault → Option JobEnd → JobState → Type 0
-FetchLeaves {ss} {before} {old} d i (Ok true) r new = GoesOn d new
-FetchLeaves {ss} {before} {old} d i (Ok false) r new = StepLeaves d r new
-FetchLeaves {ss} {before} {old} d i (Err fault) r new = BreaksAt d new i fault
-
 -- what is made of an answer: at its end an input is closed, and else the rest stays
 abbrev pub Follows : Result Bool Fault → List (List ℕ) → InputsView → ℕ → PolicyState → Target → Option JobEnd → PolicyState → Target → Type 0
-Follows (Ok true) names inputs i selector old r selector' new = (selector' ≡ selector) × (new ≡ old)
+Follows (Ok true) names inputs i selector old r selector' new = (r ≡ None) × (selector' ≡ selector) × (new ≡ old)
 Follows (Ok false) names inputs i selector old r selector' new = Closes names inputs i (sieve selector old) r (sieve selector' new)
-Follows (Err fault) names inputs i selector old r selector' new = (selector' ≡ selector) × (new ≡ old)
+Follows (Err fault) names inputs i selector old r selector' new = (r ≡ Some (end.FaultIn i fault)) × (selector' ≡ selector) × (new ≡ old)
 
 read_input-core : (us vs : List InputPast) (s : InputPast) (before : List ℕ) (xs ys : List InputView) (h : InputView) (s' : SourceView) (a : Result Bool Fault) (order : PacketOrder) (turn : ℕ) (policy : Policy) (state : SelectorState) (names : List (List ℕ)) (output : Target) (decided : ℕ) (r : Option JobEnd) (selector' : PolicyState) (output' : Target)
     → ReadLaws order turn xs ys h → IsNext (inputs_at order (xs ++ h ∷ ys)) (next.Read turn) → AreInputsAfter us xs → At s h → AreInputsAfter vs ys → Advances h.source.phase h.source a s' → Steps h.source.phase h.source a s'
     → (d : PacketsDecided (us ++ s ∷ vs) before (mk (xs ++ h ∷ ys) order policy state names output decided))
     → Follows a names (record { order = order; cursors = xs ++ input_after h a s' ∷ ys }) turn (record { policy = policy; state = state }) output r selector' output'
-    → FetchLeaves d turn a r (mk (xs ++ input_after h a s' ∷ ys) order policy selector'.state names output' decided)
+    → StepLeaves d r (mk (xs ++ input_after h a s' ∷ ys) order policy selector'.state names output' decided)
 read_input-core us vs s before xs ys h s' (Ok true) order turn policy state names output decided r selector' output' laws tells front at back advances steps d follows =
-    rw (follows.0, follows.1) (found-goes us vs s before xs ys h s' order turn policy state names output decided laws front at back advances (limits-kept h.source s' true steps advances) d)
+    rw (follows.0, follows.1, follows.2) (found-goes us vs s before xs ys h s' order turn policy state names output decided laws front at back advances (limits-kept h.source s' true steps advances) d)
 read_input-core us vs s before xs ys h s' (Ok false) order turn policy state names output decided r selector' output' laws tells front at back advances steps d follows =
     let h' : InputView = input_after h (Ok false) s' in
     let same : follows.cursor ≡ h' = (let e = sym follows.among ∙ get-at xs ys h' turn laws.here in cc) in
@@ -411,7 +364,7 @@ read_input-core us vs s before xs ys h s' (Ok false) order turn policy state nam
     let Q : PacketOrder → Type 0 = λ o. ClosesBy (asks_report o policy) names turn h' (sieve (record { policy = policy; state = state }) output) r (sieve selector' output') in
     closed-core us vs s before xs ys h s' order turn policy state names output decided r selector' output' laws tells front at back advances steps d (asks_report order policy) refl
     (subst P same follows.by)
-read_input-core us vs s before xs ys h s' (Err fault) order turn policy state names output decided r selector' output' laws tells front at back advances steps d follows = rw (follows.0, follows.1) (record {
+read_input-core us vs s before xs ys h s' (Err fault) order turn policy state names output decided r selector' output' laws tells front at back advances steps d follows = rw (follows.0, follows.1, follows.2) (record {
   cursor = input_after h (Err fault) s';
   among = get-at xs ys (input_after h (Err fault) s') turn laws.here;
   why = broken-ends us vs s before xs ys h s' fault order turn policy state names output decided laws tells front at back advances steps d;
@@ -421,7 +374,7 @@ read_input-core us vs s before xs ys h s' (Err fault) order turn policy state na
 pub read_input-leaves : (ss : List InputPast) (before : List ℕ) (cursors : List InputView) (order : PacketOrder) (policy : Policy) (state : SelectorState) (names : List (List ℕ)) (output : Target) (decided : ℕ) (i : ℕ) (a : Result Bool Fault) (inputs' : InputsView) (r : Option JobEnd) (selector' : PolicyState) (output' : Target)
     → IsNext (inputs_at order cursors) (next.Read i) → ReadsInput (record { order = order; cursors = cursors }) i a inputs' → (d : PacketsDecided ss before (mk cursors order policy state names output decided))
     → Follows a names inputs' i (record { policy = policy; state = state }) output r selector' output'
-    → FetchLeaves d i a r (mk inputs'.cursors inputs'.order policy selector'.state names output' decided)
+    → StepLeaves d r (mk inputs'.cursors inputs'.order policy selector'.state names output' decided)
 read_input-leaves ss before cursors order policy state names output decided i a inputs' r selector' output' tells fetches d follows =
     let at : ReadAt order cursors i = read-at order ss cursors i tells d.following in
     let m = at.among in
@@ -441,11 +394,11 @@ read_input-leaves ss before cursors order policy state names output decided i a 
     let d' = subst D m.splits d in
     let st = stands-split ss m.front m.back h d'.following in
     let new : JobState = mk (m.front ++ h' ∷ m.back) order policy selector'.state names output' decided in
-    let core : (e : PacketsDecided (st.front ++ st.here ∷ st.back) before (mk (m.front ++ h ∷ m.back) order policy state names output decided)) → FetchLeaves e i a r new = λ e.
+    let core : (e : PacketsDecided (st.front ++ st.here ∷ st.back) before (mk (m.front ++ h ∷ m.back) order policy state names output decided)) → StepLeaves e r new = λ e.
     read_input-core st.front st.back st.here before m.front m.back h fetches.source a order i policy state names output decided r selector' output' at.laws (subst T m.splits tells) st.before st.at st.following (subst A same fetches.advances) (subst S same fetches.steps) e (subst F feed'_is follows) in
-    let G : List InputPast → Type 0 = λ l. (e : PacketsDecided l before (mk (m.front ++ h ∷ m.back) order policy state names output decided)) → FetchLeaves e i a r new in
-    let H : List InputView → Type 0 = λ l. (e : PacketsDecided ss before (mk l order policy state names output decided)) → FetchLeaves e i a r new in
-    let N : InputsView → Type 0 = λ f. FetchLeaves d i a r (mk f.cursors f.order policy selector'.state names output' decided) in
+    let G : List InputPast → Type 0 = λ l. (e : PacketsDecided l before (mk (m.front ++ h ∷ m.back) order policy state names output decided)) → StepLeaves e r new in
+    let H : List InputView → Type 0 = λ l. (e : PacketsDecided ss before (mk l order policy state names output decided)) → StepLeaves e r new in
+    let N : InputsView → Type 0 = λ f. StepLeaves d r (mk f.cursors f.order policy selector'.state names output' decided) in
     let whole_input : H cursors = subst H (sym m.splits) (subst G (sym st.is) core) in
     subst N (sym feed'_is) (whole_input d)
 

@@ -1,22 +1,12 @@
 -- The step that ends the output.
-use Rattle.cap_tools.proofs.Common.{◌≡◌, ℕ, ◌+◌, List, [], ◌∷◌, ◌++◌, map, Option, Some, Result, Ok, Err, refl, sym, ◌∙◌, ap, subst, inr, add-zero, append-nil, option_or, Stops, Captured, DeviceFault, Fault, WriteFailed, first_link_of, items, SinkView, FinishesEmpty, HasPackets, link_or_ethernet, file_start, text, Ended, finish-none, finish-none-writes, finish-some, Report, Event, InputItems, Complete, sequence_of, with_front, PacketOrder, Policy, SelectorState, Form, AsCapture, JobProgress, closing_text, final_progress, lines_text, end_with, final_text, first_link, Target, Capture, Text, Lines, HasWrittenTo, form_to, written_to, failures_to, EndsOutput, FinishesInto, InputView, Future, InputPast, AreInputsAfter, IsNext, AllEnded, actual_future, first_declared_link, next-is-of, reports_text, JobState, PacketsDecided, CompletesOutput, StopsWriting, progress_at, progress_of, progress_over, wholes_of, course-close}
+use Rattle.cap_tools.proofs.Common.{None, all_ends, ◌≡◌, ℕ, ◌+◌, List, [], ◌∷◌, ◌++◌, map, Option, Some, Result, Ok, Err, refl, sym, ◌∙◌, ap, subst, add-zero, append-nil, option_or, Stops, Captured, DeviceFault, Fault, WriteFailed, first_link_of, items, SinkView, FinishesEmpty, HasPackets, link_or_ethernet, file_start, text, Ended, finish-none, finish-none-writes, finish-some, Report, Event, InputItems, Complete, sequence_of, with_front, PacketOrder, Policy, SelectorState, AsCapture, JobProgress, closing_text, lines_text, end_with, final_text, first_link, Target, Capture, Text, Lines, HasWrittenTo, form_to, written_to, failures_to, EndsOutput, FinishesInto, InputView, Future, InputPast, AreInputsAfter, IsNext, AllEnded, actual_future, first_declared_link, next-is-of, reports_text, JobState, PacketsDecided, CompletesOutput, StopsWriting, progress_at, progress_of, progress_over, wholes_of}
 use Rattle.cap_inputs.specs.declared.inputs.Next.TheVariants as next
-use Rattle.cap_tools.proofs.Nexts.{told-next}
+use Rattle.cap_tools.proofs.Nexts.{all-course, stops-at}
 use Rattle.cap_tools.proofs.Splits.{At}
 use Rattle.cap_tools.proofs.Coming.{true-whole, true-wholes, true-fit, true-fits}
 use Rattle.cap_tools.proofs.Laws.{OverAt, over-at}
 use Rattle.cap_tools.proofs.Fetches.{mk, inputs_at}
 use Rattle.cap_tools.proofs.Once.{once-closing}
-
-pub over-course : (ss : List InputPast) (before : List ℕ) (cursors : List InputView) (order : PacketOrder) (policy : Policy) (state : SelectorState) (names : List (List ℕ)) (output : Target) (decided : ℕ) → OverAt order cursors → (d : PacketsDecided ss before (mk cursors order policy state names output decided))
-    → final_progress policy (form_to names output) (sequence_of order (wholes_of ss)) ≡ end_with (progress_at (mk cursors order policy state names output decided) d.packets d.reports) Complete
-over-course ss before cursors order policy state names output decided at d =
-    let fits = true-fits ss cursors d.following in
-    course-close policy (form_to names output) (sequence_of order (wholes_of ss)) d.events (progress_at (mk cursors order policy state names output decided) d.packets d.reports) Complete
-    (ap (sequence_of order) (sym (true-wholes ss cursors d.following))
-    ∙ d.come (map (λ (h : InputView). actual_future h.source) cursors) fits
-    ∙ ap (with_front d.events) (at.over_left (map (λ (h : InputView). actual_future h.source) cursors) fits))
-    d.progress refl
 
 -- all events came
 over-all : (ss : List InputPast) (before : List ℕ) (cursors : List InputView) (order : PacketOrder) (policy : Policy) (state : SelectorState) (names : List (List ℕ)) (output : Target) (decided : ℕ) → OverAt order cursors → (d : PacketsDecided ss before (mk cursors order policy state names output decided))
@@ -98,32 +88,19 @@ finish-empty before sink [] link fault new has finishes =
 
 finish-stops : (ss : List InputPast) (before : List ℕ) (names : List (List ℕ)) (target : Target) (cursors : List InputView) (order : PacketOrder) (policy : Policy) (state : SelectorState) (decided : ℕ) (fault : DeviceFault) (new : JobState)
     → (d : PacketsDecided ss before (mk cursors order policy state names target decided))
-    → final_progress policy (form_to names target) (sequence_of order (wholes_of ss)) ≡ over (mk cursors order policy state names target decided) d.packets d.reports
     → sequence_of order (wholes_of ss) ≡ record { events = d.events; end = Complete }
     → first_link (wholes_of ss) ≡ first_declared_link cursors → IsNext (inputs_at order cursors) next.Finish → new.inputs ≡ record { order = order; cursors = cursors } → EndsOutput (first_declared_link cursors) target (Err fault) new.output
     → StopsWriting d new
-finish-stops ss before names (Text bytes failures room) cursors order policy state decided fault new d stop all link tells inputs finishes = absurd (let e = finishes.0 in cc)
-finish-stops ss before names (Lines options bytes failures room) cursors order policy state decided fault new d stop all link tells inputs finishes = absurd (let e = finishes.0 in cc)
-finish-stops ss before names (Capture sink) cursors order policy state decided fault new d stop all link tells inputs finishes =
-    let form : Form = AsCapture sink.format in
+finish-stops ss before names (Text bytes failures room) cursors order policy state decided fault new d all link tells inputs finishes = absurd (let e = finishes.0 in cc)
+finish-stops ss before names (Lines options bytes failures room) cursors order policy state decided fault new d all link tells inputs finishes = absurd (let e = finishes.0 in cc)
+finish-stops ss before names (Capture sink) cursors order policy state decided fault new d all link tells inputs finishes =
     let empty : StopsEmpty before sink d.packets (first_declared_link cursors) new.output = finish-empty before sink d.packets (first_declared_link cursors) finishes.0 new.output d.output finishes.1 in
     let bytes : List ℕ = file_start sink.format (link_or_ethernet (first_declared_link cursors)) in
-    let closing_is : bytes ≡ closing_text form (first_link (wholes_of ss)) d.packets =
-    ap (λ (o : Option ℕ). file_start sink.format (link_or_ethernet o)) (sym link) ∙ ap (closing_text form (first_link (wholes_of ss))) (sym empty.none) in
-    let told = told-next ss before (mk cursors order policy state names (Capture sink) decided) new bytes d (inr (inr (record { next = next-is-of (inputs_at order cursors) next.Finish tells; comes = record { is = all; goes = ap (λ (w : JobProgress). w.end) d.progress }; bytes_are = closing_is; inputs = inputs }))) in
-    record {
-      failures = empty.failures;
-      event = told.event;
-      met = told.met;
-      bytes = bytes;
-      answer = told.answer;
-      back = [];
-      whole =
-          ap (λ (w : JobProgress). final_text form (first_link (wholes_of ss)) w) stop
-          ∙ ap (λ (l : List ℕ). text sink.format d.packets ++ l) (sym closing_is ∙ sym (append-nil bytes));
-      so_far = d.output.written;
-      stops = empty.stops;
-    }
+    let closing_is : bytes ≡ closing_text (AsCapture sink.format) (first_link (wholes_of ss)) d.packets =
+    ap (λ (o : Option ℕ). file_start sink.format (link_or_ethernet o)) (sym link) ∙ ap (closing_text (AsCapture sink.format) (first_link (wholes_of ss))) (sym empty.none) in
+    stops-at ss before (mk cursors order policy state names (Capture sink) decided) new bytes d None (all_ends (next-is-of (inputs_at order cursors) next.Finish tells) inputs)
+    (record { is = all; goes = ap (λ (w : JobProgress). w.end) d.progress }, closing_is ∙ ap (λ (w : JobProgress). closing_text (AsCapture sink.format) (first_link (wholes_of ss)) w.packets) (sym d.progress))
+    empty.stops empty.failures
 
 pub finish-leaves : (ss : List InputPast) (before : List ℕ) (cursors : List InputView) (order : PacketOrder) (policy : Policy) (state : SelectorState) (names : List (List ℕ)) (output : Target) (decided : ℕ) (r : Result (Unit {0}) DeviceFault) (new : JobState)
     → IsNext (inputs_at order cursors) next.Finish → new.inputs ≡ record { order = order; cursors = cursors } → EndsOutput (first_declared_link cursors) output r new.output → (d : PacketsDecided ss before (mk cursors order policy state names output decided))
@@ -131,7 +108,7 @@ pub finish-leaves : (ss : List InputPast) (before : List ℕ) (cursors : List In
 finish-leaves ss before cursors order policy state names output decided (Ok done) new tells inputs finishes d =
     let at : OverAt order cursors = over-at order cursors tells in
     let m : JobState = mk cursors order policy state names output decided in
-    let stop = over-course ss before cursors order policy state names output decided at d in
+    let stop = all-course ss before m d (over-all ss before cursors order policy state names output decided at d) in
     let link = links ss cursors d.following at.ended in
     let text_is : written_to new.output ≡ before ++ final_text (form_to names output) (first_link (wholes_of ss)) (over m d.packets d.reports) =
     finish-text before names d.packets d.reports decided state output new.output (first_declared_link cursors) d.output finishes
@@ -145,5 +122,4 @@ finish-leaves ss before cursors order policy state names output decided (Ok done
     }
 finish-leaves ss before cursors order policy state names output decided (Err fault) new tells inputs finishes d =
     let at : OverAt order cursors = over-at order cursors tells in
-    finish-stops ss before names output cursors order policy state decided fault new d
-    (over-course ss before cursors order policy state names output decided at d) (over-all ss before cursors order policy state names output decided at d) (links ss cursors d.following at.ended) tells inputs finishes
+    finish-stops ss before names output cursors order policy state decided fault new d (over-all ss before cursors order policy state names output decided at d) (links ss cursors d.following at.ended) tells inputs finishes

@@ -1,5 +1,5 @@
 -- What a step keeps of the counts.
-use Rattle.cap_tools.proofs.Common.{ℕ, ◌+◌, ◌≤◌, Option, None, Some, arith, Bool, InputsView, most_steps, most_turns, HasFewTurns, IsPaid, steps_owed_in_all, OutputView, Preparing, JobView, StepReads, reads_on, decides_one, leaves_one, reads_nothing}
+use Rattle.cap_tools.proofs.Common.{ℕ, ◌+◌, ◌≤◌, Option, None, Some, arith, Bool, InputsView, most_steps, HasFewTurns, IsPaid, OutputView, Preparing, JobView, StepReads, reads_on, decides_one, leaves_one, reads_nothing}
 use Rattle.cap_tools.specs.inside.Jobs.{IsCounted}
 
 pub counted-kept : (done : Option ℕ) (turns left left' : ℕ) → left' ≤ left → IsCounted done turns left → IsCounted done turns left'
@@ -10,11 +10,8 @@ pub counted-turns : (done : Option ℕ) (turns left : ℕ) → IsCounted done tu
 counted-turns None turns left is = omega (arith, is)
 counted-turns (Some status) turns left is = is.0
 
-paid-turns : (turns owes most owes' most' : ℕ) → owes' + 1 + most ≤ owes + most' → turns + owes ≤ most → turns + owes' ≤ most'
-paid-turns turns owes most owes' most' paid upper_bound = omega (arith, paid, upper_bound)
-
 pub few-kept : (done : Option ℕ) (turns : ℕ) (inputs inputs' : InputsView) → IsPaid inputs inputs' → HasFewTurns done turns inputs → HasFewTurns done turns inputs'
-few-kept None turns inputs inputs' paid upper_bound = paid-turns turns (steps_owed_in_all inputs) (most_turns inputs) (steps_owed_in_all inputs') (most_turns inputs') paid upper_bound
+few-kept None turns inputs inputs' paid upper_bound = omega (arith, paid, upper_bound)
 few-kept (Some status) turns inputs inputs' paid upper_bound = tt
 
 -- a step reads what it read, whatever becomes of its messages and of the count of steps

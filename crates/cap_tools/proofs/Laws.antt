@@ -1,9 +1,9 @@
 -- What a place says of what is left, for inputs in turn and for a merge.
-use Rattle.cap_tools.proofs.Common.{◌≡◌, inl, inr, ℕ, zero, suc, ◌+◌, ◌<◌, ◌≤◌, Bool, true, false, cond, not, max, List, [], ◌∷◌, ◌++◌, length, drop, Option, None, Some, refl, sym, ◌∙◌, ap, arith, subst, Captured, Fault, Kind, Declared, Items, no_items, kind_of, IsAt, Phase, Ended, InputItems, Event, Packet, InputEnd, SequenceEnd, Complete, FaultIn, PacketOrder, InTurn, ByTime, with_front, sequence_in_turn, sequence_by_time, fault_without_packets, sequence_of_entries, sort_entries, all_entries, unless_fault, Policy, Form, JobProgress, apply_events, end_input, unless_ended, InputView, InputPast, Future, AreFutures, AreInputsAfter, IsInput, ended_count, input_after_decided, is_open, items_left, inputs_left, key_of, sequence_left, packet_time, AllEnded, AllReady, IsNextIn, IsOpen, IsReady, KeysOver, KeysFrom, NoneEnded, NoneWaits, count-open, count-all, merged-broken}
+use Rattle.cap_tools.proofs.Common.{◌≡◌, inl, inr, ℕ, zero, suc, ◌+◌, ◌≤◌, Bool, true, false, cond, not, max, List, [], ◌∷◌, ◌++◌, length, drop, Option, None, Some, refl, sym, ◌∙◌, ap, arith, subst, Captured, Fault, Kind, Declared, Items, no_items, kind_of, IsAt, Phase, Ended, InputItems, Event, Packet, InputEnd, SequenceEnd, Complete, FaultIn, PacketOrder, InTurn, ByTime, with_front, sequence_in_turn, sequence_by_time, fault_without_packets, sequence_of_entries, sort_entries, all_entries, unless_fault, Policy, Form, JobProgress, apply_events, end_input, unless_ended, InputView, InputPast, Future, AreFutures, AreInputsAfter, IsInput, ended_count, input_after_decided, is_open, items_left, inputs_left, key_of, sequence_left, packet_time, AllEnded, AllReady, IsNextIn, IsOpen, IsReady, KeysFrom, NoneEnded, NoneWaits, count-open, count-all, merged-broken}
 use Rattle.cap_inputs.specs.declared.inputs.Next.TheVariants as next
 use Rattle.cap_tools.proofs.Splits.{At, Fit, fits-join, rests-join, rests-length}
 use Rattle.cap_tools.proofs.Coming.{from_turn, left-decided, turn-closes, turn-broken}
-use Rattle.cap_tools.proofs.Merges.{InputFrom, InputOver, InputsFrom, InputsOver, ended_from, ended_over, ended-rest, merge-decides, none-broken, waits_from, waits_over}
+use Rattle.cap_tools.proofs.Merges.{InputFrom, InputsFrom, ended_from, ended-rest, merge-decides, none-broken, waits_from}
 
 -- ---- which inputs are ready
 
@@ -44,14 +44,6 @@ count-ended (x ∷ xs) ys h ended is none =
     let more = count-ended xs ys h ended.1 is none in
     let one : 1 + ended_count (xs ++ h ∷ ys) ≡ suc (length xs) + 1 = omega (arith, more) in
     ap (λ (p : Phase). cond (not (is_open p)) (1 + ended_count (xs ++ h ∷ ys)) 0) ended.0 ∙ one
-
-over-of : (k : ℕ) (hs : List InputView) → KeysOver k hs → InputsFrom 0 hs → InputsOver k hs
-over-of k [] over ready = tt
-over-of k (h ∷ hs) over ready = (one over.0 ready.0, over-of k hs over.1 ready.1)
-  where
-    one : (h.waiting ≡ true → k < key_of h) → InputFrom 0 h → InputOver k h
-    one keys (waits_from p w held l) = waits_over p w held (let P : Option Captured → Type 0 = λ o. k < max h.greatest (packet_time o) in subst P held (keys w))
-    one keys (ended_from w e) = ended_over w e
 
 from-of : (k : ℕ) (hs : List InputView) → KeysFrom k hs → InputsFrom 0 hs → InputsFrom k hs
 from-of k [] from ready = tt
@@ -163,20 +155,20 @@ turn-decides i xs ys h here waits on ended = record {
       ∙ ap (λ n. with_front (Packet i (record { offset = h.source.offset; packet = p }) ∷ []) (from_turn n rs')) (sym (count-open xs ys (input_after_decided h) ended on ∙ here));
 }
 
-merge-left : (i : ℕ) (xs ys : List InputView) (h : InputView) → length xs ≡ i → h.waiting ≡ true → InputsFrom 0 (xs ++ h ∷ ys) → KeysOver (key_of h) xs → KeysFrom (key_of h) ys
+merge-left : (i : ℕ) (xs ys : List InputView) (h : InputView) → length xs ≡ i → h.waiting ≡ true → InputsFrom 0 (xs ++ h ∷ ys) → KeysFrom (key_of h + 1) xs → KeysFrom (key_of h) ys
     → (p : Captured) → h.source.packet ≡ Some p → (f : Future) → Fit h f → (fs gs : List Future) → AreFutures xs fs → AreFutures ys gs
     → sequence_by_time (inputs_left xs fs ++ items_left h f ∷ inputs_left ys gs) ≡ with_front (Packet i (record { offset = h.source.offset; packet = p }) ∷ []) (sequence_by_time (inputs_left xs fs ++ items_left (input_after_decided h) f ∷ inputs_left ys gs))
 merge-left i xs ys h here waits ready over from p held f fit fs gs before after_fits =
     let r = ready-split xs ys h ready in
     let key : key_of h ≡ max h.greatest p.time = ap (λ (o : Option Captured). max h.greatest (packet_time o)) held in
-    let O : ℕ → Type 0 = λ k. InputsOver k xs in
+    let O : ℕ → Type 0 = λ k. InputsFrom (k + 1) xs in
     let F : ℕ → Type 0 = λ k. InputsFrom k ys in
     let B : List InputItems → Type 0 = λ l. fault_without_packets 0 l ≡ Complete in
-    merge-decides xs ys h p fs gs f waits held (subst O key (over-of (key_of h) xs over r.before)) (subst F key (from-of (key_of h) ys from r.following)) before after_fits
+    merge-decides xs ys h p fs gs f waits held (subst O key (from-of (key_of h + 1) xs over r.before)) (subst F key (from-of (key_of h) ys from r.following)) before after_fits
     (subst B (rests-join xs ys h fs gs f before) (none-broken 0 0 (xs ++ h ∷ ys) (fs ++ f ∷ gs) ready (fits-join xs ys h fs gs f before fit after_fits)))
     ∙ ap (λ n. with_front (Packet n (record { offset = h.source.offset; packet = p }) ∷ []) (sequence_by_time (inputs_left xs fs ++ items_left (input_after_decided h) f ∷ inputs_left ys gs))) (rests-length xs fs before ∙ here)
 
-merge-decide-laws : (i : ℕ) (xs ys : List InputView) (h : InputView) → length xs ≡ i → h.waiting ≡ true → InputsFrom 0 (xs ++ h ∷ ys) → KeysOver (key_of h) xs → KeysFrom (key_of h) ys → DecideLaws ByTime i xs ys h
+merge-decide-laws : (i : ℕ) (xs ys : List InputView) (h : InputView) → length xs ≡ i → h.waiting ≡ true → InputsFrom 0 (xs ++ h ∷ ys) → KeysFrom (key_of h + 1) xs → KeysFrom (key_of h) ys → DecideLaws ByTime i xs ys h
 merge-decide-laws i xs ys h here waits ready over from = record {
   here = here;
   waits = waits;

@@ -1,21 +1,12 @@
 -- Merging: what the keys of the inputs say of all that may come.
-use Rattle.cap_tools.proofs.Common.{◌≡◌, ℕ, ◌+◌, ◌<◌, ◌≤◌, true, false, max, List, [], ◌∷◌, ◌++◌, length, Some, refl, sym, ◌∙◌, ap, subst, Captured, Placed, Items, after_packets, Ended, Packet, SequenceEnd, Complete, with_front, first_end, fault_without_packets, sequence_by_time, InputView, Future, AreFutures, waiting_packets, items_left, inputs_left, no_future, input_after_decided, IsOver, IsFrom, end_at, AllOver, AllFrom, merged-next}
+use Rattle.cap_tools.proofs.Common.{◌≡◌, ℕ, ◌+◌, ◌≤◌, true, false, max, List, [], ◌∷◌, ◌++◌, length, Some, refl, sym, ◌∙◌, ap, subst, Captured, Placed, Items, after_packets, Ended, Packet, SequenceEnd, Complete, with_front, first_end, fault_without_packets, sequence_by_time, InputView, Future, AreFutures, waiting_packets, items_left, inputs_left, no_future, input_after_decided, IsFrom, end_at, AllFrom, merged-next}
 use Rattle.cap_tools.proofs.Splits.{Fit}
 use Rattle.cap_tools.proofs.Coming.{hand_is}
 
--- a packet waits, whose greatest time so far is over the key, or at least the key; or the input is
--- at its clean end
-pub data InputOver (k : ℕ) (h : InputView) : Type 0 where
-  waits_over : (p : Captured) → h.waiting ≡ true → h.source.packet ≡ Some p → k < max h.greatest p.time → InputOver k h
-  ended_over : h.waiting ≡ false → h.source.phase ≡ Ended → InputOver k h
-
+-- a packet waits, whose greatest time so far is at least the key; or the input is at its clean end
 pub data InputFrom (k : ℕ) (h : InputView) : Type 0 where
   waits_from : (p : Captured) → h.waiting ≡ true → h.source.packet ≡ Some p → k ≤ max h.greatest p.time → InputFrom k h
   ended_from : h.waiting ≡ false → h.source.phase ≡ Ended → InputFrom k h
-
-abbrev pub InputsOver : ℕ → List InputView → Type 0
-InputsOver k [] = Unit {0}
-InputsOver k (h ∷ hs) = InputOver k h × InputsOver k hs
 
 abbrev pub InputsFrom : ℕ → List InputView → Type 0
 InputsFrom k [] = Unit {0}
@@ -30,10 +21,6 @@ waiting-rest h p f waits held = ap (λ (l : List Placed). after_packets l f.item
 pub ended-rest : (h : InputView) (f : Future) → h.waiting ≡ false → h.source.phase ≡ Ended → Fit h f → (items_left h f).items ≡ (no_future h.source).items
 ended-rest h f waits e fit = ap (λ b. after_packets (waiting_packets b h.source) f.items) waits ∙ ap (λ (g : Future). g.items) (fit e)
 
-over-one : (k : ℕ) (h : InputView) (f : Future) → InputOver k h → Fit h f → IsOver k h.greatest (items_left h f).items.packets
-over-one k h f (waits_over p waits held less) fit = let P : Items → Type 0 = λ i. IsOver k h.greatest i.packets in subst P (sym (waiting-rest h p f waits held)) less
-over-one k h f (ended_over waits e) fit = let P : Items → Type 0 = λ i. IsOver k h.greatest i.packets in subst P (sym (ended-rest h f waits e fit)) tt
-
 from-one : (k : ℕ) (h : InputView) (f : Future) → InputFrom k h → Fit h f → IsFrom k h.greatest (items_left h f).items.packets
 from-one k h f (waits_from p waits held less) fit = let P : Items → Type 0 = λ i. IsFrom k h.greatest i.packets in subst P (sym (waiting-rest h p f waits held)) less
 from-one k h f (ended_from waits e) fit = let P : Items → Type 0 = λ i. IsFrom k h.greatest i.packets in subst P (sym (ended-rest h f waits e fit)) tt
@@ -41,12 +28,6 @@ from-one k h f (ended_from waits e) fit = let P : Items → Type 0 = λ i. IsFro
 whole-one : (k n : ℕ) (h : InputView) (f : Future) → InputFrom k h → Fit h f → end_at n (items_left h f) ≡ Complete
 whole-one k n h f (waits_from p waits held less) fit = ap (λ (i : Items). end_at n (record { greatest = h.greatest; items = i; size = f.size })) (waiting-rest h p f waits held)
 whole-one k n h f (ended_from waits e) fit = ap (λ (i : Items). end_at n (record { greatest = h.greatest; items = i; size = f.size })) (ended-rest h f waits e fit)
-
-pub all-over : (k : ℕ) (hs : List InputView) (fs : List Future) → InputsOver k hs → AreFutures hs fs → AllOver k (inputs_left hs fs)
-all-over k [] [] over fits = tt
-all-over k [] (f ∷ fs) over fits = absurd fits
-all-over k (h ∷ hs) [] over fits = absurd fits
-all-over k (h ∷ hs) (f ∷ fs) over fits = (over-one k h f over.0 fits.0, all-over k hs fs over.1 fits.1)
 
 pub all-from : (k : ℕ) (hs : List InputView) (fs : List Future) → InputsFrom k hs → AreFutures hs fs → AllFrom k (inputs_left hs fs)
 all-from k [] [] from fits = tt
@@ -64,12 +45,12 @@ none-broken k n (h ∷ hs) (f ∷ fs) from fits = ap (λ (c : SequenceEnd). firs
 -- the input with the least key, the lowest input of those, is decided: whatever comes, its packet
 -- is next
 pub merge-decides : (xs ys : List InputView) (h : InputView) (p : Captured) (fs gs : List Future) (f : Future) → h.waiting ≡ true → h.source.packet ≡ Some p
-    → InputsOver (max h.greatest p.time) xs → InputsFrom (max h.greatest p.time) ys → AreFutures xs fs → AreFutures ys gs → fault_without_packets 0 (inputs_left xs fs ++ items_left h f ∷ inputs_left ys gs) ≡ Complete
+    → InputsFrom (max h.greatest p.time + 1) xs → InputsFrom (max h.greatest p.time) ys → AreFutures xs fs → AreFutures ys gs → fault_without_packets 0 (inputs_left xs fs ++ items_left h f ∷ inputs_left ys gs) ≡ Complete
     → sequence_by_time (inputs_left xs fs ++ items_left h f ∷ inputs_left ys gs) ≡ with_front (Packet (length (inputs_left xs fs)) (first_is h p) ∷ []) (sequence_by_time (inputs_left xs fs ++ items_left (input_after_decided h) f ∷ inputs_left ys gs))
 merge-decides xs ys h p fs gs f waits held over from fits_x fits_y whole =
     let is = waiting-rest h p f waits held in
     let key : max h.greatest p.time ≡ (input_after_decided h).greatest = rw held refl in
     merged-next (inputs_left xs fs) (inputs_left ys gs) h.greatest (first_is h p) (items_left h f).items f.items.packets f.size (ap (λ (i : Items). i.packets) is) whole
-    (all-over (max h.greatest p.time) xs fs over fits_x) (all-from (max h.greatest p.time) ys gs from fits_y)
+    (all-from (max h.greatest p.time + 1) xs fs over fits_x) (all-from (max h.greatest p.time) ys gs from fits_y)
     ∙ ap (λ (i : Items). with_front (Packet (length (inputs_left xs fs)) (first_is h p) ∷ []) (sequence_by_time (inputs_left xs fs ++ record { greatest = max h.greatest p.time; items = record { packets = f.items.packets; declared = i.declared; ending = i.ending }; size = f.size } ∷ inputs_left ys gs))) is
     ∙ ap (λ n. with_front (Packet (length (inputs_left xs fs)) (first_is h p) ∷ []) (sequence_by_time (inputs_left xs fs ++ record { greatest = n; items = f.items; size = f.size } ∷ inputs_left ys gs))) key

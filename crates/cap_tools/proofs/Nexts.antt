@@ -1,5 +1,6 @@
 -- What comes next, as a step knows it, is what comes next in the order.
-use Rattle.cap_tools.proofs.Common.{◌≡◌, ◌⊎◌, inl, inr, ℕ, ◌+◌, true, List, [], ◌∷◌, ◌++◌, Option, None, Some, refl, sym, ◌∙◌, ap, Captured, Fault, Kind, Placed, kind_of, Event, Packet, InputEnd, Complete, PacketOrder, InTurn, ByTime, InputPast, Policy, Edit, Filter, KeepAll, Count, SelectorState, Verdict, Pass, PassLast, PassesAs, Skip, Refuse, judge, Form, JobProgress, IsNextAnswer, apply_event, apply_verdict, closing_text, decide, unless_refused, end_input, first_link, form_refuses, packet_bytes, report_bytes, text_after, text_of_progress, progress-next, JobState, Meets, PacketsDecided, a_packet, all_ends, an_end, asks_report, output_form, progress_of, wholes_of, work_of, NextPacket, NextReport, NextClosing}
+use Rattle.cap_tools.proofs.Common.{IsNextEvent, ap₂, append_assoc, append-nil, Stops, AsCapture, AsReports, AsLines, text, added_text, packets_text, text-more, lines_text, lines-more, report_text, reports_text, reports-more, Report, Sequence, sequence_of, no_progress, apply_events, end_with, final_text, output_text, text_at_end, Grows, course-grows, course-close, drained-text, StopsWriting, progress_over, failures_by, written_by, ◌≡◌, ℕ, ◌+◌, true, List, [], ◌∷◌, ◌++◌, Option, None, Some, refl, sym, ◌∙◌, ap, Captured, Fault, Kind, Placed, Event, Packet, InputEnd, Complete, PacketOrder, InTurn, ByTime, InputPast, Policy, Edit, Filter, KeepAll, Count, SelectorState, Verdict, Pass, PassLast, PassesAs, Skip, Refuse, judge, Form, JobProgress, IsNextAnswer, apply_event, apply_verdict, closing_text, decide, unless_refused, end_input, first_link, form_refuses, packet_bytes, report_bytes, text_of_progress, progress-next, JobState, Meets, PacketsDecided, asks_report, output_form, progress_of, wholes_of, work_of}
+use Rattle.cap_print.specs.Rendering.{printed_text}
 use Rattle.cap_tools.proofs.Once.{packet-more, report-more}
 
 -- ---- what the next answer adds
@@ -25,57 +26,96 @@ report-adds InTurn KeepAll form w i kind size asks = (cc)
 
 -- ---- what is next
 
-pub record ToldNext {ss : List InputPast} {before : List ℕ} {old : JobState} (d : PacketsDecided ss before old) (new : JobState) (bytes : List ℕ) : Type 0 where
-  pub event : Option Event
-  pub met : Meets old.inputs new.inputs event
-  pub answer : IsNextAnswer (work_of old) (wholes_of ss) d.events event bytes
+next-adds : (ss : List InputPast) (before : List ℕ) (old : JobState) (bytes : List ℕ) (d : PacketsDecided ss before old) (e : Event) → IsNextEvent (work_of old) (wholes_of ss) d.events e
+    → text_of_progress (output_form old) (apply_event old.policy (output_form old) (progress_of d) e) ≡ text_of_progress (output_form old) (progress_of d) ++ bytes → IsNextAnswer (work_of old) (wholes_of ss) d.events (Some e) bytes
+next-adds ss before old bytes d e comes adds =
+    let form : Form = output_form old in
+    let w : JobProgress = progress_of d in (
+      comes,
+      ap (text_of_progress form) (progress-next old.policy form d.events e w (apply_event old.policy form w e) d.progress refl)
+          ∙ adds
+          ∙ ap (λ (v : JobProgress). text_of_progress form v ++ bytes) (sym d.progress),
+    )
 
-pub told-next : (ss : List InputPast) (before : List ℕ) (old new : JobState) (bytes : List ℕ) (d : PacketsDecided ss before old) → NextPacket d new bytes ⊎ NextReport d new bytes ⊎ NextClosing d new bytes
-    → ToldNext d new bytes
-told-next ss before old new bytes d next =
-    elim next [
-      | inl packet ↦
-          let x : Placed = record { offset = packet.cursor.source.offset; packet = packet.packet } in
-          record {
-            event = Some (Packet packet.input x);
-            met = a_packet packet.input packet.cursor packet.packet packet.next packet.among packet.held packet.inputs;
-            answer = (
-              packet.comes,
-              following-one (Packet packet.input x)
-                  ∙ passes-adds form w packet.input x (judge old.policy old.state (old.decided + 1) packet.packet).verdict (judge old.policy old.state (old.decided + 1) packet.packet).state packet.passed packet.passes packet.taken
-                  ∙ joins (sym packet.bytes_are),
-            );
-          }
-      | inr other ↦ elim other [
-        | inl report ↦
-            let kind : Option Kind = kind_of report.fetches.source.declared in
-            let size : ℕ = report.fetches.source.offset in
-            record {
-              event = Some (InputEnd report.input kind size);
-              met = an_end report.input report.next report.fetches;
-              answer = (
-                report.comes,
-                following-one (InputEnd report.input kind size)
-                    ∙ report-adds old.inputs.order old.policy form w report.input kind size report.policy
-                    ∙ joins (sym report.bytes_are),
-              );
-            }
-        | inr closing ↦ record {
-          event = None;
-          met = all_ends closing.next closing.inputs;
-          answer = (closing.comes, closing.bytes_are ∙ ap (λ (v : JobProgress). closing_text form (first_link (wholes_of ss)) v.packets) (sym d.progress));
-        }
-      ]
-    ]
-  where
-    form : Form
-    form = output_form old
+-- a packet that passes, and is taken
+pub packet-answer : (ss : List InputPast) (before : List ℕ) (old : JobState) (d : PacketsDecided ss before old) (i : ℕ) (x : Placed) (q : Captured) → IsNextEvent (work_of old) (wholes_of ss) d.events (Packet i x) → PassesAs (judge old.policy old.state (old.decided + 1) x.packet).verdict q
+    → form_refuses (output_form old) d.packets q ≡ None → IsNextAnswer (work_of old) (wholes_of ss) d.events (Some (Packet i x)) (packet_bytes (output_form old) d.packets q)
+packet-answer ss before old d i x q comes passes taken =
+    let j = judge old.policy old.state (old.decided + 1) x.packet in
+    next-adds ss before old (packet_bytes (output_form old) d.packets q) d (Packet i x) comes (passes-adds (output_form old) (progress_of d) i x j.verdict j.state q passes taken)
 
-    w : JobProgress
-    w = progress_of d
+-- the report of an input
+pub report-answer : (ss : List InputPast) (before : List ℕ) (old : JobState) (d : PacketsDecided ss before old) (i : ℕ) (kind : Option Kind) (size : ℕ) → IsNextEvent (work_of old) (wholes_of ss) d.events (InputEnd i kind size) → asks_report old.inputs.order old.policy ≡ true
+    → IsNextAnswer (work_of old) (wholes_of ss) d.events (Some (InputEnd i kind size)) (report_bytes (output_form old) (record { input = i; kind = kind; size = size; tally = old.state.tally }))
+report-answer ss before old d i kind size comes asks =
+    next-adds ss before old (report_bytes (output_form old) (record { input = i; kind = kind; size = size; tally = old.state.tally })) d (InputEnd i kind size) comes (report-adds old.inputs.order old.policy (output_form old) (progress_of d) i kind size asks)
 
-    following-one : (e : Event) → text_after (work_of old) (d.events ++ e ∷ []) ≡ text_of_progress form (apply_event old.policy form w e)
-    following-one e = ap (text_of_progress form) (progress-next old.policy form d.events e w (apply_event old.policy form w e) d.progress refl)
+-- ---- the output's device failed at it
 
-    joins : {added : List ℕ} → added ≡ bytes → text_of_progress form w ++ added ≡ text_after (work_of old) d.events ++ bytes
-    joins {added} is = ap (λ (l : List ℕ). text_of_progress form w ++ l) is ∙ ap (λ (v : JobProgress). text_of_progress form v ++ bytes) (sym d.progress)
+-- what follows the text of these packets and reports
+record Added (form : Form) (ps qs : List Captured) (rs ts : List Report) : Type 0 where
+  tail : List ℕ
+  is : output_text form (ps ++ qs) (rs ++ ts) ≡ output_text form ps rs ++ tail
+
+added : (form : Form) (ps qs : List Captured) (rs ts : List Report) → Added form ps qs rs ts
+added (AsCapture format) ps [] rs ts = record { tail = []; is = ap (text format) (append-nil ps) ∙ sym (append-nil (text format ps)) }
+added (AsCapture format) ps (q ∷ qs) rs ts = record { tail = added_text format ps q ++ packets_text format (ps ++ q ∷ []) qs; is = text-more format ps q qs }
+added (AsReports names) ps qs rs [] = record { tail = []; is = ap (reports_text names) (append-nil rs) ∙ sym (append-nil (reports_text names rs)) }
+added (AsReports names) ps qs rs (t ∷ ts) = record { tail = report_text names t ++ reports_text names ts; is = ap (reports_text names) (sym (append_assoc rs (t ∷ []) ts)) ∙ reports-more names rs t ts }
+added (AsLines options) ps [] rs ts = record { tail = []; is = ap (lines_text options) (append-nil ps) ∙ sym (append-nil (lines_text options ps)) }
+added (AsLines options) ps (q ∷ qs) rs ts = record { tail = printed_text options q ++ lines_text options qs; is = ap (lines_text options) (sym (append_assoc ps (q ∷ []) qs)) ∙ lines-more options ps q qs }
+
+-- how far the job comes where all events came
+pub all-course : (ss : List InputPast) (before : List ℕ) (old : JobState) (d : PacketsDecided ss before old) → sequence_of old.inputs.order (wholes_of ss) ≡ record { events = d.events; end = Complete } → progress_over old (wholes_of ss) ≡ end_with (progress_of d) Complete
+all-course ss before old d is =
+    course-close old.policy (output_form old) (sequence_of old.inputs.order (wholes_of ss)) d.events (progress_of d) Complete (is ∙ ap (λ (l : List Event). record { events = l; end = Complete }) (sym (append-nil d.events))) d.progress refl
+
+-- the next answer, in all that would be written
+record InWhole {ss : List InputPast} {before : List ℕ} {old : JobState} (d : PacketsDecided ss before old) (bytes : List ℕ) : Type 0 where
+  back : List ℕ
+  is : final_text (output_form old) (first_link (wholes_of ss)) (progress_over old (wholes_of ss)) ≡ output_text (output_form old) d.packets d.reports ++ (bytes ++ back)
+
+in-whole : (ss : List InputPast) (before : List ℕ) (old : JobState) (bytes : List ℕ) (d : PacketsDecided ss before old) (event : Option Event) → IsNextAnswer (work_of old) (wholes_of ss) d.events event bytes → InWhole d bytes
+in-whole ss before old bytes d (Some e) answer =
+    let form : Form = output_form old in
+    let s : Sequence = sequence_of old.inputs.order (wholes_of ss) in
+    let w : JobProgress = apply_events old.policy form no_progress (d.events ++ e ∷ []) in
+    let all : JobProgress = progress_over old (wholes_of ss) in
+    let grows : Grows w all = course-grows old.policy form s (record { events = answer.0.later; end = s.end }) (d.events ++ e ∷ []) w
+    (ap (λ (l : List Event). record { events = l; end = s.end }) (answer.0.is ∙ sym (append_assoc d.events (e ∷ []) answer.0.later))) refl in
+    let more : Added form w.packets grows.packets w.reports grows.reports = added form w.packets grows.packets w.reports grows.reports in
+    let so_far : List ℕ = output_text form d.packets d.reports in
+    let closes : List ℕ = text_at_end all.end form (first_link (wholes_of ss)) all.packets in
+    record {
+      back = more.tail ++ closes;
+      is =
+          ap (λ (l : List ℕ). l ++ closes)
+          (ap₂ (output_text form) grows.packets_is grows.reports_is ∙ more.is
+          ∙ ap (λ (l : List ℕ). l ++ more.tail) (answer.1 ∙ ap (λ (v : JobProgress). text_of_progress form v ++ bytes) d.progress)
+          ∙ append_assoc so_far bytes more.tail)
+          ∙ append_assoc so_far (bytes ++ more.tail) closes
+          ∙ ap (λ (l : List ℕ). so_far ++ l) (append_assoc bytes more.tail closes);
+    }
+in-whole ss before old bytes d None answer =
+    let form : Form = output_form old in
+    let link : Option ℕ = first_link (wholes_of ss) in
+    record {
+      back = [];
+      is = ap (final_text form link) (all-course ss before old d answer.0.is)
+          ∙ ap (λ (l : List ℕ). output_text form d.packets d.reports ++ l) (ap (λ (v : JobProgress). closing_text form link v.packets) (sym d.progress) ∙ sym answer.1 ∙ sym (append-nil bytes));
+    }
+
+pub stops-at : (ss : List InputPast) (before : List ℕ) (old new : JobState) (bytes : List ℕ) (d : PacketsDecided ss before old) (event : Option Event) → Meets old.inputs new.inputs event → IsNextAnswer (work_of old) (wholes_of ss) d.events event bytes → Stops (written_by old) bytes (written_by new) → failures_by new ≡ failures_by old + 1 → StopsWriting d new
+stops-at ss before old new bytes d event met answer stops failures =
+    let all = in-whole ss before old bytes d event answer in
+    record {
+      failures = failures;
+      event = event;
+      met = met;
+      bytes = bytes;
+      answer = answer;
+      back = all.back;
+      whole = all.is;
+      so_far = drained-text before old.names old.output d.packets d.reports d.output;
+      stops = stops;
+    }

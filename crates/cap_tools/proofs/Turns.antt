@@ -1,5 +1,5 @@
 -- A turn of the loop: one step, or two.
-use Rattle.cap_tools.proofs.Common.{◌≡◌, ◌⊎◌, inl, inr, ℕ, ◌+◌, ◌<◌, ◌≤◌, Bool, true, false, List, Option, None, Some, IsTrue, refl, sym, ◌∙◌, ap, arith, subst, IsTold, InputPast, InputsView, steps_left, next-is-of, RunResult, JobEnd, HavePrograms, Preparing, JobView, Turn, end_message, end_status, failures_by, room_by, written_by, DecidedBy, PreparesBy, StepReads, StepReadsBy, job_left, IsLight, reads_nothing, most_turns, HasFewTurns, IsStep, ending, IsNext}
+use Rattle.cap_tools.proofs.Common.{◌≡◌, ◌⊎◌, inl, inr, ℕ, ◌+◌, ◌<◌, ◌≤◌, Bool, true, false, List, Option, None, Some, IsTrue, refl, sym, ◌∙◌, ap, arith, subst, OutputView, IsTold, InputsView, steps_left, next-is-of, Call, RunResult, CommandRuns, Assignment, JobEnd, JobState, StepGives, EndsJob, HavePrograms, Preparing, JobView, Turn, end_message, end_status, room_by, PreparesBy, StepReads, StepReadsBy, job_left, IsLight, reads_nothing, most_turns, HasFewTurns, IsCounted, IsSound, IsStep, ending, IsNext}
 use Rattle.cap_inputs.specs.Inputs.{next_of}
 use Rattle.cap_inputs.specs.declared.inputs.Next.{Next}
 use Rattle.cap_inputs.specs.declared.inputs.Next.TheVariants as next
@@ -7,11 +7,11 @@ use Rattle.cap_tools.specs.declared.job.Turn.TheVariants as turn
 use Rattle.cap_tools.specs.declared.step.JobEnd.TheVariants as end
 use Rattle.cap_tools.specs.Commands.{preparing_left}
 use Rattle.cap_tools.specs.inside.Commands.{MakesStep, MakesSteps, MakesStepUnless, is_read, one_step, two_steps, makes, rests}
-use Rattle.cap_tools.specs.inside.Jobs.{IsCounted}
 use Rattle.cap_tools.specs.inside.Step.{IsUncounted, MayCount}
-use Rattle.cap_tools.proofs.CommandRuns.{RunsBy, Under, gives, under-more, under-done}
-use Rattle.cap_tools.proofs.Ends.{step-ends}
+use Rattle.cap_tools.proofs.Calls.{IsFilled, IsLeft, under-done}
+use Rattle.cap_tools.proofs.Runs.{Begun, Under, under-more}
 use Rattle.cap_tools.proofs.Kept.{reads-kept}
+use Rattle.cap_tools.proofs.Weights.{is-light}
 
 -- ---- a step that was made may be counted
 
@@ -21,32 +21,21 @@ few-turns j undone few =
     let is = subst F undone few in
     omega (arith, is)
 
--- `view` is the job as its invariant has it
-pub uncounted : (inputs_tell output_tells : Bool) (view old new : JobView) (r : Option JobEnd) → view ≡ old → IsStep inputs_tell output_tells old r new → old.preparing ≡ None → old.done ≡ None
-    → HasFewTurns view.done view.turns view.state.inputs → IsUncounted inputs_tell output_tells old r new
-uncounted inputs_tell output_tells view old new r same step prepared undone few =
-    let F : JobView → Type 0 = λ j. HasFewTurns j.done j.turns j.state.inputs in
-    record { step = step; prepared = prepared; undone = undone; upper_bound = few-turns old undone (subst F same few) }
-
-may-count-in : (inputs_tell output_tells : Bool) (old new : JobView) (r : Option JobEnd) → IsStep inputs_tell output_tells old r new → old.done ≡ None → IsCounted None old.turns (steps_left old.state.inputs)
-    → HasFewTurns None old.turns old.state.inputs → MayCount r new
-may-count-in inputs_tell output_tells old new None step undone all few =
-    let same = step.turns in
-    let less = step.progress refl in
-    let paid = step.paid refl in
-    (step.done refl ∙ undone, omega (arith, all, same, less), omega (arith, few, same, paid))
-may-count-in inputs_tell output_tells old new (Some end) step undone all few =
-    let same = step.turns in
-    omega (arith, all, same)
-
-pub may-count : (inputs_tell output_tells : Bool) (view old new : JobView) (r : Option JobEnd) → view ≡ old → IsStep inputs_tell output_tells old r new → old.done ≡ None
-    → IsCounted view.done view.turns (steps_left view.state.inputs) → HasFewTurns view.done view.turns view.state.inputs → MayCount r new
-may-count inputs_tell output_tells view old new r same step undone counted few =
-    let C : JobView → Type 0 = λ j. IsCounted j.done j.turns (steps_left j.state.inputs) in
-    let F : JobView → Type 0 = λ j. HasFewTurns j.done j.turns j.state.inputs in
-    let D : Option ℕ → Type 0 = λ o. IsCounted o old.turns (steps_left old.state.inputs) in
-    let E : Option ℕ → Type 0 = λ o. HasFewTurns o old.turns old.state.inputs in
-    may-count-in inputs_tell output_tells old new r step undone (subst D undone (subst C same counted)) (subst E undone (subst F same few))
+pub may-count : (inputs_tell output_tells : Bool) (old new : JobView) (r : Option JobEnd) → IsUncounted inputs_tell output_tells old r new → MayCount r new
+may-count inputs_tell output_tells old new r is =
+    let C : Option ℕ → Type 0 = λ o. IsCounted o old.turns (steps_left old.state.inputs) in
+    let F : Option ℕ → Type 0 = λ o. HasFewTurns o old.turns old.state.inputs in
+    by_end r is.step (subst C is.undone is.sound.4) (subst F is.undone is.sound.5)
+  where
+    by_end : (r : Option JobEnd) → IsStep inputs_tell output_tells old r new → IsCounted None old.turns (steps_left old.state.inputs) → HasFewTurns None old.turns old.state.inputs → MayCount r new
+    by_end None step all few =
+        let same = step.turns in
+        let less = step.progress refl in
+        let paid = step.paid refl in
+        (step.done refl ∙ is.undone, omega (arith, all, same, less), omega (arith, few, same, paid))
+    by_end (Some end) step all few =
+        let same = step.turns in
+        omega (arith, all, same)
 
 -- ---- what a step gives once it is counted
 
@@ -75,7 +64,7 @@ counted-more inputs_tell output_tells tells old mid is =
         done = step.done refl ∙ is.undone;
         status = tt;
         turns = λ undone. ap (λ n. n + 1) step.turns;
-        upper_bound = λ undone. (let same = step.turns in let bound = is.upper_bound in omega (arith, same, bound));
+        upper_bound = λ undone. (let same = step.turns in let bound = few-turns old is.undone is.sound.5 in omega (arith, same, bound));
         light = step.light;
         sound = step.sound;
         left = λ more. (let p = ap preparing_left none in let p' = ap preparing_left is.prepared in let less = step.progress refl in omega (arith, p, p', less));
@@ -91,6 +80,28 @@ status-small : (e : JobEnd) → end_status e ≤ 2
 status-small end.Complete = omega arith
 status-small (end.FaultIn input fault) = omega arith
 status-small end.OutputFailed = omega arith
+
+clean-status : (e : JobEnd) → end_status e ≡ 0 → e ≡ end.Complete
+clean-status end.Complete is = refl
+clean-status (end.FaultIn input fault) is = (cc)
+clean-status end.OutputFailed is = (cc)
+
+-- a step that ended the job, and its report
+step-ends : (inputs_tell output_tells tells : Bool) (old mid new : JobView) (e : JobEnd) → IsTrue inputs_tell → IsTrue output_tells → IsStep inputs_tell output_tells old (Some e) mid → new ≡ ending e new.err mid
+    → IsTold tells mid.err (end_message mid.state.names mid.state.inputs.cursors e) new.err → (e ≡ end.Complete → new.err ≡ mid.err) → EndsJob tells old (end_status e) new
+step-ends inputs_tell output_tells tells old mid new e ti to step is exact quiet =
+    let M : JobState → Type 0 = λ m. StepGives old.state (Some e) m in
+    let N : List (List ℕ) → Type 0 = λ l. IsTold tells mid.err (end_message l mid.state.inputs.cursors e) new.err in
+    let C : JobState → Type 0 = λ m. IsTold tells mid.err (end_message old.state.names m.inputs.cursors e) new.err in
+    let F : OutputView → Type 0 = λ v. IsTold tells v (end_message old.state.names new.state.inputs.cursors e) new.err in
+    let same : new.state ≡ mid.state = ap (λ (j : JobView). j.state) is in
+    record {
+      end = e;
+      leaves = subst M (sym same) (step.exact ti to);
+      exact = subst F step.err (subst C (sym same) (subst N step.names exact));
+      quiet = λ zero. quiet (clean-status e zero) ∙ step.err;
+      status_is = refl;
+    }
 
 pub counted-end : (inputs_tell output_tells tells : Bool) (old mid new : JobView) (e : JobEnd) → IsUncounted inputs_tell output_tells old (Some e) mid → new ≡ ending e new.err mid
     → IsTold tells mid.err (end_message mid.state.names mid.state.inputs.cursors e) new.err → (e ≡ end.Complete → new.err ≡ mid.err) → MakesStep inputs_tell output_tells tells old (turn.Done (end_status e)) new
@@ -109,7 +120,7 @@ counted-end inputs_tell output_tells tells old mid new e is new_is told quiet =
         done = ap (λ (j : JobView). j.done) new_is;
         status = status-small e;
         turns = λ undone. one ∙ ap (λ n. n + 1) step.turns;
-        upper_bound = λ undone. (let same = step.turns in let bound = is.upper_bound in omega (arith, one, same, bound));
+        upper_bound = λ undone. (let same = step.turns in let bound = few-turns old is.undone is.sound.5 in omega (arith, one, same, bound));
         light = subst L (sym new_is) step.light;
         sound = subst S (sym new_is) step.sound;
         left = λ more. (cc);
@@ -127,36 +138,31 @@ counted-status (Some ended) turns left status is counted =
     let S : Option ℕ → Type 0 = λ o. IsCounted o turns left in
     (subst S is counted).1
 
-ended-in : (inputs_tell output_tells tells : Bool) (j : JobView) (status : ℕ) → j.done ≡ Some status → j.preparing ≡ None → status ≤ 2 → IsLight j.state → HavePrograms j.state.policy j.programs
-    → MakesStep inputs_tell output_tells tells j (turn.Done status) j
-ended-in inputs_tell output_tells tells j status done none small light sound = record {
-  after = λ s some. (ap turn.Done (let same = sym done ∙ some in cc same), refl);
-  exact = λ ti to undone prepared. absurd (let both = sym done ∙ undone in cc both);
-  prepares = prepares-nothing output_tells tells j (turn.Done status) j none;
-  keeps = record {
-    prepared = none;
-    done = done;
-    status = small;
-    turns = λ undone. absurd (let both = sym done ∙ undone in cc both);
-    upper_bound = λ undone. absurd (let both = sym done ∙ undone in cc both);
-    light = light;
-    sound = sound;
-    left = λ more. (cc);
-    names = refl;
-    room = refl;
-    quiet = λ more. refl;
-    policy = λ prepared. refl;
-  };
-  reads = reads-prepared inputs_tell false j j none (reads_nothing refl (record { inputs = refl; decided = refl; programs = refl }));
-}
-
 -- a step after the end
-pub after-end : (inputs_tell output_tells tells : Bool) (view j : JobView) (status : ℕ) → view ≡ j → view.done ≡ Some status → j.preparing ≡ None → IsCounted view.done view.turns (steps_left view.state.inputs) → IsLight view.state
-    → HavePrograms view.state.policy view.programs → MakesStep inputs_tell output_tells tells j (turn.Done status) j
-after-end inputs_tell output_tells tells view j status same done none counted light sound =
-    let L : JobView → Type 0 = λ v. IsLight v.state in
-    let S : JobView → Type 0 = λ v. HavePrograms v.state.policy v.programs in
-    ended-in inputs_tell output_tells tells j status (sym (ap (λ (v : JobView). v.done) same) ∙ done) none (counted-status view.done view.turns (steps_left view.state.inputs) status done counted) (subst L same light) (subst S same sound)
+pub after-end : (inputs_tell output_tells tells : Bool) (old j : JobView) (status : ℕ) → old ≡ j → IsSound old → old.done ≡ Some status → j.preparing ≡ None → MakesStep inputs_tell output_tells tells j (turn.Done status) j
+after-end inputs_tell output_tells tells old j status same was ended none =
+    let sound = subst IsSound same was in
+    let done : j.done ≡ Some status = sym (ap (λ (v : JobView). v.done) same) ∙ ended in
+    record {
+      after = λ s some. (ap turn.Done (let same = sym done ∙ some in cc same), refl);
+      exact = λ ti to undone prepared. absurd (let both = sym done ∙ undone in cc both);
+      prepares = prepares-nothing output_tells tells j (turn.Done status) j none;
+      keeps = record {
+        prepared = none;
+        done = done;
+        status = counted-status j.done j.turns (steps_left j.state.inputs) status done sound.4;
+        turns = λ undone. absurd (let both = sym done ∙ undone in cc both);
+        upper_bound = λ undone. absurd (let both = sym done ∙ undone in cc both);
+        light = is-light j.state sound.1 sound.2;
+        sound = sound.3;
+        left = λ more. (cc);
+        names = refl;
+        room = refl;
+        quiet = λ more. refl;
+        policy = λ prepared. refl;
+      };
+      reads = reads-prepared inputs_tell false j j none (reads_nothing refl (record { inputs = refl; decided = refl; programs = refl }));
+    }
 
 -- ---- a read, if it is next, and then what is next
 
@@ -192,29 +198,15 @@ told-no-read inputs r tells (inr finishes) = told-read inputs r false tells (ap 
 
 -- ---- the loop, over one step or two
 
-one-more : (inputs_tell output_tells tells : Bool) (first job new : JobView) (ss : List InputPast) (before : List ℕ) → IsTrue inputs_tell → IsTrue output_tells → job.done ≡ None
-    → MakesStep inputs_tell output_tells tells job turn.More new → DecidedBy first.preparing ss before first → Under first ss before job → Under first ss before new
-one-more inputs_tell output_tells tells first job new ss before ti to undone step d under =
-    under-more tells first job new ss before (gives job.preparing output_tells tells job turn.More new to (step.exact ti to undone) step.prepares) d step.keeps.prepared step.keeps.done step.keeps.names step.keeps.policy under
+pub steps-more : (inputs_tell output_tells tells : Bool) (asked : Assignment) (call : Call) (job new : JobView) → IsTrue inputs_tell → IsTrue output_tells → Begun asked call → MakesSteps inputs_tell output_tells tells job turn.More new → Under asked call job → Under asked call new
+steps-more inputs_tell output_tells tells asked call job new ti to begun (one_step step) under = under-more inputs_tell output_tells tells asked call job new ti to begun step under
+steps-more inputs_tell output_tells tells asked call job new ti to begun (two_steps between step then) under =
+    under-more inputs_tell output_tells tells asked call between new ti to begun then (under-more inputs_tell output_tells tells asked call job between ti to begun step under)
 
-pub steps-more : (inputs_tell output_tells tells : Bool) (first job new : JobView) (ss : List InputPast) (before : List ℕ) → IsTrue inputs_tell → IsTrue output_tells → job.done ≡ None
-    → MakesSteps inputs_tell output_tells tells job turn.More new → DecidedBy first.preparing ss before first → Under first ss before job → Under first ss before new
-steps-more inputs_tell output_tells tells first job new ss before ti to undone (one_step step) d under = one-more inputs_tell output_tells tells first job new ss before ti to undone step d under
-steps-more inputs_tell output_tells tells first job new ss before ti to undone (two_steps between step then) d under =
-    one-more inputs_tell output_tells tells first between new ss before ti to step.keeps.done then d (one-more inputs_tell output_tells tells first job between ss before ti to undone step d under)
-
-one-done : (inputs_tell output_tells tells : Bool) (first job new : JobView) (ss : List InputPast) (before : List ℕ) (r : RunResult) → IsTrue inputs_tell → IsTrue output_tells → job.done ≡ None
-    → MakesStep inputs_tell output_tells tells job (turn.Done r.status) new → DecidedBy first.preparing ss before first → r.output.written ≡ written_by new.state → r.output.failures ≡ failures_by new.state → r.messages ≡ new.err
-    → Under first ss before job → RunsBy first.preparing ss before tells first r
-one-done inputs_tell output_tells tells first job new ss before r ti to undone step d written failures same under =
-    under-done tells first job new ss before r (gives job.preparing output_tells tells job (turn.Done r.status) new to (step.exact ti to undone) step.prepares) d written failures same under
-
-pub steps-done : (inputs_tell output_tells tells : Bool) (first job new : JobView) (ss : List InputPast) (before : List ℕ) (r : RunResult) → IsTrue inputs_tell → IsTrue output_tells → job.done ≡ None
-    → MakesSteps inputs_tell output_tells tells job (turn.Done r.status) new → DecidedBy first.preparing ss before first → r.output.written ≡ written_by new.state → r.output.failures ≡ failures_by new.state → r.messages ≡ new.err
-    → Under first ss before job → RunsBy first.preparing ss before tells first r
-steps-done inputs_tell output_tells tells first job new ss before r ti to undone (one_step step) d written failures same under = one-done inputs_tell output_tells tells first job new ss before r ti to undone step d written failures same under
-steps-done inputs_tell output_tells tells first job new ss before r ti to undone (two_steps between step then) d written failures same under =
-    one-done inputs_tell output_tells tells first between new ss before r ti to step.keeps.done then d written failures same (one-more inputs_tell output_tells tells first job between ss before ti to undone step d under)
+pub steps-done : (inputs_tell output_tells : Bool) (asked : Assignment) (call : Call) (job new : JobView) (r : RunResult) → IsTrue inputs_tell → IsTrue output_tells → Begun asked call → IsFilled call r → MakesSteps inputs_tell output_tells call.tells job (turn.Done r.status) new → IsLeft new r → Under asked call job → CommandRuns asked call r
+steps-done inputs_tell output_tells asked call job new r ti to begun filled (one_step step) left under = under-done inputs_tell output_tells asked call job new r ti to begun filled step left under
+steps-done inputs_tell output_tells asked call job new r ti to begun filled (two_steps between step then) left under =
+    under-done inputs_tell output_tells asked call between new r ti to begun filled then left (under-more inputs_tell output_tells call.tells asked call job between ti to begun step under)
 
 pub steps-room : (inputs_tell output_tells tells : Bool) (old : JobView) (r : Turn) (new : JobView) → MakesSteps inputs_tell output_tells tells old r new → room_by new.state ≡ room_by old.state
 steps-room inputs_tell output_tells tells old r new (one_step step) = step.keeps.room
@@ -223,13 +215,6 @@ steps-room inputs_tell output_tells tells old r new (two_steps between step then
 pub steps-undone : (inputs_tell output_tells tells : Bool) (old new : JobView) → MakesSteps inputs_tell output_tells tells old turn.More new → new.done ≡ None
 steps-undone inputs_tell output_tells tells old new (one_step step) = step.keeps.done
 steps-undone inputs_tell output_tells tells old new (two_steps between step then) = then.keeps.done
-
-pub steps-less : (inputs_tell output_tells tells : Bool) (old new : JobView) → MakesSteps inputs_tell output_tells tells old turn.More new → job_left new < job_left old
-steps-less inputs_tell output_tells tells old new (one_step step) = step.keeps.left refl
-steps-less inputs_tell output_tells tells old new (two_steps between step then) =
-    let first = step.keeps.left refl in
-    let second = then.keeps.left refl in
-    omega (arith, first, second)
 
 pub steps-status : (inputs_tell output_tells tells : Bool) (old new : JobView) (status : ℕ) → MakesSteps inputs_tell output_tells tells old (turn.Done status) new → status ≤ 2
 steps-status inputs_tell output_tells tells old new status (one_step step) = step.keeps.status

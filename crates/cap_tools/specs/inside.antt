@@ -3,6 +3,5 @@ pub mod Bounds
 pub mod Commands
 pub mod FirstStep
 pub mod Jobs
-pub mod Listing
 pub mod Packets
 pub mod Step

@@ -14,7 +14,7 @@ ghost use Rattle.cap_tools.specs.Start.{assignment};
 
 use crate::messages::Messages;
 use crate::start::{Assignment, Preparation, assignment_of, read_filter};
-use crate::step::{JobEnd, close, decide, end_after, end_of_failed_write};
+use crate::step::{JobEnd, close, decide, end_after};
 use cap_command::{Command, Compile, Print};
 use cap_filter::expression::compile_text;
 use cap_filter::filter::{Filter, Refusal};
@@ -55,19 +55,11 @@ pub struct Job<I: Input, O: Output, E: Output, A: Allocator> {
 }
 
 impl<I: Input, O: Output, E: Output, A: Allocator> Model for Job<I, O, E, A> {
-    ghost use Rattle.std.specs.Prelude.{◌+◌, ◌≤◌};
     ghost use Rattle.std.specs.Coded.{codes};
     ghost use Rattle.std.specs.Option.{option_map};
     ghost use Rattle.cap_filter.specs.inside.Programs.{coded_expression};
-    ghost use Rattle.cap_tools.specs.Bounds.{IsBounded};
-    ghost use Rattle.cap_tools.specs.inside.Bounds.{HasFewTurns};
-    ghost use Rattle.cap_tools.specs.inside.Commands.{IsReadyIf};
-    ghost use Rattle.cap_inputs.specs.inside.Inputs.{steps_left};
-    ghost use Rattle.cap_inputs.specs.inside.Inputs.{most_steps};
     ghost use Rattle.cap_tools.specs.Jobs.{JobView, state_at};
-    ghost use Rattle.cap_tools.specs.inside.Jobs.{IsCounted};
-    ghost use Rattle.cap_process.specs.Selector.{HavePrograms};
-    ghost use Rattle.cap_process.specs.inside.Selector.{HasFewMarks};
+    ghost use Rattle.cap_tools.specs.inside.Jobs.{IsSound};
     ghost use Rattle.cap_tools.specs.Start.{preparing_of};
 
     ghost Value = { JobView };
@@ -83,20 +75,14 @@ impl<I: Input, O: Output, E: Output, A: Allocator> Model for Job<I, O, E, A> {
       done = j.done;
     } };
 
-    ghost invariant = { λ j. (j.decided + steps_left j.inputs ≤ most_steps)
-        × IsBounded j.inputs j.output
-        × HasFewMarks j.selector.policy j.selector.state
-        × HavePrograms j.selector.policy j.selector.programs
-        × IsCounted j.done j.turns (steps_left j.inputs)
-        × HasFewTurns j.done j.turns j.inputs
-        × IsReadyIf (option_map preparing_of j.preparation) (record {
-          preparing = option_map preparing_of j.preparation;
-          state = state_at j.messages.names j.inputs j.selector j.output j.decided;
-          programs = j.selector.programs;
-          err = j.messages.device;
-          turns = j.turns;
-          done = j.done;
-        }) };
+    ghost invariant = { λ j. IsSound (record {
+      preparing = option_map preparing_of j.preparation;
+      state = state_at j.messages.names j.inputs j.selector j.output j.decided;
+      programs = j.selector.programs;
+      err = j.messages.device;
+      turns = j.turns;
+      done = j.done;
+    }) };
 }
 
 /// The status of a job that ended so: 0 if all is written, 1 after a fault or a failed write.
@@ -112,13 +98,10 @@ fn status_at_end(end: JobEnd) -> u8
 impl<I: Input, O: Output, E: Output, A: Allocator + Copy + Drop> Job<I, O, E, A> {
     ghost use Rattle.cap_filter.specs.Filters.{AreNew, programs_of, rule_of};
     ghost use Rattle.cap_filter.specs.Refusals.{refusal_status};
-    ghost use Rattle.cap_tools.specs.Commands.{CompileGives, DecidedBy, FilterGives};
-    ghost use Rattle.cap_tools.specs.Commands.{StepKeeps, PreparesBy, PreparesOnly};
-    ghost use Rattle.cap_tools.specs.inside.Commands.{KeepsFirst, MakesStep};
-    ghost use Rattle.cap_tools.specs.inside.Commands.{MakesStepUnless, MakesSteps};
-    ghost use Rattle.cap_inputs.specs.inside.Inputs.{steps_left};
-    ghost use Rattle.cap_tools.specs.inside.Bounds.{HasFewTurns};
-    ghost use Rattle.cap_tools.specs.inside.Jobs.{IsCounted};
+    ghost use Rattle.cap_tools.specs.Commands.{DecidedBy, PreparesBy, StepKeeps};
+    ghost use Rattle.cap_tools.specs.inside.Commands.{KeepsFirst, MakesStep, MakesStepUnless};
+    ghost use Rattle.cap_tools.specs.inside.Commands.{MakesSteps, with_preparing};
+    ghost use Rattle.cap_tools.specs.inside.Jobs.{IsSound};
     ghost use Rattle.cap_tools.specs.Commands.{StepReadsBy};
     ghost use Rattle.cap_tools.specs.FirstStep.{RefusesStart, filtering};
     ghost use Rattle.cap_tools.specs.inside.FirstStep.{EndsList, IsFresh};
@@ -127,7 +110,7 @@ impl<I: Input, O: Output, E: Output, A: Allocator + Copy + Drop> Job<I, O, E, A>
     ghost use Rattle.cap_tools.specs.Jobs.{turn_goes_on};
     ghost use Rattle.cap_inputs.specs.Fresh.{nothing_done};
     ghost use Rattle.cap_tools.specs.Packets.{failures_by, room_by, written_by};
-    ghost use Rattle.cap_tools.specs.Start.{asked_by};
+    ghost use Rattle.cap_tools.specs.Start.{Compiles, ReadsFilter, asked_by};
     ghost use Rattle.cap_tools.specs.inside.Step.{IsStep, IsUncounted, MayCount, ending};
 
     /// The job of a proper command. `names` are those of the inputs, then of the output. The error
@@ -205,14 +188,7 @@ impl<I: Input, O: Output, E: Output, A: Allocator + Copy + Drop> Job<I, O, E, A>
     #[inline(never)]
     fn prepare(&mut self) -> Turn
         requires { self.old.preparing ≡ None → ⊥ }
-        ensures after { (s : ℕ) → self.old.done ≡ Some s → (result ≡ Turn.Done s)
-            × (self.new ≡ self.old) }
-        ensures exact { IsTrue I.tells → IsTrue O.tells → self.old.done ≡ None
-            → self.old.preparing ≡ None → JobGives E.tells self.old result self.new }
-        ensures prepares { PreparesBy self.old.preparing O.tells E.tells self.old result self.new }
-        ensures keeps { StepKeeps self.old result self.new }
-        ensures reads { StepReadsBy self.old.preparing I.tells (turn_goes_on result)
-            self.old self.new }
+        ensures { MakesStep I.tells O.tells E.tells self.old result self.new }
     {
         match self.preparation.take() {
             Some(Preparation::Filter(print)) => self.start_filtering(&print),
@@ -291,9 +267,7 @@ impl<I: Input, O: Output, E: Output, A: Allocator + Copy + Drop> Job<I, O, E, A>
         requires prepared { self.old.preparing ≡ None }
         requires undone { self.old.done ≡ None }
         requires next { input_spec.IsNext self.old.state.inputs Next.Finish }
-        requires counted { IsCounted self.old.done self.old.turns
-            (steps_left self.old.state.inputs) }
-        requires paid { HasFewTurns self.old.done self.old.turns self.old.state.inputs }
+        requires sound { IsSound self.old }
         ensures { MakesStep I.tells O.tells E.tells self.old result self.new }
     {
         let end = self.finish();
@@ -301,13 +275,12 @@ impl<I: Input, O: Output, E: Output, A: Allocator + Copy + Drop> Job<I, O, E, A>
     }
 
     /// Reads the filter of a print, by which packets are judged from then on; or reports why it is
-    /// refused, and ends the job. It is one step.
+    /// refused, and ends the job. It is one step. The preparation was taken out before.
     fn start_filtering(&mut self, print: &Print<A>) -> Turn
         requires fresh { IsFresh self.old }
         requires taken { self.old.preparing ≡ None }
-        ensures gives { FilterGives (asked_by print.now) E.tells self.old result self.new }
-        ensures keeps { KeepsFirst self.old result self.new }
-        ensures reads { PreparesOnly self.old self.new }
+        ensures { MakesStep I.tells O.tells E.tells
+            (with_preparing (Some (ReadsFilter (asked_by print.now))) self.old) result self.new }
     {
         match read_filter(self.alloc, print) {
             Ok(filter) => self.install_filter(filter, print.count),
@@ -321,10 +294,9 @@ impl<I: Input, O: Output, E: Output, A: Allocator + Copy + Drop> Job<I, O, E, A>
         requires fresh { IsFresh self.old }
         requires taken { self.old.preparing ≡ None }
         requires text { is_text self.old.state.output ≡ true }
-        ensures gives { IsTrue O.tells → CompileGives (string_bytes compile.now.expr)
-            compile.now.link E.tells self.old result self.new }
-        ensures keeps { KeepsFirst self.old result self.new }
-        ensures reads { PreparesOnly self.old self.new }
+        ensures { MakesStep I.tells O.tells E.tells
+            (with_preparing (Some (Compiles (string_bytes compile.now.expr) compile.now.link))
+            self.old) result self.new }
     {
         match compile_text(self.alloc, compile.expr.as_str(), compile.link) {
             Ok(program) => self.list(&program),
@@ -389,6 +361,7 @@ impl<I: Input, O: Output, E: Output, A: Allocator + Copy + Drop> Job<I, O, E, A>
         let number = self.decided + 1;
         match decide(
             self.inputs.cursor(input),
+            input,
             &mut self.selector,
             &mut self.output,
             number,
@@ -398,7 +371,7 @@ impl<I: Input, O: Output, E: Output, A: Allocator + Copy + Drop> Job<I, O, E, A>
                 self.decided = number;
                 end_after(verdict)
             }
-            Err(fault) => Some(end_of_failed_write(input, fault)),
+            Err(end) => Some(end),
         }
     }
 

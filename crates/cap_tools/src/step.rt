@@ -44,19 +44,21 @@ fn put_by_verdict<O: Output, A: Allocator>(
     }
 }
 
-/// Decides the current packet of an input, the `number`-th of the job from 1 on, and writes it if
-/// it passes. The input has one. An error is why the packet is refused, or why it can't be written.
+/// Decides the current packet of the input with this index, the `number`-th of the job from 1 on,
+/// and writes it if it passes. The input has one. An error is how the job ends: the packet is
+/// refused, or can't be written.
 pub(crate) fn decide<I: Input, O: Output, A: Allocator + Copy + Drop>(
     cursor: &InputCursor<I, A>,
+    input: usize,
     selector: &mut Selector<A>,
     output: &mut JobOutput<O, A>,
     number: u128,
-) -> Result<Verdict, Fault>
+) -> Result<Verdict, JobEnd>
     requires { cursor.now.waiting ≡ true }
     ensures exact { IsTrue O.tells → selector.old.state.passed < number
         → FitsTally selector.old.state.tally
-        → DecidesPacket cursor.now.source.packet number (sieve (policy_state selector.old)
-        output.old)
+        → DecidesPacket cursor.now.source.packet input number
+        (sieve (policy_state selector.old) output.old)
         result (sieve (policy_state selector.new) output.new) }
     ensures policy { selector.new.policy ≡ selector.old.policy }
     ensures spends { Spends cursor.now.source.packet selector.old number selector.new }
@@ -67,9 +69,14 @@ pub(crate) fn decide<I: Input, O: Output, A: Allocator + Copy + Drop>(
     ensures upper_bound { HasFewOutputInterfaces output.old → HasFewOutputInterfaces output.new }
 {
     let mut packet = cursor.packet().unwrap();
-    let verdict = selector.judge(number, &mut packet)?;
-    put_by_verdict(verdict, &packet, output)?;
-    Ok(verdict)
+    let verdict = match selector.judge(number, &mut packet) {
+        Ok(verdict) => verdict,
+        Err(fault) => return Err(JobEnd::FaultIn(input, fault)),
+    };
+    match put_by_verdict(verdict, &packet, output) {
+        Ok(()) => Ok(verdict),
+        Err(fault) => Err(end_of_failed_write(input, fault)),
+    }
 }
 
 /// How a job ends after a packet with this verdict: complete after the last one that passes. `None`
@@ -124,9 +131,9 @@ pub(crate) fn close<I: Input, O: Output, E: Output, A: Allocator>(
     }
 }
 
-/// How a job ends whose current packet, of this input, was not decided: the output's device failed,
-/// or the packet has this fault (it is refused, or there was no memory to write it).
-pub(crate) fn end_of_failed_write(input: usize, fault: Fault) -> JobEnd
+/// How a job ends whose current packet, of this input, passes and wasn't written: the output's
+/// device failed, or the packet has this fault (its format refuses it, or there was no memory).
+fn end_of_failed_write(input: usize, fault: Fault) -> JobEnd
     ensures { result ≡ end_of_failed_write input fault }
 {
     match fault {

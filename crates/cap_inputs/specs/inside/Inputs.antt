@@ -1,5 +1,5 @@
 -- Helpers on the inputs of a job: what is left of them, and which is next.
-use Rattle.std.specs.Prelude.{◌≡◌, ◌⊎◌, ◌<◌, ◌≤◌, ℕ, ◌+◌, ◌^◌, Bool, true, false, List, [], ◌∷◌, length, Option, None, unwrap_or}
+use Rattle.std.specs.Prelude.{◌≡◌, ◌⊎◌, ◌≤◌, ℕ, ◌+◌, ◌^◌, Bool, true, false, List, [], ◌∷◌, length, Option, None, unwrap_or}
 use Rattle.std.specs.Option.{option_map, option_or}
 use Rattle.cap_io.specs.Capture.{items_from, first_link_of}
 use Rattle.cap_io.specs.Source.{SourceView, Ended}
@@ -36,11 +36,6 @@ first_declared_link (h ∷ hs) = option_or (first_link_of h.source.declared) (fi
 
 -- ---- what is next, part by part
 
--- if a packet waits, its key is over this
-abbrev pub KeysOver : ℕ → List InputView → Type 0
-KeysOver k [] = Unit {0}
-KeysOver k (h ∷ hs) = (h.waiting ≡ true → k < key_of h) × KeysOver k hs
-
 -- if a packet waits, its key is at least this
 abbrev pub KeysFrom : ℕ → List InputView → Type 0
 KeysFrom k [] = Unit {0}
@@ -56,7 +51,7 @@ pub record IsLeast (cursors : List InputView) (i : ℕ) : Type 0 where
   pub cursor : InputView
   pub among : IsInput cursors i cursor
   pub waits : cursor.waiting ≡ true
-  pub over : KeysOver (key_of cursor) among.front
+  pub over : KeysFrom (key_of cursor + 1) among.front
   pub from : KeysFrom (key_of cursor) among.back
 
 -- an input isn't at its clean end

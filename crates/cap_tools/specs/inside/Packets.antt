@@ -13,16 +13,13 @@ use Rattle.cap_tools.specs.declared.step.JobEnd.TheVariants as end
 use Rattle.cap_process.specs.Reports.{Report, Tally, report_text}
 use Rattle.cap_process.specs.Output.{Target}
 use Rattle.cap_process.specs.inside.Output.{PutsIntoOutput, Reports}
-use Rattle.cap_process.specs.Verdict.{PassesAs, judge}
-use Rattle.cap_process.specs.Outcome.{AreAllEvents, IsNextEvent, closing_text, first_link, form_refuses, packet_bytes, report_bytes}
+use Rattle.cap_process.specs.Verdict.{judge}
 use Rattle.cap_process.specs.Selector.{SelectorView, most_spent, spent_by_verdict}
 use Rattle.cap_process.specs.inside.Selector.{PolicyState, with_empty_tally}
 use Rattle.cap_process.specs.inside.Selector as selecting_inside
 use Rattle.cap_io.specs.Capture.{kind_of}
-use Rattle.cap_io.specs.Sequence.{InputEnd, Packet}
-use Rattle.cap_inputs.specs.declared.inputs.Next.TheVariants as next
-use Rattle.cap_inputs.specs.Inputs.{InputPast, InputsView, InputView, ReadsInput, input_after, next_of}
-use Rattle.cap_tools.specs.Packets.{JobState, PacketsDecided, asks_report, output_form, wholes_of, work_of}
+use Rattle.cap_inputs.specs.Inputs.{InputPast, InputsView, InputView}
+use Rattle.cap_tools.specs.Packets.{asks_report}
 
 -- the report of an input at its end
 abbrev pub report_at : ℕ → InputView → Tally → Report
@@ -57,22 +54,37 @@ pub record Judges (p : Captured) (number : ℕ) (old : Sieve) (verdict : code.Ve
       (Ok verdict) packet new.selector.state
   pub offers : Offers verdict packet old.output put new.output
 
--- a packet is refused, and nothing is written
-pub record Rejects (p : Captured) (number : ℕ) (old : Sieve) (fault : Fault)
+-- how a job ends whose current packet passes and wasn't written: the output failed, or the packet
+-- has this fault (its format refuses it, or there was no memory for it)
+abbrev pub end_of_failed_write : ℕ → Fault → JobEnd
+end_of_failed_write input WriteFailed = end.OutputFailed
+end_of_failed_write input fault = end.FaultIn input fault
+
+-- a packet passes, and writing it fails
+pub record FailsToWrite (p : Captured) (input number : ℕ) (old : Sieve) (e : JobEnd)
     (new : Sieve) : Type 0 where
+  pub verdict : code.Verdict
+  pub fault : Fault
+  pub judges : Judges p number old verdict (Err fault) new
+  pub is : e ≡ end_of_failed_write input fault
+
+-- a packet is refused, and nothing is written
+pub record Rejects (p : Captured) (input number : ℕ) (old : Sieve) (e : JobEnd)
+    (new : Sieve) : Type 0 where
+  pub fault : Fault
   pub exact : selecting_inside.IsVerdict (judge old.selector.policy old.selector.state number p)
       (Err fault) p new.selector.state
   pub same : new.output ≡ old.output
+  pub is : e ≡ end.FaultIn input fault
 
 -- A packet is judged, and written if it passes; or the write fails, or it is refused. There is a
 -- current packet.
-abbrev pub DecidesPacket : Option Captured → ℕ → Sieve → Result code.Verdict Fault → Sieve
-    → Type 0
-DecidesPacket None number old r new = ⊥
-DecidesPacket (Some p) number old (Ok verdict) new = Judges p number old verdict (Ok tt) new
-DecidesPacket (Some p) number old (Err fault) new =
-    ((verdict : code.Verdict) × Judges p number old verdict (Err fault) new)
-    ⊎ Rejects p number old fault new
+abbrev pub DecidesPacket : Option Captured → (input number : ℕ) → Sieve
+    → Result code.Verdict JobEnd → Sieve → Type 0
+DecidesPacket None input number old r new = ⊥
+DecidesPacket (Some p) input number old (Ok verdict) new = Judges p number old verdict (Ok tt) new
+DecidesPacket (Some p) input number old (Err e) new =
+    FailsToWrite p input number old e new ⊎ Rejects p input number old e new
 
 -- how the job ends after a packet with this verdict: the last that passes ends it
 abbrev pub end_after : code.Verdict → Option JobEnd
@@ -114,52 +126,6 @@ pub record Closes (names : List (List ℕ)) (inputs : InputsView) (input : ℕ) 
   pub cursor : InputView
   pub among : slice_get inputs.cursors input ≡ Some cursor
   pub by : ClosesBy (asks_report inputs.order old.selector.policy) names input cursor old r new
-
--- the end of a job whose current packet was not decided: the output failed, or the packet has this
--- fault (it is refused, or there was no memory for it)
-abbrev pub end_of_failed_write : ℕ → Fault → JobEnd
-end_of_failed_write input WriteFailed = end.OutputFailed
-end_of_failed_write input fault = end.FaultIn input fault
-
--- ---- what is next, as a step knows it
-
--- next is the current packet of an input, which passes; this is what it adds
-pub record NextPacket {ss : List InputPast} {before : List ℕ} {old : JobState}
-    (d : PacketsDecided ss before old) (new : JobState) (bytes : List ℕ) : Type 0 where
-  pub input : ℕ
-  pub next : next_of old.inputs ≡ next.Decide input
-  pub cursor : InputView
-  pub among : slice_get old.inputs.cursors input ≡ Some cursor
-  pub packet : Captured
-  pub held : cursor.source.packet ≡ Some packet
-  pub comes : IsNextEvent (work_of old) (wholes_of ss) d.events
-      (Packet input (record { offset = cursor.source.offset; packet = packet }))
-  pub passed : Captured
-  pub passes : PassesAs (judge old.policy old.state (old.decided + 1) packet).verdict passed
-  pub taken : form_refuses (output_form old) d.packets passed ≡ None
-  pub bytes_are : bytes ≡ packet_bytes (output_form old) d.packets passed
-  pub inputs : new.inputs ≡ old.inputs
-
--- next is an input that is read to its end in this step, and reported; this is its report
-pub record NextReport {ss : List InputPast} {before : List ℕ} {old : JobState}
-    (d : PacketsDecided ss before old) (new : JobState) (bytes : List ℕ) : Type 0 where
-  pub input : ℕ
-  pub next : next_of old.inputs ≡ next.Read input
-  pub fetches : ReadsInput old.inputs input (Ok false) new.inputs
-  pub comes : IsNextEvent (work_of old) (wholes_of ss) d.events
-      (InputEnd input (kind_of fetches.source.declared) fetches.source.offset)
-  pub policy : asks_report old.inputs.order old.policy ≡ true
-  pub bytes_are : bytes
-      ≡ report_bytes (output_form old)
-      (report_at input (input_after fetches.cursor (Ok false) fetches.source) old.state.tally)
-
--- all inputs were read; this is what a clean end adds
-pub record NextClosing {ss : List InputPast} {before : List ℕ} {old : JobState}
-    (d : PacketsDecided ss before old) (new : JobState) (bytes : List ℕ) : Type 0 where
-  pub next : next_of old.inputs ≡ next.Finish
-  pub comes : AreAllEvents (work_of old) (wholes_of ss) d.events
-  pub bytes_are : bytes ≡ closing_text (output_form old) (first_link (wholes_of ss)) d.packets
-  pub inputs : new.inputs ≡ old.inputs
 
 -- the texts of some inputs
 abbrev pub texts : List InputPast → List (List ℕ)

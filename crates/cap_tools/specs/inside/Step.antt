@@ -9,6 +9,7 @@ use Rattle.cap_tools.specs.Packets.{StepGives, room_by}
 use Rattle.cap_tools.specs.Jobs.{JobView, end_status}
 use Rattle.cap_tools.specs.Bounds.{IsLight, StepReads, most_turns}
 use Rattle.cap_tools.specs.inside.Bounds.{IsPaid, step_goes_on, steps_owed_in_all}
+use Rattle.cap_tools.specs.inside.Jobs.{IsSound}
 
 -- The result of a step. `exact` holds if contracts know the bytes of the inputs and of the output;
 -- the other clauses hold for all devices. Messages and the count of steps don't change.
@@ -46,7 +47,7 @@ pub record IsUncounted (inputs_tell output_tells : Bool) (old : JobView) (r : Op
   pub step : IsStep inputs_tell output_tells old r now
   pub prepared : old.preparing ≡ None
   pub undone : old.done ≡ None
-  pub upper_bound : old.turns ≤ most_turns old.state.inputs
+  pub sound : IsSound old
 
 -- a step with this result may be counted: there are no more steps than the bounds allow
 abbrev pub MayCount : Option JobEnd → JobView → Type 0

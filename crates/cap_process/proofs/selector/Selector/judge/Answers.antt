@@ -1,6 +1,5 @@
-use Rattle.cap_process.proofs.Common.{◌≡◌, ℕ, ◌+◌, ◌<◌, ◌≤◌, Bool, true, false, Option, Ok, refl, ap, sym, ◌∙◌, subst, arith, Captured, captured, TooManyPackets, Judgement, SelectorState, is_last, judge_by, refuses, judge, SelectorView, most_spent, policy_of, programs_in, spent_by_verdict, window_of, is_count, marks_in, state_of, GrowsByOne, HasFewMarks, ReturnsVerdict, IsVerdict, count_limit, verdict_if, verdict_of}
+use Rattle.cap_process.proofs.Common.{◌≡◌, ℕ, Bool, true, false, Option, Ok, refl, ap, sym, ◌∙◌, subst, arith, Captured, captured, TooManyPackets, Judgement, SelectorState, is_last, judge_by, refuses, judge, SelectorView, policy_of, programs_in, spent_by_verdict, window_of, is_count, marks_in, state_of, GrowsByOne, HasFewMarks, ReturnsVerdict, IsVerdict, count_limit, verdict_if, verdict_of}
 use Rattle.cap_process.specs.declared.selector.Verdict.TheVariants as code
-use Rattle.cap_filter.specs.Programs.{spent_in}
 use Rattle.cap_process.specs.inside.Reports.{FitsTally}
 use Rattle.cap_process.proofs.Selectors.{counted-spends, judged-spends, refused-spends, upper_bound, too-many, tells-count, tells-none, tells-passed, window-few}
 use Rattle.cap_process.proofs.selector.Selector.judge.Goals as goal
@@ -14,11 +13,44 @@ returns-then-is_count-clause-exact g c = λ within counted.
     (sym c.is_count.ensures ∙ c.if-is_count.true) refl (c.counted-self-inside.ensures.counted upper_bound))
     counted
 
+pub returns-then-is_count-clause-counted : goal.returns-then-is_count-clause-counted
+returns-then-is_count-clause-counted g c =
+    let few = c.requires in
+    let bytes = c.counted-self-inside.ensures.bytes in
+    let P : SelectorView → Type 0 = λ v. GrowsByOne v.state.tally c.counted-self-inside.result in
+    subst P c.self.view_is (c.counted-self-inside.ensures.count, c.counted-self-inside.ensures.data, omega (arith, bytes, few))
+
+pub returns-then-is_count-clause-spends : goal.returns-then-is_count-clause-spends
+returns-then-is_count-clause-spends g c =
+    let P : SelectorView → Type 0 = λ v. programs_in c.self.inside.policy ≡ spent_by_verdict v.policy c.args.number (captured c.args.packet.now) v.programs in
+    subst P c.self.view_is (counted-spends (policy_of c.self.inside.policy) c.args.number (captured c.args.packet.now) (programs_in c.self.inside.policy) (sym c.is_count.ensures ∙ c.if-is_count.true))
+
+pub returns-then-is_count-clause-upper_bound : goal.returns-then-is_count-clause-upper_bound
+returns-then-is_count-clause-upper_bound g c = window-few (window_of (policy_of c.self.inside.policy)) c.self.inside.window c.self.invariant
+
 pub returns-then-number-ge-NUMBER_END-clause-exact : goal.returns-then-number-ge-NUMBER_END-clause-exact
 returns-then-number-ge-NUMBER_END-clause-exact g c = λ within counted.
     let P : SelectorView → Type 0 = λ v. judge v.policy v.state c.args.number (captured c.args.packet.now) ≡ refuses v.state TooManyPackets in
     ap (λ (j : Judgement). j.verdict) (subst P c.self.view_is (too-many (policy_of c.self.inside.policy) _ c.args.number (captured c.args.packet.now)
     (sym c.is_count.ensures ∙ c.if-is_count.false) c.if-number-ge-NUMBER_END.true))
+
+pub returns-then-number-ge-NUMBER_END-clause-spends : goal.returns-then-number-ge-NUMBER_END-clause-spends
+returns-then-number-ge-NUMBER_END-clause-spends g c =
+    let P : SelectorView → Type 0 = λ v. v.programs ≡ spent_by_verdict v.policy c.args.number (captured c.args.packet.now) v.programs in
+    subst P c.self.view_is (refused-spends (policy_of c.self.inside.policy) c.args.number (captured c.args.packet.now) (programs_in c.self.inside.policy) (sym c.is_count.ensures ∙ c.if-is_count.false) c.if-number-ge-NUMBER_END.true)
+
+pub returns-then-number-ge-NUMBER_END-clause-upper_bound : goal.returns-then-number-ge-NUMBER_END-clause-upper_bound
+returns-then-number-ge-NUMBER_END-clause-upper_bound g c =
+    let P : SelectorView → Type 0 = λ v. HasFewMarks v.policy v.state in
+    subst P c.self.view_is (window-few (window_of (policy_of c.self.inside.policy)) c.self.inside.window c.self.invariant)
+
+pub returns-in_err-keeps-clause-spends : goal.returns-in_err-keeps-clause-spends
+returns-in_err-keeps-clause-spends g c =
+    let P : SelectorView → Type 0 = λ v. programs_in c.keeps.new.self ≡ spent_by_verdict v.policy c.args.number (captured c.args.packet.now) v.programs in
+    subst P c.self.view_is (c.keeps.ensures.spends ∙ judged-spends (policy_of c.self.inside.policy) c.args.number (captured c.args.packet.now) (programs_in c.self.inside.policy) (sym c.is_count.ensures ∙ c.if-is_count.false) c.if-number-ge-NUMBER_END.false)
+
+pub returns-in_err-keeps-clause-upper_bound : goal.returns-in_err-keeps-clause-upper_bound
+returns-in_err-keeps-clause-upper_bound g c = rw c.keeps.ensures.policy (window-few (window_of (policy_of c.self.inside.policy)) c.keeps.new.window c.keeps.ensures.window)
 
 pub returns-then-not-branch-clause-exact : goal.returns-then-not-branch-clause-exact
 returns-then-not-branch-clause-exact g c = λ within counted.
@@ -34,8 +66,16 @@ returns-then-not-branch-clause-exact g c = λ within counted.
     subst P c.self.view_is (rw (upper_bound (policy_of w.policy) state c.args.number p judges c.if-number-ge-NUMBER_END.false)
     (tells-none (count_limit (policy_of w.policy)) (judge_by (policy_of w.policy) state c.args.number p) after q code.Skip keeps refl))
 
-pub returns-clause-exact : goal.returns-clause-exact
-returns-clause-exact g c = λ within counted.
+pub returns-then-not-branch-clause-spends : goal.returns-then-not-branch-clause-spends
+returns-then-not-branch-clause-spends g c =
+    let P : SelectorView → Type 0 = λ v. programs_in c.keeps.new.self ≡ spent_by_verdict v.policy c.args.number (captured c.args.packet.now) v.programs in
+    subst P c.self.view_is (c.keeps.ensures.spends ∙ judged-spends (policy_of c.self.inside.policy) c.args.number (captured c.args.packet.now) (programs_in c.self.inside.policy) (sym c.is_count.ensures ∙ c.if-is_count.false) c.if-number-ge-NUMBER_END.false)
+
+pub returns-then-not-branch-clause-upper_bound : goal.returns-then-not-branch-clause-upper_bound
+returns-then-not-branch-clause-upper_bound g c = rw c.keeps.ensures.policy (window-few (window_of (policy_of c.self.inside.policy)) c.keeps.new.window c.keeps.ensures.window)
+
+pub returns : goal.returns
+returns g c =
     let w = c.self.inside in
     let p : Captured = captured c.args.packet.now in
     let q : Captured = captured c.keeps.new.packet in
@@ -46,155 +86,28 @@ returns-clause-exact g c = λ within counted.
     let keeps : K true = subst K c.if-not-branch.false (c.in_ok-keeps.ensures.exact w.passed w.tally judges) in
     let is : verdict_of c.pass_verdict.result q ≡ verdict_if q (is_last (count_limit (policy_of c.if-passed-number.self-inside.policy)) c.if-passed-number.self-inside.passed) =
     c.pass_verdict.ensures q ∙ ap (verdict_if q) (c.is_last-last.ensures ∙ ap (λ (n : Option ℕ). is_last n c.if-passed-number.self-inside.passed) c.count_limit.ensures) in
-    let few_before : w.passed < c.args.number = (let N : SelectorView → Type 0 = λ v. v.state.passed < c.args.number in subst N (sym c.self.view_is) within) in
     elim c.if-passed-number.branch [
-      | then-passed-number b ↦ (let last = rw b.self-inside-is at is in
-          let P : SelectorView → Type 0 = λ v. IsVerdict (judge v.policy v.state c.args.number p) (Ok c.pass_verdict.result) q (state_of (w.passed + 1) (marks_in c.keeps.new.window) w.tally) in
-          rw b.self-inside-is (subst P c.self.view_is
-          (tells-passed (policy_of w.policy) (policy_of c.keeps.new.self) state after c.args.number p q c.pass_verdict.result judges c.if-number-ge-NUMBER_END.false keeps c.keeps.ensures.policy last)))
-      | else-passed-number b ↦ absurd (omega arith)
-    ]
-
-pub returns-then-is_count-clause-policy : goal.returns-then-is_count-clause-policy
-returns-then-is_count-clause-policy g c = ap (λ (v : SelectorView). v.policy) c.self.view_is
-
-pub returns-then-is_count-clause-passed : goal.returns-then-is_count-clause-passed
-returns-then-is_count-clause-passed g c =
-    let P : SelectorView → Type 0 = λ v. v.state.passed ≤ c.args.number → c.self.inside.passed ≤ c.args.number in
-    subst P c.self.view_is (λ few. few)
-
-pub returns-then-is_count-clause-counted : goal.returns-then-is_count-clause-counted
-returns-then-is_count-clause-counted g c =
-    let few = c.requires in
-    let bytes = c.counted-self-inside.ensures.bytes in
-    let P : SelectorView → Type 0 = λ v. GrowsByOne v.state.tally c.counted-self-inside.result in
-    subst P c.self.view_is (c.counted-self-inside.ensures.count, c.counted-self-inside.ensures.data, omega (arith, bytes, few))
-
-pub returns-then-is_count-clause-spends : goal.returns-then-is_count-clause-spends
-returns-then-is_count-clause-spends g c =
-    let P : SelectorView → Type 0 = λ v. programs_in c.self.inside.policy ≡ spent_by_verdict v.policy c.args.number (captured c.args.packet.now) v.programs in
-    subst P c.self.view_is (counted-spends (policy_of c.self.inside.policy) c.args.number (captured c.args.packet.now) (programs_in c.self.inside.policy) (sym c.is_count.ensures ∙ c.if-is_count.true))
-
-pub returns-then-is_count-clause-bounded : goal.returns-then-is_count-clause-bounded
-returns-then-is_count-clause-bounded g c =
-    let P : SelectorView → Type 0 = λ v. spent_in (programs_in c.self.inside.policy) ≤ spent_in v.programs + most_spent v.policy in
-    subst P c.self.view_is (omega arith)
-
-pub returns-then-is_count-clause-upper_bound : goal.returns-then-is_count-clause-upper_bound
-returns-then-is_count-clause-upper_bound g c = window-few (window_of (policy_of c.self.inside.policy)) c.self.inside.window c.self.invariant
-
-pub returns-then-number-ge-NUMBER_END-clause-policy : goal.returns-then-number-ge-NUMBER_END-clause-policy
-returns-then-number-ge-NUMBER_END-clause-policy g c = refl
-
-pub returns-then-number-ge-NUMBER_END-clause-passed : goal.returns-then-number-ge-NUMBER_END-clause-passed
-returns-then-number-ge-NUMBER_END-clause-passed g c = λ few. few
-
-pub returns-then-number-ge-NUMBER_END-clause-counted : goal.returns-then-number-ge-NUMBER_END-clause-counted
-returns-then-number-ge-NUMBER_END-clause-counted g c = (omega arith, omega arith, omega arith)
-
-pub returns-then-number-ge-NUMBER_END-clause-spends : goal.returns-then-number-ge-NUMBER_END-clause-spends
-returns-then-number-ge-NUMBER_END-clause-spends g c =
-    let P : SelectorView → Type 0 = λ v. v.programs ≡ spent_by_verdict v.policy c.args.number (captured c.args.packet.now) v.programs in
-    subst P c.self.view_is (refused-spends (policy_of c.self.inside.policy) c.args.number (captured c.args.packet.now) (programs_in c.self.inside.policy) (sym c.is_count.ensures ∙ c.if-is_count.false) c.if-number-ge-NUMBER_END.true)
-
-pub returns-then-number-ge-NUMBER_END-clause-bounded : goal.returns-then-number-ge-NUMBER_END-clause-bounded
-returns-then-number-ge-NUMBER_END-clause-bounded g c = omega arith
-
-pub returns-then-number-ge-NUMBER_END-clause-upper_bound : goal.returns-then-number-ge-NUMBER_END-clause-upper_bound
-returns-then-number-ge-NUMBER_END-clause-upper_bound g c =
-    let P : SelectorView → Type 0 = λ v. HasFewMarks v.policy v.state in
-    subst P c.self.view_is (window-few (window_of (policy_of c.self.inside.policy)) c.self.inside.window c.self.invariant)
-
-pub returns-in_err-keeps-clause-policy : goal.returns-in_err-keeps-clause-policy
-returns-in_err-keeps-clause-policy g c = c.keeps.ensures.policy ∙ ap (λ (v : SelectorView). v.policy) c.self.view_is
-
-pub returns-in_err-keeps-clause-passed : goal.returns-in_err-keeps-clause-passed
-returns-in_err-keeps-clause-passed g c =
-    let P : SelectorView → Type 0 = λ v. v.state.passed ≤ c.args.number → c.self.inside.passed ≤ c.args.number in
-    subst P c.self.view_is (λ few. few)
-
-pub returns-in_err-keeps-clause-counted : goal.returns-in_err-keeps-clause-counted
-returns-in_err-keeps-clause-counted g c =
-    let P : SelectorView → Type 0 = λ v. GrowsByOne v.state.tally c.self.inside.tally in
-    subst P c.self.view_is (omega arith, omega arith, omega arith)
-
-pub returns-in_err-keeps-clause-spends : goal.returns-in_err-keeps-clause-spends
-returns-in_err-keeps-clause-spends g c =
-    let P : SelectorView → Type 0 = λ v. programs_in c.keeps.new.self ≡ spent_by_verdict v.policy c.args.number (captured c.args.packet.now) v.programs in
-    subst P c.self.view_is (c.keeps.ensures.spends ∙ judged-spends (policy_of c.self.inside.policy) c.args.number (captured c.args.packet.now) (programs_in c.self.inside.policy) (sym c.is_count.ensures ∙ c.if-is_count.false) c.if-number-ge-NUMBER_END.false)
-
-pub returns-in_err-keeps-clause-bounded : goal.returns-in_err-keeps-clause-bounded
-returns-in_err-keeps-clause-bounded g c =
-    let P : SelectorView → Type 0 = λ v. spent_in (programs_in c.keeps.new.self) ≤ spent_in v.programs + most_spent v.policy in
-    subst P c.self.view_is (c.keeps.ensures.bounded)
-
-pub returns-in_err-keeps-clause-upper_bound : goal.returns-in_err-keeps-clause-upper_bound
-returns-in_err-keeps-clause-upper_bound g c = rw c.keeps.ensures.policy (window-few (window_of (policy_of c.self.inside.policy)) c.keeps.new.window c.keeps.ensures.window)
-
-pub returns-then-not-branch-clause-policy : goal.returns-then-not-branch-clause-policy
-returns-then-not-branch-clause-policy g c = c.keeps.ensures.policy ∙ ap (λ (v : SelectorView). v.policy) c.self.view_is
-
-pub returns-then-not-branch-clause-passed : goal.returns-then-not-branch-clause-passed
-returns-then-not-branch-clause-passed g c =
-    let P : SelectorView → Type 0 = λ v. v.state.passed ≤ c.args.number → c.self.inside.passed ≤ c.args.number in
-    subst P c.self.view_is (λ few. few)
-
-pub returns-then-not-branch-clause-counted : goal.returns-then-not-branch-clause-counted
-returns-then-not-branch-clause-counted g c =
-    let P : SelectorView → Type 0 = λ v. GrowsByOne v.state.tally c.self.inside.tally in
-    subst P c.self.view_is (omega arith, omega arith, omega arith)
-
-pub returns-then-not-branch-clause-spends : goal.returns-then-not-branch-clause-spends
-returns-then-not-branch-clause-spends g c =
-    let P : SelectorView → Type 0 = λ v. programs_in c.keeps.new.self ≡ spent_by_verdict v.policy c.args.number (captured c.args.packet.now) v.programs in
-    subst P c.self.view_is (c.keeps.ensures.spends ∙ judged-spends (policy_of c.self.inside.policy) c.args.number (captured c.args.packet.now) (programs_in c.self.inside.policy) (sym c.is_count.ensures ∙ c.if-is_count.false) c.if-number-ge-NUMBER_END.false)
-
-pub returns-then-not-branch-clause-bounded : goal.returns-then-not-branch-clause-bounded
-returns-then-not-branch-clause-bounded g c =
-    let P : SelectorView → Type 0 = λ v. spent_in (programs_in c.keeps.new.self) ≤ spent_in v.programs + most_spent v.policy in
-    subst P c.self.view_is (c.keeps.ensures.bounded)
-
-pub returns-then-not-branch-clause-upper_bound : goal.returns-then-not-branch-clause-upper_bound
-returns-then-not-branch-clause-upper_bound g c = rw c.keeps.ensures.policy (window-few (window_of (policy_of c.self.inside.policy)) c.keeps.new.window c.keeps.ensures.window)
-
-pub returns-clause-policy : goal.returns-clause-policy
-returns-clause-policy g c =
-    elim c.if-passed-number.branch [
-      | then-passed-number b ↦ rw b.self-inside-is (c.keeps.ensures.policy ∙ ap (λ (v : SelectorView). v.policy) c.self.view_is)
-      | else-passed-number b ↦ rw b.self-inside-is (c.keeps.ensures.policy ∙ ap (λ (v : SelectorView). v.policy) c.self.view_is)
-    ]
-
-pub returns-clause-passed : goal.returns-clause-passed
-returns-clause-passed g c =
-    elim c.if-passed-number.branch [
-      | then-passed-number b ↦ rw b.self-inside-is (let P : SelectorView → Type 0 = λ v. v.state.passed ≤ c.args.number → c.self.inside.passed + 1 ≤ c.args.number in subst P c.self.view_is (λ few. (let less = b.if-passed-number.true in omega (arith, less))))
-      | else-passed-number b ↦ rw b.self-inside-is (let P : SelectorView → Type 0 = λ v. v.state.passed ≤ c.args.number → c.self.inside.passed ≤ c.args.number in subst P c.self.view_is (λ few. few))
-    ]
-
-pub returns-clause-counted : goal.returns-clause-counted
-returns-clause-counted g c =
-    elim c.if-passed-number.branch [
-      | then-passed-number b ↦ rw b.self-inside-is (let P : SelectorView → Type 0 = λ v. GrowsByOne v.state.tally c.self.inside.tally in subst P c.self.view_is (omega arith, omega arith, omega arith))
-      | else-passed-number b ↦ rw b.self-inside-is (let P : SelectorView → Type 0 = λ v. GrowsByOne v.state.tally c.self.inside.tally in subst P c.self.view_is (omega arith, omega arith, omega arith))
-    ]
-
-pub returns-clause-spends : goal.returns-clause-spends
-returns-clause-spends g c =
-    elim c.if-passed-number.branch [
-      | then-passed-number b ↦ rw b.self-inside-is (let P : SelectorView → Type 0 = λ v. programs_in c.keeps.new.self ≡ spent_by_verdict v.policy c.args.number (captured c.args.packet.now) v.programs in subst P c.self.view_is (c.keeps.ensures.spends ∙ judged-spends (policy_of c.self.inside.policy) c.args.number (captured c.args.packet.now) (programs_in c.self.inside.policy) (sym c.is_count.ensures ∙ c.if-is_count.false) c.if-number-ge-NUMBER_END.false))
-      | else-passed-number b ↦ rw b.self-inside-is (let P : SelectorView → Type 0 = λ v. programs_in c.keeps.new.self ≡ spent_by_verdict v.policy c.args.number (captured c.args.packet.now) v.programs in subst P c.self.view_is (c.keeps.ensures.spends ∙ judged-spends (policy_of c.self.inside.policy) c.args.number (captured c.args.packet.now) (programs_in c.self.inside.policy) (sym c.is_count.ensures ∙ c.if-is_count.false) c.if-number-ge-NUMBER_END.false))
-    ]
-
-pub returns-clause-bounded : goal.returns-clause-bounded
-returns-clause-bounded g c =
-    elim c.if-passed-number.branch [
-      | then-passed-number b ↦ rw b.self-inside-is (let P : SelectorView → Type 0 = λ v. spent_in (programs_in c.keeps.new.self) ≤ spent_in v.programs + most_spent v.policy in subst P c.self.view_is (c.keeps.ensures.bounded))
-      | else-passed-number b ↦ rw b.self-inside-is (let P : SelectorView → Type 0 = λ v. spent_in (programs_in c.keeps.new.self) ≤ spent_in v.programs + most_spent v.policy in subst P c.self.view_is (c.keeps.ensures.bounded))
-    ]
-
-pub returns-clause-upper_bound : goal.returns-clause-upper_bound
-returns-clause-upper_bound g c =
-    elim c.if-passed-number.branch [
-      | then-passed-number b ↦ rw b.self-inside-is (rw c.keeps.ensures.policy (window-few (window_of (policy_of c.self.inside.policy)) c.keeps.new.window c.keeps.ensures.window))
-      | else-passed-number b ↦ rw b.self-inside-is (rw c.keeps.ensures.policy (window-few (window_of (policy_of c.self.inside.policy)) c.keeps.new.window c.keeps.ensures.window))
+      | then-passed-number b ↦
+          let last = rw b.self-inside-is at is in
+          let less = b.if-passed-number.true in
+          rw (b.self-inside-is, ← c.self.view_is) (record {
+            exact = λ within counted. tells-passed (policy_of w.policy) (policy_of c.keeps.new.self) state after c.args.number p q c.pass_verdict.result judges c.if-number-ge-NUMBER_END.false keeps c.keeps.ensures.policy last;
+            policy = c.keeps.ensures.policy;
+            passed = λ few. omega (arith, less);
+            counted = (omega arith, omega arith, omega arith);
+            spends = c.keeps.ensures.spends ∙ judged-spends (policy_of w.policy) c.args.number p (programs_in w.policy) judges c.if-number-ge-NUMBER_END.false;
+            bounded = c.keeps.ensures.bounded;
+            upper_bound = rw c.keeps.ensures.policy (window-few (window_of (policy_of w.policy)) c.keeps.new.window c.keeps.ensures.window);
+          })
+      | else-passed-number b ↦
+          let most = b.if-passed-number.false in
+          rw (b.self-inside-is, ← c.self.view_is) (record {
+            exact = λ within counted. absurd (omega (arith, most, within));
+            policy = c.keeps.ensures.policy;
+            passed = λ few. few;
+            counted = (omega arith, omega arith, omega arith);
+            spends = c.keeps.ensures.spends ∙ judged-spends (policy_of w.policy) c.args.number p (programs_in w.policy) judges c.if-number-ge-NUMBER_END.false;
+            bounded = c.keeps.ensures.bounded;
+            upper_bound = rw c.keeps.ensures.policy (window-few (window_of (policy_of w.policy)) c.keeps.new.window c.keeps.ensures.window);
+          })
     ]

@@ -1,6 +1,6 @@
-use Rattle.cap_tools.proofs.Common.{◌≡◌, true, refl, subst, sym, Option, arith, common_steps, OutputView, Preparing, preparing_of, option_map, state_at, JobView, IsLight, is_text, EndsList}
+use Rattle.cap_tools.proofs.Common.{◌≡◌, true, Ok, Err, subst, sym, arith, common_steps, JobView, IsLight, is_text, EndsList}
 use Rattle.cap_tools.specs.declared.job.Turn.TheVariants as turn
-use Rattle.cap_tools.proofs.CommandStarts.{listed-err, listed-ok}
+use Rattle.cap_tools.proofs.CommandStarts.{listed}
 use Rattle.cap_tools.proofs.Weights.{is-light}
 use Rattle.cap_tools.proofs.job.Job.list.Goals as goal
 
@@ -11,13 +11,9 @@ list-requires g c =
 
 pub returns-in-Ok-clause-exact : goal.returns-in-Ok-clause-exact
 returns-in-Ok-clause-exact g c = λ to.
-    let preparing : Option Preparing = option_map preparing_of c.self.inside.preparation in
-    let err : OutputView = c.self.inside.messages.device in
-    let was : JobView = record { preparing = preparing; state = state_at c.self.inside.messages.names c.self.inside.inputs c.self.inside.selector c.self.inside.output c.self.inside.decided; programs = c.self.inside.selector.programs; err = err; turns = c.self.inside.turns; done = c.self.inside.done } in
-    let mid : JobView = record { preparing = preparing; state = record { inputs = c.self.inside.inputs; policy = c.self.inside.selector.policy; state = c.self.inside.selector.state; names = c.self.inside.messages.names; output = c.list.new.self; decided = c.self.inside.decided }; programs = c.self.inside.selector.programs; err = err; turns = c.self.inside.turns; done = c.self.inside.done } in
     let T : JobView → Type 0 = λ v. is_text v.state.output ≡ true in
     let P : JobView → Type 0 = λ v. EndsList c.args.program.now.insns g.E.Output.tells v (turn.Done 0) c.end.new.self in
-    rw c.end.ensures.done (subst P c.self.view_is (listed-ok c.args.program.now.insns g.E.Output.tells was mid c.end.new.self (subst T (sym c.self.view_is) c.requires.text) (c.in-Ok.ensures.exact to) refl c.end.ensures.ended (c.end.ensures.quiet refl)))
+    rw c.end.ensures.done (subst P c.self.view_is (listed c.args.program.now.insns g.E.Output.tells _ c.end.new.self c.list.new.self (Ok tt) (subst T (sym c.self.view_is) c.requires.text) (c.in-Ok.ensures.exact to) c.end.ensures.ended c.end.ensures.exact c.end.ensures.quiet))
 
 pub returns-in-Ok-clause-keeps : goal.returns-in-Ok-clause-keeps
 returns-in-Ok-clause-keeps g c = λ p.
@@ -27,13 +23,9 @@ returns-in-Ok-clause-keeps g c = λ p.
 
 pub returns-in-Err-clause-exact : goal.returns-in-Err-clause-exact
 returns-in-Err-clause-exact g c = λ to.
-    let preparing : Option Preparing = option_map preparing_of c.self.inside.preparation in
-    let err : OutputView = c.self.inside.messages.device in
-    let was : JobView = record { preparing = preparing; state = state_at c.self.inside.messages.names c.self.inside.inputs c.self.inside.selector c.self.inside.output c.self.inside.decided; programs = c.self.inside.selector.programs; err = err; turns = c.self.inside.turns; done = c.self.inside.done } in
-    let mid : JobView = record { preparing = preparing; state = record { inputs = c.self.inside.inputs; policy = c.self.inside.selector.policy; state = c.self.inside.selector.state; names = c.self.inside.messages.names; output = c.list.new.self; decided = c.self.inside.decided }; programs = c.self.inside.selector.programs; err = err; turns = c.self.inside.turns; done = c.self.inside.done } in
     let T : JobView → Type 0 = λ v. is_text v.state.output ≡ true in
     let P : JobView → Type 0 = λ v. EndsList c.args.program.now.insns g.E.Output.tells v (turn.Done 1) c.end-in-Err.new.self in
-    rw c.end-in-Err.ensures.done (subst P c.self.view_is (listed-err c.args.program.now.insns g.E.Output.tells was mid c.end-in-Err.new.self c.in-Err.field-0 (subst T (sym c.self.view_is) c.requires.text) (c.in-Err.ensures.exact to) refl refl refl c.end-in-Err.ensures.ended c.end-in-Err.ensures.exact))
+    rw c.end-in-Err.ensures.done (subst P c.self.view_is (listed c.args.program.now.insns g.E.Output.tells _ c.end-in-Err.new.self c.list.new.self (Err c.in-Err.field-0) (subst T (sym c.self.view_is) c.requires.text) (c.in-Err.ensures.exact to) c.end-in-Err.ensures.ended c.end-in-Err.ensures.exact c.end-in-Err.ensures.quiet))
 
 pub returns-in-Err-clause-keeps : goal.returns-in-Err-clause-keeps
 returns-in-Err-clause-keeps g c = λ p.

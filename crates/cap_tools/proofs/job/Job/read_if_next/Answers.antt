@@ -1,19 +1,14 @@
-use Rattle.cap_tools.proofs.Common.{◌≡◌, ◌∙◌, false, refl, subst, JobView}
+use Rattle.cap_tools.proofs.Common.{◌≡◌, ◌∙◌, false, refl, subst, IsSound, JobView}
 use Rattle.cap_inputs.specs.Inputs.{next_of}
 use Rattle.cap_tools.specs.inside.Commands.{is_read, makes, rests}
-use Rattle.cap_tools.proofs.Turns.{may-count, told-no-read, uncounted}
+use Rattle.cap_tools.proofs.Turns.{may-count, told-no-read}
 use Rattle.cap_tools.proofs.job.Job.read_if_next.Goals as goal
 
-pub count_step-requires-clause-prepared : goal.count_step-requires-clause-prepared
-count_step-requires-clause-prepared g c = c.read_next-end.ensures.preparing ∙ c.requires.prepared
-
-pub count_step-requires-clause-upper_bound : goal.count_step-requires-clause-upper_bound
-count_step-requires-clause-upper_bound g c =
-    may-count g.I.Input.tells g.O.Output.tells _ c.args.self.now c.read_next-end.new.self c.read_next-end.result c.self.view_is c.read_next-end.ensures c.requires.undone c.self.invariant.4 c.self.invariant.5
+pub count_step-requires : goal.count_step-requires
+count_step-requires g c = record { prepared = c.read_next-end.ensures.preparing ∙ c.requires.prepared; upper_bound = may-count _ _ c.args.self.now _ _ (record { step = c.read_next-end.ensures; prepared = c.requires.prepared; undone = c.requires.undone; sound = subst IsSound c.self.view_is c.self.invariant }) }
 
 pub returns-in-Read : goal.returns-in-Read
-returns-in-Read g c =
-    makes (c.count_step.ensures c.args.self.now (uncounted g.I.Input.tells g.O.Output.tells _ c.args.self.now c.read_next-end.new.self c.read_next-end.result c.self.view_is c.read_next-end.ensures c.requires.prepared c.requires.undone c.self.invariant.5))
+returns-in-Read g c = makes (c.count_step.ensures c.args.self.now (record { step = c.read_next-end.ensures; prepared = c.requires.prepared; undone = c.requires.undone; sound = subst IsSound c.self.view_is c.self.invariant }))
 
 pub returns-in-Decide : goal.returns-in-Decide
 returns-in-Decide g c =
