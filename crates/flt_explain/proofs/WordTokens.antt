@@ -1,14 +1,10 @@
 -- Each word that is written means its token.
-use Rattle.flt_explain.proofs.Common.{◌≡◌, ◌⊎◌, inl, inr, ⊎_elim, ℕ, suc, zero, ◌+◌, ◌*◌, ◌%◌, ◌^◌, ◌<◌, ◌≤◌, List, [], ◌∷◌, ◌++◌, length, get_or, refl, sym, ap, subst, arith, Bool, true, false, ◌==◌, ◌||◌, codes, Some, lit<, lit≤, decimal_digit, decimal_is_IsNumeral, first_decimal, decimal, digits_value, Protocol, TokenKind, ValueType, Host, Net, Port, PortRange, Proto, IsDotted, within_word, WritesDecimal, keyword_of, Spells, fits, keyword, keyword_is_plain, Following, Other, Icmp, IcmpBracket, protocol_word, join_word, side_word, type_word, size_word, cast_word, name_word, octet, IsDottedAddress, has_name}
+use Rattle.flt_explain.proofs.Common.{◌≡◌, ◌⊎◌, inl, inr, ⊎_elim, ℕ, suc, zero, ◌+◌, ◌*◌, ◌%◌, ◌^◌, ◌<◌, ◌≤◌, List, [], ◌∷◌, ◌++◌, length, get_or, refl, sym, ap, subst, arith, Bool, true, false, ◌==◌, ◌||◌, codes, Some, lit<, lit≤, decimal_digit, decimal_is_IsNumeral, first_decimal, decimal, digits_value, TokenKind, Host, Net, Port, PortRange, Proto, IsDotted, within_word, WritesDecimal, keyword_of, Spells, fits, keyword, keyword_is_plain, Following, Other, Icmp, IcmpBracket, fixed_spelling, name_word, octet, IsDottedAddress, has_name}
 use Rattle.std.proofs.lemmas.Bool.{eqb-true}
-use Rattle.flt_words.specs.declared.token.Cast.{Cast}
 use Rattle.flt_words.specs.declared.token.Cast.TheVariants.{Broadcast, Multicast}
-use Rattle.flt_words.specs.declared.token.Join.{Join}
 use Rattle.flt_words.specs.declared.token.Join.TheVariants as join
 use Rattle.flt_words.specs.declared.token.Protocol.TheVariants as protocol
-use Rattle.flt_words.specs.declared.token.Side.{Side}
 use Rattle.flt_words.specs.declared.token.Side.TheVariants.{Source, Destination}
-use Rattle.flt_words.specs.declared.token.Size.{Size}
 use Rattle.flt_words.specs.declared.token.Size.TheVariants as size
 use Rattle.flt_words.specs.declared.token.TokenKind.TheVariants as token
 use Rattle.flt_words.specs.Numbers.IsNumber.{decimal as decimal_number}
@@ -25,91 +21,56 @@ pub record IsWordFor (inside : Bool) (word : List ℕ) (kind : TokenKind) : Type
   pub fit : fits kind ≡ true
 
 -- keywords
-keyword_for : (inside : Bool) (word : List ℕ) (kind : TokenKind) → keyword_of word ≡ Some kind → IsWordFor inside word kind
-keyword_for inside word kind found = record {
+abbrev pub is_keyword : TokenKind → Bool
+is_keyword (token.Protocol p) = true
+is_keyword (token.Join j) = true
+is_keyword token.Not = true
+is_keyword (token.Side s) = true
+is_keyword (token.ValueType k) = true
+is_keyword (token.Size s) = true
+is_keyword (token.Cast c) = true
+is_keyword token.Mask = true
+is_keyword token.Len = true
+is_keyword _ = false
+
+found : (t : TokenKind) → is_keyword t ≡ true → keyword_of (fixed_spelling t) ≡ Some t
+unfolding keywords
+found (token.Protocol protocol.Ether) h = refl
+found (token.Protocol protocol.Ip) h = refl
+found (token.Protocol protocol.Ip6) h = refl
+found (token.Protocol protocol.Arp) h = refl
+found (token.Protocol protocol.Rarp) h = refl
+found (token.Protocol protocol.Tcp) h = refl
+found (token.Protocol protocol.Udp) h = refl
+found (token.Protocol protocol.Icmp) h = refl
+found (token.Protocol protocol.Icmp6) h = refl
+found (token.Join join.And) h = refl
+found (token.Join join.Or) h = refl
+found token.Not h = refl
+found (token.Side Source) h = refl
+found (token.Side Destination) h = refl
+found (token.ValueType Host) h = refl
+found (token.ValueType Net) h = refl
+found (token.ValueType Port) h = refl
+found (token.ValueType PortRange) h = refl
+found (token.ValueType Proto) h = refl
+found (token.Size size.Less) h = refl
+found (token.Size size.Greater) h = refl
+found (token.Cast Broadcast) h = refl
+found (token.Cast Multicast) h = refl
+found token.Mask h = refl
+found token.Len h = refl
+found _ h = cc
+
+keyword_by : (inside : Bool) (word : List ℕ) (kind : TokenKind) → keyword_of word ≡ Some kind → IsWordFor inside word kind
+keyword_by inside word kind found = record {
   part = part_of_keyword inside word kind found;
   stands = keyword found;
   fit = (keyword_is_plain word kind found).fitting;
 }
 
-protocol_found : (p : Protocol) → keyword_of (protocol_word p) ≡ Some (token.Protocol p)
-unfolding keywords
-protocol_found protocol.Ether = refl
-protocol_found protocol.Ip = refl
-protocol_found protocol.Ip6 = refl
-protocol_found protocol.Arp = refl
-protocol_found protocol.Rarp = refl
-protocol_found protocol.Tcp = refl
-protocol_found protocol.Udp = refl
-protocol_found protocol.Icmp = refl
-protocol_found protocol.Icmp6 = refl
-
-join_found : (j : Join) → keyword_of (join_word j) ≡ Some (token.Join j)
-unfolding keywords
-join_found join.And = refl
-join_found join.Or = refl
-
-side_found : (s : Side) → keyword_of (side_word s) ≡ Some (token.Side s)
-unfolding keywords
-side_found Source = refl
-side_found Destination = refl
-
-type_found : (k : ValueType) → keyword_of (type_word k) ≡ Some (token.ValueType k)
-unfolding keywords
-type_found Host = refl
-type_found Net = refl
-type_found Port = refl
-type_found PortRange = refl
-type_found Proto = refl
-
-size_found : (s : Size) → keyword_of (size_word s) ≡ Some (token.Size s)
-unfolding keywords
-size_found size.Less = refl
-size_found size.Greater = refl
-
-cast_found : (c : Cast) → keyword_of (cast_word c) ≡ Some (token.Cast c)
-unfolding keywords
-cast_found Broadcast = refl
-cast_found Multicast = refl
-
-not_found : keyword_of (codes "not") ≡ Some token.Not
-unfolding keywords
-not_found = refl
-
-mask_found : keyword_of (codes "mask") ≡ Some token.Mask
-unfolding keywords
-mask_found = refl
-
-len_found : keyword_of (codes "len") ≡ Some token.Len
-unfolding keywords
-len_found = refl
-
-pub protocol_for : (inside : Bool) (p : Protocol) → IsWordFor inside (protocol_word p) (token.Protocol p)
-protocol_for inside p = keyword_for inside _ _ (protocol_found p)
-
-pub join_for : (inside : Bool) (j : Join) → IsWordFor inside (join_word j) (token.Join j)
-join_for inside j = keyword_for inside _ _ (join_found j)
-
-pub side_for : (inside : Bool) (s : Side) → IsWordFor inside (side_word s) (token.Side s)
-side_for inside s = keyword_for inside _ _ (side_found s)
-
-pub type_for : (inside : Bool) (k : ValueType) → IsWordFor inside (type_word k) (token.ValueType k)
-type_for inside k = keyword_for inside _ _ (type_found k)
-
-pub size_for : (inside : Bool) (s : Size) → IsWordFor inside (size_word s) (token.Size s)
-size_for inside s = keyword_for inside _ _ (size_found s)
-
-pub cast_for : (inside : Bool) (c : Cast) → IsWordFor inside (cast_word c) (token.Cast c)
-cast_for inside c = keyword_for inside _ _ (cast_found c)
-
-pub not_for : (inside : Bool) → IsWordFor inside (codes "not") token.Not
-not_for inside = keyword_for inside _ _ not_found
-
-pub mask_for : (inside : Bool) → IsWordFor inside (codes "mask") token.Mask
-mask_for inside = keyword_for inside _ _ mask_found
-
-pub len_for : (inside : Bool) → IsWordFor inside (codes "len") token.Len
-len_for inside = keyword_for inside _ _ len_found
+pub keyword_for : (inside : Bool) (t : TokenKind) → is_keyword t ≡ true → IsWordFor inside (fixed_spelling t) t
+keyword_for inside t h = keyword_by inside _ _ (found t h)
 
 -- names
 either : (a b : Bool) → (a || b) ≡ true → (a ≡ true) ⊎ (b ≡ true)
@@ -130,7 +91,7 @@ name_found following n h =
     ⊎_elim (at 0 refl) (λ h. ⊎_elim (at 1 (one_found following)) (λ h. ⊎_elim (at 2 refl) (λ h. ⊎_elim (at 4 refl) (λ h. ⊎_elim (at 8 refl) (λ h. ⊎_elim (at 13 refl) (λ h. ⊎_elim (at 16 refl) (at 32 refl) (either (n == 16) (n == 32) h)) (either (n == 13) _ h)) (either (n == 8) _ h)) (either (n == 4) _ h)) (either (n == 2) _ h)) (either (n == 1) _ h)) (either (n == 0) _ h)
 
 pub name_for : (inside : Bool) (following : Following) (n : ℕ) → has_name n ≡ true → IsWordFor inside (name_word following n) (token.Name n)
-name_for inside following n h = keyword_for inside _ _ (name_found following n h)
+name_for inside following n h = keyword_by inside _ _ (name_found following n h)
 
 -- numbers
 one_digit : (n : ℕ) → n < 2 ^ 32 → get_or (decimal n) 0 0 ≡ 48 → length (decimal n) ≡ 1

@@ -40,7 +40,7 @@ from_value (number m) s =
 from_value (dotted m) s =
     let read = from_mask m s.1 in
     ((s.0, read.0), read.1)
-from_value ip6 s = ((s.0, tt), s.1)
+from_value ip6 s = (s.0, s.1)
 from_value ip6_prefix s = ((s.0, s.1.1.0), s.1.1.1)
 from_value mac s = (s.0, s.1)
 from_value range s = (s.0, s.1)
