@@ -8,8 +8,8 @@ use Rattle.flt_words.proofs.BracketCounts.{closings, openings, token_has}
 use Rattle.flt_explain.proofs.WordPieces.{word_token}
 use Rattle.flt_explain.proofs.SignTokens.{End, Ends, goes_on, no_more, word_ends, sign_token, single_token, colon_token}
 use Rattle.flt_explain.proofs.SignTokens as signs
-use Rattle.flt_explain.proofs.WordTokens.{IsWordFor, keyword_for, name_for, number_for, range_for, dotted_for}
-use Rattle.flt_explain.proofs.AddressTokens.{mac_for, ip6_for}
+use Rattle.flt_explain.proofs.WordTokens.{IsWordFor, keyword_for, name_for, number_for, range_for}
+use Rattle.flt_explain.proofs.AddressTokens.{dotted_for, mac_for, ip6_for}
 
 -- how many brackets are open after a token
 abbrev pub depth_after : ℕ → TokenKind → ℕ

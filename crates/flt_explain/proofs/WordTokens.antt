@@ -1,5 +1,5 @@
 -- Each word that is written means its token.
-use Rattle.flt_explain.proofs.Common.{◌≡◌, ◌⊎◌, inl, inr, ⊎_elim, ℕ, suc, zero, ◌+◌, ◌*◌, ◌%◌, ◌^◌, ◌<◌, ◌≤◌, List, [], ◌∷◌, ◌++◌, length, get_or, refl, sym, ap, subst, arith, Bool, true, false, ◌==◌, ◌||◌, codes, Some, lit<, lit≤, decimal_digit, decimal_is_IsNumeral, first_decimal, decimal, digits_value, TokenKind, Host, Net, Port, PortRange, Proto, IsDotted, within_word, WritesDecimal, keyword_of, Spells, fits, keyword, keyword_is_plain, Following, Other, Icmp, IcmpBracket, fixed_spelling, name_word, octet, IsDottedAddress, has_name}
+use Rattle.flt_explain.proofs.Common.{◌≡◌, ◌⊎◌, inl, inr, ⊎_elim, ℕ, suc, zero, ◌^◌, ◌<◌, List, ◌∷◌, ◌++◌, length, get_or, refl, sym, ap, subst, arith, Bool, true, false, ◌==◌, ◌||◌, Some, lit<, lit≤, decimal_digit, decimal_is_IsNumeral, first_decimal, decimal, TokenKind, Host, Net, Port, PortRange, Proto, within_word, WritesDecimal, keyword_of, Spells, fits, keyword, keyword_is_plain, Following, Other, Icmp, IcmpBracket, fixed_spelling, name_word, has_name}
 use Rattle.std.proofs.lemmas.Bool.{eqb-true}
 use Rattle.flt_words.specs.declared.token.Cast.TheVariants.{Broadcast, Multicast}
 use Rattle.flt_words.specs.declared.token.Join.TheVariants as join
@@ -10,9 +10,8 @@ use Rattle.flt_words.specs.declared.token.TokenKind.TheVariants as token
 use Rattle.flt_words.specs.Numbers.IsNumber.{decimal as decimal_number}
 use Rattle.flt_words.specs.Numbers.IsRange.{joined as dashed}
 use Rattle.flt_words.specs.Spellings.{keywords}
-use Rattle.flt_words.specs.Words.Spells.{number, dotted, range}
+use Rattle.flt_words.specs.Words.Spells.{number, range}
 use Rattle.flt_words.proofs.Digits.{fits as word_sized}
-use Rattle.flt_explain.specs.Texts.{dotted_word}
 use Rattle.flt_explain.proofs.WordPieces.{IsPart, part_of_digits, part_of_keyword, part_join}
 
 pub record IsWordFor (inside : Bool) (word : List ℕ) (kind : TokenKind) : Type 0 where
@@ -119,106 +118,9 @@ dash_within : (inside : Bool) → within_word inside 45 ≡ true
 dash_within true = refl
 dash_within false = refl
 
-point_within : (inside : Bool) → within_word inside 46 ≡ true
-point_within true = refl
-point_within false = refl
-
 pub range_for : (inside : Bool) (a b : ℕ) → a < 2 ^ 32 → b < 2 ^ 32 → IsWordFor inside (decimal a ++ 45 ∷ decimal b) (token.Range a b)
 range_for inside a b small also = record {
   part = part_join inside 45 (decimal a) (decimal b) (dash_within inside) (part_of_decimal inside a small) (part_of_decimal inside b also);
   stands = range (dashed (writes_decimal a small) (writes_decimal b also));
   fit = rw (word_sized a small) (word_sized b also);
 }
-
--- IPv4 addresses
-below_256 : (weight address : ℕ) → octet weight address < 256
-below_256 weight address = omega arith
-
-group_of : (n : ℕ) → n < 256 → (m : ℕ) × WritesDecimal (decimal n) m × (m ≤ 255)
-group_of n small = (n, writes_decimal n (omega arith), omega arith)
-
-value_of : (n : ℕ) → n < 256 → digits_value 10 (decimal n) ≡ n
-value_of n small = (decimal_is_IsNumeral n (omega arith)).1
-
-two_parts : (a : ℕ) → a < 2 ^ 32 → a % 65536 ≡ 0 → a ≡ (((0 * 256 + octet (2 ^ 24) a) * 256 + octet (2 ^ 16) a) * 256 + 0) * 256 + 0
-two_parts a small missing = omega arith
-
-three_parts : (a : ℕ) → a < 2 ^ 32 → a % 256 ≡ 0 → a ≡ (((0 * 256 + octet (2 ^ 24) a) * 256 + octet (2 ^ 16) a) * 256 + octet (2 ^ 8) a) * 256 + 0
-three_parts a small missing = omega arith
-
-four_parts : (a : ℕ) → a < 2 ^ 32 → a ≡ (((0 * 256 + octet (2 ^ 24) a) * 256 + octet (2 ^ 16) a) * 256 + octet (2 ^ 8) a) * 256 + octet 1 a
-four_parts a small = omega arith
-
-dotted_two : (a : ℕ) → a < 2 ^ 32 → a % 65536 ≡ 0 → IsDotted (dotted_word a 2) a 2
-unfolding dotted_word
-dotted_two a small missing =
-    let first = below_256 (2 ^ 24) a in
-    let second = below_256 (2 ^ 16) a in
-    record {
-      groups = decimal (octet (2 ^ 24) a) ∷ decimal (octet (2 ^ 16) a) ∷ [];
-      are = record { joined = refl; each = (group_of _ first, (group_of _ second, tt)) };
-      at_least_two = lit≤ tt;
-      at_most_four = lit≤ tt;
-      count = refl;
-      value = rw (value_of _ first, value_of _ second) (two_parts a small missing);
-    }
-
-dotted_three : (a : ℕ) → a < 2 ^ 32 → a % 256 ≡ 0 → IsDotted (dotted_word a 3) a 3
-unfolding dotted_word
-dotted_three a small missing =
-    let first = below_256 (2 ^ 24) a in
-    let second = below_256 (2 ^ 16) a in
-    let third = below_256 (2 ^ 8) a in
-    record {
-      groups = decimal (octet (2 ^ 24) a) ∷ decimal (octet (2 ^ 16) a) ∷ decimal (octet (2 ^ 8) a) ∷ [];
-      are = record { joined = refl; each = (group_of _ first, (group_of _ second, (group_of _ third, tt))) };
-      at_least_two = lit≤ tt;
-      at_most_four = lit≤ tt;
-      count = refl;
-      value = rw (value_of _ first, value_of _ second, value_of _ third) (three_parts a small missing);
-    }
-
-dotted_four : (a : ℕ) → a < 2 ^ 32 → IsDotted (dotted_word a 4) a 4
-unfolding dotted_word
-dotted_four a small =
-    let first = below_256 (2 ^ 24) a in
-    let second = below_256 (2 ^ 16) a in
-    let third = below_256 (2 ^ 8) a in
-    let last = below_256 1 a in
-    record {
-      groups = decimal (octet (2 ^ 24) a) ∷ decimal (octet (2 ^ 16) a) ∷ decimal (octet (2 ^ 8) a) ∷ decimal (octet 1 a) ∷ [];
-      are = record { joined = refl; each = (group_of _ first, (group_of _ second, (group_of _ third, (group_of _ last, tt)))) };
-      at_least_two = lit≤ tt;
-      at_most_four = lit≤ tt;
-      count = refl;
-      value = rw (value_of _ first, value_of _ second, value_of _ third, value_of _ last) (four_parts a small);
-    }
-
-part_of_octet : (inside : Bool) (weight a : ℕ) → IsPart inside (decimal (octet weight a))
-part_of_octet inside weight a = part_of_decimal inside (octet weight a) (omega (arith, below_256 weight a))
-
-pointed : (inside : Bool) (front back : List ℕ) → IsPart inside front → IsPart inside back → IsPart inside (front ++ 46 ∷ back)
-pointed inside front back v w = part_join inside 46 front back (point_within inside) v w
-
-part_of_two : (inside : Bool) (a : ℕ) → IsPart inside (dotted_word a 2)
-unfolding dotted_word
-part_of_two inside a = pointed inside _ _ (part_of_octet inside (2 ^ 24) a) (part_of_octet inside (2 ^ 16) a)
-
-part_of_three : (inside : Bool) (a : ℕ) → IsPart inside (dotted_word a 3)
-unfolding dotted_word
-part_of_three inside a = pointed inside _ _ (part_of_octet inside (2 ^ 24) a) (pointed inside _ _ (part_of_octet inside (2 ^ 16) a) (part_of_octet inside (2 ^ 8) a))
-
-part_of_four : (inside : Bool) (a : ℕ) → IsPart inside (dotted_word a 4)
-unfolding dotted_word
-part_of_four inside a = pointed inside _ _ (part_of_octet inside (2 ^ 24) a) (pointed inside _ _ (part_of_octet inside (2 ^ 16) a) (pointed inside _ _ (part_of_octet inside (2 ^ 8) a) (part_of_octet inside 1 a)))
-
-dotted_by : (inside : Bool) (a p : ℕ) → IsPart inside (dotted_word a p) → IsDotted (dotted_word a p) a p → IsWordFor inside (dotted_word a p) (token.Dotted a p)
-dotted_by inside a p part is = record { part = part; stands = dotted is; fit = refl }
-
-pub dotted_for : (inside : Bool) (a p : ℕ) → IsDottedAddress a p → IsWordFor inside (dotted_word a p) (token.Dotted a p)
-dotted_for inside a zero w = absurd (omega (arith, w.at_least_two))
-dotted_for inside a (suc zero) w = absurd (omega (arith, w.at_least_two))
-dotted_for inside a (suc (suc zero)) w = dotted_by inside a 2 (part_of_two inside a) (dotted_two a w.small w.missing)
-dotted_for inside a (suc (suc (suc zero))) w = dotted_by inside a 3 (part_of_three inside a) (dotted_three a w.small w.missing)
-dotted_for inside a (suc (suc (suc (suc zero)))) w = dotted_by inside a 4 (part_of_four inside a) (dotted_four a w.small)
-dotted_for inside a (suc (suc (suc (suc (suc p))))) w = absurd (omega (arith, w.at_most_four))

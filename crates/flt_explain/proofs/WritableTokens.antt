@@ -42,11 +42,16 @@ from_table _ h = tt
 sized : (n : ℕ) → is_word_sized n ≡ true → n < 2 ^ 32
 sized n h = grind (arith, nat_tests)
 
--- an IPv4 address
-octets_below : (groups : List (List ℕ)) → AllByRecursion (λ digits. (n : ℕ) × WritesDecimal digits n × (n ≤ 255)) groups → AllBelowBase 256 (map (digits_value 10) groups)
-octets_below [] each = tt
-octets_below (g ∷ groups) each = (omega (arith, each.0.1.writes.value, each.0.2), octets_below groups each.1)
+-- groups of digits, each of which writes a number below a base
+all_below : (base radix : ℕ) (IsGroup : List ℕ → Type 0) (groups : List (List ℕ)) → AllByRecursion IsGroup groups → ((digits : List ℕ) → IsGroup digits → digits_value radix digits < base)
+    → number_from_digits base (map (digits_value radix) groups) < base ^ length groups
+all_below base radix IsGroup groups are each = rw length-map at (number_lt base (map (digits_value radix) groups) (below groups are))
+  where
+    below : (gs : List (List ℕ)) → AllByRecursion IsGroup gs → AllBelowBase base (map (digits_value radix) gs)
+    below [] are = tt
+    below (g ∷ gs) are = (each g are.0, below gs are.1)
 
+-- an IPv4 address
 by_count : (n p a front : ℕ) → 2 ≤ n → n ≤ 4 → front < 256 ^ n → a ≡ front * 256 ^ (4 - n) → p ≡ n → IsDottedAddress a p
 by_count zero p a front low high below is parts = absurd (omega arith)
 by_count (suc zero) p a front low high below is parts = absurd (omega arith)
@@ -58,31 +63,19 @@ by_count (suc (suc (suc (suc (suc n))))) p a front low high below is parts = abs
 dotted_small : {word : List ℕ} {a p : ℕ} → IsDotted word a p → IsDottedAddress a p
 dotted_small {word} {a} {p} d =
     let values : List ℕ = map (digits_value 10) d.groups in
-    let long : length values ≡ length d.groups = length-map d.groups (digits_value 10) in
-    let below : number_from_digits 256 values < 256 ^ length d.groups = subst (λ k. number_from_digits 256 values < 256 ^ k) long (number_lt 256 values (octets_below d.groups d.are.each)) in
+    let below = all_below 256 10 (λ digits. (n : ℕ) × WritesDecimal digits n × (n ≤ 255)) d.groups d.are.each (λ g is. omega (arith, is.1.writes.value, is.2)) in
     by_count (length d.groups) p a (number_from_digits 256 values) d.at_least_two d.at_most_four below (d.value ∙ number_zeros 256 (4 - length d.groups) values) d.count
 
 -- a MAC address
-bytes_below : (groups : List (List ℕ)) → AllByRecursion (λ digits. IsNumeral 16 digits × (length digits ≤ 2)) groups → AllBelowBase 256 (map (digits_value 16) groups)
-bytes_below [] each = tt
-bytes_below (g ∷ groups) each = (small_hexadecimal g 2 each.0.0.1 each.0.1, bytes_below groups each.1)
-
 mac_small : {word : List ℕ} {a : ℕ} → IsMac word a → a < 2 ^ 48
 mac_small {word} {a} m =
-    let values : List ℕ = map (digits_value 16) m.groups in
-    let long : length values ≡ 6 = length-map m.groups (digits_value 16) ∙ m.six in
-    let below : number_from_digits 256 values < 256 ^ 6 = subst (λ k. number_from_digits 256 values < 256 ^ k) long (number_lt 256 values (bytes_below m.groups m.are.each)) in
+    let below = all_below 256 16 (λ digits. IsNumeral 16 digits × (length digits ≤ 2)) m.groups m.are.each (λ g is. small_hexadecimal g 2 is.0.1 is.1) in
+    let all : 256 ^ length m.groups ≡ 2 ^ 48 = ap (λ k. 256 ^ k) m.six in
     omega (arith, m.value)
 
 -- an IPv6 address
-quads_below : (groups : List (List ℕ)) → AllByRecursion (λ digits. IsNumeral 16 digits × (length digits ≤ 4)) groups → AllBelowBase 65536 (map (digits_value 16) groups)
-quads_below [] each = tt
-quads_below (g ∷ groups) each = (small_hexadecimal g 4 each.0.0.1 each.0.1, quads_below groups each.1)
-
 quads_small : (groups : List (List ℕ)) → AllByRecursion (λ digits. IsNumeral 16 digits × (length digits ≤ 4)) groups → number_from_digits 65536 (map (digits_value 16) groups) < 65536 ^ length groups
-quads_small groups each =
-    let values : List ℕ = map (digits_value 16) groups in
-    subst (λ k. number_from_digits 65536 values < 65536 ^ k) (length-map groups (digits_value 16)) (number_lt 65536 values (quads_below groups each))
+quads_small groups are = all_below 65536 16 (λ digits. IsNumeral 16 digits × (length digits ≤ 4)) groups are (λ g is. small_hexadecimal g 4 is.0.1 is.1)
 
 ends_small : {front back : List ℕ} {a : ℕ} → AreIp6Ends front back a → a < 2 ^ 128
 ends_small {front} {back} {a} e =
