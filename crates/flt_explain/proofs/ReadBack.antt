@@ -28,9 +28,7 @@ any_operation operator.Add reads = single (single reads)
 any_operation operator.Subtract reads = single (single reads)
 any_operation operator.ShiftLeft reads = single reads
 any_operation operator.ShiftRight reads = single reads
-any_operation operator.Or reads = reads
-any_operation operator.And reads = reads
-any_operation operator.ExclusiveOr reads = reads
+any_operation _ reads = reads
 
 -- a number is read
 reads_number : (a : NumberTree) (rest : List TokenKind) → IsWritableNumber a → Number 0 (number_tokens a rest) a rest
@@ -128,36 +126,30 @@ full_again _ p d h = refl
 
 filled_again : (q : Qualifiers) (a : TruthTree) → any_primitive is_unfilled a ≡ false → any_primitive is_misfit a ≡ false → complete (with_inherited q (reread a)) ≡ a
 unfolding reread
-filled_again q (check p) f m = refl
-filled_again q (cast p c) f m = refl
-filled_again q (sized s n) f m = refl
 filled_again q (bare v) f m = cc
 filled_again q (valued p v) f m = cc
 filled_again q (qualified p v) f m =
     let parts = both_false (is_misfit_fit (fit_of p.value_type v p.protocol)) (is_proto p.value_type && not (is_either p.direction)) m in
     ap (λ r. qualified r v) (full_again p.value_type p.protocol p.direction parts.1)
-filled_again q (compared c a b) f m = refl
 filled_again q (denied a) f m = ap denied (filled_again q a f m)
 filled_again q (joined j a b) f m =
     let fs = both_false (any_primitive is_unfilled a) (any_primitive is_unfilled b) f in
     let ms = both_false (any_primitive is_misfit a) (any_primitive is_misfit b) m in
     rw (filled_again q a fs.0 ms.0, filled_again (latest q (reread a)) b fs.1 ms.1) refl
+filled_again q _ f m = refl
 
 -- and has none of the faults
 keeps : (g : TruthTree → Bool) → ((q : CompleteQualifiers) (v : Value) → g (qualified q v) ≡ false → g (valued (written_qualifiers q) v) ≡ false) → (q : Qualifiers) (a : TruthTree) → any_primitive is_unfilled a ≡ false → any_primitive g a ≡ false → any_primitive g (with_inherited q (reread a)) ≡ false
 unfolding reread
-keeps g same q (check p) f h = h
-keeps g same q (cast p c) f h = h
-keeps g same q (sized s n) f h = h
 keeps g same q (bare v) f h = cc
 keeps g same q (valued p v) f h = cc
 keeps g same q (qualified p v) f h = same p v h
-keeps g same q (compared c a b) f h = h
 keeps g same q (denied a) f h = keeps g same q a f h
 keeps g same q (joined j a b) f h =
     let fs = both_false (any_primitive is_unfilled a) (any_primitive is_unfilled b) f in
     let hs = both_false (any_primitive g a) (any_primitive g b) h in
     rw (keeps g same q a fs.0 hs.0) (keeps g same (latest q (reread a)) b fs.1 hs.1)
+keeps g same q _ f h = h
 
 no_side : (k : ValueType) (d : Direction) → is_proto k && is_some (written_side k d) ≡ false
 no_side Proto d = refl

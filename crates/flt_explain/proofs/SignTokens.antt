@@ -21,18 +21,10 @@ pub data Ends (inside : Bool) : List ℕ → Type 0 where
 
 -- no word goes on there
 not_within : (inside : Bool) (c : ℕ) → End inside c → within_word inside c ≡ false
-not_within true c blank = refl
-not_within true c close = refl
-not_within true c bracket = refl
-not_within true c close_bracket = refl
-not_within true c slash = refl
-not_within true c (colon is) = refl
-not_within false c blank = refl
-not_within false c close = refl
-not_within false c bracket = refl
-not_within false c close_bracket = refl
-not_within false c slash = refl
 not_within false c (colon is) = cc
+not_within true c blank = refl
+not_within false c blank = refl
+not_within _ c _ = refl
 
 pub word_ends : (inside : Bool) (more : List ℕ) → Ends inside more → 0 < length more → within_word inside (get_or more 0 0) ≡ false
 word_ends inside more no_more some = absurd (omega arith)

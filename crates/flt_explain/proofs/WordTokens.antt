@@ -1,5 +1,5 @@
 -- Each word that is written means its token.
-use Rattle.flt_explain.proofs.Common.{◌≡◌, ◌⊎◌, inl, inr, ⊎_elim, ℕ, suc, zero, ◌^◌, ◌<◌, List, ◌∷◌, ◌++◌, length, get_or, refl, sym, ap, subst, arith, Bool, true, false, ◌==◌, ◌||◌, Some, lit<, lit≤, decimal_digit, decimal_is_IsNumeral, first_decimal, decimal, TokenKind, Host, Net, Port, PortRange, Proto, within_word, WritesDecimal, keyword_of, Spells, fits, keyword, keyword_is_plain, Following, Other, Icmp, IcmpBracket, fixed_spelling, name_word, has_name}
+use Rattle.flt_explain.proofs.Common.{◌≡◌, ◌⊎◌, inl, inr, ⊎_elim, ℕ, suc, zero, ◌^◌, ◌<◌, List, ◌∷◌, ◌++◌, length, get_or, refl, sym, ap, subst, arith, Bool, true, false, ◌==◌, ◌||◌, Some, lit<, lit≤, decimal_digit, decimal_is_IsNumeral, first_decimal, decimal, TokenKind, Host, within_word, WritesDecimal, keyword_of, Spells, fits, keyword, keyword_is_plain, Following, Other, fixed_spelling, name_word, has_name}
 use Rattle.std.proofs.lemmas.Bool.{eqb-true}
 use Rattle.flt_words.specs.declared.token.Cast.TheVariants.{Broadcast, Multicast}
 use Rattle.flt_words.specs.declared.token.Join.TheVariants as join
@@ -35,24 +35,14 @@ is_keyword _ = false
 found : (t : TokenKind) → is_keyword t ≡ true → keyword_of (fixed_spelling t) ≡ Some t
 unfolding keywords
 found (token.Protocol protocol.Ether) h = refl
-found (token.Protocol protocol.Ip) h = refl
-found (token.Protocol protocol.Ip6) h = refl
-found (token.Protocol protocol.Arp) h = refl
-found (token.Protocol protocol.Rarp) h = refl
-found (token.Protocol protocol.Tcp) h = refl
-found (token.Protocol protocol.Udp) h = refl
-found (token.Protocol protocol.Icmp) h = refl
-found (token.Protocol protocol.Icmp6) h = refl
+found (token.Protocol _) h = refl
 found (token.Join join.And) h = refl
 found (token.Join join.Or) h = refl
 found token.Not h = refl
 found (token.Side Source) h = refl
 found (token.Side Destination) h = refl
 found (token.ValueType Host) h = refl
-found (token.ValueType Net) h = refl
-found (token.ValueType Port) h = refl
-found (token.ValueType PortRange) h = refl
-found (token.ValueType Proto) h = refl
+found (token.ValueType _) h = refl
 found (token.Size size.Less) h = refl
 found (token.Size size.Greater) h = refl
 found (token.Cast Broadcast) h = refl
@@ -79,8 +69,7 @@ either false b h = inr h
 one_found : (following : Following) → keyword_of (name_word following 1) ≡ Some (token.Name 1)
 unfolding keywords
 one_found Other = refl
-one_found Icmp = refl
-one_found IcmpBracket = refl
+one_found _ = refl
 
 name_found : (following : Following) (n : ℕ) → has_name n ≡ true → keyword_of (name_word following n) ≡ Some (token.Name n)
 unfolding keywords
