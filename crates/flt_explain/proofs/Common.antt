@@ -41,5 +41,5 @@ pub use Rattle.flt_words.proofs.Pieces.{longest_one, longest_two, IsScanned, lon
 pub use Rattle.flt_words.specs.declared.token.Token.{Token}
 pub use Rattle.flt_words.specs.Words.{Spells, fits, WordMeans}
 pub use Rattle.flt_words.specs.Words.WordMeans.{known}
-pub use Rattle.flt_words.proofs.Tables.{both, found_passes, keyword_is_plain}
+pub use Rattle.flt_words.proofs.Tables.{found_passes, keyword_is_plain}
 pub use Rattle.flt_words.specs.Numbers.{WritesDecimal, is_word_sized}

@@ -1,5 +1,7 @@
 -- The tokens of a resolved tree are read as that tree.
 use Rattle.flt_explain.proofs.Common.{◌≡◌, ℕ, suc, zero, refl, ap, Bool, true, false, ◌&&◌, ◌||◌, not, is_some, List, [], ◌∷◌, Option, Some, None, Operator, Protocol, TokenKind, ValueType, Proto, Direction, Qualifiers, CompleteQualifiers, NetMask, Value, NumberTree, literal, len, named, load, negated, applied, TruthTree, check, cast, sized, bare, valued, qualified, compared, denied, joined, Expression, empty, truth, latest, with_inherited, complete, completed_qualifiers, only_host, fill_expression, IsResolved, any_primitive, fill_fault, is_misfit, is_out_of_range, is_unfilled, has_bits_past_mask, ReadsProtocol, no_protocol, protocol, ReadsDirection, no_direction, one_side, source_first, of_type, ReadsQualifiers, qualifiers, is_written, ReadsMask, no_mask, prefix, dotted_mask, ReadsValue, number, dotted, ip6_prefix, range, level, Number, of_literal, of_len, of_name, enclosed, of_sized_load, minus, single, chain, Truth, of_check, of_cast, of_protocol_cast, of_sized, of_valued, relation, denial, enclosed_truth, term, terms, IsReadAs, no_tokens, all_tokens, mask_tokens, value_tokens, protocol_tokens, direction_tokens, qualifier_tokens, written_direction, written_side, written_qualifiers, number_tokens, open_operand, close_operand, truth_tokens, explained_tokens, IsWritable, IsWritableNumber, IsWritableTruth}
+use Rattle.std.proofs.lemmas.Bool.{or_parts}
+use Rattle.std.proofs.Math.Bool.{or-true}
 use Rattle.flt_words.specs.declared.token.Join.TheVariants as join
 use Rattle.flt_words.specs.declared.token.Operator.TheVariants as operator
 use Rattle.flt_words.specs.declared.token.TokenKind.TheVariants as token
@@ -69,12 +71,8 @@ reads_typed _ d p ts rest reads = qualifiers reads (reads_direction d _) of_type
 reads_qualifiers : (q : CompleteQualifiers) (rest : List TokenKind) → ReadsQualifiers (qualifier_tokens (written_qualifiers q) rest) (written_qualifiers q) rest
 reads_qualifiers q rest = reads_typed q.value_type q.direction q.protocol _ rest (reads_protocol q.protocol _)
 
-or_true : (a : Bool) → (a || true) ≡ true
-or_true true = refl
-or_true false = refl
-
 some_written : (q : CompleteQualifiers) → is_written (written_qualifiers q) ≡ true
-some_written q = or_true (is_some q.protocol || is_some (written_side q.value_type q.direction))
+some_written q = or-true (is_some q.protocol || is_some (written_side q.value_type q.direction))
 
 -- the tree that is read, before it is resolved
 reread : TruthTree → TruthTree
@@ -98,10 +96,6 @@ unfolding Reads
 alone true reads = reads
 alone false reads = term reads
 
-both_false : (a b : Bool) → (a || b) ≡ false → (a ≡ false) × (b ≡ false)
-both_false true b h = cc
-both_false false b h = (refl, h)
-
 reads_truth : (operand : Bool) (a : TruthTree) (rest : List TokenKind) → IsWritableTruth a → any_primitive is_unfilled a ≡ false → Reads operand (truth_tokens operand a rest) (reread a) rest
 unfolding Reads reread
 reads_truth operand (check p) rest w f = alone operand (of_check w)
@@ -114,7 +108,7 @@ reads_truth operand (qualified q v) rest w f = around operand rest (term (of_val
 reads_truth operand (compared c a b) rest w f = around operand rest (term (relation (any (reads_number a _ w.0)) (any (reads_number b _ w.1))))
 reads_truth operand (denied a) rest w f = around operand rest (term (denial (reads_truth true a _ w f)))
 reads_truth operand (joined j a b) rest w f =
-    let parts = both_false (any_primitive is_unfilled a) (any_primitive is_unfilled b) f in
+    let parts = or_parts (any_primitive is_unfilled a) (any_primitive is_unfilled b) f in
     around operand rest (terms (term (reads_truth true a _ w.0 parts.0)) (reads_truth true b _ w.1 parts.1))
 
 -- resolved, it is the tree
@@ -129,12 +123,12 @@ unfolding reread
 filled_again q (bare v) f m = cc
 filled_again q (valued p v) f m = cc
 filled_again q (qualified p v) f m =
-    let parts = both_false (is_misfit_fit (fit_of p.value_type v p.protocol)) (is_proto p.value_type && not (is_either p.direction)) m in
+    let parts = or_parts (is_misfit_fit (fit_of p.value_type v p.protocol)) (is_proto p.value_type && not (is_either p.direction)) m in
     ap (λ r. qualified r v) (full_again p.value_type p.protocol p.direction parts.1)
 filled_again q (denied a) f m = ap denied (filled_again q a f m)
 filled_again q (joined j a b) f m =
-    let fs = both_false (any_primitive is_unfilled a) (any_primitive is_unfilled b) f in
-    let ms = both_false (any_primitive is_misfit a) (any_primitive is_misfit b) m in
+    let fs = or_parts (any_primitive is_unfilled a) (any_primitive is_unfilled b) f in
+    let ms = or_parts (any_primitive is_misfit a) (any_primitive is_misfit b) m in
     rw (filled_again q a fs.0 ms.0, filled_again (latest q (reread a)) b fs.1 ms.1) refl
 filled_again q _ f m = refl
 
@@ -146,8 +140,8 @@ keeps g same q (valued p v) f h = cc
 keeps g same q (qualified p v) f h = same p v h
 keeps g same q (denied a) f h = keeps g same q a f h
 keeps g same q (joined j a b) f h =
-    let fs = both_false (any_primitive is_unfilled a) (any_primitive is_unfilled b) f in
-    let hs = both_false (any_primitive g a) (any_primitive g b) h in
+    let fs = or_parts (any_primitive is_unfilled a) (any_primitive is_unfilled b) f in
+    let hs = or_parts (any_primitive g a) (any_primitive g b) h in
     rw (keeps g same q a fs.0 hs.0) (keeps g same (latest q (reread a)) b fs.1 hs.1)
 keeps g same q _ f h = h
 
@@ -157,7 +151,7 @@ no_side _ d = refl
 
 fits_again : (q : CompleteQualifiers) (v : Value) → is_misfit (qualified q v) ≡ false → is_misfit (valued (written_qualifiers q) v) ≡ false
 fits_again q v h =
-    let parts = both_false (is_misfit_fit (fit_of q.value_type v q.protocol)) (is_proto q.value_type && not (is_either q.direction)) h in
+    let parts = or_parts (is_misfit_fit (fit_of q.value_type v q.protocol)) (is_proto q.value_type && not (is_either q.direction)) h in
     rw parts.0 (no_side q.value_type q.direction)
 
 in_range_again : (q : CompleteQualifiers) (v : Value) → is_out_of_range (qualified q v) ≡ false → is_out_of_range (valued (written_qualifiers q) v) ≡ false

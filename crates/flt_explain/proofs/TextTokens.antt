@@ -1,5 +1,6 @@
 -- The text of tokens is cut into these tokens.
 use Rattle.flt_explain.proofs.Common.{◌≡◌, ◌⊎◌, inl, inr, ⊎_elim, ℕ, suc, zero, ◌+◌, ◌<◌, List, [], ◌∷◌, ◌++◌, length, get_or, take, drop, refl, sym, ap, ◌∙◌, subst, arith, Bool, true, false, ◌==◌, ◌||◌, cond, count_by, nat_lt, codes, if◌then◌else◌, Ok, append_assoc, append-nil, length-append, nat_tests, drop_at, get_or_at, take_at, Token, TokenKind, is_inside, IsToken, TokensFrom, kinds_of, Following, gap, joins_next, joins_previous, next_after, spelling, tokens_text, IsSpellable}
+use Rattle.std.proofs.lemmas.Bool.{lt-ltb}
 use Rattle.std.proofs.lemmas.List.Sums.{sum_by-append}
 use Rattle.flt_words.specs.declared.token.Operator.TheVariants as operator
 use Rattle.flt_words.specs.declared.token.TokenKind.TheVariants as token
@@ -30,15 +31,12 @@ abbrev pub AreSpelled : ℕ → List TokenKind → Type 0
 AreSpelled d [] = Unit {0}
 AreSpelled d (t ∷ rest) = IsSpellable t × IsAt d t × AreSpelled (depth_after d t) rest
 
-inside_of : (d : ℕ) → 0 < d → nat_lt 0 d ≡ true
-inside_of d h = grind (arith, nat_tests)
-
 -- what follows a token that doesn't join the next one
 before_next : (d : ℕ) (u : TokenKind) (us : List TokenKind) (following : Following) → IsAt d u → Ends (nat_lt 0 d) ((if joins_previous u then [] else codes " ") ++ tokens_text following (u ∷ us))
 before_next d token.Close us following at = goes_on signs.close
 before_next d token.OpenBracket us following at = goes_on signs.bracket
 before_next d token.CloseBracket us following at = goes_on signs.close_bracket
-before_next d token.Colon us following at = goes_on (signs.colon (inside_of d at))
+before_next d token.Colon us following at = goes_on (signs.colon (lt-ltb 0 d at))
 before_next d (token.Operator operator.Divide) us following at = goes_on signs.slash
 before_next d (token.Operator _) us following at = goes_on signs.blank
 before_next d _ us following at = goes_on signs.blank
@@ -59,7 +57,7 @@ token_here token.CloseBracket d place following next rest w at s = single_token 
 token_here (token.Operator operator.Divide) d place following next rest w at s = single_token (token.Operator operator.Divide) (nat_lt 0 d) place _ refl
 token_here (token.Operator o) d place following next rest w at s = sign_token (token.Operator o) (nat_lt 0 d) place _ refl (ends_of d (token.Operator o) rest next refl s)
 token_here (token.Comparison c) d place following next rest w at s = sign_token (token.Comparison c) (nat_lt 0 d) place _ refl (ends_of d (token.Comparison c) rest next refl s)
-token_here token.Colon d place following next rest w at s = colon_token (nat_lt 0 d) place _ (inside_of d at)
+token_here token.Colon d place following next rest w at s = colon_token (nat_lt 0 d) place _ (lt-ltb 0 d at)
 token_here (token.Number n) d place following next rest w at s = word_here d place _ _ rest next refl (number_for (nat_lt 0 d) n w) s
 token_here (token.Name n) d place following next rest w at s = word_here d place _ _ rest next refl (name_for (nat_lt 0 d) following n w) s
 token_here (token.Dotted a p) d place following next rest w at s = word_here d place _ _ rest next refl (dotted_for (nat_lt 0 d) a p w) s

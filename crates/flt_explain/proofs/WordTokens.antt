@@ -1,5 +1,6 @@
 -- Each word that is written means its token.
-use Rattle.flt_explain.proofs.Common.{◌≡◌, ◌⊎◌, inl, inr, ⊎_elim, ℕ, suc, zero, ◌^◌, ◌<◌, List, ◌∷◌, ◌++◌, length, get_or, refl, sym, ap, subst, arith, Bool, true, false, ◌==◌, ◌||◌, Some, lit<, lit≤, decimal_digit, decimal_is_IsNumeral, first_decimal, decimal, TokenKind, Host, within_word, WritesDecimal, keyword_of, Spells, fits, keyword, keyword_is_plain, Following, Other, fixed_spelling, name_word, has_name}
+use Rattle.flt_explain.proofs.Common.{◌≡◌, ⊎_elim, ℕ, suc, zero, ◌^◌, ◌<◌, List, ◌∷◌, ◌++◌, length, get_or, refl, sym, ap, subst, arith, Bool, true, false, ◌==◌, Some, lit<, lit≤, decimal_digit, decimal_is_IsNumeral, first_decimal, decimal, TokenKind, Host, within_word, WritesDecimal, keyword_of, Spells, fits, keyword, keyword_is_plain, Following, Other, fixed_spelling, name_word, has_name}
+use Rattle.std.proofs.lemmas.Bool.{or_cases}
 use Rattle.std.proofs.lemmas.Bool.{eqb-true}
 use Rattle.flt_words.specs.declared.token.Cast.TheVariants.{Broadcast, Multicast}
 use Rattle.flt_words.specs.declared.token.Join.TheVariants as join
@@ -62,10 +63,6 @@ pub keyword_for : (inside : Bool) (t : TokenKind) → is_keyword t ≡ true → 
 keyword_for inside t h = keyword_by inside _ _ (found t h)
 
 -- names
-either : (a b : Bool) → (a || b) ≡ true → (a ≡ true) ⊎ (b ≡ true)
-either true b h = inl refl
-either false b h = inr h
-
 one_found : (following : Following) → keyword_of (name_word following 1) ≡ Some (token.Name 1)
 unfolding keywords
 one_found Other = refl
@@ -76,7 +73,7 @@ unfolding keywords
 name_found following n h =
     let P : ℕ → Type 0 = λ k. keyword_of (name_word following k) ≡ Some (token.Name k) in
     let at : (k : ℕ) → P k → (n == k) ≡ true → P n = λ k found is. subst P (sym (eqb-true n k is)) found in
-    ⊎_elim (at 0 refl) (λ h. ⊎_elim (at 1 (one_found following)) (λ h. ⊎_elim (at 2 refl) (λ h. ⊎_elim (at 4 refl) (λ h. ⊎_elim (at 8 refl) (λ h. ⊎_elim (at 13 refl) (λ h. ⊎_elim (at 16 refl) (at 32 refl) (either (n == 16) (n == 32) h)) (either (n == 13) _ h)) (either (n == 8) _ h)) (either (n == 4) _ h)) (either (n == 2) _ h)) (either (n == 1) _ h)) (either (n == 0) _ h)
+    ⊎_elim (at 0 refl) (λ h. ⊎_elim (at 1 (one_found following)) (λ h. ⊎_elim (at 2 refl) (λ h. ⊎_elim (at 4 refl) (λ h. ⊎_elim (at 8 refl) (λ h. ⊎_elim (at 13 refl) (λ h. ⊎_elim (at 16 refl) (at 32 refl) (or_cases (n == 16) (n == 32) h)) (or_cases (n == 13) _ h)) (or_cases (n == 8) _ h)) (or_cases (n == 4) _ h)) (or_cases (n == 2) _ h)) (or_cases (n == 1) _ h)) (or_cases (n == 0) _ h)
 
 pub name_for : (inside : Bool) (following : Following) (n : ℕ) → has_name n ≡ true → IsWordFor inside (name_word following n) (token.Name n)
 name_for inside following n h = keyword_by inside _ _ (name_found following n h)

@@ -1,5 +1,6 @@
 -- Each tree that is read of a text is writable.
-use Rattle.flt_explain.proofs.Common.{◌≡◌, ℕ, suc, zero, ◌+◌, ◌-◌, ◌*◌, ◌^◌, ◌<◌, ◌≤◌, List, [], ◌∷◌, length, map, lit≤, refl, ap, ◌∙◌, subst, arith, Bool, true, false, ◌&&◌, cond, codes, Option, Some, Result, Ok, Err, nat_tests, length-map, AllByRecursion, list_all, IsNumeral, digits_value, Token, TokenKind, IsDotted, IsIp6, IsMac, AreIp6Ends, shortened, whole, WritesDecimal, is_word_sized, look_up, PieceMeans, Tokens, TokensFrom, before, symbol_meaning, word_meaning, short, too_long, Spells, WordMeans, fits, keyword, mac, ip6, known, both, found_passes, kinds_of, IsDottedAddress, has_name, IsSpellable}
+use Rattle.flt_explain.proofs.Common.{◌≡◌, ℕ, suc, zero, ◌+◌, ◌-◌, ◌*◌, ◌^◌, ◌<◌, ◌≤◌, List, [], ◌∷◌, length, map, lit≤, refl, ap, ◌∙◌, subst, arith, Bool, true, false, ◌&&◌, cond, codes, Option, Some, Result, Ok, Err, length-map, AllByRecursion, list_all, IsNumeral, digits_value, Token, TokenKind, IsDotted, IsIp6, IsMac, AreIp6Ends, shortened, whole, WritesDecimal, is_word_sized, look_up, PieceMeans, Tokens, TokensFrom, before, symbol_meaning, word_meaning, short, too_long, Spells, WordMeans, fits, keyword, mac, ip6, known, found_passes, kinds_of, IsDottedAddress, has_name, IsSpellable}
+use Rattle.std.proofs.lemmas.Bool.{and_parts, ltb-true}
 use Rattle.std.proofs.lemmas.Int.Digits.{number_lt}
 use Rattle.std.specs.Int.Digits.{AllBelowBase, number_from_digits}
 use Rattle.std.specs.Str.{bytes_eq}
@@ -38,9 +39,6 @@ from_table (token.Range a b) h = cc
 from_table (token.Mac a) h = cc
 from_table (token.Ip6 a) h = cc
 from_table _ h = tt
-
-sized : (n : ℕ) → is_word_sized n ≡ true → n < 2 ^ 32
-sized n h = grind (arith, nat_tests)
 
 -- groups of digits, each of which writes a number below a base
 all_below : (base radix : ℕ) (IsGroup : List ℕ → Type 0) (groups : List (List ℕ)) → AllByRecursion IsGroup groups → ((digits : List ℕ) → IsGroup digits → digits_value radix digits < base)
@@ -97,11 +95,11 @@ ip6_small (shortened ends) = ends_small ends
 -- what a word means
 stands_spellable : {word : List ℕ} {kind : TokenKind} → Spells word kind → fits kind ≡ true → IsSpellable kind
 stands_spellable {word} {kind} (keyword found) fit = from_table kind (found_passes (λ _ k. table_test k) keywords word kind all_keywords found)
-stands_spellable (number {n} w) fit = sized n fit
+stands_spellable (number {n} w) fit = ltb-true n (2 ^ 32) fit
 stands_spellable (dotted w) fit = dotted_small w
 stands_spellable (range {first} {last} w) fit =
-    let parts = both (is_word_sized first) (is_word_sized last) fit in
-    (sized first parts.0, sized last parts.1)
+    let parts = and_parts (is_word_sized first) (is_word_sized last) fit in
+    (ltb-true first (2 ^ 32) parts.0, ltb-true last (2 ^ 32) parts.1)
 stands_spellable (mac w) fit = mac_small w
 stands_spellable (ip6 w) fit = ip6_small w
 
