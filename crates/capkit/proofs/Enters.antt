@@ -86,10 +86,7 @@ always_enters words into taken none =
 
 named_back : (asked : Subcommand) → subcommand_of_name (name_of asked) ≡ asked
 named_back sub.Edit = refl
-named_back sub.Merge = refl
-named_back sub.Infos = refl
-named_back sub.Print = refl
-named_back sub.Compile = refl
+named_back _ = refl
 
 -- the subcommand of the name that a parse met, with its matches
 asks_pair : (words : List Text) (p : Text × List Row) → TakesWords words (Some p) → Asks words (subcommand_of_name p.0) p.1

@@ -1,19 +1,13 @@
 -- The line of a print without a fault may be run.
 use Rattle.capkit.proofs.Common.{◌≡◌, ◌∙◌, ap, arith, refl, codes, Bool, true, false, List, [], ◌∷◌, length, Option, Some, None, String, string_bytes, vec_len, ◌&&◌, ◌||◌, is_none, is_some, nat_eq, nat_lt, not, option_map, if◌then◌else◌, Global, join_by, option_map_or, and_from, eq-eqb, lt-ltb, has_at_most_one_filter, has_at_most_one_output, is_at_least_one, is_proper, Row, Text, first_of, IsPrintOf, flag_in, format_in, has_exclusion, has_expression, has_two_filters, has_two_outputs, is_ready, or_else, print_fault, texts_in, Line, Usage, OptionsExclude}
+use Rattle.std.proofs.lemmas.Bool.{or_parts}
+use Rattle.std.proofs.Math.Bool.{or-true}
 use Rattle.cap_octet.specs.declared.format.Format.{Format}
 use Rattle.capkit.specs.declared.ids.TheConstants as ids
 
 no_exclusion : (exclude : Bool) (next : Option Usage) → or_else (if exclude then Some OptionsExclude else None) next ≡ None → exclude ≡ false
 no_exclusion true next none = cc
 no_exclusion false next none = refl
-
-neither : (a b : Bool) → (a || b) ≡ false → (a ≡ false) × (b ≡ false)
-neither true b is = cc
-neither false b is = (refl, is)
-
-or_true : (b : Bool) → (b || true) ≡ true
-or_true true = refl
-or_true false = refl
 
 -- beside a listing there is no word, and so no expression
 one_filter : (listing : Option Text) (code : Option (String Global)) (words : List Text) (expr : Text) → option_map string_bytes code ≡ listing
@@ -36,10 +30,10 @@ pub ready : (matches : List Row) (line : Line) (is : IsPrintOf matches line) →
     → option_map_or is_at_least_one is.print.count true ≡ true → is_ready line ≡ true
 ready matches line is none one count =
     let print = is.print in
-    let filters = neither (has_two_filters matches) _ (no_exclusion (has_exclusion matches) _ none) in
-    let outputs = neither (has_two_outputs matches) _ filters.1 in
+    let filters = or_parts (has_two_filters matches) _ (no_exclusion (has_exclusion matches) _ none) in
+    let outputs = or_parts (has_two_outputs matches) _ filters.1 in
     let unread : has_at_most_one_filter (string_bytes print.expr) print.code ≡ true =
-    ap (has_at_most_one_filter (string_bytes print.expr)) is.unread ∙ or_true (nat_eq (length (string_bytes print.expr)) 0) in
+    ap (has_at_most_one_filter (string_bytes print.expr)) is.unread ∙ or-true (nat_eq (length (string_bytes print.expr)) 0) in
     let output : has_at_most_one_output print.link print.bytes print.write ≡ true =
     one_output (first_of ids.OUT.now matches) (format_in ids.FORMAT.now matches) print.write print.link print.bytes is.write
     (ap (λ link. is_some (first_of ids.OUT.now matches) && (link || print.bytes)) is.link

@@ -13,24 +13,14 @@ says_line words asked matches (Err usage) asks is none = tt
 edit_or_name : (many bad time shifts twice : Bool) (e : Error)
     → or_else (if many then Some TooManyValues else (if bad then Some BadRange else None)) (or_else (if time then Some BadTime else None)
     (or_else (if shifts then Some OptionsExclude else None) (if twice then Some NameUsedTwice else None))) ≡ Some (Refused e) → ⊥
-edit_or_name true bad time shifts twice e same = cc
-edit_or_name false true time shifts twice e same = cc
-edit_or_name false false true shifts twice e same = cc
-edit_or_name false false false true twice e same = cc
-edit_or_name false false false false true e same = cc
 edit_or_name false false false false false e same = cc
+edit_or_name _ _ _ _ _ e same = cc
 
-count_or_name : (many twice : Bool) (e : Error)
-    → or_else (if many then Some TooManyValues else None) (if twice then Some NameUsedTwice else None) ≡ Some (Refused e) → ⊥
-count_or_name true twice e same = cc
-count_or_name false true e same = cc
-count_or_name false false e same = cc
-
-exclusion_or_name : (both twice : Bool) (e : Error)
-    → or_else (if both then Some OptionsExclude else None) (if twice then Some NameUsedTwice else None) ≡ Some (Refused e) → ⊥
-exclusion_or_name true twice e same = cc
-exclusion_or_name false true e same = cc
-exclusion_or_name false false e same = cc
+other_or_name : (other : Usage) (is twice : Bool) (e : Error) → (other ≡ Refused e → ⊥)
+    → or_else (if is then Some other else None) (if twice then Some NameUsedTwice else None) ≡ Some (Refused e) → ⊥
+other_or_name other false false e differs same = cc
+other_or_name other false true e differs same = cc
+other_or_name other true twice e differs same = differs (cc)
 
 not_refused : (asked : Subcommand) (matches : List Row) (e : Error) → fault_in asked matches ≡ Some (Refused e) → ⊥
 not_refused sub.Edit matches e same =
@@ -38,11 +28,11 @@ not_refused sub.Edit matches e same =
     edit_or_name (nat_lt most_ranges (length words)) (list_any (λ word. is_none (range_of word)) words) (has_bad_time matches) (has_two_shifts matches)
     (uses_name_twice (text_in ids.IN.now matches ∷ []) (Some (text_in ids.OUT.now matches))) e same
 not_refused sub.Merge matches e same =
-    count_or_name (nat_lt most_inputs (length (files_in matches))) (uses_name_twice (files_in matches) (Some (text_in ids.OUT.now matches))) e same
+    other_or_name TooManyValues (nat_lt most_inputs (length (files_in matches))) (uses_name_twice (files_in matches) (Some (text_in ids.OUT.now matches))) e (λ is. cc) same
 not_refused sub.Infos matches e same =
-    count_or_name (nat_lt most_inputs (length (files_in matches))) (uses_name_twice (files_in matches) None) e same
+    other_or_name TooManyValues (nat_lt most_inputs (length (files_in matches))) (uses_name_twice (files_in matches) None) e (λ is. cc) same
 not_refused sub.Print matches e same =
-    exclusion_or_name (has_exclusion matches) (uses_name_twice (read_names matches) (first_of ids.OUT.now matches)) e same
+    other_or_name OptionsExclude (has_exclusion matches) (uses_name_twice (read_names matches) (first_of ids.OUT.now matches)) e (λ is. cc) same
 not_refused sub.Compile matches e same = cc
 
 says : (words : List Text) (asked : Subcommand) (matches : List Row) (usage : Usage) → Asks words asked matches → IsUsageOf (fault_in asked matches) usage
@@ -51,12 +41,7 @@ says words asked matches (Refused e) asks fault = elim fault [
   | inl memory ↦ cc
   | inr same ↦ absurd (not_refused asked matches e same)
 ]
-says words asked matches TooManyValues asks fault = (asked, matches, asks, fault)
-says words asked matches BadRange asks fault = (asked, matches, asks, fault)
-says words asked matches BadTime asks fault = (asked, matches, asks, fault)
-says words asked matches OptionsExclude asks fault = (asked, matches, asks, fault)
-says words asked matches NameUsedTwice asks fault = (asked, matches, asks, fault)
-says words asked matches Memory asks fault = (asked, matches, asks, fault)
+says words asked matches _ asks fault = (asked, matches, asks, fault)
 
 pub says_fault : (words : List Text) (asked : Subcommand) (matches : List Row) (r : Result Line Usage) → Asks words asked matches
     → IfErr r (IsUsageOf (fault_in asked matches)) → IfErr r (SaysFault words)

@@ -1,10 +1,82 @@
--- MAC and IPv6 addresses in full mean their tokens.
-use Rattle.flt_explain.proofs.Common.{◌≡◌, ℕ, suc, zero, ◌+◌, ◌*◌, ◌/◌, ◌%◌, ◌^◌, ◌<◌, ◌≤◌, List, [], ◌∷◌, ◌++◌, length, refl, arith, Bool, true, false, ◌==◌, cond, lit<, lit≤, append_assoc, pow-suc, nat_tests, digits_is_IsNumeral, digit_value, digit_glyph, digits_onto, IsNumeral, digits_value, IsMac, IsWholeIp6, whole, mac, ip6, octet, hex_byte, group_at}
+-- Addresses mean their tokens: each is a few numbers, which are written one by one and joined.
+use Rattle.flt_explain.proofs.Common.{◌≡◌, ℕ, suc, zero, ◌+◌, ◌*◌, ◌/◌, ◌%◌, ◌^◌, ◌<◌, ◌≤◌, List, [], ◌∷◌, ◌++◌, length, map, refl, sym, ap, ◌∙◌, subst, arith, Bool, true, false, ◌==◌, cond, lit<, lit≤, append_assoc, pow-suc, nat_tests, AllByRecursion, digits_is_IsNumeral, decimal_is_IsNumeral, decimal, digit_value, digit_glyph, digits_onto, IsNumeral, digits_value, IsDotted, within_word, WritesDecimal, whole, mac, ip6, octet, hex_byte, group_at, half_bytes, half_groups, octets, IsDottedAddress}
 use Rattle.std.specs.Fmt.{digits}
+use Rattle.std.proofs.Common.{replicate}
+use Rattle.std.specs.Int.Digits.{AllBelowBase, number_from_digits}
+use Rattle.std.specs.List.{join_with_byte}
 use Rattle.flt_words.specs.declared.token.TokenKind.TheVariants as token
-use Rattle.flt_explain.specs.Texts.{bytes_text, mac_word, groups_text, ip6_word}
+use Rattle.flt_words.specs.Words.Spells.{dotted}
+use Rattle.flt_explain.specs.Texts.{bytes_text, mac_word, groups_text, ip6_word, dotted_word}
 use Rattle.flt_explain.proofs.WordPieces.{IsPart, part_of_digits, part_join}
-use Rattle.flt_explain.proofs.WordTokens.{IsWordFor}
+use Rattle.flt_explain.proofs.WordTokens.{IsWordFor, part_of_decimal, writes_decimal}
+
+-- how numbers below a base are written as groups of digits, between which a byte stands
+record Writes (inside : Bool) (between base radix : ℕ) (IsGroup : List ℕ → Type 0) (write : ℕ → List ℕ) : Type 0 where
+  group : (n : ℕ) → n < base → IsGroup (write n)
+  value : (n : ℕ) → n < base → digits_value radix (write n) ≡ n
+  part : (n : ℕ) → n < base → IsPart inside (write n)
+  within : within_word inside between ≡ true
+
+module _ {inside : Bool} {between base radix : ℕ} {IsGroup : List ℕ → Type 0} {write : ℕ → List ℕ} (by : Writes inside between base radix IsGroup write) where
+  each : (numbers : List ℕ) → AllBelowBase base numbers → AllByRecursion IsGroup (map write numbers)
+  each [] below = tt
+  each (n ∷ numbers) below = (by.group n below.0, each numbers below.1)
+
+  values : (numbers : List ℕ) → AllBelowBase base numbers → map (digits_value radix) (map write numbers) ≡ numbers
+  values [] below = refl
+  values (n ∷ numbers) below = rw (by.value n below.0, values numbers below.1) refl
+
+  part : (numbers : List ℕ) → 0 < length numbers → AllBelowBase base numbers → IsPart inside (join_with_byte between (map write numbers))
+  part [] some below = absurd (omega arith)
+  part (n ∷ []) some below = by.part n below.0
+  part (n ∷ m ∷ numbers) some below = part_join inside between (write n) _ by.within (by.part n below.0) (part (m ∷ numbers) (omega arith) below.1)
+
+below_256 : (weight n : ℕ) → octet weight n < 256
+below_256 weight n = omega arith
+
+below_65536 : (weight half : ℕ) → group_at weight half < 65536
+below_65536 weight half = omega arith
+
+-- IPv4 addresses
+in_decimal : (inside : Bool) → Writes inside 46 256 10 (λ digits. (n : ℕ) × WritesDecimal digits n × (n ≤ 255)) decimal
+in_decimal inside = record {
+  group = λ n small. (n, writes_decimal n (omega arith), omega arith);
+  value = λ n small. (decimal_is_IsNumeral n (omega arith)).1;
+  part = λ n small. part_of_decimal inside n (omega arith);
+  within = point inside;
+}
+  where
+    point : (b : Bool) → within_word b 46 ≡ true
+    point true = refl
+    point false = refl
+
+two_parts : (a : ℕ) → a < 2 ^ 32 → a % 65536 ≡ 0 → a ≡ (((0 * 256 + octet (2 ^ 24) a) * 256 + octet (2 ^ 16) a) * 256 + 0) * 256 + 0
+two_parts a small missing = omega arith
+
+three_parts : (a : ℕ) → a < 2 ^ 32 → a % 256 ≡ 0 → a ≡ (((0 * 256 + octet (2 ^ 24) a) * 256 + octet (2 ^ 16) a) * 256 + octet (2 ^ 8) a) * 256 + 0
+three_parts a small missing = omega arith
+
+four_parts : (a : ℕ) → a < 2 ^ 32 → a ≡ (((0 * 256 + octet (2 ^ 24) a) * 256 + octet (2 ^ 16) a) * 256 + octet (2 ^ 8) a) * 256 + octet 1 a
+four_parts a small = omega arith
+
+dotted_of : (inside : Bool) (a p : ℕ) → 0 < length (octets a p) → AllBelowBase 256 (octets a p) → IsDotted (dotted_word a p) a p → IsWordFor inside (dotted_word a p) (token.Dotted a p)
+unfolding dotted_word
+dotted_of inside a p some below is = record { part = part (in_decimal inside) (octets a p) some below; stands = dotted is; fit = refl }
+
+pub dotted_for : (inside : Bool) (a p : ℕ) → IsDottedAddress a p → IsWordFor inside (dotted_word a p) (token.Dotted a p)
+unfolding dotted_word
+dotted_for inside a zero w = absurd (omega (arith, w.at_least_two))
+dotted_for inside a (suc zero) w = absurd (omega (arith, w.at_least_two))
+dotted_for inside a (suc (suc zero)) w =
+    let below : AllBelowBase 256 (octets a 2) = (below_256 (2 ^ 24) a, (below_256 (2 ^ 16) a, tt)) in
+    dotted_of inside a 2 (lit< tt) below (record { groups = map decimal (octets a 2); are = record { joined = refl; each = each (in_decimal inside) (octets a 2) below }; at_least_two = lit≤ tt; at_most_four = lit≤ tt; count = refl; value = two_parts a w.small w.missing ∙ ap (λ ns. number_from_digits 256 (ns ++ replicate 2 0)) (sym (values (in_decimal inside) (octets a 2) below)) })
+dotted_for inside a (suc (suc (suc zero))) w =
+    let below : AllBelowBase 256 (octets a 3) = (below_256 (2 ^ 24) a, (below_256 (2 ^ 16) a, (below_256 (2 ^ 8) a, tt))) in
+    dotted_of inside a 3 (lit< tt) below (record { groups = map decimal (octets a 3); are = record { joined = refl; each = each (in_decimal inside) (octets a 3) below }; at_least_two = lit≤ tt; at_most_four = lit≤ tt; count = refl; value = three_parts a w.small w.missing ∙ ap (λ ns. number_from_digits 256 (ns ++ replicate 1 0)) (sym (values (in_decimal inside) (octets a 3) below)) })
+dotted_for inside a (suc (suc (suc (suc zero)))) w =
+    let below : AllBelowBase 256 (octets a 4) = (below_256 (2 ^ 24) a, (below_256 (2 ^ 16) a, (below_256 (2 ^ 8) a, (below_256 1 a, tt)))) in
+    dotted_of inside a 4 (lit< tt) below (record { groups = map decimal (octets a 4); are = record { joined = refl; each = each (in_decimal inside) (octets a 4) below }; at_least_two = lit≤ tt; at_most_four = lit≤ tt; count = refl; value = four_parts a w.small ∙ ap (λ ns. number_from_digits 256 (ns ++ replicate 0 0)) (sym (values (in_decimal inside) (octets a 4) below)) })
+dotted_for inside a (suc (suc (suc (suc (suc p))))) w = absurd (omega (arith, w.at_most_four))
 
 -- two hexadecimal digits
 glyph_value : (d : ℕ) → d < 16 → digit_value (digit_glyph false d) ≡ d
@@ -14,17 +86,16 @@ hex_numeral : (n : ℕ) → n < 256 → IsNumeral 16 (hex_byte n)
 hex_numeral n small =
     (lit< tt, (omega (arith, glyph_value (n / 16) (omega arith)), (omega (arith, glyph_value (n % 16) (omega arith)), tt)))
 
-hex_group : (n : ℕ) → n < 256 → IsNumeral 16 (hex_byte n) × (length (hex_byte n) ≤ 2)
-hex_group n small = (hex_numeral n small, lit≤ tt)
-
 two_digits : (n : ℕ) → (0 * 16 + n / 16) * 16 + n % 16 ≡ n
 two_digits n = omega arith
 
-hex_value : (n : ℕ) → n < 256 → digits_value 16 (hex_byte n) ≡ n
-hex_value n small = rw (glyph_value (n / 16) (omega arith), glyph_value (n % 16) (omega arith)) (two_digits n)
-
-below_256 : (weight half : ℕ) → octet weight half < 256
-below_256 weight half = omega arith
+in_bytes : Writes false 58 256 16 (λ digits. IsNumeral 16 digits × (length digits ≤ 2)) hex_byte
+in_bytes = record {
+  group = λ n small. (hex_numeral n small, lit≤ tt);
+  value = λ n small. rw (glyph_value (n / 16) (omega arith), glyph_value (n % 16) (omega arith)) (two_digits n);
+  part = λ n small. let is = hex_numeral n small in part_of_digits false 16 (hex_byte n) (lit≤ tt) is.0 is.1;
+  within = refl;
+}
 
 three_bytes : (h : ℕ) → h < 2 ^ 24 → h ≡ (octet (2 ^ 16) h * 256 + octet (2 ^ 8) h) * 256 + octet 1 h
 three_bytes h small = omega arith
@@ -32,42 +103,22 @@ three_bytes h small = omega arith
 six_bytes : (a q r b c d e f g : ℕ) → q ≡ a / 2 ^ 24 → r ≡ a % 2 ^ 24 → q ≡ (b * 256 + c) * 256 + d → r ≡ (e * 256 + f) * 256 + g → a ≡ (((((0 * 256 + b) * 256 + c) * 256 + d) * 256 + e) * 256 + f) * 256 + g
 six_bytes a q r b c d e f g is also high low = omega arith
 
-mac_is : (a : ℕ) → a < 2 ^ 48 → IsMac (mac_word a) a
+pub mac_for : (a : ℕ) → a < 2 ^ 48 → IsWordFor false (mac_word a) (token.Mac a)
 unfolding mac_word bytes_text
-mac_is a small =
+mac_for a small =
     let q : ℕ = a / 2 ^ 24 in
     let r : ℕ = a % 2 ^ 24 in
-    let b = below_256 (2 ^ 16) q in
-    let c = below_256 (2 ^ 8) q in
-    let d = below_256 1 q in
-    let e = below_256 (2 ^ 16) r in
-    let f = below_256 (2 ^ 8) r in
-    let g = below_256 1 r in
+    let below : AllBelowBase 256 (half_bytes q ++ half_bytes r) = (below_256 (2 ^ 16) q, (below_256 (2 ^ 8) q, (below_256 1 q, (below_256 (2 ^ 16) r, (below_256 (2 ^ 8) r, (below_256 1 r, tt)))))) in
     record {
-      groups = hex_byte (octet (2 ^ 16) q) ∷ hex_byte (octet (2 ^ 8) q) ∷ hex_byte (octet 1 q) ∷ hex_byte (octet (2 ^ 16) r) ∷ hex_byte (octet (2 ^ 8) r) ∷ hex_byte (octet 1 r) ∷ [];
-      are = record { joined = refl; each = (hex_group _ b, (hex_group _ c, (hex_group _ d, (hex_group _ e, (hex_group _ f, (hex_group _ g, tt)))))) };
-      six = refl;
-      value = rw (hex_value _ b, hex_value _ c, hex_value _ d, hex_value _ e, hex_value _ f, hex_value _ g) (six_bytes a q r _ _ _ _ _ _ refl refl (three_bytes q (omega arith)) (three_bytes r (omega arith)));
+      part = part in_bytes (half_bytes q ++ half_bytes r) (lit< tt) below;
+      stands = mac {address = a} (record {
+        groups = map hex_byte (half_bytes q ++ half_bytes r);
+        are = record { joined = refl; each = each in_bytes (half_bytes q ++ half_bytes r) below };
+        six = refl;
+        value = six_bytes a q r _ _ _ _ _ _ refl refl (three_bytes q (omega arith)) (three_bytes r (omega arith)) ∙ ap (number_from_digits 256) (sym (values in_bytes (half_bytes q ++ half_bytes r) below));
+      });
+      fit = refl;
     }
-
-coloned : (front back : List ℕ) → IsPart false front → IsPart false back → IsPart false (front ++ 58 ∷ back)
-coloned front back v w = part_join false 58 front back refl v w
-
-hex_part : (weight half : ℕ) → IsPart false (hex_byte (octet weight half))
-hex_part weight half =
-    let is = hex_numeral (octet weight half) (below_256 weight half) in
-    part_of_digits false 16 (hex_byte (octet weight half)) (lit≤ tt) is.0 is.1
-
-bytes_part : (half : ℕ) → IsPart false (bytes_text half)
-unfolding bytes_text
-bytes_part half = coloned _ _ (hex_part (2 ^ 16) half) (coloned _ _ (hex_part (2 ^ 8) half) (hex_part 1 half))
-
-mac_part : (a : ℕ) → IsPart false (mac_word a)
-unfolding mac_word
-mac_part a = coloned _ _ (bytes_part (a / 2 ^ 24)) (bytes_part (a % 2 ^ 24))
-
-pub mac_for : (a : ℕ) → a < 2 ^ 48 → IsWordFor false (mac_word a) (token.Mac a)
-mac_for a small = record { part = mac_part a; stands = mac (mac_is a small); fit = refl }
 
 -- up to four hexadecimal digits
 some_front : (n : ℕ) → (n / 16 == 0) ≡ false → 16 ≤ n
@@ -93,14 +144,13 @@ numeral_of n small =
     let most : 65536 ≤ 16 ^ 64 = lit≤ tt in
     digits_is_IsNumeral 16 false (lit≤ tt) (lit≤ tt) n (omega arith)
 
-quad_group : (n : ℕ) → n < 65536 → IsNumeral 16 (digits 16 false n) × (length (digits 16 false n) ≤ 4)
-quad_group n small = ((numeral_of n small).0, few_digits n small)
-
-quad_value : (n : ℕ) → n < 65536 → digits_value 16 (digits 16 false n) ≡ n
-quad_value n small = (numeral_of n small).1
-
-below_65536 : (weight half : ℕ) → group_at weight half < 65536
-below_65536 weight half = omega arith
+in_quads : Writes false 58 65536 16 (λ digits. IsNumeral 16 digits × (length digits ≤ 4)) (digits 16 false)
+in_quads = record {
+  group = λ n small. ((numeral_of n small).0, few_digits n small);
+  value = λ n small. (numeral_of n small).1;
+  part = λ n small. let is = (numeral_of n small).0 in part_of_digits false 16 (digits 16 false n) (lit≤ tt) is.0 is.1;
+  within = refl;
+}
 
 four_groups : (h : ℕ) → h < 2 ^ 64 → h ≡ ((group_at (2 ^ 48) h * 65536 + group_at (2 ^ 32) h) * 65536 + group_at (2 ^ 16) h) * 65536 + group_at 1 h
 four_groups h small = omega arith
@@ -109,40 +159,22 @@ eight_groups : (a q r b c d e f g h i : ℕ) → q ≡ a / 2 ^ 64 → r ≡ a % 
     → a ≡ (((((((0 * 65536 + b) * 65536 + c) * 65536 + d) * 65536 + e) * 65536 + f) * 65536 + g) * 65536 + h) * 65536 + i
 eight_groups a q r b c d e f g h i is also high low = omega arith
 
-ip6_is : (a : ℕ) → a < 2 ^ 128 → IsWholeIp6 (ip6_word a) a
+all_joined : (a : ℕ) → ip6_word a ≡ join_with_byte 58 (map (digits 16 false) (half_groups (a / 2 ^ 64) ++ half_groups (a % 2 ^ 64)))
 unfolding ip6_word groups_text
-ip6_is a small =
-    let q : ℕ = a / 2 ^ 64 in
-    let r : ℕ = a % 2 ^ 64 in
-    let b = below_65536 (2 ^ 48) q in
-    let c = below_65536 (2 ^ 32) q in
-    let d = below_65536 (2 ^ 16) q in
-    let e = below_65536 1 q in
-    let f = below_65536 (2 ^ 48) r in
-    let g = below_65536 (2 ^ 32) r in
-    let h = below_65536 (2 ^ 16) r in
-    let i = below_65536 1 r in
-    record {
-      groups = digits 16 false (group_at (2 ^ 48) q) ∷ digits 16 false (group_at (2 ^ 32) q) ∷ digits 16 false (group_at (2 ^ 16) q) ∷ digits 16 false (group_at 1 q)
-          ∷ digits 16 false (group_at (2 ^ 48) r) ∷ digits 16 false (group_at (2 ^ 32) r) ∷ digits 16 false (group_at (2 ^ 16) r) ∷ digits 16 false (group_at 1 r) ∷ [];
-      are = record { joined = simp append_assoc refl; each = (quad_group _ b, (quad_group _ c, (quad_group _ d, (quad_group _ e, (quad_group _ f, (quad_group _ g, (quad_group _ h, (quad_group _ i, tt)))))))) };
-      eight = refl;
-      value = rw (quad_value _ b, quad_value _ c, quad_value _ d, quad_value _ e, quad_value _ f, quad_value _ g, quad_value _ h, quad_value _ i) (eight_groups a q r _ _ _ _ _ _ _ _ refl refl (four_groups q (omega arith)) (four_groups r (omega arith)));
-    }
-
-quad_part : (weight half : ℕ) → IsPart false (digits 16 false (group_at weight half))
-quad_part weight half =
-    let is = (numeral_of (group_at weight half) (below_65536 weight half)).0 in
-    part_of_digits false 16 (digits 16 false (group_at weight half)) (lit≤ tt) is.0 is.1
-
-groups_part : (half : ℕ) → IsPart false (groups_text half)
-unfolding groups_text
-groups_part half =
-    coloned _ _ (quad_part (2 ^ 48) half) (coloned _ _ (quad_part (2 ^ 32) half) (coloned _ _ (quad_part (2 ^ 16) half) (quad_part 1 half)))
-
-ip6_part : (a : ℕ) → IsPart false (ip6_word a)
-unfolding ip6_word
-ip6_part a = coloned _ _ (groups_part (a / 2 ^ 64)) (groups_part (a % 2 ^ 64))
+all_joined a = simp append_assoc refl
 
 pub ip6_for : (a : ℕ) → a < 2 ^ 128 → IsWordFor false (ip6_word a) (token.Ip6 a)
-ip6_for a small = record { part = ip6_part a; stands = ip6 (whole (ip6_is a small)); fit = refl }
+ip6_for a small =
+    let q : ℕ = a / 2 ^ 64 in
+    let r : ℕ = a % 2 ^ 64 in
+    let below : AllBelowBase 65536 (half_groups q ++ half_groups r) = (below_65536 (2 ^ 48) q, (below_65536 (2 ^ 32) q, (below_65536 (2 ^ 16) q, (below_65536 1 q, (below_65536 (2 ^ 48) r, (below_65536 (2 ^ 32) r, (below_65536 (2 ^ 16) r, (below_65536 1 r, tt)))))))) in
+    record {
+      part = subst (IsPart false) (sym (all_joined a)) (part in_quads (half_groups q ++ half_groups r) (lit< tt) below);
+      stands = ip6 {address = a} (whole (record {
+        groups = map (digits 16 false) (half_groups q ++ half_groups r);
+        are = record { joined = all_joined a; each = each in_quads (half_groups q ++ half_groups r) below };
+        eight = refl;
+        value = eight_groups a q r _ _ _ _ _ _ _ _ refl refl (four_groups q (omega arith)) (four_groups r (omega arith)) ∙ ap (number_from_digits 65536) (sym (values in_quads (half_groups q ++ half_groups r) below));
+      }));
+      fit = refl;
+    }

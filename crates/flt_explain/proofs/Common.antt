@@ -15,10 +15,10 @@ pub use Rattle.flt_ast.specs.declared.value.Value.{Value}
 pub use Rattle.flt_ast.specs.Tree.{NumberTree, literal, len, named, load, negated, applied, TruthTree, check, cast, sized, bare, valued, qualified, compared, denied, joined, Expression, empty, truth}
 pub use Rattle.flt_ast.specs.Resolved.{IsResolved, any_primitive, fill_fault, is_misfit, is_out_of_range, is_unfilled, has_bits_past_mask}
 pub use Rattle.flt_ast.specs.Filled.{latest, with_inherited, complete, completed_qualifiers, only_host, fill_expression}
-pub use Rattle.flt_explain.specs.Texts.{octet, hex_byte, group_at, comparison_sign, operator_sign, gap, joins_next, joins_previous, next_after, spelling, tokens_text, protocol_word, join_word, side_word, type_word, size_word, cast_word, name_word}
+pub use Rattle.flt_explain.specs.Texts.{octet, octets, hex_byte, half_bytes, group_at, half_groups, fixed_spelling, gap, joins_next, joins_previous, next_after, spelling, tokens_text, name_word}
 pub use Rattle.flt_explain.specs.declared.spelling.Following.TheVariants.{Other, Icmp, IcmpBracket}
-pub use Rattle.flt_explain.specs.Explained.{mask_tokens, prefix_tokens, value_tokens, protocol_tokens, direction_tokens, written_direction, written_type, written_tokens, typed_tokens, qualifier_tokens, number_tokens, open_operand, close_operand, truth_tokens, explained_tokens, explained_text}
-pub use Rattle.flt_explain.specs.Writable.{IsReadBack, IsWritable, IsWritableMask, IsWritableNumber, IsWritablePrefix, IsWritableTruth, IsWritableValue, IsDottedAddress, has_name}
+pub use Rattle.flt_explain.specs.Explained.{mask_tokens, value_tokens, protocol_tokens, direction_tokens, written_direction, written_side, written_qualifiers, type_tokens, qualifier_tokens, number_tokens, open_operand, close_operand, truth_tokens, explained_tokens, explained_text}
+pub use Rattle.flt_explain.specs.Writable.{IsReadBack, IsWritable, IsWritableMask, IsWritableNumber, IsWritableTruth, IsWritableValue, IsDottedAddress, has_name}
 pub use Rattle.flt_explain.specs.declared.spelling.Following.{Following}
 pub use Rattle.flt_explain.specs.inside.Writable.{IsSpellable}
 pub use Rattle.flt_explain.specs.inside.Backward.{WriterState, write_pending, parenthesis_before, is_more, write_nodes, write_node}
@@ -41,5 +41,5 @@ pub use Rattle.flt_words.proofs.Pieces.{longest_one, longest_two, IsScanned, lon
 pub use Rattle.flt_words.specs.declared.token.Token.{Token}
 pub use Rattle.flt_words.specs.Words.{Spells, fits, WordMeans}
 pub use Rattle.flt_words.specs.Words.WordMeans.{known}
-pub use Rattle.flt_words.proofs.Tables.{both, found_passes, keyword_is_plain}
+pub use Rattle.flt_words.proofs.Tables.{found_passes, keyword_is_plain}
 pub use Rattle.flt_words.specs.Numbers.{WritesDecimal, is_word_sized}

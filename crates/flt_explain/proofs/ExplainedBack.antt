@@ -1,5 +1,5 @@
 -- What an expression means is read as the expression.
-use Rattle.flt_explain.proofs.Common.{ℕ, suc, ◌≤◌, List, [], length, refl, sym, subst, arith, Bool, true, false, Option, Some, None, Protocol, TokenKind, ValueType, Proto, short, Direction, Qualifiers, CompleteQualifiers, NetMask, Value, NumberTree, literal, len, named, load, negated, applied, TruthTree, check, cast, sized, bare, valued, qualified, compared, denied, joined, Expression, empty, truth, IsResolved, IsReadAs, Other, mask_tokens, prefix_tokens, value_tokens, protocol_tokens, direction_tokens, written_direction, written_type, written_tokens, typed_tokens, qualifier_tokens, number_tokens, open_operand, close_operand, truth_tokens, explained_tokens, explained_text, IsReadBack, IsWritable, IsWritableMask, IsWritableNumber, IsWritablePrefix, IsWritableTruth, IsWritableValue}
+use Rattle.flt_explain.proofs.Common.{ℕ, suc, ◌≤◌, List, [], length, refl, sym, subst, arith, Bool, true, false, Option, Some, None, Protocol, TokenKind, ValueType, short, Direction, Qualifiers, NetMask, Value, NumberTree, literal, len, named, load, negated, applied, TruthTree, check, cast, sized, bare, valued, qualified, compared, denied, joined, Expression, empty, truth, IsResolved, IsReadAs, Other, mask_tokens, value_tokens, protocol_tokens, direction_tokens, written_direction, type_tokens, qualifier_tokens, written_qualifiers, number_tokens, open_operand, close_operand, truth_tokens, explained_tokens, explained_text, IsReadBack, IsWritable, IsWritableMask, IsWritableNumber, IsWritableTruth, IsWritableValue}
 use Rattle.flt_ast.specs.declared.qualifiers.Direction.TheVariants as direction
 use Rattle.flt_ast.specs.declared.value.NetMask.TheVariants as mask
 use Rattle.flt_ast.specs.declared.value.Value.TheVariants as value
@@ -23,14 +23,11 @@ mask_spelled mask.Unwritten rest w s = s
 mask_spelled (mask.Prefix n) rest w s = (tt, tt, (w, tt, s))
 mask_spelled (mask.Mask d) rest w s = (tt, tt, (w, tt, s))
 
-prefix_spelled : (n : Option ℕ) (rest : List TokenKind) → IsWritablePrefix n → AreSpelled 0 rest → AreSpelled 0 (prefix_tokens n rest)
-prefix_spelled None rest w s = s
-prefix_spelled (Some n) rest w s = (tt, tt, (w, tt, s))
-
 value_spelled : (v : Value) (rest : List TokenKind) → IsWritableValue v → AreSpelled 0 rest → AreSpelled 0 (value_tokens v rest)
 value_spelled (value.Number n m) rest w s = (w.0, tt, mask_spelled m rest w.1 s)
 value_spelled (value.Dotted d m) rest w s = (w.0, tt, mask_spelled m rest w.1 s)
-value_spelled (value.Ip6 a n) rest w s = (w.0, refl, prefix_spelled n rest w.1 s)
+value_spelled (value.Ip6 a None) rest w s = (w, refl, s)
+value_spelled (value.Ip6 a (Some n)) rest w s = (w.0, refl, (tt, tt, (w.1, tt, s)))
 value_spelled (value.Mac a) rest w s = (w, refl, s)
 value_spelled (value.Range a b) rest w s = (w, tt, s)
 
@@ -46,20 +43,13 @@ written_direction_spelled : (d : Option Direction) (rest : List TokenKind) → A
 written_direction_spelled None rest s = s
 written_direction_spelled (Some d) rest s = direction_spelled d rest s
 
-written_type_spelled : (k : Option ValueType) (rest : List TokenKind) → AreSpelled 0 rest → AreSpelled 0 (written_type k rest)
-written_type_spelled None rest s = s
-written_type_spelled (Some k) rest s = (tt, tt, s)
+type_spelled : (k : Option ValueType) (rest : List TokenKind) → AreSpelled 0 rest → AreSpelled 0 (type_tokens k rest)
+type_spelled None rest s = s
+type_spelled (Some k) rest s = (tt, tt, s)
 
-written_spelled : (q : Qualifiers) (rest : List TokenKind) → AreSpelled 0 rest → AreSpelled 0 (written_tokens q rest)
-written_spelled q rest s =
-    protocol_spelled q.protocol _ (written_direction_spelled q.direction _ (written_type_spelled q.value_type rest s))
-
-typed_spelled : (k : ValueType) (d : Direction) (rest : List TokenKind) → AreSpelled 0 rest → AreSpelled 0 (typed_tokens k d rest)
-typed_spelled Proto d rest s = (tt, tt, s)
-typed_spelled _ d rest s = direction_spelled d _ (tt, tt, s)
-
-qualifiers_spelled : (q : CompleteQualifiers) (rest : List TokenKind) → AreSpelled 0 rest → AreSpelled 0 (qualifier_tokens q rest)
-qualifiers_spelled q rest s = protocol_spelled q.protocol _ (typed_spelled q.value_type q.direction rest s)
+qualifiers_spelled : (q : Qualifiers) (rest : List TokenKind) → AreSpelled 0 rest → AreSpelled 0 (qualifier_tokens q rest)
+qualifiers_spelled q rest s =
+    protocol_spelled q.protocol _ (written_direction_spelled q.direction _ (type_spelled q.value_type rest s))
 
 -- of a truth
 closed_spelled : (operand : Bool) (rest : List TokenKind) → AreSpelled 0 rest → AreSpelled 0 (close_operand operand rest)
@@ -76,8 +66,8 @@ truth_spelled operand (cast None c) rest w s = (tt, tt, s)
 truth_spelled operand (cast (Some p) c) rest w s = opened_spelled operand _ (tt, tt, (tt, tt, closed_spelled operand rest s))
 truth_spelled operand (sized z n) rest w s = opened_spelled operand _ (tt, tt, (w, tt, closed_spelled operand rest s))
 truth_spelled operand (bare v) rest w s = opened_spelled operand _ (value_spelled v _ w (closed_spelled operand rest s))
-truth_spelled operand (valued q v) rest w s = opened_spelled operand _ (written_spelled q _ (value_spelled v _ w (closed_spelled operand rest s)))
-truth_spelled operand (qualified q v) rest w s = opened_spelled operand _ (qualifiers_spelled q _ (value_spelled v _ w (closed_spelled operand rest s)))
+truth_spelled operand (valued q v) rest w s = opened_spelled operand _ (qualifiers_spelled q _ (value_spelled v _ w (closed_spelled operand rest s)))
+truth_spelled operand (qualified q v) rest w s = opened_spelled operand _ (qualifiers_spelled (written_qualifiers q) _ (value_spelled v _ w (closed_spelled operand rest s)))
 truth_spelled operand (compared c a b) rest w s =
     opened_spelled operand _ (number_spelled a 0 _ w.0 (tt, tt, number_spelled b 0 _ w.1 (closed_spelled operand rest s)))
 truth_spelled operand (denied a) rest w s = opened_spelled operand _ (tt, tt, truth_spelled true a _ w (closed_spelled operand rest s))

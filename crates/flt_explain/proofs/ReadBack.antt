@@ -1,5 +1,7 @@
 -- The tokens of a resolved tree are read as that tree.
-use Rattle.flt_explain.proofs.Common.{◌≡◌, ℕ, suc, zero, refl, ap, Bool, true, false, ◌&&◌, ◌||◌, not, is_some, List, [], ◌∷◌, Option, Some, None, Operator, Protocol, TokenKind, ValueType, Proto, Direction, Qualifiers, CompleteQualifiers, NetMask, Value, NumberTree, literal, len, named, load, negated, applied, TruthTree, check, cast, sized, bare, valued, qualified, compared, denied, joined, Expression, empty, truth, latest, with_inherited, complete, completed_qualifiers, only_host, fill_expression, IsResolved, any_primitive, fill_fault, is_misfit, is_out_of_range, is_unfilled, has_bits_past_mask, ReadsProtocol, no_protocol, protocol, ReadsDirection, no_direction, one_side, source_first, of_type, ReadsQualifiers, qualifiers, is_written, ReadsMask, no_mask, prefix, dotted_mask, ReadsValue, number, dotted, ip6_prefix, range, level, Number, of_literal, of_len, of_name, enclosed, of_sized_load, minus, single, chain, Truth, of_check, of_cast, of_protocol_cast, of_sized, of_valued, relation, denial, enclosed_truth, term, terms, IsReadAs, no_tokens, all_tokens, mask_tokens, value_tokens, protocol_tokens, direction_tokens, typed_tokens, qualifier_tokens, number_tokens, open_operand, close_operand, truth_tokens, explained_tokens, IsWritable, IsWritableNumber, IsWritableTruth}
+use Rattle.flt_explain.proofs.Common.{◌≡◌, ℕ, suc, zero, refl, ap, Bool, true, false, ◌&&◌, ◌||◌, not, is_some, List, [], ◌∷◌, Option, Some, None, Operator, Protocol, TokenKind, ValueType, Proto, Direction, Qualifiers, CompleteQualifiers, NetMask, Value, NumberTree, literal, len, named, load, negated, applied, TruthTree, check, cast, sized, bare, valued, qualified, compared, denied, joined, Expression, empty, truth, latest, with_inherited, complete, completed_qualifiers, only_host, fill_expression, IsResolved, any_primitive, fill_fault, is_misfit, is_out_of_range, is_unfilled, has_bits_past_mask, ReadsProtocol, no_protocol, protocol, ReadsDirection, no_direction, one_side, source_first, of_type, ReadsQualifiers, qualifiers, is_written, ReadsMask, no_mask, prefix, dotted_mask, ReadsValue, number, dotted, ip6_prefix, range, level, Number, of_literal, of_len, of_name, enclosed, of_sized_load, minus, single, chain, Truth, of_check, of_cast, of_protocol_cast, of_sized, of_valued, relation, denial, enclosed_truth, term, terms, IsReadAs, no_tokens, all_tokens, mask_tokens, value_tokens, protocol_tokens, direction_tokens, qualifier_tokens, written_direction, written_side, written_qualifiers, number_tokens, open_operand, close_operand, truth_tokens, explained_tokens, IsWritable, IsWritableNumber, IsWritableTruth}
+use Rattle.std.proofs.lemmas.Bool.{or_parts}
+use Rattle.std.proofs.Math.Bool.{or-true}
 use Rattle.flt_words.specs.declared.token.Join.TheVariants as join
 use Rattle.flt_words.specs.declared.token.Operator.TheVariants as operator
 use Rattle.flt_words.specs.declared.token.TokenKind.TheVariants as token
@@ -28,9 +30,7 @@ any_operation operator.Add reads = single (single reads)
 any_operation operator.Subtract reads = single (single reads)
 any_operation operator.ShiftLeft reads = single reads
 any_operation operator.ShiftRight reads = single reads
-any_operation operator.Or reads = reads
-any_operation operator.And reads = reads
-any_operation operator.ExclusiveOr reads = reads
+any_operation _ reads = reads
 
 -- a number is read
 reads_number : (a : NumberTree) (rest : List TokenKind) → IsWritableNumber a → Number 0 (number_tokens a rest) a rest
@@ -56,14 +56,6 @@ reads_value (value.Ip6 a (Some n)) rest = ip6_prefix
 reads_value (value.Mac a) rest = mac
 reads_value (value.Range a b) rest = range
 
--- its qualifiers are those that may be written
-written_side : ValueType → Direction → Option Direction
-written_side Proto d = None
-written_side _ d = Some d
-
-as_written : CompleteQualifiers → Qualifiers
-as_written q = record { protocol = q.protocol; direction = written_side q.value_type q.direction; value_type = Some q.value_type }
-
 reads_protocol : (p : Option Protocol) (rest : List TokenKind) → ReadsProtocol (protocol_tokens p rest) p rest
 reads_protocol None rest = no_protocol
 reads_protocol (Some p) rest = protocol
@@ -72,26 +64,19 @@ reads_direction : (d : Direction) (rest : List TokenKind) → ReadsDirection (di
 reads_direction (direction.One s) rest = one_side
 reads_direction (direction.Both j) rest = source_first
 
-reads_typed : (k : ValueType) (d : Direction) (p : Option Protocol) (ts rest : List TokenKind) → ReadsProtocol ts p (typed_tokens k d rest) → ReadsQualifiers ts (record { protocol = p; direction = written_side k d; value_type = Some k }) rest
-unfolding written_side
+reads_typed : (k : ValueType) (d : Direction) (p : Option Protocol) (ts rest : List TokenKind) → ReadsProtocol ts p (written_direction (written_side k d) (token.ValueType k ∷ rest)) → ReadsQualifiers ts (record { protocol = p; direction = written_side k d; value_type = Some k }) rest
 reads_typed Proto d p ts rest reads = qualifiers reads no_direction of_type
 reads_typed _ d p ts rest reads = qualifiers reads (reads_direction d _) of_type
 
-reads_qualifiers : (q : CompleteQualifiers) (rest : List TokenKind) → ReadsQualifiers (qualifier_tokens q rest) (as_written q) rest
-unfolding as_written
+reads_qualifiers : (q : CompleteQualifiers) (rest : List TokenKind) → ReadsQualifiers (qualifier_tokens (written_qualifiers q) rest) (written_qualifiers q) rest
 reads_qualifiers q rest = reads_typed q.value_type q.direction q.protocol _ rest (reads_protocol q.protocol _)
 
-or_true : (a : Bool) → (a || true) ≡ true
-or_true true = refl
-or_true false = refl
-
-some_written : (q : CompleteQualifiers) → is_written (as_written q) ≡ true
-unfolding as_written
-some_written q = or_true (is_some q.protocol || is_some (written_side q.value_type q.direction))
+some_written : (q : CompleteQualifiers) → is_written (written_qualifiers q) ≡ true
+some_written q = or-true (is_some q.protocol || is_some (written_side q.value_type q.direction))
 
 -- the tree that is read, before it is resolved
 reread : TruthTree → TruthTree
-reread (qualified q v) = valued (as_written q) v
+reread (qualified q v) = valued (written_qualifiers q) v
 reread (denied a) = denied (reread a)
 reread (joined j a b) = joined j (reread a) (reread b)
 reread a = a
@@ -111,10 +96,6 @@ unfolding Reads
 alone true reads = reads
 alone false reads = term reads
 
-both_false : (a b : Bool) → (a || b) ≡ false → (a ≡ false) × (b ≡ false)
-both_false true b h = cc
-both_false false b h = (refl, h)
-
 reads_truth : (operand : Bool) (a : TruthTree) (rest : List TokenKind) → IsWritableTruth a → any_primitive is_unfilled a ≡ false → Reads operand (truth_tokens operand a rest) (reread a) rest
 unfolding Reads reread
 reads_truth operand (check p) rest w f = alone operand (of_check w)
@@ -127,67 +108,56 @@ reads_truth operand (qualified q v) rest w f = around operand rest (term (of_val
 reads_truth operand (compared c a b) rest w f = around operand rest (term (relation (any (reads_number a _ w.0)) (any (reads_number b _ w.1))))
 reads_truth operand (denied a) rest w f = around operand rest (term (denial (reads_truth true a _ w f)))
 reads_truth operand (joined j a b) rest w f =
-    let parts = both_false (any_primitive is_unfilled a) (any_primitive is_unfilled b) f in
+    let parts = or_parts (any_primitive is_unfilled a) (any_primitive is_unfilled b) f in
     around operand rest (terms (term (reads_truth true a _ w.0 parts.0)) (reads_truth true b _ w.1 parts.1))
 
 -- resolved, it is the tree
 full_again : (k : ValueType) (p : Option Protocol) (d : Direction) → is_proto k && not (is_either d) ≡ false → completed_qualifiers (record { protocol = p; direction = written_side k d; value_type = Some k }) ≡ record { protocol = p; direction = d; value_type = k }
-unfolding written_side
 full_again Proto p (direction.Both join.Or) h = refl
 full_again Proto p (direction.Both join.And) h = cc
 full_again Proto p (direction.One s) h = cc
 full_again _ p d h = refl
 
 filled_again : (q : Qualifiers) (a : TruthTree) → any_primitive is_unfilled a ≡ false → any_primitive is_misfit a ≡ false → complete (with_inherited q (reread a)) ≡ a
-unfolding reread as_written
-filled_again q (check p) f m = refl
-filled_again q (cast p c) f m = refl
-filled_again q (sized s n) f m = refl
+unfolding reread
 filled_again q (bare v) f m = cc
 filled_again q (valued p v) f m = cc
 filled_again q (qualified p v) f m =
-    let parts = both_false (is_misfit_fit (fit_of p.value_type v p.protocol)) (is_proto p.value_type && not (is_either p.direction)) m in
+    let parts = or_parts (is_misfit_fit (fit_of p.value_type v p.protocol)) (is_proto p.value_type && not (is_either p.direction)) m in
     ap (λ r. qualified r v) (full_again p.value_type p.protocol p.direction parts.1)
-filled_again q (compared c a b) f m = refl
 filled_again q (denied a) f m = ap denied (filled_again q a f m)
 filled_again q (joined j a b) f m =
-    let fs = both_false (any_primitive is_unfilled a) (any_primitive is_unfilled b) f in
-    let ms = both_false (any_primitive is_misfit a) (any_primitive is_misfit b) m in
+    let fs = or_parts (any_primitive is_unfilled a) (any_primitive is_unfilled b) f in
+    let ms = or_parts (any_primitive is_misfit a) (any_primitive is_misfit b) m in
     rw (filled_again q a fs.0 ms.0, filled_again (latest q (reread a)) b fs.1 ms.1) refl
+filled_again q _ f m = refl
 
 -- and has none of the faults
-keeps : (g : TruthTree → Bool) → ((q : CompleteQualifiers) (v : Value) → g (qualified q v) ≡ false → g (valued (as_written q) v) ≡ false) → (q : Qualifiers) (a : TruthTree) → any_primitive is_unfilled a ≡ false → any_primitive g a ≡ false → any_primitive g (with_inherited q (reread a)) ≡ false
+keeps : (g : TruthTree → Bool) → ((q : CompleteQualifiers) (v : Value) → g (qualified q v) ≡ false → g (valued (written_qualifiers q) v) ≡ false) → (q : Qualifiers) (a : TruthTree) → any_primitive is_unfilled a ≡ false → any_primitive g a ≡ false → any_primitive g (with_inherited q (reread a)) ≡ false
 unfolding reread
-keeps g same q (check p) f h = h
-keeps g same q (cast p c) f h = h
-keeps g same q (sized s n) f h = h
 keeps g same q (bare v) f h = cc
 keeps g same q (valued p v) f h = cc
 keeps g same q (qualified p v) f h = same p v h
-keeps g same q (compared c a b) f h = h
 keeps g same q (denied a) f h = keeps g same q a f h
 keeps g same q (joined j a b) f h =
-    let fs = both_false (any_primitive is_unfilled a) (any_primitive is_unfilled b) f in
-    let hs = both_false (any_primitive g a) (any_primitive g b) h in
+    let fs = or_parts (any_primitive is_unfilled a) (any_primitive is_unfilled b) f in
+    let hs = or_parts (any_primitive g a) (any_primitive g b) h in
     rw (keeps g same q a fs.0 hs.0) (keeps g same (latest q (reread a)) b fs.1 hs.1)
+keeps g same q _ f h = h
 
 no_side : (k : ValueType) (d : Direction) → is_proto k && is_some (written_side k d) ≡ false
-unfolding written_side
 no_side Proto d = refl
 no_side _ d = refl
 
-fits_again : (q : CompleteQualifiers) (v : Value) → is_misfit (qualified q v) ≡ false → is_misfit (valued (as_written q) v) ≡ false
-unfolding as_written
+fits_again : (q : CompleteQualifiers) (v : Value) → is_misfit (qualified q v) ≡ false → is_misfit (valued (written_qualifiers q) v) ≡ false
 fits_again q v h =
-    let parts = both_false (is_misfit_fit (fit_of q.value_type v q.protocol)) (is_proto q.value_type && not (is_either q.direction)) h in
+    let parts = or_parts (is_misfit_fit (fit_of q.value_type v q.protocol)) (is_proto q.value_type && not (is_either q.direction)) h in
     rw parts.0 (no_side q.value_type q.direction)
 
-in_range_again : (q : CompleteQualifiers) (v : Value) → is_out_of_range (qualified q v) ≡ false → is_out_of_range (valued (as_written q) v) ≡ false
-unfolding as_written
+in_range_again : (q : CompleteQualifiers) (v : Value) → is_out_of_range (qualified q v) ≡ false → is_out_of_range (valued (written_qualifiers q) v) ≡ false
 in_range_again q v h = h
 
-in_mask_again : (q : CompleteQualifiers) (v : Value) → has_bits_past_mask (qualified q v) ≡ false → has_bits_past_mask (valued (as_written q) v) ≡ false
-unfolding as_written
+in_mask_again : (q : CompleteQualifiers) (v : Value) → has_bits_past_mask (qualified q v) ≡ false → has_bits_past_mask (valued (written_qualifiers q) v) ≡ false
 in_mask_again q v h = h
 
 -- what the tokens of a tree are read as

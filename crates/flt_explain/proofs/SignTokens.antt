@@ -1,6 +1,5 @@
 -- A sign in a text is a token.
-use Rattle.flt_explain.proofs.Common.{◌≡◌, ℕ, ◌<◌, ◌≤◌, List, [], ◌∷◌, ◌++◌, length, get_or, take, refl, ◌∙◌, arith, Bool, true, false, ◌==◌, ◌&&◌, None, Some, Operator, TokenKind, within_word, look_up, symbol_of, IsToken, symbol_meaning, longest_one, longest_two, comparison_sign, operator_sign}
-use Rattle.flt_words.specs.declared.token.Comparison.{Comparison}
+use Rattle.flt_explain.proofs.Common.{◌≡◌, ℕ, ◌<◌, ◌≤◌, List, [], ◌∷◌, ◌++◌, length, get_or, take, refl, ◌∙◌, arith, Bool, true, false, ◌==◌, ◌&&◌, None, Some, TokenKind, within_word, look_up, symbol_of, IsToken, symbol_meaning, longest_one, longest_two, fixed_spelling}
 use Rattle.flt_words.specs.declared.token.Comparison.TheVariants as comparison
 use Rattle.flt_words.specs.declared.token.Operator.TheVariants as operator
 use Rattle.flt_words.specs.declared.token.TokenKind.TheVariants as token
@@ -22,18 +21,10 @@ pub data Ends (inside : Bool) : List ℕ → Type 0 where
 
 -- no word goes on there
 not_within : (inside : Bool) (c : ℕ) → End inside c → within_word inside c ≡ false
-not_within true c blank = refl
-not_within true c close = refl
-not_within true c bracket = refl
-not_within true c close_bracket = refl
-not_within true c slash = refl
-not_within true c (colon is) = refl
-not_within false c blank = refl
-not_within false c close = refl
-not_within false c bracket = refl
-not_within false c close_bracket = refl
-not_within false c slash = refl
 not_within false c (colon is) = cc
+not_within true c blank = refl
+not_within false c blank = refl
+not_within _ c _ = refl
 
 pub word_ends : (inside : Bool) (more : List ℕ) → Ends inside more → 0 < length more → within_word inside (get_or more 0 0) ≡ false
 word_ends inside more no_more some = absurd (omega arith)
@@ -65,8 +56,8 @@ unfolding Alone
 alone_two inside b [] alone long = absurd (omega arith)
 alone_two inside b (c ∷ more) alone long = two_is inside b c ∙ alone c more refl
 
-sign_token : (inside : Bool) (place b : ℕ) (more : List ℕ) (kind : TokenKind) → symbol_of inside (b ∷ []) ≡ Some kind → Alone b more → IsToken inside place (b ∷ more) kind 1
-sign_token inside place b more kind is alone = record {
+symbol_token : (inside : Bool) (place b : ℕ) (more : List ℕ) (kind : TokenKind) → symbol_of inside (b ∷ []) ≡ Some kind → Alone b more → IsToken inside place (b ∷ more) kind 1
+symbol_token inside place b more kind is alone = record {
   longest = longest_one (omega arith) (symbol_piece inside (b ∷ []) kind is).starts_none (alone_two inside b more alone) is;
   means = symbol_meaning is;
 }
@@ -76,7 +67,7 @@ one_is true b other = rw other refl
 one_is false b other = refl
 
 one_token : (inside : Bool) (place b : ℕ) (more : List ℕ) (kind : TokenKind) → (b == 58) ≡ false → look_up symbols (b ∷ []) ≡ Some kind → Alone b more → IsToken inside place (b ∷ more) kind 1
-one_token inside place b more kind other found alone = sign_token inside place b more kind (one_is inside b other ∙ found) alone
+one_token inside place b more kind other found alone = symbol_token inside place b more kind (one_is inside b other ∙ found) alone
 
 -- where an end follows
 alone_at : (inside : Bool) (b : ℕ) (more : List ℕ) → look_up symbols (b ∷ 32 ∷ []) ≡ None → look_up symbols (b ∷ 41 ∷ []) ≡ None → look_up symbols (b ∷ 91 ∷ []) ≡ None → look_up symbols (b ∷ 93 ∷ []) ≡ None → look_up symbols (b ∷ 47 ∷ []) ≡ None → look_up symbols (b ∷ 58 ∷ []) ≡ None → Ends inside more → Alone b more
@@ -93,49 +84,49 @@ alone_at inside b more at_blank at_close at_bracket at_close_bracket at_slash at
     next c (colon is) d e = rw (← e) at_colon
 
 -- the signs that leave a gap
-pub comparison_token : (inside : Bool) (place : ℕ) (c : Comparison) (more : List ℕ) → Ends inside more → IsToken inside place (comparison_sign c ++ more) (token.Comparison c) (length (comparison_sign c))
-unfolding symbols
-comparison_token inside place comparison.Equal more end = one_token inside place 61 more (token.Comparison comparison.Equal) refl refl (alone_at inside 61 more refl refl refl refl refl refl end)
-comparison_token inside place comparison.NotEqual more end = two_token inside place 33 61 more (token.Comparison comparison.NotEqual) refl
-comparison_token inside place comparison.Less more end = one_token inside place 60 more (token.Comparison comparison.Less) refl refl (alone_at inside 60 more refl refl refl refl refl refl end)
-comparison_token inside place comparison.AtMost more end = two_token inside place 60 61 more (token.Comparison comparison.AtMost) refl
-comparison_token inside place comparison.Greater more end = one_token inside place 62 more (token.Comparison comparison.Greater) refl refl (alone_at inside 62 more refl refl refl refl refl refl end)
-comparison_token inside place comparison.AtLeast more end = two_token inside place 62 61 more (token.Comparison comparison.AtLeast) refl
+abbrev pub leaves_gap : TokenKind → Bool
+leaves_gap (token.Comparison c) = true
+leaves_gap (token.Operator operator.Divide) = false
+leaves_gap (token.Operator o) = true
+leaves_gap _ = false
 
-pub operator_token : (inside : Bool) (place : ℕ) (o : Operator) (more : List ℕ) → (o ≡ operator.Divide → ⊥) → Ends inside more → IsToken inside place (operator_sign o ++ more) (token.Operator o) (length (operator_sign o))
+pub sign_token : (t : TokenKind) (inside : Bool) (place : ℕ) (more : List ℕ) → leaves_gap t ≡ true → Ends inside more → IsToken inside place (fixed_spelling t ++ more) t (length (fixed_spelling t))
 unfolding symbols
-operator_token inside place operator.Or more other end = one_token inside place 124 more (token.Operator operator.Or) refl refl (alone_at inside 124 more refl refl refl refl refl refl end)
-operator_token inside place operator.And more other end = one_token inside place 38 more (token.Operator operator.And) refl refl (alone_at inside 38 more refl refl refl refl refl refl end)
-operator_token inside place operator.ShiftLeft more other end = two_token inside place 60 60 more (token.Operator operator.ShiftLeft) refl
-operator_token inside place operator.ShiftRight more other end = two_token inside place 62 62 more (token.Operator operator.ShiftRight) refl
-operator_token inside place operator.Add more other end = one_token inside place 43 more (token.Operator operator.Add) refl refl (alone_at inside 43 more refl refl refl refl refl refl end)
-operator_token inside place operator.Subtract more other end = one_token inside place 45 more (token.Operator operator.Subtract) refl refl (alone_at inside 45 more refl refl refl refl refl refl end)
-operator_token inside place operator.Multiply more other end = one_token inside place 42 more (token.Operator operator.Multiply) refl refl (alone_at inside 42 more refl refl refl refl refl refl end)
-operator_token inside place operator.Divide more other end = absurd (other refl)
-operator_token inside place operator.Remainder more other end = one_token inside place 37 more (token.Operator operator.Remainder) refl refl (alone_at inside 37 more refl refl refl refl refl refl end)
-operator_token inside place operator.ExclusiveOr more other end = one_token inside place 94 more (token.Operator operator.ExclusiveOr) refl refl (alone_at inside 94 more refl refl refl refl refl refl end)
+sign_token (token.Comparison comparison.Equal) inside place more h end = one_token inside place 61 more _ refl refl (alone_at inside 61 more refl refl refl refl refl refl end)
+sign_token (token.Comparison comparison.NotEqual) inside place more h end = two_token inside place 33 61 more _ refl
+sign_token (token.Comparison comparison.Less) inside place more h end = one_token inside place 60 more _ refl refl (alone_at inside 60 more refl refl refl refl refl refl end)
+sign_token (token.Comparison comparison.AtMost) inside place more h end = two_token inside place 60 61 more _ refl
+sign_token (token.Comparison comparison.Greater) inside place more h end = one_token inside place 62 more _ refl refl (alone_at inside 62 more refl refl refl refl refl refl end)
+sign_token (token.Comparison comparison.AtLeast) inside place more h end = two_token inside place 62 61 more _ refl
+sign_token (token.Operator operator.Or) inside place more h end = one_token inside place 124 more _ refl refl (alone_at inside 124 more refl refl refl refl refl refl end)
+sign_token (token.Operator operator.And) inside place more h end = one_token inside place 38 more _ refl refl (alone_at inside 38 more refl refl refl refl refl refl end)
+sign_token (token.Operator operator.ShiftLeft) inside place more h end = two_token inside place 60 60 more _ refl
+sign_token (token.Operator operator.ShiftRight) inside place more h end = two_token inside place 62 62 more _ refl
+sign_token (token.Operator operator.Add) inside place more h end = one_token inside place 43 more _ refl refl (alone_at inside 43 more refl refl refl refl refl refl end)
+sign_token (token.Operator operator.Subtract) inside place more h end = one_token inside place 45 more _ refl refl (alone_at inside 45 more refl refl refl refl refl refl end)
+sign_token (token.Operator operator.Multiply) inside place more h end = one_token inside place 42 more _ refl refl (alone_at inside 42 more refl refl refl refl refl refl end)
+sign_token (token.Operator operator.Remainder) inside place more h end = one_token inside place 37 more _ refl refl (alone_at inside 37 more refl refl refl refl refl refl end)
+sign_token (token.Operator operator.ExclusiveOr) inside place more h end = one_token inside place 94 more _ refl refl (alone_at inside 94 more refl refl refl refl refl refl end)
+sign_token _ inside place more h end = cc
 
 -- those with which no sign of two bytes begins
-pub open_token : (inside : Bool) (place : ℕ) (more : List ℕ) → IsToken inside place (40 ∷ more) token.Open 1
-unfolding symbols Alone
-open_token inside place more = one_token inside place 40 more token.Open refl refl (λ c rest e. refl)
+abbrev pub begins_no_other : TokenKind → Bool
+begins_no_other token.Open = true
+begins_no_other token.Close = true
+begins_no_other token.OpenBracket = true
+begins_no_other token.CloseBracket = true
+begins_no_other (token.Operator operator.Divide) = true
+begins_no_other _ = false
 
-pub close_token : (inside : Bool) (place : ℕ) (more : List ℕ) → IsToken inside place (41 ∷ more) token.Close 1
+pub single_token : (t : TokenKind) (inside : Bool) (place : ℕ) (more : List ℕ) → begins_no_other t ≡ true → IsToken inside place (fixed_spelling t ++ more) t 1
 unfolding symbols Alone
-close_token inside place more = one_token inside place 41 more token.Close refl refl (λ c rest e. refl)
-
-pub bracket_token : (inside : Bool) (place : ℕ) (more : List ℕ) → IsToken inside place (91 ∷ more) token.OpenBracket 1
-unfolding symbols Alone
-bracket_token inside place more = one_token inside place 91 more token.OpenBracket refl refl (λ c rest e. refl)
-
-pub close_bracket_token : (inside : Bool) (place : ℕ) (more : List ℕ) → IsToken inside place (93 ∷ more) token.CloseBracket 1
-unfolding symbols Alone
-close_bracket_token inside place more = one_token inside place 93 more token.CloseBracket refl refl (λ c rest e. refl)
-
-pub divide_token : (inside : Bool) (place : ℕ) (more : List ℕ) → IsToken inside place (47 ∷ more) (token.Operator operator.Divide) 1
-unfolding symbols Alone
-divide_token inside place more = one_token inside place 47 more (token.Operator operator.Divide) refl refl (λ c rest e. refl)
+single_token token.Open inside place more h = one_token inside place 40 more _ refl refl (λ c rest e. refl)
+single_token token.Close inside place more h = one_token inside place 41 more _ refl refl (λ c rest e. refl)
+single_token token.OpenBracket inside place more h = one_token inside place 91 more _ refl refl (λ c rest e. refl)
+single_token token.CloseBracket inside place more h = one_token inside place 93 more _ refl refl (λ c rest e. refl)
+single_token (token.Operator operator.Divide) inside place more h = one_token inside place 47 more _ refl refl (λ c rest e. refl)
+single_token _ inside place more h = cc
 
 pub colon_token : (inside : Bool) (place : ℕ) (more : List ℕ) → inside ≡ true → IsToken inside place (58 ∷ more) token.Colon 1
 unfolding symbols Alone
-colon_token inside place more is = sign_token inside place 58 more token.Colon (rw is refl) (λ c rest e. refl)
+colon_token inside place more is = symbol_token inside place 58 more token.Colon (rw is refl) (λ c rest e. refl)

@@ -1,15 +1,16 @@
 -- The text of tokens is cut into these tokens.
-use Rattle.flt_explain.proofs.Common.{◌≡◌, ◌⊎◌, inl, inr, ⊎_elim, ℕ, suc, zero, ◌+◌, ◌<◌, List, [], ◌∷◌, ◌++◌, length, get_or, take, drop, refl, sym, ap, ◌∙◌, subst, arith, Bool, true, false, ◌==◌, ◌||◌, cond, count_by, nat_lt, codes, if◌then◌else◌, Ok, append_assoc, append-nil, length-append, nat_tests, drop_at, get_or_at, take_at, Operator, Token, TokenKind, is_inside, IsToken, TokensFrom, kinds_of, Following, gap, joins_next, joins_previous, next_after, spelling, tokens_text, IsSpellable}
+use Rattle.flt_explain.proofs.Common.{◌≡◌, ◌⊎◌, inl, inr, ⊎_elim, ℕ, suc, zero, ◌+◌, ◌<◌, List, [], ◌∷◌, ◌++◌, length, get_or, take, drop, refl, sym, ap, ◌∙◌, subst, arith, Bool, true, false, ◌==◌, ◌||◌, cond, count_by, nat_lt, codes, if◌then◌else◌, Ok, append_assoc, append-nil, length-append, nat_tests, drop_at, get_or_at, take_at, Token, TokenKind, is_inside, IsToken, TokensFrom, kinds_of, Following, gap, joins_next, joins_previous, next_after, spelling, tokens_text, IsSpellable}
+use Rattle.std.proofs.lemmas.Bool.{lt-ltb}
 use Rattle.std.proofs.lemmas.List.Sums.{sum_by-append}
 use Rattle.flt_words.specs.declared.token.Operator.TheVariants as operator
 use Rattle.flt_words.specs.declared.token.TokenKind.TheVariants as token
 use Rattle.flt_words.specs.Tokens.TokensFrom.{at_end, blank, token as one_more}
 use Rattle.flt_words.proofs.BracketCounts.{closings, openings, token_has}
 use Rattle.flt_explain.proofs.WordPieces.{word_token}
-use Rattle.flt_explain.proofs.SignTokens.{End, Ends, goes_on, no_more, word_ends, comparison_token, operator_token, open_token, close_token, bracket_token, close_bracket_token, divide_token, colon_token}
+use Rattle.flt_explain.proofs.SignTokens.{End, Ends, goes_on, no_more, word_ends, sign_token, single_token, colon_token}
 use Rattle.flt_explain.proofs.SignTokens as signs
-use Rattle.flt_explain.proofs.WordTokens.{IsWordFor, protocol_for, join_for, side_for, type_for, size_for, cast_for, not_for, mask_for, len_for, name_for, number_for, range_for, dotted_for}
-use Rattle.flt_explain.proofs.AddressTokens.{mac_for, ip6_for}
+use Rattle.flt_explain.proofs.WordTokens.{IsWordFor, keyword_for, name_for, number_for, range_for}
+use Rattle.flt_explain.proofs.AddressTokens.{dotted_for, mac_for, ip6_for}
 
 -- how many brackets are open after a token
 abbrev pub depth_after : ℕ → TokenKind → ℕ
@@ -30,15 +31,12 @@ abbrev pub AreSpelled : ℕ → List TokenKind → Type 0
 AreSpelled d [] = Unit {0}
 AreSpelled d (t ∷ rest) = IsSpellable t × IsAt d t × AreSpelled (depth_after d t) rest
 
-inside_of : (d : ℕ) → 0 < d → nat_lt 0 d ≡ true
-inside_of d h = grind (arith, nat_tests)
-
 -- what follows a token that doesn't join the next one
 before_next : (d : ℕ) (u : TokenKind) (us : List TokenKind) (following : Following) → IsAt d u → Ends (nat_lt 0 d) ((if joins_previous u then [] else codes " ") ++ tokens_text following (u ∷ us))
 before_next d token.Close us following at = goes_on signs.close
 before_next d token.OpenBracket us following at = goes_on signs.bracket
 before_next d token.CloseBracket us following at = goes_on signs.close_bracket
-before_next d token.Colon us following at = goes_on (signs.colon (inside_of d at))
+before_next d token.Colon us following at = goes_on (signs.colon (lt-ltb 0 d at))
 before_next d (token.Operator operator.Divide) us following at = goes_on signs.slash
 before_next d (token.Operator _) us following at = goes_on signs.blank
 before_next d _ us following at = goes_on signs.blank
@@ -50,32 +48,16 @@ ends_of d t (u ∷ us) following h s = rw h (before_next d u us following s.1)
 word_here : (d place : ℕ) (word : List ℕ) (t : TokenKind) (rest : List TokenKind) (following : Following) → joins_next t ≡ false → IsWordFor (nat_lt 0 d) word t → AreSpelled d rest → IsToken (nat_lt 0 d) place (word ++ (gap t rest ++ tokens_text following rest)) t (length word)
 word_here d place word t rest following h w s = word_token (nat_lt 0 d) place word (gap t rest ++ tokens_text following rest) t w.part w.stands w.fit (word_ends (nat_lt 0 d) (gap t rest ++ tokens_text following rest) (ends_of d t rest following h s))
 
-joins_none : (o : Operator) → (o ≡ operator.Divide → ⊥) → joins_next (token.Operator o) ≡ false
-joins_none operator.Divide other = absurd (other refl)
-joins_none _ other = refl
-
-operator_here : (d place : ℕ) (o : Operator) (rest : List TokenKind) (following : Following) → (o ≡ operator.Divide → ⊥) → AreSpelled d rest → IsToken (nat_lt 0 d) place (spelling following (token.Operator o) ++ (gap (token.Operator o) rest ++ tokens_text following rest)) (token.Operator o) (length (spelling following (token.Operator o)))
-operator_here d place o rest following other s = operator_token (nat_lt 0 d) place o (gap (token.Operator o) rest ++ tokens_text following rest) other (ends_of d (token.Operator o) rest following (joins_none o other) s)
-
 -- a token stands at its place
 token_here : (t : TokenKind) (d place : ℕ) (following next : Following) (rest : List TokenKind) → IsSpellable t → IsAt d t → AreSpelled (depth_after d t) rest → IsToken (nat_lt 0 d) place (spelling following t ++ (gap t rest ++ tokens_text next rest)) t (length (spelling following t))
-token_here (token.Protocol p) d place following next rest w at s = word_here d place _ _ rest next refl (protocol_for (nat_lt 0 d) p) s
-token_here (token.Join j) d place following next rest w at s = word_here d place _ _ rest next refl (join_for (nat_lt 0 d) j) s
-token_here token.Not d place following next rest w at s = word_here d place _ _ rest next refl (not_for (nat_lt 0 d)) s
-token_here (token.Side k) d place following next rest w at s = word_here d place _ _ rest next refl (side_for (nat_lt 0 d) k) s
-token_here (token.ValueType k) d place following next rest w at s = word_here d place _ _ rest next refl (type_for (nat_lt 0 d) k) s
-token_here (token.Size k) d place following next rest w at s = word_here d place _ _ rest next refl (size_for (nat_lt 0 d) k) s
-token_here (token.Cast c) d place following next rest w at s = word_here d place _ _ rest next refl (cast_for (nat_lt 0 d) c) s
-token_here token.Mask d place following next rest w at s = word_here d place _ _ rest next refl (mask_for (nat_lt 0 d)) s
-token_here token.Len d place following next rest w at s = word_here d place _ _ rest next refl (len_for (nat_lt 0 d)) s
-token_here (token.Comparison c) d place following next rest w at s = comparison_token (nat_lt 0 d) place c _ (ends_of d (token.Comparison c) rest next refl s)
-token_here (token.Operator operator.Divide) d place following next rest w at s = divide_token (nat_lt 0 d) place _
-token_here (token.Operator o) d place following next rest w at s = operator_here d place o rest next (λ e. cc) s
-token_here token.Open d place following next rest w at s = open_token (nat_lt 0 d) place _
-token_here token.Close d place following next rest w at s = close_token (nat_lt 0 d) place _
-token_here token.OpenBracket d place following next rest w at s = bracket_token (nat_lt 0 d) place _
-token_here token.CloseBracket d place following next rest w at s = close_bracket_token (nat_lt 0 d) place _
-token_here token.Colon d place following next rest w at s = colon_token (nat_lt 0 d) place _ (inside_of d at)
+token_here token.Open d place following next rest w at s = single_token token.Open (nat_lt 0 d) place _ refl
+token_here token.Close d place following next rest w at s = single_token token.Close (nat_lt 0 d) place _ refl
+token_here token.OpenBracket d place following next rest w at s = single_token token.OpenBracket (nat_lt 0 d) place _ refl
+token_here token.CloseBracket d place following next rest w at s = single_token token.CloseBracket (nat_lt 0 d) place _ refl
+token_here (token.Operator operator.Divide) d place following next rest w at s = single_token (token.Operator operator.Divide) (nat_lt 0 d) place _ refl
+token_here (token.Operator o) d place following next rest w at s = sign_token (token.Operator o) (nat_lt 0 d) place _ refl (ends_of d (token.Operator o) rest next refl s)
+token_here (token.Comparison c) d place following next rest w at s = sign_token (token.Comparison c) (nat_lt 0 d) place _ refl (ends_of d (token.Comparison c) rest next refl s)
+token_here token.Colon d place following next rest w at s = colon_token (nat_lt 0 d) place _ (lt-ltb 0 d at)
 token_here (token.Number n) d place following next rest w at s = word_here d place _ _ rest next refl (number_for (nat_lt 0 d) n w) s
 token_here (token.Name n) d place following next rest w at s = word_here d place _ _ rest next refl (name_for (nat_lt 0 d) following n w) s
 token_here (token.Dotted a p) d place following next rest w at s = word_here d place _ _ rest next refl (dotted_for (nat_lt 0 d) a p w) s
@@ -84,6 +66,7 @@ token_here (token.Mac a) zero place following next rest w at s = word_here 0 pla
 token_here (token.Mac a) (suc d) place following next rest w at s = absurd (omega arith)
 token_here (token.Ip6 a) zero place following next rest w at s = word_here 0 place _ _ rest next refl (ip6_for a w) s
 token_here (token.Ip6 a) (suc d) place following next rest w at s = absurd (omega arith)
+token_here t d place following next rest w at s = word_here d place _ t rest next refl (keyword_for (nat_lt 0 d) t refl) s
 
 -- brackets
 depth_is : (d : ℕ) (t : TokenKind) → IsAt d t → openings t + d ≡ closings t + depth_after d t

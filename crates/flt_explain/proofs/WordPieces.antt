@@ -1,5 +1,6 @@
 -- A word in a text, after which no byte of it follows, is a token.
-use Rattle.flt_explain.proofs.Common.{◌≡◌, ℕ, suc, zero, ◌+◌, ◌-◌, ◌<◌, ◌≤◌, List, [], ◌∷◌, ◌++◌, length, get_or, refl, sym, ap, ◌∙◌, arith, Bool, true, false, ◌&&◌, nat_lt, Some, nat_tests, get_or-append-add, get_or_append_left, take_at, digit_value, is_ascii_alphanumeric, AllByRecursion, list_all, AllDigits, TokenKind, starts_word, within_word, keyword_of, IsToken, IsWordPiece, word_meaning, Spells, fits, known, IsScanned, longest_word, both, found_passes}
+use Rattle.flt_explain.proofs.Common.{◌≡◌, ℕ, suc, zero, ◌+◌, ◌-◌, ◌<◌, ◌≤◌, List, [], ◌∷◌, ◌++◌, length, get_or, refl, sym, ap, ◌∙◌, arith, Bool, true, false, ◌&&◌, nat_lt, Some, nat_tests, get_or-append-add, get_or_append_left, take_at, digit_value, is_ascii_alphanumeric, AllByRecursion, list_all, AllDigits, TokenKind, starts_word, within_word, keyword_of, IsToken, IsWordPiece, word_meaning, Spells, fits, known, IsScanned, longest_word, found_passes}
+use Rattle.std.proofs.lemmas.Bool.{and_parts, ltb-true}
 use Rattle.std.proofs.lemmas.List.{length-append}
 use Rattle.flt_words.specs.Spellings.{keywords}
 
@@ -70,21 +71,18 @@ all_parts false = refl
 all_from_test : (p : ℕ → Bool) (word : List ℕ) → list_all p word ≡ true → AllByRecursion (λ b. p b ≡ true) word
 all_from_test p [] h = tt
 all_from_test p (b ∷ word) h =
-    let parts = both (p b) (list_all p word) h in
+    let parts = and_parts (p b) (list_all p word) h in
     (parts.0, all_from_test p word parts.1)
-
-above_zero : (n : ℕ) → nat_lt 0 n ≡ true → 0 < n
-above_zero n h = grind (arith, nat_tests)
 
 pub part_of_keyword : (inside : Bool) (word : List ℕ) (kind : TokenKind) → keyword_of word ≡ Some kind → IsPart inside word
 unfolding part_test
 part_of_keyword inside word kind found =
     let pass = found_passes (λ piece _. part_test inside piece) keywords word kind (all_parts inside) found in
-    let some = both (nat_lt 0 (length word)) _ pass in
-    let begins = both (starts_word inside (get_or word 0 0)) _ some.1 in
-    let within = both (list_all (within_word inside) word) _ begins.1 in
+    let some = and_parts (nat_lt 0 (length word)) _ pass in
+    let begins = and_parts (starts_word inside (get_or word 0 0)) _ some.1 in
+    let within = and_parts (list_all (within_word inside) word) _ begins.1 in
     record {
-      some = above_zero (length word) some.0;
+      some = ltb-true 0 (length word) some.0;
       begins = begins.0;
       within = all_from_test (within_word inside) word within.0;
       ends = within.1;

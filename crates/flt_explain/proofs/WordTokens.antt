@@ -1,22 +1,18 @@
 -- Each word that is written means its token.
-use Rattle.flt_explain.proofs.Common.{◌≡◌, ◌⊎◌, inl, inr, ⊎_elim, ℕ, suc, zero, ◌+◌, ◌*◌, ◌%◌, ◌^◌, ◌<◌, ◌≤◌, List, [], ◌∷◌, ◌++◌, length, get_or, refl, sym, ap, subst, arith, Bool, true, false, ◌==◌, ◌||◌, codes, Some, lit<, lit≤, decimal_digit, decimal_is_IsNumeral, first_decimal, decimal, digits_value, Protocol, TokenKind, ValueType, Host, Net, Port, PortRange, Proto, IsDotted, within_word, WritesDecimal, keyword_of, Spells, fits, keyword, keyword_is_plain, Following, Other, Icmp, IcmpBracket, protocol_word, join_word, side_word, type_word, size_word, cast_word, name_word, octet, IsDottedAddress, has_name}
+use Rattle.flt_explain.proofs.Common.{◌≡◌, ⊎_elim, ℕ, suc, zero, ◌^◌, ◌<◌, List, ◌∷◌, ◌++◌, length, get_or, refl, sym, ap, subst, arith, Bool, true, false, ◌==◌, Some, lit<, lit≤, decimal_digit, decimal_is_IsNumeral, first_decimal, decimal, TokenKind, Host, within_word, WritesDecimal, keyword_of, Spells, fits, keyword, keyword_is_plain, Following, Other, fixed_spelling, name_word, has_name}
+use Rattle.std.proofs.lemmas.Bool.{or_cases}
 use Rattle.std.proofs.lemmas.Bool.{eqb-true}
-use Rattle.flt_words.specs.declared.token.Cast.{Cast}
 use Rattle.flt_words.specs.declared.token.Cast.TheVariants.{Broadcast, Multicast}
-use Rattle.flt_words.specs.declared.token.Join.{Join}
 use Rattle.flt_words.specs.declared.token.Join.TheVariants as join
 use Rattle.flt_words.specs.declared.token.Protocol.TheVariants as protocol
-use Rattle.flt_words.specs.declared.token.Side.{Side}
 use Rattle.flt_words.specs.declared.token.Side.TheVariants.{Source, Destination}
-use Rattle.flt_words.specs.declared.token.Size.{Size}
 use Rattle.flt_words.specs.declared.token.Size.TheVariants as size
 use Rattle.flt_words.specs.declared.token.TokenKind.TheVariants as token
 use Rattle.flt_words.specs.Numbers.IsNumber.{decimal as decimal_number}
 use Rattle.flt_words.specs.Numbers.IsRange.{joined as dashed}
 use Rattle.flt_words.specs.Spellings.{keywords}
-use Rattle.flt_words.specs.Words.Spells.{number, dotted, range}
+use Rattle.flt_words.specs.Words.Spells.{number, range}
 use Rattle.flt_words.proofs.Digits.{fits as word_sized}
-use Rattle.flt_explain.specs.Texts.{dotted_word}
 use Rattle.flt_explain.proofs.WordPieces.{IsPart, part_of_digits, part_of_keyword, part_join}
 
 pub record IsWordFor (inside : Bool) (word : List ℕ) (kind : TokenKind) : Type 0 where
@@ -25,112 +21,62 @@ pub record IsWordFor (inside : Bool) (word : List ℕ) (kind : TokenKind) : Type
   pub fit : fits kind ≡ true
 
 -- keywords
-keyword_for : (inside : Bool) (word : List ℕ) (kind : TokenKind) → keyword_of word ≡ Some kind → IsWordFor inside word kind
-keyword_for inside word kind found = record {
+abbrev pub is_keyword : TokenKind → Bool
+is_keyword (token.Protocol p) = true
+is_keyword (token.Join j) = true
+is_keyword token.Not = true
+is_keyword (token.Side s) = true
+is_keyword (token.ValueType k) = true
+is_keyword (token.Size s) = true
+is_keyword (token.Cast c) = true
+is_keyword token.Mask = true
+is_keyword token.Len = true
+is_keyword _ = false
+
+found : (t : TokenKind) → is_keyword t ≡ true → keyword_of (fixed_spelling t) ≡ Some t
+unfolding keywords
+found (token.Protocol protocol.Ether) h = refl
+found (token.Protocol _) h = refl
+found (token.Join join.And) h = refl
+found (token.Join join.Or) h = refl
+found token.Not h = refl
+found (token.Side Source) h = refl
+found (token.Side Destination) h = refl
+found (token.ValueType Host) h = refl
+found (token.ValueType _) h = refl
+found (token.Size size.Less) h = refl
+found (token.Size size.Greater) h = refl
+found (token.Cast Broadcast) h = refl
+found (token.Cast Multicast) h = refl
+found token.Mask h = refl
+found token.Len h = refl
+found _ h = cc
+
+keyword_by : (inside : Bool) (word : List ℕ) (kind : TokenKind) → keyword_of word ≡ Some kind → IsWordFor inside word kind
+keyword_by inside word kind found = record {
   part = part_of_keyword inside word kind found;
   stands = keyword found;
   fit = (keyword_is_plain word kind found).fitting;
 }
 
-protocol_found : (p : Protocol) → keyword_of (protocol_word p) ≡ Some (token.Protocol p)
-unfolding keywords
-protocol_found protocol.Ether = refl
-protocol_found protocol.Ip = refl
-protocol_found protocol.Ip6 = refl
-protocol_found protocol.Arp = refl
-protocol_found protocol.Rarp = refl
-protocol_found protocol.Tcp = refl
-protocol_found protocol.Udp = refl
-protocol_found protocol.Icmp = refl
-protocol_found protocol.Icmp6 = refl
-
-join_found : (j : Join) → keyword_of (join_word j) ≡ Some (token.Join j)
-unfolding keywords
-join_found join.And = refl
-join_found join.Or = refl
-
-side_found : (s : Side) → keyword_of (side_word s) ≡ Some (token.Side s)
-unfolding keywords
-side_found Source = refl
-side_found Destination = refl
-
-type_found : (k : ValueType) → keyword_of (type_word k) ≡ Some (token.ValueType k)
-unfolding keywords
-type_found Host = refl
-type_found Net = refl
-type_found Port = refl
-type_found PortRange = refl
-type_found Proto = refl
-
-size_found : (s : Size) → keyword_of (size_word s) ≡ Some (token.Size s)
-unfolding keywords
-size_found size.Less = refl
-size_found size.Greater = refl
-
-cast_found : (c : Cast) → keyword_of (cast_word c) ≡ Some (token.Cast c)
-unfolding keywords
-cast_found Broadcast = refl
-cast_found Multicast = refl
-
-not_found : keyword_of (codes "not") ≡ Some token.Not
-unfolding keywords
-not_found = refl
-
-mask_found : keyword_of (codes "mask") ≡ Some token.Mask
-unfolding keywords
-mask_found = refl
-
-len_found : keyword_of (codes "len") ≡ Some token.Len
-unfolding keywords
-len_found = refl
-
-pub protocol_for : (inside : Bool) (p : Protocol) → IsWordFor inside (protocol_word p) (token.Protocol p)
-protocol_for inside p = keyword_for inside _ _ (protocol_found p)
-
-pub join_for : (inside : Bool) (j : Join) → IsWordFor inside (join_word j) (token.Join j)
-join_for inside j = keyword_for inside _ _ (join_found j)
-
-pub side_for : (inside : Bool) (s : Side) → IsWordFor inside (side_word s) (token.Side s)
-side_for inside s = keyword_for inside _ _ (side_found s)
-
-pub type_for : (inside : Bool) (k : ValueType) → IsWordFor inside (type_word k) (token.ValueType k)
-type_for inside k = keyword_for inside _ _ (type_found k)
-
-pub size_for : (inside : Bool) (s : Size) → IsWordFor inside (size_word s) (token.Size s)
-size_for inside s = keyword_for inside _ _ (size_found s)
-
-pub cast_for : (inside : Bool) (c : Cast) → IsWordFor inside (cast_word c) (token.Cast c)
-cast_for inside c = keyword_for inside _ _ (cast_found c)
-
-pub not_for : (inside : Bool) → IsWordFor inside (codes "not") token.Not
-not_for inside = keyword_for inside _ _ not_found
-
-pub mask_for : (inside : Bool) → IsWordFor inside (codes "mask") token.Mask
-mask_for inside = keyword_for inside _ _ mask_found
-
-pub len_for : (inside : Bool) → IsWordFor inside (codes "len") token.Len
-len_for inside = keyword_for inside _ _ len_found
+pub keyword_for : (inside : Bool) (t : TokenKind) → is_keyword t ≡ true → IsWordFor inside (fixed_spelling t) t
+keyword_for inside t h = keyword_by inside _ _ (found t h)
 
 -- names
-either : (a b : Bool) → (a || b) ≡ true → (a ≡ true) ⊎ (b ≡ true)
-either true b h = inl refl
-either false b h = inr h
-
 one_found : (following : Following) → keyword_of (name_word following 1) ≡ Some (token.Name 1)
 unfolding keywords
 one_found Other = refl
-one_found Icmp = refl
-one_found IcmpBracket = refl
+one_found _ = refl
 
 name_found : (following : Following) (n : ℕ) → has_name n ≡ true → keyword_of (name_word following n) ≡ Some (token.Name n)
 unfolding keywords
 name_found following n h =
     let P : ℕ → Type 0 = λ k. keyword_of (name_word following k) ≡ Some (token.Name k) in
     let at : (k : ℕ) → P k → (n == k) ≡ true → P n = λ k found is. subst P (sym (eqb-true n k is)) found in
-    ⊎_elim (at 0 refl) (λ h. ⊎_elim (at 1 (one_found following)) (λ h. ⊎_elim (at 2 refl) (λ h. ⊎_elim (at 4 refl) (λ h. ⊎_elim (at 8 refl) (λ h. ⊎_elim (at 13 refl) (λ h. ⊎_elim (at 16 refl) (at 32 refl) (either (n == 16) (n == 32) h)) (either (n == 13) _ h)) (either (n == 8) _ h)) (either (n == 4) _ h)) (either (n == 2) _ h)) (either (n == 1) _ h)) (either (n == 0) _ h)
+    ⊎_elim (at 0 refl) (λ h. ⊎_elim (at 1 (one_found following)) (λ h. ⊎_elim (at 2 refl) (λ h. ⊎_elim (at 4 refl) (λ h. ⊎_elim (at 8 refl) (λ h. ⊎_elim (at 13 refl) (λ h. ⊎_elim (at 16 refl) (at 32 refl) (or_cases (n == 16) (n == 32) h)) (or_cases (n == 13) _ h)) (or_cases (n == 8) _ h)) (or_cases (n == 4) _ h)) (or_cases (n == 2) _ h)) (or_cases (n == 1) _ h)) (or_cases (n == 0) _ h)
 
 pub name_for : (inside : Bool) (following : Following) (n : ℕ) → has_name n ≡ true → IsWordFor inside (name_word following n) (token.Name n)
-name_for inside following n h = keyword_for inside _ _ (name_found following n h)
+name_for inside following n h = keyword_by inside _ _ (name_found following n h)
 
 -- numbers
 one_digit : (n : ℕ) → n < 2 ^ 32 → get_or (decimal n) 0 0 ≡ 48 → length (decimal n) ≡ 1
@@ -158,106 +104,9 @@ dash_within : (inside : Bool) → within_word inside 45 ≡ true
 dash_within true = refl
 dash_within false = refl
 
-point_within : (inside : Bool) → within_word inside 46 ≡ true
-point_within true = refl
-point_within false = refl
-
 pub range_for : (inside : Bool) (a b : ℕ) → a < 2 ^ 32 → b < 2 ^ 32 → IsWordFor inside (decimal a ++ 45 ∷ decimal b) (token.Range a b)
 range_for inside a b small also = record {
   part = part_join inside 45 (decimal a) (decimal b) (dash_within inside) (part_of_decimal inside a small) (part_of_decimal inside b also);
   stands = range (dashed (writes_decimal a small) (writes_decimal b also));
   fit = rw (word_sized a small) (word_sized b also);
 }
-
--- IPv4 addresses
-below_256 : (weight address : ℕ) → octet weight address < 256
-below_256 weight address = omega arith
-
-group_of : (n : ℕ) → n < 256 → (m : ℕ) × WritesDecimal (decimal n) m × (m ≤ 255)
-group_of n small = (n, writes_decimal n (omega arith), omega arith)
-
-value_of : (n : ℕ) → n < 256 → digits_value 10 (decimal n) ≡ n
-value_of n small = (decimal_is_IsNumeral n (omega arith)).1
-
-two_parts : (a : ℕ) → a < 2 ^ 32 → a % 65536 ≡ 0 → a ≡ (((0 * 256 + octet (2 ^ 24) a) * 256 + octet (2 ^ 16) a) * 256 + 0) * 256 + 0
-two_parts a small missing = omega arith
-
-three_parts : (a : ℕ) → a < 2 ^ 32 → a % 256 ≡ 0 → a ≡ (((0 * 256 + octet (2 ^ 24) a) * 256 + octet (2 ^ 16) a) * 256 + octet (2 ^ 8) a) * 256 + 0
-three_parts a small missing = omega arith
-
-four_parts : (a : ℕ) → a < 2 ^ 32 → a ≡ (((0 * 256 + octet (2 ^ 24) a) * 256 + octet (2 ^ 16) a) * 256 + octet (2 ^ 8) a) * 256 + octet 1 a
-four_parts a small = omega arith
-
-dotted_two : (a : ℕ) → a < 2 ^ 32 → a % 65536 ≡ 0 → IsDotted (dotted_word a 2) a 2
-unfolding dotted_word
-dotted_two a small missing =
-    let first = below_256 (2 ^ 24) a in
-    let second = below_256 (2 ^ 16) a in
-    record {
-      groups = decimal (octet (2 ^ 24) a) ∷ decimal (octet (2 ^ 16) a) ∷ [];
-      are = record { joined = refl; each = (group_of _ first, (group_of _ second, tt)) };
-      at_least_two = lit≤ tt;
-      at_most_four = lit≤ tt;
-      count = refl;
-      value = rw (value_of _ first, value_of _ second) (two_parts a small missing);
-    }
-
-dotted_three : (a : ℕ) → a < 2 ^ 32 → a % 256 ≡ 0 → IsDotted (dotted_word a 3) a 3
-unfolding dotted_word
-dotted_three a small missing =
-    let first = below_256 (2 ^ 24) a in
-    let second = below_256 (2 ^ 16) a in
-    let third = below_256 (2 ^ 8) a in
-    record {
-      groups = decimal (octet (2 ^ 24) a) ∷ decimal (octet (2 ^ 16) a) ∷ decimal (octet (2 ^ 8) a) ∷ [];
-      are = record { joined = refl; each = (group_of _ first, (group_of _ second, (group_of _ third, tt))) };
-      at_least_two = lit≤ tt;
-      at_most_four = lit≤ tt;
-      count = refl;
-      value = rw (value_of _ first, value_of _ second, value_of _ third) (three_parts a small missing);
-    }
-
-dotted_four : (a : ℕ) → a < 2 ^ 32 → IsDotted (dotted_word a 4) a 4
-unfolding dotted_word
-dotted_four a small =
-    let first = below_256 (2 ^ 24) a in
-    let second = below_256 (2 ^ 16) a in
-    let third = below_256 (2 ^ 8) a in
-    let last = below_256 1 a in
-    record {
-      groups = decimal (octet (2 ^ 24) a) ∷ decimal (octet (2 ^ 16) a) ∷ decimal (octet (2 ^ 8) a) ∷ decimal (octet 1 a) ∷ [];
-      are = record { joined = refl; each = (group_of _ first, (group_of _ second, (group_of _ third, (group_of _ last, tt)))) };
-      at_least_two = lit≤ tt;
-      at_most_four = lit≤ tt;
-      count = refl;
-      value = rw (value_of _ first, value_of _ second, value_of _ third, value_of _ last) (four_parts a small);
-    }
-
-part_of_octet : (inside : Bool) (weight a : ℕ) → IsPart inside (decimal (octet weight a))
-part_of_octet inside weight a = part_of_decimal inside (octet weight a) (omega (arith, below_256 weight a))
-
-pointed : (inside : Bool) (front back : List ℕ) → IsPart inside front → IsPart inside back → IsPart inside (front ++ 46 ∷ back)
-pointed inside front back v w = part_join inside 46 front back (point_within inside) v w
-
-part_of_two : (inside : Bool) (a : ℕ) → IsPart inside (dotted_word a 2)
-unfolding dotted_word
-part_of_two inside a = pointed inside _ _ (part_of_octet inside (2 ^ 24) a) (part_of_octet inside (2 ^ 16) a)
-
-part_of_three : (inside : Bool) (a : ℕ) → IsPart inside (dotted_word a 3)
-unfolding dotted_word
-part_of_three inside a = pointed inside _ _ (part_of_octet inside (2 ^ 24) a) (pointed inside _ _ (part_of_octet inside (2 ^ 16) a) (part_of_octet inside (2 ^ 8) a))
-
-part_of_four : (inside : Bool) (a : ℕ) → IsPart inside (dotted_word a 4)
-unfolding dotted_word
-part_of_four inside a = pointed inside _ _ (part_of_octet inside (2 ^ 24) a) (pointed inside _ _ (part_of_octet inside (2 ^ 16) a) (pointed inside _ _ (part_of_octet inside (2 ^ 8) a) (part_of_octet inside 1 a)))
-
-dotted_by : (inside : Bool) (a p : ℕ) → IsPart inside (dotted_word a p) → IsDotted (dotted_word a p) a p → IsWordFor inside (dotted_word a p) (token.Dotted a p)
-dotted_by inside a p part is = record { part = part; stands = dotted is; fit = refl }
-
-pub dotted_for : (inside : Bool) (a p : ℕ) → IsDottedAddress a p → IsWordFor inside (dotted_word a p) (token.Dotted a p)
-dotted_for inside a zero w = absurd (omega (arith, w.at_least_two))
-dotted_for inside a (suc zero) w = absurd (omega (arith, w.at_least_two))
-dotted_for inside a (suc (suc zero)) w = dotted_by inside a 2 (part_of_two inside a) (dotted_two a w.small w.missing)
-dotted_for inside a (suc (suc (suc zero))) w = dotted_by inside a 3 (part_of_three inside a) (dotted_three a w.small w.missing)
-dotted_for inside a (suc (suc (suc (suc zero)))) w = dotted_by inside a 4 (part_of_four inside a) (dotted_four a w.small)
-dotted_for inside a (suc (suc (suc (suc (suc p))))) w = absurd (omega (arith, w.at_most_four))

@@ -1,5 +1,6 @@
 -- Each tree that is read of a text is writable.
-use Rattle.flt_explain.proofs.Common.{◌≡◌, ℕ, suc, zero, ◌+◌, ◌-◌, ◌*◌, ◌^◌, ◌<◌, ◌≤◌, List, [], ◌∷◌, length, map, lit≤, refl, ap, ◌∙◌, subst, arith, Bool, true, false, ◌&&◌, cond, codes, Option, Some, Result, Ok, Err, nat_tests, length-map, AllByRecursion, list_all, IsNumeral, digits_value, Token, TokenKind, IsDotted, IsIp6, IsMac, AreIp6Ends, shortened, whole, WritesDecimal, is_word_sized, look_up, PieceMeans, Tokens, TokensFrom, before, symbol_meaning, word_meaning, short, too_long, Spells, WordMeans, fits, keyword, mac, ip6, known, both, found_passes, kinds_of, IsDottedAddress, has_name, IsSpellable}
+use Rattle.flt_explain.proofs.Common.{◌≡◌, ℕ, suc, zero, ◌+◌, ◌-◌, ◌*◌, ◌^◌, ◌<◌, ◌≤◌, List, [], ◌∷◌, length, map, lit≤, refl, ap, ◌∙◌, subst, arith, Bool, true, false, ◌&&◌, cond, codes, Option, Some, Result, Ok, Err, length-map, AllByRecursion, list_all, IsNumeral, digits_value, Token, TokenKind, IsDotted, IsIp6, IsMac, AreIp6Ends, shortened, whole, WritesDecimal, is_word_sized, look_up, PieceMeans, Tokens, TokensFrom, before, symbol_meaning, word_meaning, short, too_long, Spells, WordMeans, fits, keyword, mac, ip6, known, found_passes, kinds_of, IsDottedAddress, has_name, IsSpellable}
+use Rattle.std.proofs.lemmas.Bool.{and_parts, ltb-true}
 use Rattle.std.proofs.lemmas.Int.Digits.{number_lt}
 use Rattle.std.specs.Int.Digits.{AllBelowBase, number_from_digits}
 use Rattle.std.specs.Str.{bytes_eq}
@@ -39,14 +40,16 @@ from_table (token.Mac a) h = cc
 from_table (token.Ip6 a) h = cc
 from_table _ h = tt
 
-sized : (n : ℕ) → is_word_sized n ≡ true → n < 2 ^ 32
-sized n h = grind (arith, nat_tests)
+-- groups of digits, each of which writes a number below a base
+all_below : (base radix : ℕ) (IsGroup : List ℕ → Type 0) (groups : List (List ℕ)) → AllByRecursion IsGroup groups → ((digits : List ℕ) → IsGroup digits → digits_value radix digits < base)
+    → number_from_digits base (map (digits_value radix) groups) < base ^ length groups
+all_below base radix IsGroup groups are each = rw length-map at (number_lt base (map (digits_value radix) groups) (below groups are))
+  where
+    below : (gs : List (List ℕ)) → AllByRecursion IsGroup gs → AllBelowBase base (map (digits_value radix) gs)
+    below [] are = tt
+    below (g ∷ gs) are = (each g are.0, below gs are.1)
 
 -- an IPv4 address
-octets_below : (groups : List (List ℕ)) → AllByRecursion (λ digits. (n : ℕ) × WritesDecimal digits n × (n ≤ 255)) groups → AllBelowBase 256 (map (digits_value 10) groups)
-octets_below [] each = tt
-octets_below (g ∷ groups) each = (omega (arith, each.0.1.writes.value, each.0.2), octets_below groups each.1)
-
 by_count : (n p a front : ℕ) → 2 ≤ n → n ≤ 4 → front < 256 ^ n → a ≡ front * 256 ^ (4 - n) → p ≡ n → IsDottedAddress a p
 by_count zero p a front low high below is parts = absurd (omega arith)
 by_count (suc zero) p a front low high below is parts = absurd (omega arith)
@@ -58,31 +61,19 @@ by_count (suc (suc (suc (suc (suc n))))) p a front low high below is parts = abs
 dotted_small : {word : List ℕ} {a p : ℕ} → IsDotted word a p → IsDottedAddress a p
 dotted_small {word} {a} {p} d =
     let values : List ℕ = map (digits_value 10) d.groups in
-    let long : length values ≡ length d.groups = length-map d.groups (digits_value 10) in
-    let below : number_from_digits 256 values < 256 ^ length d.groups = subst (λ k. number_from_digits 256 values < 256 ^ k) long (number_lt 256 values (octets_below d.groups d.are.each)) in
+    let below = all_below 256 10 (λ digits. (n : ℕ) × WritesDecimal digits n × (n ≤ 255)) d.groups d.are.each (λ g is. omega (arith, is.1.writes.value, is.2)) in
     by_count (length d.groups) p a (number_from_digits 256 values) d.at_least_two d.at_most_four below (d.value ∙ number_zeros 256 (4 - length d.groups) values) d.count
 
 -- a MAC address
-bytes_below : (groups : List (List ℕ)) → AllByRecursion (λ digits. IsNumeral 16 digits × (length digits ≤ 2)) groups → AllBelowBase 256 (map (digits_value 16) groups)
-bytes_below [] each = tt
-bytes_below (g ∷ groups) each = (small_hexadecimal g 2 each.0.0.1 each.0.1, bytes_below groups each.1)
-
 mac_small : {word : List ℕ} {a : ℕ} → IsMac word a → a < 2 ^ 48
 mac_small {word} {a} m =
-    let values : List ℕ = map (digits_value 16) m.groups in
-    let long : length values ≡ 6 = length-map m.groups (digits_value 16) ∙ m.six in
-    let below : number_from_digits 256 values < 256 ^ 6 = subst (λ k. number_from_digits 256 values < 256 ^ k) long (number_lt 256 values (bytes_below m.groups m.are.each)) in
+    let below = all_below 256 16 (λ digits. IsNumeral 16 digits × (length digits ≤ 2)) m.groups m.are.each (λ g is. small_hexadecimal g 2 is.0.1 is.1) in
+    let all : 256 ^ length m.groups ≡ 2 ^ 48 = ap (λ k. 256 ^ k) m.six in
     omega (arith, m.value)
 
 -- an IPv6 address
-quads_below : (groups : List (List ℕ)) → AllByRecursion (λ digits. IsNumeral 16 digits × (length digits ≤ 4)) groups → AllBelowBase 65536 (map (digits_value 16) groups)
-quads_below [] each = tt
-quads_below (g ∷ groups) each = (small_hexadecimal g 4 each.0.0.1 each.0.1, quads_below groups each.1)
-
 quads_small : (groups : List (List ℕ)) → AllByRecursion (λ digits. IsNumeral 16 digits × (length digits ≤ 4)) groups → number_from_digits 65536 (map (digits_value 16) groups) < 65536 ^ length groups
-quads_small groups each =
-    let values : List ℕ = map (digits_value 16) groups in
-    subst (λ k. number_from_digits 65536 values < 65536 ^ k) (length-map groups (digits_value 16)) (number_lt 65536 values (quads_below groups each))
+quads_small groups are = all_below 65536 16 (λ digits. IsNumeral 16 digits × (length digits ≤ 4)) groups are (λ g is. small_hexadecimal g 4 is.0.1 is.1)
 
 ends_small : {front back : List ℕ} {a : ℕ} → AreIp6Ends front back a → a < 2 ^ 128
 ends_small {front} {back} {a} e =
@@ -104,11 +95,11 @@ ip6_small (shortened ends) = ends_small ends
 -- what a word means
 stands_spellable : {word : List ℕ} {kind : TokenKind} → Spells word kind → fits kind ≡ true → IsSpellable kind
 stands_spellable {word} {kind} (keyword found) fit = from_table kind (found_passes (λ _ k. table_test k) keywords word kind all_keywords found)
-stands_spellable (number {n} w) fit = sized n fit
+stands_spellable (number {n} w) fit = ltb-true n (2 ^ 32) fit
 stands_spellable (dotted w) fit = dotted_small w
 stands_spellable (range {first} {last} w) fit =
-    let parts = both (is_word_sized first) (is_word_sized last) fit in
-    (sized first parts.0, sized last parts.1)
+    let parts = and_parts (is_word_sized first) (is_word_sized last) fit in
+    (ltb-true first (2 ^ 32) parts.0, ltb-true last (2 ^ 32) parts.1)
 stands_spellable (mac w) fit = mac_small w
 stands_spellable (ip6 w) fit = ip6_small w
 

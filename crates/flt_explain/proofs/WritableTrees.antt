@@ -1,5 +1,5 @@
 -- What is read of writable tokens is writable, and stays so as it is resolved.
-use Rattle.flt_explain.proofs.Common.{ℕ, List, Option, Some, None, Ok, refl, lit<, AllByRecursion, Protocol, Token, TokenKind, ValueType, Tokens, Direction, Qualifiers, NetMask, Value, NumberTree, TruthTree, check, cast, sized, bare, valued, qualified, compared, denied, joined, Expression, empty, truth, latest, with_inherited, complete, only_host, fill_expression, ReadsProtocol, no_protocol, protocol, ReadsDirection, no_direction, one_side, source_first, destination_first, ReadsType, no_type, of_type, ReadsQualifiers, qualifiers, ReadsMask, no_mask, prefix, dotted_mask, ReadsValue, number, dotted, ip6_prefix, range, Number, of_literal, of_len, of_name, enclosed, of_load, of_sized_load, minus, single, chain, Truth, of_check, of_cast, of_protocol_cast, of_sized, of_valued, of_bare, relation, denial, enclosed_truth, term, terms, IsReadAs, no_tokens, all_tokens, kinds_of, IsWritable, IsWritableMask, IsWritableNumber, IsWritableTruth, IsWritableValue, IsSpellable}
+use Rattle.flt_explain.proofs.Common.{ℕ, List, Option, Ok, refl, lit<, AllByRecursion, Protocol, Token, TokenKind, ValueType, Tokens, Direction, Qualifiers, NetMask, Value, NumberTree, TruthTree, denied, joined, Expression, empty, truth, latest, with_inherited, complete, only_host, fill_expression, ReadsProtocol, no_protocol, protocol, ReadsDirection, no_direction, one_side, source_first, destination_first, ReadsType, no_type, of_type, ReadsQualifiers, qualifiers, ReadsMask, no_mask, prefix, dotted_mask, ReadsValue, number, dotted, ip6_prefix, range, Number, of_literal, of_len, of_name, enclosed, of_load, of_sized_load, minus, single, chain, Truth, of_check, of_cast, of_protocol_cast, of_sized, of_valued, of_bare, relation, denial, enclosed_truth, term, terms, IsReadAs, no_tokens, all_tokens, kinds_of, IsWritable, IsWritableMask, IsWritableNumber, IsWritableTruth, IsWritableValue, IsSpellable}
 use Rattle.flt_lang.specs.Values.{ip6, mac}
 use Rattle.flt_explain.proofs.WritableTokens.{all_spellable}
 
@@ -40,7 +40,7 @@ from_value (number m) s =
 from_value (dotted m) s =
     let read = from_mask m s.1 in
     ((s.0, read.0), read.1)
-from_value ip6 s = ((s.0, tt), s.1)
+from_value ip6 s = (s.0, s.1)
 from_value ip6_prefix s = ((s.0, s.1.1.0), s.1.1.1)
 from_value mac s = (s.0, s.1)
 from_value range s = (s.0, s.1)
@@ -90,16 +90,9 @@ from_tokens (all_tokens reads) s = (from_truth reads s).0
 
 -- once it is resolved
 inherited_keeps : (a : TruthTree) (q : Qualifiers) → IsWritableTruth a → IsWritableTruth (complete (with_inherited q a))
-inherited_keeps (check p) q w = w
-inherited_keeps (cast None c) q w = w
-inherited_keeps (cast (Some p) c) q w = w
-inherited_keeps (sized z n) q w = w
-inherited_keeps (bare v) q w = w
-inherited_keeps (valued p v) q w = w
-inherited_keeps (qualified p v) q w = w
-inherited_keeps (compared c a b) q w = w
 inherited_keeps (denied a) q w = inherited_keeps a q w
 inherited_keeps (joined j a b) q w = (inherited_keeps a q w.0, inherited_keeps b (latest q a) w.1)
+inherited_keeps _ q w = w
 
 filled_keeps : (e : Expression) → IsWritable e → IsWritable (fill_expression e)
 filled_keeps empty w = tt

@@ -1,19 +1,17 @@
 -- The nodes from the last to the first are written as the tokens of their tree.
-use Rattle.flt_explain.proofs.Common.{◌≡◌, ℕ, ◌+◌, ◌-◌, ◌<◌, ◌≤◌, refl, sym, ap, ◌∙◌, subst, arith, Bool, true, false, List, [], ◌∷◌, Some, None, length, drop, get_or, nat_lt, nat_tests, drop_more, length-drop, TokenKind, NumberTree, literal, len, named, load, negated, applied, TruthTree, check, cast, sized, bare, valued, qualified, compared, denied, joined, Expression, empty, truth, number_tokens, truth_tokens, explained_tokens, open_operand, WriterState, write_pending, parenthesis_before, is_more, write_nodes, write_node}
+use Rattle.flt_explain.proofs.Common.{◌≡◌, ℕ, ◌+◌, ◌-◌, ◌<◌, ◌≤◌, refl, sym, ap, ◌∙◌, subst, arith, Bool, true, false, List, [], ◌∷◌, Some, None, length, drop, get_or, nat_lt, nat_tests, drop_more, length-drop, TokenKind, NumberTree, load, negated, applied, TruthTree, check, cast, compared, denied, joined, Expression, empty, truth, number_tokens, truth_tokens, explained_tokens, open_operand, WriterState, write_pending, parenthesis_before, is_more, write_nodes, write_node}
 use Rattle.flt_ast.specs.declared.node.Node.{Node}
 use Rattle.flt_ast.specs.declared.node.Node.TheVariants as node
 use Rattle.flt_ast.specs.Nodes.{number_nodes, truth_nodes, expr_nodes}
 use Rattle.flt_explain.specs.declared.backward.Pending.{Pending}
 
 pub number_written : (a : NumberTree) (rest : List Node) → write_nodes (number_nodes a rest) ≡ write_pending (write_nodes rest).pending (number_tokens a (write_nodes rest).tokens)
-number_written (literal n) rest = refl
-number_written len rest = refl
-number_written (named n) rest = refl
 number_written (load p s a) rest = number_written a (node.Load p s ∷ rest)
 number_written (negated a) rest = number_written a (node.Negate ∷ rest)
 number_written (applied o a b) rest =
     number_written a (number_nodes b (node.Apply o ∷ rest))
     ∙ ap (λ (s : WriterState). write_pending s.pending (number_tokens a s.tokens)) (number_written b (node.Apply o ∷ rest))
+number_written _ rest = refl
 
 -- what waits around an operand
 settles : (operand : Bool) (ps : List Pending) (ts : List TokenKind) → write_pending (parenthesis_before operand ps) ts ≡ write_pending ps (open_operand operand ts)
@@ -21,32 +19,21 @@ settles true ps ts = refl
 settles false ps ts = refl
 
 number_more : (a : NumberTree) (rest : List Node) → is_more rest ≡ true → is_more (number_nodes a rest) ≡ true
-number_more (literal n) rest h = refl
-number_more len rest h = refl
-number_more (named n) rest h = refl
 number_more (load p s a) rest h = number_more a _ refl
 number_more (negated a) rest h = number_more a _ refl
 number_more (applied o a b) rest h = number_more a _ (number_more b _ refl)
+number_more _ rest h = refl
 
 truth_more : (a : TruthTree) (rest : List Node) → is_more (truth_nodes a rest) ≡ true
-truth_more (check p) rest = refl
-truth_more (cast p c) rest = refl
-truth_more (sized s n) rest = refl
-truth_more (bare v) rest = refl
-truth_more (valued q v) rest = refl
-truth_more (qualified q v) rest = refl
 truth_more (compared c a b) rest = number_more a _ (number_more b _ refl)
 truth_more (denied a) rest = truth_more a _
 truth_more (joined j a b) rest = truth_more a _
+truth_more _ rest = refl
 
 pub truth_written : (a : TruthTree) (rest : List Node) (operand : Bool) → is_more rest ≡ operand → write_nodes (truth_nodes a rest) ≡ write_pending (write_nodes rest).pending (truth_tokens operand a (write_nodes rest).tokens)
 truth_written (check p) rest operand e = refl
 truth_written (cast None c) rest operand e = refl
 truth_written (cast (Some p) c) rest operand e = rw e refl
-truth_written (sized s n) rest operand e = rw e refl
-truth_written (bare v) rest operand e = rw e refl
-truth_written (valued q v) rest operand e = rw e refl
-truth_written (qualified q v) rest operand e = rw e refl
 truth_written (compared c a b) rest operand e =
     number_written a (number_nodes b (node.Compare c ∷ rest))
     ∙ ap (λ (s : WriterState). write_pending s.pending (number_tokens a s.tokens)) (number_written b (node.Compare c ∷ rest))
@@ -57,6 +44,7 @@ truth_written (joined j a b) rest operand e =
     truth_written a (truth_nodes b (node.Join j ∷ rest)) true (truth_more b (node.Join j ∷ rest))
     ∙ ap (λ (s : WriterState). write_pending s.pending (truth_tokens true a s.tokens)) (truth_written b (node.Join j ∷ rest) true refl)
     ∙ rw e (settles operand (write_nodes rest).pending _)
+truth_written _ rest operand e = rw e refl
 
 pub expression_written : (e : Expression) → (write_nodes (expr_nodes e)).tokens ≡ explained_tokens e
 expression_written empty = refl

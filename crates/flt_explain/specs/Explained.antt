@@ -20,23 +20,18 @@ use Rattle.flt_ast.specs.Tree.{NumberTree, literal, len, named, load, negated, a
 use Rattle.flt_explain.specs.declared.spelling.Following.TheVariants.{Other}
 use Rattle.flt_explain.specs.Texts.{tokens_text}
 
--- the mask that is written after a number or an IPv4 address of a network, if one is, and then the
--- rest
+-- the mask that is written after a number or an address of a network, if one is, and then the rest
 abbrev pub mask_tokens : NetMask → List TokenKind → List TokenKind
 mask_tokens mask.Unwritten rest = rest
 mask_tokens (mask.Prefix n) rest = token.Operator Divide ∷ token.Number n ∷ rest
 mask_tokens (mask.Mask d) rest = token.Mask ∷ token.Dotted d.address d.parts ∷ rest
 
--- `/ N` after an IPv6 address, if it has one, and then the rest
-abbrev pub prefix_tokens : Option ℕ → List TokenKind → List TokenKind
-prefix_tokens None rest = rest
-prefix_tokens (Some n) rest = token.Operator Divide ∷ token.Number n ∷ rest
-
 -- the tokens of a value without its qualifiers, and then the rest
 abbrev pub value_tokens : Value → List TokenKind → List TokenKind
 value_tokens (value.Number n m) rest = token.Number n ∷ mask_tokens m rest
 value_tokens (value.Dotted d m) rest = token.Dotted d.address d.parts ∷ mask_tokens m rest
-value_tokens (value.Ip6 a n) rest = token.Ip6 a ∷ prefix_tokens n rest
+value_tokens (value.Ip6 a None) rest = token.Ip6 a ∷ rest
+value_tokens (value.Ip6 a (Some n)) rest = token.Ip6 a ∷ mask_tokens (mask.Prefix n) rest
 value_tokens (value.Mac a) rest = token.Mac a ∷ rest
 value_tokens (value.Range a b) rest = token.Range a b ∷ rest
 
@@ -51,30 +46,33 @@ direction_tokens (direction.One s) rest = token.Side s ∷ rest
 direction_tokens (direction.Both j) rest =
     token.Side Source ∷ token.Join j ∷ token.Side Destination ∷ rest
 
--- the direction that a text had before a value, if any, and then the rest
+-- the direction before a value, if there is one, and then the rest
 abbrev pub written_direction : Option Direction → List TokenKind → List TokenKind
 written_direction None rest = rest
 written_direction (Some d) rest = direction_tokens d rest
 
--- the type that a text had before a value, if any, and then the rest
-abbrev pub written_type : Option ValueType → List TokenKind → List TokenKind
-written_type None rest = rest
-written_type (Some k) rest = token.ValueType k ∷ rest
+-- the type before a value, if there is one, and then the rest
+abbrev pub type_tokens : Option ValueType → List TokenKind → List TokenKind
+type_tokens None rest = rest
+type_tokens (Some k) rest = token.ValueType k ∷ rest
 
--- the qualifiers that a text had before a value, and then the rest
-abbrev pub written_tokens : Qualifiers → List TokenKind → List TokenKind
-written_tokens q rest =
-    protocol_tokens q.protocol (written_direction q.direction (written_type q.value_type rest))
+-- the qualifiers before a value, and then the rest
+abbrev pub qualifier_tokens : Qualifiers → List TokenKind → List TokenKind
+qualifier_tokens q rest =
+    protocol_tokens q.protocol (written_direction q.direction (type_tokens q.value_type rest))
 
--- the direction and the type before a value, and then the rest; before a protocol's number no
--- direction may be written
-abbrev pub typed_tokens : ValueType → Direction → List TokenKind → List TokenKind
-typed_tokens Proto d rest = token.ValueType Proto ∷ rest
-typed_tokens k d rest = direction_tokens d (token.ValueType k ∷ rest)
+-- the direction that is written, which before a protocol's number none may be
+abbrev pub written_side : ValueType → Direction → Option Direction
+written_side Proto d = None
+written_side _ d = Some d
 
--- all qualifiers before a value, and then the rest
-abbrev pub qualifier_tokens : CompleteQualifiers → List TokenKind → List TokenKind
-qualifier_tokens q rest = protocol_tokens q.protocol (typed_tokens q.value_type q.direction rest)
+-- all qualifiers that are written before a value
+abbrev pub written_qualifiers : CompleteQualifiers → Qualifiers
+written_qualifiers q = record {
+  protocol = q.protocol;
+  direction = written_side q.value_type q.direction;
+  value_type = Some q.value_type;
+}
 
 -- the tokens of a number as an operand, and then the rest
 abbrev pub number_tokens : NumberTree → List TokenKind → List TokenKind
@@ -109,9 +107,10 @@ truth_tokens operand (sized s n) rest =
     open_operand operand (token.Size s ∷ token.Number n ∷ close_operand operand rest)
 truth_tokens operand (bare v) rest = open_operand operand (value_tokens v (close_operand operand rest))
 truth_tokens operand (valued q v) rest =
-    open_operand operand (written_tokens q (value_tokens v (close_operand operand rest)))
-truth_tokens operand (qualified q v) rest =
     open_operand operand (qualifier_tokens q (value_tokens v (close_operand operand rest)))
+truth_tokens operand (qualified q v) rest =
+    open_operand operand
+    (qualifier_tokens (written_qualifiers q) (value_tokens v (close_operand operand rest)))
 truth_tokens operand (compared c a b) rest =
     open_operand operand
     (number_tokens a (token.Comparison c ∷ number_tokens b (close_operand operand rest)))

@@ -2,88 +2,68 @@
 use Rattle.std.specs.Prelude.{ℕ, ◌/◌, ◌%◌, ◌^◌, ◌==◌, Bool, true, false, ◌||◌, List, [], ◌∷◌, ◌++◌, map, codes, if◌then◌else◌}
 use Rattle.std.specs.Fmt.{decimal, digit_glyph, digits}
 use Rattle.std.specs.List.{join_with_byte}
-use Rattle.flt_words.specs.declared.token.Cast.{Cast}
 use Rattle.flt_words.specs.declared.token.Cast.TheVariants.{Broadcast, Multicast}
-use Rattle.flt_words.specs.declared.token.Comparison.{Comparison}
 use Rattle.flt_words.specs.declared.token.Comparison.TheVariants as comparison
-use Rattle.flt_words.specs.declared.token.Join.{Join}
 use Rattle.flt_words.specs.declared.token.Join.TheVariants as join
-use Rattle.flt_words.specs.declared.token.Operator.{Operator}
 use Rattle.flt_words.specs.declared.token.Operator.TheVariants as operator
-use Rattle.flt_words.specs.declared.token.Protocol.{Protocol}
 use Rattle.flt_words.specs.declared.token.Protocol.TheVariants as protocol
-use Rattle.flt_words.specs.declared.token.Side.{Side}
 use Rattle.flt_words.specs.declared.token.Side.TheVariants.{Source, Destination}
-use Rattle.flt_words.specs.declared.token.Size.{Size}
 use Rattle.flt_words.specs.declared.token.Size.TheVariants as size
 use Rattle.flt_words.specs.declared.token.TokenKind.{TokenKind}
 use Rattle.flt_words.specs.declared.token.TokenKind.TheVariants as token
-use Rattle.flt_words.specs.declared.token.ValueType.{ValueType}
 use Rattle.flt_words.specs.declared.token.ValueType.TheVariants.{Host, Net, Port, PortRange, Proto}
 use Rattle.flt_explain.specs.declared.spelling.Following.{Following}
 use Rattle.flt_explain.specs.declared.spelling.Following.TheVariants.{Other, Icmp, IcmpBracket}
 
--- the keyword of a protocol
-abbrev pub protocol_word : Protocol → List ℕ
-protocol_word protocol.Ether = codes "ether"
-protocol_word protocol.Ip = codes "ip"
-protocol_word protocol.Ip6 = codes "ip6"
-protocol_word protocol.Arp = codes "arp"
-protocol_word protocol.Rarp = codes "rarp"
-protocol_word protocol.Tcp = codes "tcp"
-protocol_word protocol.Udp = codes "udp"
-protocol_word protocol.Icmp = codes "icmp"
-protocol_word protocol.Icmp6 = codes "icmp6"
-
--- the keyword of a join
-abbrev pub join_word : Join → List ℕ
-join_word join.And = codes "and"
-join_word join.Or = codes "or"
-
--- the keyword of a side
-abbrev pub side_word : Side → List ℕ
-side_word Source = codes "src"
-side_word Destination = codes "dst"
-
--- the keyword of a type
-abbrev pub type_word : ValueType → List ℕ
-type_word Host = codes "host"
-type_word Net = codes "net"
-type_word Port = codes "port"
-type_word PortRange = codes "portrange"
-type_word Proto = codes "proto"
-
--- the keyword of a test of a packet's length
-abbrev pub size_word : Size → List ℕ
-size_word size.Less = codes "less"
-size_word size.Greater = codes "greater"
-
--- the keyword of a test for broadcasts or multicasts
-abbrev pub cast_word : Cast → List ℕ
-cast_word Broadcast = codes "broadcast"
-cast_word Multicast = codes "multicast"
-
--- the symbol of a comparison
-abbrev pub comparison_sign : Comparison → List ℕ
-comparison_sign comparison.Equal = codes "="
-comparison_sign comparison.NotEqual = codes "!="
-comparison_sign comparison.Less = codes "<"
-comparison_sign comparison.AtMost = codes "<="
-comparison_sign comparison.Greater = codes ">"
-comparison_sign comparison.AtLeast = codes ">="
-
--- the symbol of an operator
-abbrev pub operator_sign : Operator → List ℕ
-operator_sign operator.Or = codes "|"
-operator_sign operator.And = codes "&"
-operator_sign operator.ShiftLeft = codes "<<"
-operator_sign operator.ShiftRight = codes ">>"
-operator_sign operator.Add = codes "+"
-operator_sign operator.Subtract = codes "-"
-operator_sign operator.Multiply = codes "*"
-operator_sign operator.Divide = codes "/"
-operator_sign operator.Remainder = codes "%"
-operator_sign operator.ExclusiveOr = codes "^"
+-- the keyword or symbol of a token; empty for a number, a name or an address
+abbrev pub fixed_spelling : TokenKind → List ℕ
+fixed_spelling (token.Protocol protocol.Ether) = codes "ether"
+fixed_spelling (token.Protocol protocol.Ip) = codes "ip"
+fixed_spelling (token.Protocol protocol.Ip6) = codes "ip6"
+fixed_spelling (token.Protocol protocol.Arp) = codes "arp"
+fixed_spelling (token.Protocol protocol.Rarp) = codes "rarp"
+fixed_spelling (token.Protocol protocol.Tcp) = codes "tcp"
+fixed_spelling (token.Protocol protocol.Udp) = codes "udp"
+fixed_spelling (token.Protocol protocol.Icmp) = codes "icmp"
+fixed_spelling (token.Protocol protocol.Icmp6) = codes "icmp6"
+fixed_spelling (token.Join join.And) = codes "and"
+fixed_spelling (token.Join join.Or) = codes "or"
+fixed_spelling token.Not = codes "not"
+fixed_spelling (token.Side Source) = codes "src"
+fixed_spelling (token.Side Destination) = codes "dst"
+fixed_spelling (token.ValueType Host) = codes "host"
+fixed_spelling (token.ValueType Net) = codes "net"
+fixed_spelling (token.ValueType Port) = codes "port"
+fixed_spelling (token.ValueType PortRange) = codes "portrange"
+fixed_spelling (token.ValueType Proto) = codes "proto"
+fixed_spelling (token.Size size.Less) = codes "less"
+fixed_spelling (token.Size size.Greater) = codes "greater"
+fixed_spelling (token.Cast Broadcast) = codes "broadcast"
+fixed_spelling (token.Cast Multicast) = codes "multicast"
+fixed_spelling token.Mask = codes "mask"
+fixed_spelling token.Len = codes "len"
+fixed_spelling (token.Comparison comparison.Equal) = codes "="
+fixed_spelling (token.Comparison comparison.NotEqual) = codes "!="
+fixed_spelling (token.Comparison comparison.Less) = codes "<"
+fixed_spelling (token.Comparison comparison.AtMost) = codes "<="
+fixed_spelling (token.Comparison comparison.Greater) = codes ">"
+fixed_spelling (token.Comparison comparison.AtLeast) = codes ">="
+fixed_spelling (token.Operator operator.Or) = codes "|"
+fixed_spelling (token.Operator operator.And) = codes "&"
+fixed_spelling (token.Operator operator.ShiftLeft) = codes "<<"
+fixed_spelling (token.Operator operator.ShiftRight) = codes ">>"
+fixed_spelling (token.Operator operator.Add) = codes "+"
+fixed_spelling (token.Operator operator.Subtract) = codes "-"
+fixed_spelling (token.Operator operator.Multiply) = codes "*"
+fixed_spelling (token.Operator operator.Divide) = codes "/"
+fixed_spelling (token.Operator operator.Remainder) = codes "%"
+fixed_spelling (token.Operator operator.ExclusiveOr) = codes "^"
+fixed_spelling token.Open = codes "("
+fixed_spelling token.Close = codes ")"
+fixed_spelling token.OpenBracket = codes "["
+fixed_spelling token.CloseBracket = codes "]"
+fixed_spelling token.Colon = codes ":"
+fixed_spelling _ = []
 
 -- the number 1 has two names: the code of ICMP, directly after `icmp[`, and else the FIN flag
 abbrev pub name_of_number_one : Following → List ℕ
@@ -153,28 +133,13 @@ ip6_word address = groups_text (address / 2 ^ 64) ++ 58 ∷ groups_text (address
 
 -- the spelling of a token, by what stands before it
 abbrev pub spelling : Following → TokenKind → List ℕ
-spelling following (token.Protocol p) = protocol_word p
-spelling following (token.Join j) = join_word j
-spelling following token.Not = codes "not"
-spelling following (token.Side s) = side_word s
-spelling following (token.ValueType k) = type_word k
-spelling following (token.Size s) = size_word s
-spelling following (token.Cast c) = cast_word c
-spelling following token.Mask = codes "mask"
-spelling following token.Len = codes "len"
-spelling following (token.Comparison c) = comparison_sign c
-spelling following (token.Operator o) = operator_sign o
-spelling following token.Open = codes "("
-spelling following token.Close = codes ")"
-spelling following token.OpenBracket = codes "["
-spelling following token.CloseBracket = codes "]"
-spelling following token.Colon = codes ":"
 spelling following (token.Number n) = decimal n
 spelling following (token.Name n) = name_word following n
 spelling following (token.Dotted a p) = dotted_word a p
 spelling following (token.Range a b) = decimal a ++ (codes "-" ++ decimal b)
 spelling following (token.Mac a) = mac_word a
 spelling following (token.Ip6 a) = ip6_word a
+spelling following t = fixed_spelling t
 
 -- what stands before the token after `[`, by what stands before the `[`: after `icmp` it is `icmp[`
 abbrev pub after_bracket : Following → Following

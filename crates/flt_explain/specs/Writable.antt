@@ -1,5 +1,5 @@
 -- The trees that a text can give, and what it is that a text is read back as a tree.
-use Rattle.std.specs.Prelude.{◌≡◌, ℕ, ◌<◌, ◌≤◌, ◌-◌, ◌%◌, ◌^◌, ◌==◌, Bool, true, ◌||◌, List, Option, Some, None, Ok}
+use Rattle.std.specs.Prelude.{◌≡◌, ℕ, ◌<◌, ◌≤◌, ◌-◌, ◌%◌, ◌^◌, ◌==◌, Bool, true, ◌||◌, List, Some, None, Ok}
 use Rattle.flt_words.specs.declared.token.Token.{Token}
 use Rattle.flt_words.specs.Tokens.{Tokens}
 use Rattle.flt_ast.specs.declared.value.Dotted.{Dotted}
@@ -34,16 +34,12 @@ IsWritableMask mask.Unwritten = Unit {0}
 IsWritableMask (mask.Prefix n) = n < 2 ^ 32
 IsWritableMask (mask.Mask d) = IsWritableDotted d
 
--- the length of a prefix is a number that some word means
-abbrev pub IsWritablePrefix : Option ℕ → Type 0
-IsWritablePrefix None = Unit {0}
-IsWritablePrefix (Some n) = n < 2 ^ 32
-
 -- the value is one that some text means
 abbrev pub IsWritableValue : Value → Type 0
 IsWritableValue (value.Number n m) = (n < 2 ^ 32) × IsWritableMask m
 IsWritableValue (value.Dotted d m) = IsWritableDotted d × IsWritableMask m
-IsWritableValue (value.Ip6 a n) = (a < 2 ^ 128) × IsWritablePrefix n
+IsWritableValue (value.Ip6 a None) = a < 2 ^ 128
+IsWritableValue (value.Ip6 a (Some n)) = (a < 2 ^ 128) × (n < 2 ^ 32)
 IsWritableValue (value.Mac a) = a < 2 ^ 48
 IsWritableValue (value.Range a b) = (a < 2 ^ 32) × (b < 2 ^ 32)
 

@@ -8,13 +8,13 @@
 
 ghost use Rattle.std.specs.Prelude.{◌≡◌, [], ◌∷◌, IfNone, IfOk, IfSome, OnOk, true};
 ghost use Rattle.flt_ast.specs.declared.node.Node.TheVariants as node;
-ghost use Rattle.flt_explain.specs.Explained.{close_operand, open_operand, mask_tokens, prefix_tokens};
+ghost use Rattle.flt_explain.specs.Explained.{close_operand, open_operand, mask_tokens};
 ghost use Rattle.flt_explain.specs.Explained.{value_tokens, protocol_tokens, direction_tokens};
-ghost use Rattle.flt_explain.specs.Explained.{written_tokens, qualifier_tokens};
+ghost use Rattle.flt_explain.specs.Explained.{qualifier_tokens, written_qualifiers};
 ghost use Rattle.flt_explain.specs.inside.Backward.{write_pending, around, write_node};
 
 use flt_ast::{CompleteQualifiers, Direction, NetMask, Node, Qualifiers, Value};
-use flt_words::{Cast, Operator, Protocol, Side, TokenKind, ValueType};
+use flt_words::{Operator, Protocol, Side, TokenKind, ValueType};
 use std::alloc::{AllocError, Allocator};
 use std::marker::Model;
 
@@ -25,6 +25,28 @@ pub enum Pending {
     Front(TokenKind),
     /// Stands between the operand and another on its left, which is written next.
     Between(TokenKind),
+}
+
+/// The qualifiers of a value with nothing before it.
+const UNQUALIFIED: Qualifiers = Qualifiers {
+    protocol: None,
+    direction: None,
+    value_type: None,
+};
+
+/// The qualifiers that are written before a value of a resolved tree: all of them, but before
+/// `proto` no direction may be.
+fn written_qualifiers(qualifiers: CompleteQualifiers) -> Qualifiers
+    ensures { result ≡ written_qualifiers qualifiers }
+{
+    Qualifiers {
+        protocol: qualifiers.protocol,
+        direction: match qualifiers.value_type {
+            ValueType::Proto => None,
+            _ => Some(qualifiers.direction),
+        },
+        value_type: Some(qualifiers.value_type),
+    }
 }
 
 /// What waits, and the tokens that are written, the last one first.
@@ -144,19 +166,7 @@ impl<A: Allocator> Writer<A> {
         self.push_pending(pending)
     }
 
-    /// Writes `/ N` after an IPv6 address, if the length of its prefix is written.
-    fn write_prefix_len(&mut self, len: Option<u32>) -> Result<(), AllocError>
-        ensures tokens { OnOk result (self.new.tokens ≡ prefix_tokens len self.old.tokens) }
-        ensures pending { OnOk result (self.new.pending ≡ self.old.pending) }
-    {
-        if let Some(len) = len {
-            self.push_token(TokenKind::Number(len))?;
-            self.push_token(TokenKind::Operator(Operator::Divide))?;
-        }
-        Ok(())
-    }
-
-    /// Writes what follows a number or an IPv4 address of a network: `/ N`, `mask D` or nothing.
+    /// Writes what follows an address or number of a network: `/ N`, `mask D` or nothing.
     fn write_mask(&mut self, mask: NetMask) -> Result<(), AllocError>
         ensures tokens { OnOk result (self.new.tokens ≡ mask_tokens mask self.old.tokens) }
         ensures pending { OnOk result (self.new.pending ≡ self.old.pending) }
@@ -194,8 +204,9 @@ impl<A: Allocator> Writer<A> {
                     parts: dotted.parts,
                 })
             }
-            Value::Ip6(address, len) => {
-                self.write_prefix_len(len)?;
+            Value::Ip6(address, None) => self.push_token(TokenKind::Ip6(address)),
+            Value::Ip6(address, Some(len)) => {
+                self.write_mask(NetMask::Prefix(len))?;
                 self.push_token(TokenKind::Ip6(address))
             }
             Value::Mac(address) => self.push_token(TokenKind::Mac(address)),
@@ -230,10 +241,10 @@ impl<A: Allocator> Writer<A> {
         }
     }
 
-    /// Writes the qualifiers before a value of a tree that isn't resolved: those that its text had.
-    fn write_given_qualifiers(&mut self, qualifiers: Qualifiers) -> Result<(), AllocError>
+    /// Writes these qualifiers before a value.
+    fn write_qualifiers(&mut self, qualifiers: Qualifiers) -> Result<(), AllocError>
         ensures tokens { OnOk result (self.new.tokens
-            ≡ written_tokens qualifiers self.old.tokens) }
+            ≡ qualifier_tokens qualifiers self.old.tokens) }
         ensures pending { OnOk result (self.new.pending ≡ self.old.pending) }
     {
         if let Some(value_type) = qualifiers.value_type {
@@ -241,20 +252,6 @@ impl<A: Allocator> Writer<A> {
         }
         if let Some(direction) = qualifiers.direction {
             self.write_direction(direction)?;
-        }
-        self.write_protocol(qualifiers.protocol)
-    }
-
-    /// Writes all qualifiers before a value. Before `proto` no direction may be written.
-    fn write_qualifiers(&mut self, qualifiers: CompleteQualifiers) -> Result<(), AllocError>
-        ensures tokens { OnOk result (self.new.tokens
-            ≡ qualifier_tokens qualifiers self.old.tokens) }
-        ensures pending { OnOk result (self.new.pending ≡ self.old.pending) }
-    {
-        self.push_token(TokenKind::ValueType(qualifiers.value_type))?;
-        match qualifiers.value_type {
-            ValueType::Proto => {}
-            _ => self.write_direction(qualifiers.direction)?,
         }
         self.write_protocol(qualifiers.protocol)
     }
@@ -287,41 +284,8 @@ impl<A: Allocator> Writer<A> {
         self.write_pending()
     }
 
-    /// Writes `broadcast` or `multicast`, with its protocol if it has one, and then what waited for
-    /// it.
-    fn write_cast(
-        &mut self,
-        is_operand: bool,
-        protocol: Option<Protocol>,
-        cast: Cast,
-    ) -> Result<(), AllocError>
-        ensures { OnOk result
-            (self.new ≡ write_node is_operand (node.Cast protocol cast) self.old) }
-    {
-        match protocol {
-            None => self.write_word(TokenKind::Cast(cast)),
-            Some(protocol) => self.write_pair(
-                is_operand,
-                TokenKind::Protocol(protocol),
-                TokenKind::Cast(cast),
-            ),
-        }
-    }
-
-    /// Writes a value with nothing before it, of a tree that isn't resolved, and then what waited
-    /// for it.
-    fn write_bare_value(&mut self, is_operand: bool, value: Value) -> Result<(), AllocError>
-        ensures { OnOk result (self.new ≡ write_node is_operand (node.Bare value) self.old) }
-    {
-        self.close_parentheses(is_operand)?;
-        self.write_value(value)?;
-        self.open_parentheses(is_operand)?;
-        self.write_pending()
-    }
-
-    /// Writes a value with the qualifiers that its text had, of a tree that isn't resolved, and
-    /// then what waited for it.
-    fn write_as_given(
+    /// Writes a value with these qualifiers, and then what waited for it.
+    fn write_qualified(
         &mut self,
         is_operand: bool,
         qualifiers: Qualifiers,
@@ -329,24 +293,6 @@ impl<A: Allocator> Writer<A> {
     ) -> Result<(), AllocError>
         ensures { OnOk result (self.new
             ≡ write_node is_operand (node.Valued qualifiers value) self.old) }
-    {
-        self.close_parentheses(is_operand)?;
-        self.write_value(value)?;
-        self.write_given_qualifiers(qualifiers)?;
-        self.open_parentheses(is_operand)?;
-        self.write_pending()
-    }
-
-    /// Writes a value with all its qualifiers, as it is in a resolved tree, and then what waited
-    /// for it.
-    fn write_resolved_value(
-        &mut self,
-        is_operand: bool,
-        qualifiers: CompleteQualifiers,
-        value: Value,
-    ) -> Result<(), AllocError>
-        ensures { OnOk result (self.new
-            ≡ write_node is_operand (node.Qualified qualifiers value) self.old) }
     {
         self.close_parentheses(is_operand)?;
         self.write_value(value)?;
@@ -374,14 +320,21 @@ impl<A: Allocator> Writer<A> {
     {
         match node {
             Node::Check(protocol) => self.write_word(TokenKind::Protocol(protocol)),
-            Node::Cast(protocol, cast) => self.write_cast(is_operand, protocol, cast),
+            Node::Cast(None, cast) => self.write_word(TokenKind::Cast(cast)),
+            Node::Cast(Some(protocol), cast) => {
+                self.write_pair(
+                    is_operand,
+                    TokenKind::Protocol(protocol),
+                    TokenKind::Cast(cast),
+                )
+            }
             Node::Sized(size, number) => {
                 self.write_pair(is_operand, TokenKind::Size(size), TokenKind::Number(number))
             }
-            Node::Bare(value) => self.write_bare_value(is_operand, value),
-            Node::Valued(qualifiers, value) => self.write_as_given(is_operand, qualifiers, value),
+            Node::Bare(value) => self.write_qualified(is_operand, UNQUALIFIED, value),
+            Node::Valued(qualifiers, value) => self.write_qualified(is_operand, qualifiers, value),
             Node::Qualified(qualifiers, value) => {
-                self.write_resolved_value(is_operand, qualifiers, value)
+                self.write_qualified(is_operand, written_qualifiers(qualifiers), value)
             }
             Node::Compare(comparison) => {
                 self.begin_operator(

@@ -3,12 +3,10 @@
 
 ghost use Rattle.std.specs.Prelude.{◌≡◌, ◌<◌, ◌++◌, OnOk};
 ghost use Rattle.std.specs.String.{string_bytes};
-ghost use Rattle.flt_explain.specs.Texts.{protocol_word, join_word, side_word, type_word};
-ghost use Rattle.flt_explain.specs.Texts.{size_word, cast_word, comparison_sign, operator_sign};
 ghost use Rattle.flt_explain.specs.Texts.{name_of_number_one, name_word, dotted_word};
 ghost use Rattle.flt_explain.specs.Texts.{mac_word, ip6_word, octet, hex_byte, bytes_text};
-ghost use Rattle.flt_explain.specs.Texts.{group_at, groups_text, spelling, next_after};
-ghost use Rattle.flt_explain.specs.Texts.{joins_next, joins_previous, gap, tokens_text};
+ghost use Rattle.flt_explain.specs.Texts.{fixed_spelling, group_at, groups_text, spelling};
+ghost use Rattle.flt_explain.specs.Texts.{joins_next, joins_previous, gap, next_after, tokens_text};
 
 use flt_words::{Cast, Comparison, Join, Operator, Protocol, Side, Size, TokenKind, ValueType};
 use std::alloc::{AllocError, Allocator};
@@ -26,105 +24,58 @@ pub enum Following {
     Other,
 }
 
-/// The keyword of a protocol.
-fn protocol_word(protocol: Protocol) -> &'static str
-    ensures { result.now ≡ protocol_word protocol }
+/// The keyword or symbol of a token; the empty text of a number, a name or an address.
+fn fixed_spelling(token: TokenKind) -> &'static str
+    ensures { result.now ≡ fixed_spelling token }
 {
-    match protocol {
-        Protocol::Ether => "ether",
-        Protocol::Ip => "ip",
-        Protocol::Ip6 => "ip6",
-        Protocol::Arp => "arp",
-        Protocol::Rarp => "rarp",
-        Protocol::Tcp => "tcp",
-        Protocol::Udp => "udp",
-        Protocol::Icmp => "icmp",
-        Protocol::Icmp6 => "icmp6",
-    }
-}
-
-/// The keyword of a join.
-fn join_word(join: Join) -> &'static str
-    ensures { result.now ≡ join_word join }
-{
-    match join {
-        Join::And => "and",
-        Join::Or => "or",
-    }
-}
-
-/// The keyword of a side.
-fn side_word(side: Side) -> &'static str
-    ensures { result.now ≡ side_word side }
-{
-    match side {
-        Side::Source => "src",
-        Side::Destination => "dst",
-    }
-}
-
-/// The keyword of a type.
-fn type_word(value_type: ValueType) -> &'static str
-    ensures { result.now ≡ type_word value_type }
-{
-    match value_type {
-        ValueType::Host => "host",
-        ValueType::Net => "net",
-        ValueType::Port => "port",
-        ValueType::PortRange => "portrange",
-        ValueType::Proto => "proto",
-    }
-}
-
-/// The keyword of a test of a packet's length.
-fn size_word(size: Size) -> &'static str
-    ensures { result.now ≡ size_word size }
-{
-    match size {
-        Size::Less => "less",
-        Size::Greater => "greater",
-    }
-}
-
-/// The keyword of a test for broadcasts or multicasts.
-fn cast_word(cast: Cast) -> &'static str
-    ensures { result.now ≡ cast_word cast }
-{
-    match cast {
-        Cast::Broadcast => "broadcast",
-        Cast::Multicast => "multicast",
-    }
-}
-
-/// The symbol of a comparison.
-fn comparison_sign(comparison: Comparison) -> &'static str
-    ensures { result.now ≡ comparison_sign comparison }
-{
-    match comparison {
-        Comparison::Equal => "=",
-        Comparison::NotEqual => "!=",
-        Comparison::Less => "<",
-        Comparison::AtMost => "<=",
-        Comparison::Greater => ">",
-        Comparison::AtLeast => ">=",
-    }
-}
-
-/// The symbol of an operator.
-fn operator_sign(operator: Operator) -> &'static str
-    ensures { result.now ≡ operator_sign operator }
-{
-    match operator {
-        Operator::Or => "|",
-        Operator::And => "&",
-        Operator::ShiftLeft => "<<",
-        Operator::ShiftRight => ">>",
-        Operator::Add => "+",
-        Operator::Subtract => "-",
-        Operator::Multiply => "*",
-        Operator::Divide => "/",
-        Operator::Remainder => "%",
-        Operator::ExclusiveOr => "^",
+    match token {
+        TokenKind::Protocol(Protocol::Ether) => "ether",
+        TokenKind::Protocol(Protocol::Ip) => "ip",
+        TokenKind::Protocol(Protocol::Ip6) => "ip6",
+        TokenKind::Protocol(Protocol::Arp) => "arp",
+        TokenKind::Protocol(Protocol::Rarp) => "rarp",
+        TokenKind::Protocol(Protocol::Tcp) => "tcp",
+        TokenKind::Protocol(Protocol::Udp) => "udp",
+        TokenKind::Protocol(Protocol::Icmp) => "icmp",
+        TokenKind::Protocol(Protocol::Icmp6) => "icmp6",
+        TokenKind::Join(Join::And) => "and",
+        TokenKind::Join(Join::Or) => "or",
+        TokenKind::Not => "not",
+        TokenKind::Side(Side::Source) => "src",
+        TokenKind::Side(Side::Destination) => "dst",
+        TokenKind::ValueType(ValueType::Host) => "host",
+        TokenKind::ValueType(ValueType::Net) => "net",
+        TokenKind::ValueType(ValueType::Port) => "port",
+        TokenKind::ValueType(ValueType::PortRange) => "portrange",
+        TokenKind::ValueType(ValueType::Proto) => "proto",
+        TokenKind::Size(Size::Less) => "less",
+        TokenKind::Size(Size::Greater) => "greater",
+        TokenKind::Cast(Cast::Broadcast) => "broadcast",
+        TokenKind::Cast(Cast::Multicast) => "multicast",
+        TokenKind::Mask => "mask",
+        TokenKind::Len => "len",
+        TokenKind::Comparison(Comparison::Equal) => "=",
+        TokenKind::Comparison(Comparison::NotEqual) => "!=",
+        TokenKind::Comparison(Comparison::Less) => "<",
+        TokenKind::Comparison(Comparison::AtMost) => "<=",
+        TokenKind::Comparison(Comparison::Greater) => ">",
+        TokenKind::Comparison(Comparison::AtLeast) => ">=",
+        TokenKind::Operator(Operator::Or) => "|",
+        TokenKind::Operator(Operator::And) => "&",
+        TokenKind::Operator(Operator::ShiftLeft) => "<<",
+        TokenKind::Operator(Operator::ShiftRight) => ">>",
+        TokenKind::Operator(Operator::Add) => "+",
+        TokenKind::Operator(Operator::Subtract) => "-",
+        TokenKind::Operator(Operator::Multiply) => "*",
+        TokenKind::Operator(Operator::Divide) => "/",
+        TokenKind::Operator(Operator::Remainder) => "%",
+        TokenKind::Operator(Operator::ExclusiveOr) => "^",
+        TokenKind::Open => "(",
+        TokenKind::Close => ")",
+        TokenKind::OpenBracket => "[",
+        TokenKind::CloseBracket => "]",
+        TokenKind::Colon => ":",
+        _ => "",
     }
 }
 
@@ -265,28 +216,13 @@ fn push_token<A: Allocator>(
         ≡ string_bytes text.old ++ spelling following token) }
 {
     match token {
-        TokenKind::Protocol(protocol) => text.push_str(protocol_word(protocol)),
-        TokenKind::Join(join) => text.push_str(join_word(join)),
-        TokenKind::Not => text.push_str("not"),
-        TokenKind::Side(side) => text.push_str(side_word(side)),
-        TokenKind::ValueType(value_type) => text.push_str(type_word(value_type)),
-        TokenKind::Size(size) => text.push_str(size_word(size)),
-        TokenKind::Cast(cast) => text.push_str(cast_word(cast)),
-        TokenKind::Mask => text.push_str("mask"),
-        TokenKind::Len => text.push_str("len"),
-        TokenKind::Comparison(comparison) => text.push_str(comparison_sign(comparison)),
-        TokenKind::Operator(operator) => text.push_str(operator_sign(operator)),
-        TokenKind::Open => text.push_str("("),
-        TokenKind::Close => text.push_str(")"),
-        TokenKind::OpenBracket => text.push_str("["),
-        TokenKind::CloseBracket => text.push_str("]"),
-        TokenKind::Colon => text.push_str(":"),
         TokenKind::Number(number) => write!(text, "{number}"),
         TokenKind::Name(number) => push_name(text, following, number),
         TokenKind::Dotted { address, parts } => push_dotted(text, address, parts),
         TokenKind::Range { first, last } => write!(text, "{first}-{last}"),
         TokenKind::Mac(address) => push_mac(text, address),
         TokenKind::Ip6(address) => push_ip6(text, address),
+        _ => text.push_str(fixed_spelling(token)),
     }
 }
 

@@ -15,11 +15,7 @@ use Rattle.flt_lang.proofs.Bare.{value_runs, IsNoMask, no_mask_at, plain_runs}
 tight_operand : (f : Frame) (fs : List Frame) → precedence f ≤ 1 → operand_precedence (f ∷ fs) < 1
 tight_operand frame.Negate fs h = omega arith
 tight_operand (frame.Apply o) fs h = omega arith
-tight_operand (frame.Compare c) fs h = absurd (omega arith)
-tight_operand frame.Not fs h = absurd (omega arith)
-tight_operand (frame.Join j) fs h = absurd (omega arith)
-tight_operand frame.Open fs h = absurd (omega arith)
-tight_operand (frame.Load p) fs h = absurd (omega arith)
+tight_operand _ fs h = absurd (omega arith)
 
 -- after a frame that the next token makes take its operand, no value goes on
 no_prefix : (x : Operand) (ts : List TokenKind) (f : Frame) (fs : List Frame) (d : List Node) → precedence f ≤ next_precedence ts → after_operand ts (f ∷ fs) x d ≡ next_of ts (f ∷ fs) x d
@@ -36,12 +32,7 @@ take_frame f fs x y d e (t ∷ ts) h filled other =
 loose : (m : ℕ) (fs : List Frame) → 1 ≤ m → m ≢ 6 → m ≤ operand_precedence fs → IsLoose m fs
 loose m [] some other h = tt
 loose m (frame.Negate ∷ fs) some other h = absurd (omega arith)
-loose m (frame.Apply p ∷ fs) some other h = omega arith
-loose m (frame.Compare c ∷ fs) some other h = omega arith
-loose m (frame.Not ∷ fs) some other h = omega arith
-loose m (frame.Join j ∷ fs) some other h = omega arith
-loose m (frame.Open ∷ fs) some other h = omega arith
-loose m (frame.Load p ∷ fs) some other h = omega arith
+loose m _ some other h = omega arith
 
 operator_step : (o : Operator) (ts : List TokenKind) (fs : List Frame) (x : Operand) (d e : List Node) → level o + 1 ≤ operand_precedence fs → as_number x d ≡ Some e → number_with_prefix x (token.Operator o ∷ ts) ≡ None → run (token.Operator o ∷ ts) 0 fs (Some x) d ≡ run ts 0 (frame.Apply o ∷ fs) None e
 operator_step o ts fs x d e h is_num other =
@@ -125,14 +116,9 @@ record IsLiteral (m : ℕ) (b : NumberTree) (rest here : List TokenKind) : Type 
 
 literal_first : {k : ℕ} {ts rest : List TokenKind} {b : NumberTree} → Number k ts b rest → (m : ℕ) (here : List TokenKind) → k ≡ 0 → ts ≡ token.Number m ∷ here → IsLiteral m b rest here
 literal_first of_literal m here unary tokens = record { tree = cc; left = cc }
-literal_first of_len m here unary tokens = cc
-literal_first of_name m here unary tokens = cc
-literal_first (enclosed inner) m here unary tokens = cc
-literal_first (of_load accessor inner) m here unary tokens = cc
-literal_first (of_sized_load accessor inner) m here unary tokens = cc
-literal_first (minus inner) m here unary tokens = cc
 literal_first (single inner) m here unary tokens = absurd (omega arith)
 literal_first (chain left at_level right) m here unary tokens = absurd (omega arith)
+literal_first _ m here unary tokens = cc
 
 prefix_step : (n m : ℕ) (ts : List TokenKind) (fs : List Frame) (d : List Node) → 1 ≤ operand_precedence fs → run (token.Operator Divide ∷ token.Number m ∷ ts) 0 fs (Some (operand.Plain n)) d ≡ run ts 0 fs (Some (operand.Either n (Some m))) d
 prefix_step n m ts fs d h = rw (le_true 1 (operand_precedence fs) h)

@@ -63,27 +63,20 @@ moved_to h m i n rest e f = cc
 
 -- a number on h others goes up to h + 1 and its words, and leaves h + 1
 climb_number : (a : NumberTree) (h m : ℕ) (rest : List Node) → fold climb (h, m) (number_nodes a rest) ≡ fold climb (h + 1, max m (h + 1 + number_words a)) rest
-climb_number (literal n) h m rest = moved_to _ _ _ _ rest refl (omega arith)
-climb_number len h m rest = moved_to _ _ _ _ rest refl (omega arith)
-climb_number (named n) h m rest = moved_to _ _ _ _ rest refl (omega arith)
 climb_number (load p s a) h m rest = climb_number a h m (node.Load p s ∷ rest) ∙ moved_to _ _ _ _ rest refl (omega arith)
 climb_number (negated a) h m rest = climb_number a h m (node.Negate ∷ rest) ∙ moved_to _ _ _ _ rest refl (omega arith)
 climb_number (applied o a b) h m rest =
     climb_number a h m (number_nodes b (node.Apply o ∷ rest)) ∙ climb_number b (h + 1) _ (node.Apply o ∷ rest) ∙ moved_to _ _ _ _ rest (omega arith) (omega arith)
+climb_number _ h m rest = moved_to _ _ _ _ rest refl (omega arith)
 
 -- a truth goes up to one more than its words, and leaves nothing
 climb_truth : (a : TruthTree) (m : ℕ) (rest : List Node) → 1 ≤ m → fold climb (0, m) (truth_nodes a rest) ≡ fold climb (0, max m (1 + truth_words a)) rest
-climb_truth (check p) m rest some = moved_to _ _ _ _ rest refl (omega arith)
-climb_truth (cast p c) m rest some = moved_to _ _ _ _ rest refl (omega arith)
-climb_truth (sized s n) m rest some = moved_to _ _ _ _ rest refl (omega arith)
-climb_truth (bare v) m rest some = moved_to _ _ _ _ rest refl (omega arith)
-climb_truth (valued q v) m rest some = moved_to _ _ _ _ rest refl (omega arith)
-climb_truth (qualified q v) m rest some = moved_to _ _ _ _ rest refl (omega arith)
 climb_truth (compared c a b) m rest some =
     climb_number a 0 m (number_nodes b (node.Compare c ∷ rest)) ∙ climb_number b (0 + 1) _ (node.Compare c ∷ rest) ∙ moved_to _ _ _ _ rest (omega arith) (omega arith)
 climb_truth (denied a) m rest some = climb_truth a m (node.Not ∷ rest) some ∙ moved_to _ _ _ _ rest refl (omega arith)
 climb_truth (joined j a b) m rest some =
     climb_truth a m (truth_nodes b (node.Join j ∷ rest)) some ∙ climb_truth b _ (node.Join j ∷ rest) (omega arith) ∙ moved_to _ _ _ _ rest refl (omega arith)
+climb_truth _ m rest some = moved_to _ _ _ _ rest refl (omega arith)
 
 climb_expr : (e : Expression) → fold climb (0, 1) (expr_nodes e) ≡ (0, 1 + words_of e)
 climb_expr empty = refl

@@ -1,47 +1,33 @@
 -- The nodes of a tree whose values inherit, and of one that is completed.
-use Rattle.flt_lang.proofs.Common.{◌≡◌, List, [], refl, sym, ap, ◌∙◌, map, Qualifiers, Node, NumberTree, literal, len, named, load, negated, applied, TruthTree, check, cast, sized, bare, valued, qualified, compared, denied, joined, Expression, empty, truth, number_nodes, truth_nodes, expr_nodes, tree_of, tree_back, IsTree, latest, with_inherited, complete, only_host, expr_inherited, fill_expression, completed_node, inherited_nodes}
+use Rattle.flt_lang.proofs.Common.{◌≡◌, List, [], refl, sym, ap, ◌∙◌, map, Qualifiers, Node, NumberTree, load, negated, applied, TruthTree, compared, denied, joined, Expression, empty, truth, number_nodes, truth_nodes, expr_nodes, tree_of, tree_back, IsTree, latest, with_inherited, complete, only_host, expr_inherited, fill_expression, completed_node, inherited_nodes}
 
 number_inherited : (a : NumberTree) (q : Qualifiers) (rest : List Node) → inherited_nodes q (number_nodes a rest) ≡ number_nodes a (inherited_nodes q rest)
-number_inherited (literal n) q rest = refl
-number_inherited len q rest = refl
-number_inherited (named n) q rest = refl
 number_inherited (load p s a) q rest = number_inherited a q _
 number_inherited (negated a) q rest = number_inherited a q _
 number_inherited (applied o a b) q rest = number_inherited a q _ ∙ ap (number_nodes a) (number_inherited b q _)
+number_inherited _ q rest = refl
 
 truth_inherited : (a : TruthTree) (q : Qualifiers) (rest : List Node) → inherited_nodes q (truth_nodes a rest) ≡ truth_nodes (with_inherited q a) (inherited_nodes (latest q a) rest)
-truth_inherited (check p) q rest = refl
-truth_inherited (cast p c) q rest = refl
-truth_inherited (sized s n) q rest = refl
-truth_inherited (bare v) q rest = refl
-truth_inherited (valued p v) q rest = refl
-truth_inherited (qualified p v) q rest = refl
 truth_inherited (compared c a b) q rest = number_inherited a q _ ∙ ap (number_nodes a) (number_inherited b q _)
 truth_inherited (denied a) q rest = truth_inherited a q _
 truth_inherited (joined j a b) q rest = truth_inherited a q _ ∙ ap (truth_nodes (with_inherited q a)) (truth_inherited b (latest q a) _)
+truth_inherited _ q rest = refl
 
 expr_is_inherited : (e : Expression) → inherited_nodes only_host (expr_nodes e) ≡ expr_nodes (expr_inherited e)
 expr_is_inherited empty = refl
 expr_is_inherited (truth a) = truth_inherited a only_host []
 
 number_completed : (a : NumberTree) (rest : List Node) → map completed_node (number_nodes a rest) ≡ number_nodes a (map completed_node rest)
-number_completed (literal n) rest = refl
-number_completed len rest = refl
-number_completed (named n) rest = refl
 number_completed (load p s a) rest = number_completed a _
 number_completed (negated a) rest = number_completed a _
 number_completed (applied o a b) rest = number_completed a _ ∙ ap (number_nodes a) (number_completed b _)
+number_completed _ rest = refl
 
 truth_completed : (a : TruthTree) (rest : List Node) → map completed_node (truth_nodes a rest) ≡ truth_nodes (complete a) (map completed_node rest)
-truth_completed (check p) rest = refl
-truth_completed (cast p c) rest = refl
-truth_completed (sized s n) rest = refl
-truth_completed (bare v) rest = refl
-truth_completed (valued q v) rest = refl
-truth_completed (qualified q v) rest = refl
 truth_completed (compared c a b) rest = number_completed a _ ∙ ap (number_nodes a) (number_completed b _)
 truth_completed (denied a) rest = truth_completed a _
 truth_completed (joined j a b) rest = truth_completed a _ ∙ ap (truth_nodes (complete a)) (truth_completed b _)
+truth_completed _ rest = refl
 
 expr_completed : (e : Expression) → map completed_node (expr_nodes (expr_inherited e)) ≡ expr_nodes (fill_expression e)
 expr_completed empty = refl

@@ -1,5 +1,6 @@
 -- Runs of prefix tokens, counted from the left.
-use Rattle.flt_lang.proofs.Common.{◌≡◌, ◌↔◌, ◌⊎◌, IsTrue, inl, inr, ℕ, zero, suc, ◌+◌, ◌<◌, ◌≤◌, List, [], ◌∷◌, length, get_or, take, drop, refl, sym, ◌∙◌, arith, Bool, true, false, ◌||◌, ◌&&◌, cond, nat_lt, false≢true, lt-ltb, ltb-false, ltb-true, drop_more, list_all, Token, HasLongPrefix, is_prefix_operator}
+use Rattle.flt_lang.proofs.Common.{◌≡◌, ◌↔◌, ◌⊎◌, IsTrue, inl, inr, ℕ, zero, suc, ◌+◌, ◌<◌, ◌≤◌, List, [], ◌∷◌, length, get_or, take, drop, refl, sym, ◌∙◌, arith, Bool, true, false, ◌||◌, cond, nat_lt, false≢true, lt-ltb, ltb-false, ltb-true, drop_more, list_all, Token, HasLongPrefix, is_prefix_operator}
+use Rattle.std.proofs.lemmas.Bool.{and_parts, or_cases}
 
 -- after a given number of prefix tokens, some run gets longer than 100
 abbrev pub has_long_run : ℕ → List Token → Bool
@@ -20,10 +21,6 @@ later t ts h = (suc h.0, omega (arith, h.1), h.2)
 no_more : (m : ℕ) (ts : List Token) → m ≡ 0 → Begins m ts
 no_more m ts e = rw e (record { long = omega arith; all = refl })
 
-either_true : (a b : Bool) → a || b ≡ true → (a ≡ true) ⊎ (b ≡ true)
-either_true true b h = inl refl
-either_true false b h = inr h
-
 or_else : (a b : Bool) → (a ≡ false → b ≡ true) → a || b ≡ true
 or_else true b h = refl
 or_else false b h = h refl
@@ -33,7 +30,7 @@ sound_step : (m run : ℕ) (t : Token) (ts : List Token) (is : Bool) → is_pref
     → (has_long_run (run + 1) ts ≡ true → Begins m ts ⊎ HasLongPrefix ts)
     → (has_long_run 0 ts ≡ true → Begins 101 ts ⊎ HasLongPrefix ts)
     → cond is (nat_lt 99 run || has_long_run (run + 1) ts) (has_long_run 0 ts) ≡ true → Begins (suc m) (t ∷ ts) ⊎ HasLongPrefix (t ∷ ts)
-sound_step m run t ts true is left on anew h = elim (either_true (nat_lt 99 run) (has_long_run (run + 1) ts) h) [
+sound_step m run t ts true is left on anew h = elim (or_cases (nat_lt 99 run) (has_long_run (run + 1) ts) h) [
   | inl over ↦ inl (begins_next m t ts is (no_more m ts (omega (arith, ltb-true 99 run over))))
   | inr more ↦ elim (on more) [
     | inl b ↦ inl (begins_next m t ts is b)
@@ -57,16 +54,12 @@ long_run_is ts h = elim (sound 101 0 ts refl h) [
   | inr found ↦ found
 ]
 
-both : (a b : Bool) → a && b ≡ true → (a ≡ true) × (b ≡ true)
-both true b h = (refl, h)
-both false b h = absurd (cc)
-
 -- a run that goes on to 101 gets too long
 run_gets_long : (m run : ℕ) (ts : List Token) → 101 ≤ m + run → run ≤ 100 → Begins m ts → has_long_run run ts ≡ true
 run_gets_long zero run ts enough upper_bound b = absurd (omega arith)
 run_gets_long (suc m) run [] enough upper_bound b = absurd (omega (arith, b.long))
 run_gets_long (suc m) run (t ∷ ts) enough upper_bound b =
-    let first = both (is_prefix_operator t) (list_all is_prefix_operator (take m ts)) b.all in
+    let first = and_parts (is_prefix_operator t) (list_all is_prefix_operator (take m ts)) b.all in
     rw first.0 (or_else (nat_lt 99 run) (has_long_run (run + 1) ts) (λ under.
     run_gets_long m (run + 1) ts (omega arith) (omega (arith, ltb-false 99 run under)) (record { long = omega (arith, b.long); all = first.1 })))
 

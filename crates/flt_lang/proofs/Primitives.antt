@@ -1,14 +1,7 @@
 -- A fault of some node is a fault of some primitive.
 use Rattle.flt_lang.proofs.Common.{◌≡◌, ℕ, List, [], ◌∷◌, refl, sym, ap, ◌∙◌, Bool, true, false, not, ◌||◌, list_any, Protocol, Operator, Join, Node, NumberTree, literal, len, named, load, negated, applied, TruthTree, check, cast, sized, bare, valued, qualified, compared, denied, joined, Expression, empty, truth, number_nodes, truth_nodes, expr_nodes, is_size, has_wrong_size, is_misfit, is_out_of_range, has_bits_past_mask, any_primitive, some_primitive, tree_fault, is_misfit_node, is_out_of_range_node, has_bits_past_mask_node, nodes_fault}
+use Rattle.std.proofs.Math.Bool.{or_assoc, or-false}
 use Rattle.flt_ast.specs.declared.node.Node.TheVariants as node
-
-pub or_assoc : (a b c : Bool) → ((a || b) || c) ≡ (a || (b || c))
-or_assoc true b c = refl
-or_assoc false b c = refl
-
-pub or_false : (a : Bool) → (a || false) ≡ a
-or_false true = refl
-or_false false = refl
 
 -- neither a denial nor a chain
 abbrev is_primitive : TruthTree → Bool
@@ -36,7 +29,7 @@ any_nodes g f s (joined j a b) rest =
 
 some_node : (g : Node → Bool) (f : TruthTree → Bool) → Agrees g f → (e : Expression) → list_any g (expr_nodes e) ≡ some_primitive f e
 some_node g f s empty = refl
-some_node g f s (truth a) = any_nodes g f s a [] ∙ or_false (any_primitive f a)
+some_node g f s (truth a) = any_nodes g f s a [] ∙ or-false (any_primitive f a)
 
 -- no number has a fault
 number_free : (g : Node → Bool) → ((n : ℕ) → g (node.Literal n) ≡ false) → ((n : ℕ) → g (node.Named n) ≡ false) → g node.Len ≡ false → ((p : Protocol) (z : ℕ) → g (node.Load p z) ≡ false) → g node.Negate ≡ false → ((o : Operator) → g (node.Apply o) ≡ false) → (a : NumberTree) (rest : List Node) → list_any g (number_nodes a rest) ≡ list_any g rest
@@ -48,50 +41,33 @@ number_free g l v m p n o (negated a) rest = number_free g l v m p n o a (node.N
 number_free g l v m p n o (applied i a b) rest = number_free g l v m p n o a (number_nodes b (node.Apply i ∷ rest)) ∙ number_free g l v m p n o b (node.Apply i ∷ rest) ∙ rw (o i) refl
 
 misfit_primitive : (a : TruthTree) (rest : List Node) → is_primitive a ≡ true → list_any is_misfit_node (truth_nodes a rest) ≡ (is_misfit a || list_any is_misfit_node rest)
-misfit_primitive (check p) rest h = refl
-misfit_primitive (cast p c) rest h = refl
-misfit_primitive (sized s n) rest h = refl
-misfit_primitive (bare v) rest h = refl
-misfit_primitive (valued q v) rest h = refl
-misfit_primitive (qualified q v) rest h = refl
 misfit_primitive (compared c a b) rest h =
     number_free is_misfit_node (λ _. refl) (λ _. refl) refl (λ _ _. refl) refl (λ _. refl) a (number_nodes b (node.Compare c ∷ rest)) ∙ number_free is_misfit_node (λ _. refl) (λ _. refl) refl (λ _ _. refl) refl (λ _. refl) b (node.Compare c ∷ rest)
 misfit_primitive (denied a) rest h = cc
 misfit_primitive (joined j a b) rest h = cc
+misfit_primitive _ rest h = refl
 
 past_primitive : (a : TruthTree) (rest : List Node) → is_primitive a ≡ true → list_any has_bits_past_mask_node (truth_nodes a rest) ≡ (has_bits_past_mask a || list_any has_bits_past_mask_node rest)
-past_primitive (check p) rest h = refl
-past_primitive (cast p c) rest h = refl
-past_primitive (sized s n) rest h = refl
-past_primitive (bare v) rest h = refl
-past_primitive (valued q v) rest h = refl
-past_primitive (qualified q v) rest h = refl
 past_primitive (compared c a b) rest h =
     number_free has_bits_past_mask_node (λ _. refl) (λ _. refl) refl (λ _ _. refl) refl (λ _. refl) a (number_nodes b (node.Compare c ∷ rest)) ∙ number_free has_bits_past_mask_node (λ _. refl) (λ _. refl) refl (λ _ _. refl) refl (λ _. refl) b (node.Compare c ∷ rest)
 past_primitive (denied a) rest h = cc
 past_primitive (joined j a b) rest h = cc
+past_primitive _ rest h = refl
 
 -- the sizes of accessors
 number_sizes : (a : NumberTree) (rest : List Node) → list_any is_out_of_range_node (number_nodes a rest) ≡ (has_wrong_size a || list_any is_out_of_range_node rest)
-number_sizes (literal n) rest = refl
-number_sizes len rest = refl
-number_sizes (named n) rest = refl
 number_sizes (load p s a) rest = number_sizes a (node.Load p s ∷ rest) ∙ sym (or_assoc (has_wrong_size a) (not (is_size s)) (list_any is_out_of_range_node rest))
 number_sizes (negated a) rest = number_sizes a (node.Negate ∷ rest)
 number_sizes (applied o a b) rest =
     number_sizes a (number_nodes b (node.Apply o ∷ rest)) ∙ ap (λ r. has_wrong_size a || r) (number_sizes b (node.Apply o ∷ rest)) ∙ sym (or_assoc (has_wrong_size a) (has_wrong_size b) (list_any is_out_of_range_node rest))
+number_sizes _ rest = refl
 
 range_primitive : (a : TruthTree) (rest : List Node) → is_primitive a ≡ true → list_any is_out_of_range_node (truth_nodes a rest) ≡ (is_out_of_range a || list_any is_out_of_range_node rest)
-range_primitive (check p) rest h = refl
-range_primitive (cast p c) rest h = refl
-range_primitive (sized s n) rest h = refl
-range_primitive (bare v) rest h = refl
-range_primitive (valued q v) rest h = refl
-range_primitive (qualified q v) rest h = refl
 range_primitive (compared c a b) rest h =
     number_sizes a (number_nodes b (node.Compare c ∷ rest)) ∙ ap (λ r. has_wrong_size a || r) (number_sizes b (node.Compare c ∷ rest)) ∙ sym (or_assoc (has_wrong_size a) (has_wrong_size b) (list_any is_out_of_range_node rest))
 range_primitive (denied a) rest h = cc
 range_primitive (joined j a b) rest h = cc
+range_primitive _ rest h = refl
 
 -- the fault of the nodes is that of the tree
 pub fault_is : (e : Expression) → nodes_fault (expr_nodes e) ≡ tree_fault e

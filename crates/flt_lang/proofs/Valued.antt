@@ -27,7 +27,7 @@ direction_suffix : {ts rest : List TokenKind} {d : Option Direction} → ReadsDi
 direction_suffix no_direction = record { used = 0; drops = refl; long = omega arith }
 direction_suffix one_side = record { used = 1; drops = refl; long = omega arith }
 direction_suffix source_first = record { used = 3; drops = refl; long = omega arith }
-direction_suffix destination_first = record { used = 3; drops = refl; long = omega arith }
+direction_suffix _ = record { used = 3; drops = refl; long = omega arith }
 
 type_suffix : {ts rest : List TokenKind} {k : Option ValueType} → ReadsType ts k rest → IsSuffix ts rest
 type_suffix no_type = record { used = 0; drops = refl; long = omega arith }
@@ -36,7 +36,7 @@ type_suffix of_type = record { used = 1; drops = refl; long = omega arith }
 mask_suffix : {ts rest : List TokenKind} {m : NetMask} → ReadsMask ts m rest → IsSuffix ts rest
 mask_suffix no_mask = record { used = 0; drops = refl; long = omega arith }
 mask_suffix prefix = record { used = 2; drops = refl; long = omega arith }
-mask_suffix dotted_mask = record { used = 2; drops = refl; long = omega arith }
+mask_suffix _ = record { used = 2; drops = refl; long = omega arith }
 
 one_more : {t : TokenKind} {ts rest : List TokenKind} → IsSuffix ts rest → IsSuffix (t ∷ ts) rest
 one_more s = record { used = suc s.used; drops = s.drops; long = omega (arith, s.long) }
@@ -44,10 +44,8 @@ one_more s = record { used = suc s.used; drops = s.drops; long = omega (arith, s
 pub value_suffix : {ts rest : List TokenKind} {v : Value} → ReadsValue ts v rest → IsSuffix ts rest
 value_suffix (number m) = one_more (mask_suffix m)
 value_suffix (dotted m) = one_more (mask_suffix m)
-value_suffix ip6 = record { used = 1; drops = refl; long = omega arith }
 value_suffix ip6_prefix = record { used = 3; drops = refl; long = omega arith }
-value_suffix mac = record { used = 1; drops = refl; long = omega arith }
-value_suffix range = record { used = 1; drops = refl; long = omega arith }
+value_suffix _ = record { used = 1; drops = refl; long = omega arith }
 
 qualifiers_suffix : {ts mid : List TokenKind} {q : Qualifiers} → ReadsQualifiers ts q mid → IsSuffix ts mid
 qualifiers_suffix (qualifiers p d k) = joined_suffix _ _ _ (joined_suffix _ _ _ (protocol_suffix p) (direction_suffix d)) (type_suffix k)
@@ -95,10 +93,7 @@ run_begins (t ∷ ts) fs d k s h e = rw e (run_skip ts k s.0 s.1 s.2)
 pub value_some : {ts rest : List TokenKind} {v : Value} → ReadsValue ts v rest → length rest < length ts
 value_some (number m) = omega (arith, (mask_suffix m).long)
 value_some (dotted m) = omega (arith, (mask_suffix m).long)
-value_some ip6 = omega arith
-value_some ip6_prefix = omega arith
-value_some mac = omega arith
-value_some range = omega arith
+value_some _ = omega arith
 
 pub valued_runs : {ts mid rest : List TokenKind} {q : Qualifiers} {v : Value} → ReadsQualifiers ts q mid → is_written q ≡ true → ReadsValue mid v rest → (fs : List Frame) (d : List Node) → 6 ≤ next_precedence rest → run ts 0 fs None d ≡ run rest 0 fs (Some operand.Truth) (node.Valued q v ∷ d)
 valued_runs {ts = ts} {mid = mid} {rest = rest} {q = q} {v = v} qs w vs fs d h =

@@ -1,20 +1,12 @@
 -- What stands before a value, and the value, are read from the left as far as they go.
-use Rattle.flt_lang.proofs.Common.{◌≡◌, ◌≤◌, List, ◌∷◌, refl, arith, lit≤, Option, Some, None, Bool, true, Protocol, Operator, Side, Source, Destination, ValueType, TokenKind, Direction, Qualifiers, NetMask, Value, ReadsProtocol, no_protocol, protocol, ReadsDirection, no_direction, one_side, source_first, destination_first, ReadsType, no_type, of_type, ReadsQualifiers, qualifiers, ReadsMask, no_mask, prefix, dotted_mask, ReadsValue, number, dotted, ip6, ip6_prefix, mac, range, starts_value, protocol_of, direction_of, type_of, qualifiers_of, mask_of, value_of, level, next_precedence}
+use Rattle.flt_lang.proofs.Common.{◌≡◌, ◌≤◌, List, ◌∷◌, refl, arith, lit≤, Option, Some, None, Bool, true, Protocol, Operator, Side, Source, Destination, ValueType, TokenKind, Direction, Qualifiers, NetMask, Value, ReadsProtocol, no_protocol, protocol, ReadsDirection, no_direction, one_side, ReadsType, no_type, of_type, ReadsQualifiers, qualifiers, ReadsMask, no_mask, ReadsValue, number, dotted, ip6, starts_value, protocol_of, direction_of, type_of, qualifiers_of, mask_of, value_of, level, next_precedence}
 use Rattle.flt_words.specs.declared.token.Operator.TheVariants as operator
 use Rattle.flt_words.specs.declared.token.TokenKind.TheVariants as token
 use Rattle.flt_ast.specs.declared.qualifiers.Direction.TheVariants as direction
 
 pub level_small : (o : Operator) → level o ≤ 3
 level_small operator.Multiply = lit≤ tt
-level_small operator.Divide = lit≤ tt
-level_small operator.Remainder = lit≤ tt
-level_small operator.ExclusiveOr = lit≤ tt
-level_small operator.Add = lit≤ tt
-level_small operator.Subtract = lit≤ tt
-level_small operator.ShiftLeft = lit≤ tt
-level_small operator.ShiftRight = lit≤ tt
-level_small operator.Or = lit≤ tt
-level_small operator.And = lit≤ tt
+level_small _ = lit≤ tt
 
 -- a value begins here, or first a type, or first a direction
 abbrev pub ends_direction : List TokenKind → Bool
@@ -59,8 +51,7 @@ type_back of_type h = (refl, refl)
 pub direction_back : {ts rest : List TokenKind} {d : Option Direction} → ReadsDirection ts d rest → ends_direction rest ≡ true → (direction_of ts ≡ (d, rest)) × (ends_protocol ts ≡ true)
 direction_back (no_direction {ts = ts}) h = (direction_none ts h, direction_ends_protocol ts h)
 direction_back (one_side {s = s} {ts = ts}) h = (side_alone s ts h, refl)
-direction_back source_first h = (refl, refl)
-direction_back destination_first h = (refl, refl)
+direction_back _ h = (refl, refl)
 
 protocol_back : {ts rest : List TokenKind} {p : Option Protocol} → ReadsProtocol ts p rest → ends_protocol rest ≡ true → protocol_of ts ≡ (p, rest)
 protocol_back (no_protocol {ts = ts}) h = protocol_none ts h
@@ -77,14 +68,11 @@ mask_back : {ts rest : List TokenKind} {m : NetMask} → ReadsMask ts m rest →
 mask_back (no_mask {ts = token.Operator o ∷ ts}) h = absurd (omega (arith, level_small o))
 mask_back (no_mask {ts = token.Mask ∷ ts}) h = absurd (omega arith)
 mask_back (no_mask {ts = _}) h = refl
-mask_back prefix h = refl
-mask_back dotted_mask h = refl
+mask_back _ h = refl
 
 pub value_back : {ts rest : List TokenKind} {v : Value} → ReadsValue ts v rest → 6 ≤ next_precedence rest → (value_of ts ≡ Some (v, rest)) × (starts_value ts ≡ true)
 value_back (number m) h = (rw (mask_back m h) refl, refl)
 value_back (dotted m) h = (rw (mask_back m h) refl, refl)
 value_back (ip6 {rest = token.Operator o ∷ ts}) h = absurd (omega (arith, level_small o))
 value_back (ip6 {rest = _}) h = (refl, refl)
-value_back ip6_prefix h = (refl, refl)
-value_back mac h = (refl, refl)
-value_back range h = (refl, refl)
+value_back _ h = (refl, refl)

@@ -1,8 +1,9 @@
 -- Brackets stand in the tokens of brackets alone.
-use Rattle.flt_words.proofs.Common.{◌≡◌, ℕ, suc, ◌<◌, List, [], ◌∷◌, length, get_or, take, refl, sym, ap, ◌∙◌, arith, Bool, true, false, ◌&&◌, ◌==◌, cond, count_by, codes, Option, Some, Ok, eqb-true, false≢true, bytes_eq-Decides, list_all, bytes_eq, TokenKind, within_word, look_up, IsToken, IsWordPiece, PieceMeans, symbol_meaning, word_meaning, Spells, WordMeans, keyword, number, dotted, range, mac, ip6, known}
+use Rattle.flt_words.proofs.Common.{◌≡◌, ℕ, suc, ◌<◌, List, [], ◌∷◌, length, get_or, take, refl, sym, ap, ◌∙◌, arith, Bool, true, false, ◌&&◌, ◌==◌, cond, count_by, codes, Option, Some, Ok, eqb-true, false≢true, bytes_eq-Decides, list_all, bytes_eq, TokenKind, within_word, look_up, IsToken, IsWordPiece, PieceMeans, symbol_meaning, word_meaning, Spells, WordMeans, keyword, known}
+use Rattle.std.proofs.lemmas.Bool.{and_parts}
 use Rattle.flt_words.specs.declared.token.TokenKind.TheVariants as token
 use Rattle.flt_words.specs.Spellings.{keywords, symbols}
-use Rattle.flt_words.proofs.Tables.{both, found_passes}
+use Rattle.flt_words.proofs.Tables.{found_passes}
 
 -- how many `[` and how many `]` a token has
 abbrev pub openings : TokenKind → ℕ
@@ -52,13 +53,9 @@ all_keywords = refl
 stands_for_none : (word : List ℕ) (kind : TokenKind) → Spells word kind → (openings kind ≡ 0) × (closings kind ≡ 0)
 unfolding keyword_test
 stands_for_none word kind (keyword w) =
-    let passes = both (openings kind == 0) (closings kind == 0) (found_passes keyword_test keywords word kind all_keywords w) in
+    let passes = and_parts (openings kind == 0) (closings kind == 0) (found_passes keyword_test keywords word kind all_keywords w) in
     (eqb-true (openings kind) 0 passes.0, eqb-true (closings kind) 0 passes.1)
-stands_for_none word kind (number w) = (refl, refl)
-stands_for_none word kind (dotted w) = (refl, refl)
-stands_for_none word kind (range w) = (refl, refl)
-stands_for_none word kind (mac w) = (refl, refl)
-stands_for_none word kind (ip6 w) = (refl, refl)
+stands_for_none word kind _ = (refl, refl)
 
 -- a symbol has as many as its token
 symbol_test : List ℕ → TokenKind → Bool
@@ -71,7 +68,7 @@ all_symbols = refl
 in_table : (piece : List ℕ) (kind : TokenKind) → look_up symbols piece ≡ Some kind → HasBrackets piece kind
 unfolding symbol_test
 in_table piece kind found =
-    let passes = both (count_by (λ b. b == 91) piece == openings kind) (count_by (λ b. b == 93) piece == closings kind) (found_passes symbol_test symbols piece kind all_symbols found) in
+    let passes = and_parts (count_by (λ b. b == 91) piece == openings kind) (count_by (λ b. b == 93) piece == closings kind) (found_passes symbol_test symbols piece kind all_symbols found) in
     record { opened = eqb-true _ (openings kind) passes.0; closed = eqb-true _ (closings kind) passes.1 }
 
 colon : (piece : List ℕ) (kind : TokenKind) → piece ≡ codes ":" → token.Colon ≡ kind → HasBrackets piece kind

@@ -1,10 +1,7 @@
 -- A word cut at the first byte that equals a separator.
-use Rattle.flt_words.proofs.Common.{◌≡◌, ◌≢◌, ℕ, ◌+◌, ◌<◌, ◌≤◌, List, [], ◌∷◌, ◌++◌, length, get_or, take, drop, refl, ap, ◌∙◌, arith, Bool, true, false, ◌==◌, ◌||◌, cond, nat_lt, Option, Some, None, subst, nat_tests, passes_at_first, split_at_first, digit_value, position, position_or_len, AllDigits, has}
+use Rattle.flt_words.proofs.Common.{◌≡◌, ◌≢◌, ℕ, ◌+◌, ◌<◌, ◌≤◌, List, [], ◌∷◌, ◌++◌, length, get_or, take, drop, refl, arith, Bool, true, false, ◌==◌, cond, nat_lt, Option, Some, None, subst, nat_tests, passes_at_first, split_at_first, digit_value, position, position_or_len, AllDigits, has}
+use Rattle.std.proofs.lemmas.Bool.{or_parts}
 use Rattle.std.proofs.lemmas.List.{length-append}
-
-pub neither : (a b : Bool) → a || b ≡ false → (a ≡ false) × (b ≡ false)
-neither true b h = absurd (cc)
-neither false b h = (refl, h)
 
 pub same : (c : ℕ) → (c == c) ≡ true
 same c = grind (arith, nat_tests)
@@ -12,18 +9,10 @@ same c = grind (arith, nat_tests)
 pub differs : (b c : ℕ) → b ≢ c → (b == c) ≡ false
 differs b c ne = grind (arith, nat_tests)
 
-or_assoc : (a b c : Bool) → a || (b || c) ≡ (a || b) || c
-or_assoc true b c = refl
-or_assoc false b c = refl
-
-pub has-append : (c : ℕ) (front back : List ℕ) → has c (front ++ back) ≡ has c front || has c back
-has-append c [] back = refl
-has-append c (b ∷ front) back = ap (λ r. (b == c) || r) (has-append c front back) ∙ or_assoc (b == c) (has c front) (has c back)
-
 first_after : (c : ℕ) (front back : List ℕ) → has c front ≡ false → position_or_len (λ b. b == c) (front ++ c ∷ back) ≡ length front
 first_after c [] back lacks = rw (same c) refl
 first_after c (b ∷ front) back lacks =
-    let parts = neither (b == c) (has c front) lacks in
+    let parts = or_parts (b == c) (has c front) lacks in
     rw (parts.0, first_after c front back parts.1) (omega arith)
 
 pub digits_lack : (c radix : ℕ) (digits : List ℕ) → radix ≤ digit_value c → AllDigits radix digits → has c digits ≡ false

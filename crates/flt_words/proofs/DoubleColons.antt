@@ -1,7 +1,7 @@
 -- Where two colons stand in an IPv6 address.
 use Rattle.flt_words.proofs.Common.{◌≡◌, ◌≢◌, ℕ, suc, zero, ◌+◌, ◌<◌, List, [], ◌∷◌, ◌++◌, length, get_or, take, drop, sym, ap, ◌∙◌, subst, arith, false, ◌==◌, Option, Some, None, MatchOption, add-one, length-append, drop-cons, drop-append-add, get_or-append_seam, take-append_seam, nat_tests, get_or-append-add, get_or_append_left, take-append-drop, AllByRecursion, join_with_byte, AreGroups, AreIp6Ends, IsGroup, IsIp6, IsWholeIp6, IsDoubleColon, shortened, whole, has}
+use Rattle.std.proofs.lemmas.Bool.{or_parts}
 use Rattle.flt_words.specs.declared.address.Group.TheVariants as group
-use Rattle.flt_words.proofs.Cuts.{neither}
 use Rattle.flt_words.proofs.Groups.{group_lacks, group_some}
 
 -- each colon stands before another byte
@@ -25,18 +25,18 @@ parted_at (b ∷ text) (suc k) p h = let next = parted_at text k p.1 h in (next.
 parted_digits : (text : List ℕ) → has 58 text ≡ false → Parted text
 parted_digits [] lacks = tt
 parted_digits (b ∷ text) lacks =
-    let parts = neither (b == 58) (has 58 text) lacks in
+    let parts = or_parts (b == 58) (has 58 text) lacks in
     (λ e. absurd (is_not b parts.0 e), parted_digits text parts.1)
 
 parted_before : (front rest : List ℕ) → has 58 front ≡ false → get_or rest 0 0 ≢ 58 → 0 < length rest → Parted rest → Parted (front ++ 58 ∷ rest)
 parted_before [] rest lacks other some p = (λ e. (other, some), p)
 parted_before (b ∷ front) rest lacks other some p =
-    let parts = neither (b == 58) (has 58 front) lacks in
+    let parts = or_parts (b == 58) (has 58 front) lacks in
     (λ e. absurd (is_not b parts.0 e), parted_before front rest parts.1 other some p)
 
 begins_with_digit : (digits : List ℕ) → 0 < length digits → has 58 digits ≡ false → get_or digits 0 0 ≢ 58
 begins_with_digit [] some lacks = absurd (omega arith)
-begins_with_digit (b ∷ digits) some lacks = is_not b (neither (b == 58) (has 58 digits) lacks).0
+begins_with_digit (b ∷ digits) some lacks = is_not b (or_parts (b == 58) (has 58 digits) lacks).0
 
 first_of_joined : (first : List ℕ) (groups : List (List ℕ)) → IsGroup group.Quad first → (get_or (join_with_byte 58 (first ∷ groups)) 0 0 ≢ 58) × (0 < length (join_with_byte 58 (first ∷ groups)))
 first_of_joined first [] g =

@@ -1,9 +1,10 @@
 -- Groups of digits, and the parts of a text between separators.
 use Rattle.flt_words.proofs.Common.{◌≡◌, ℕ, ◌^◌, ◌<◌, ◌≤◌, List, [], ◌∷◌, ◌++◌, length, refl, sym, ap, ◌∙◌, arith, false, ◌==◌, Result, Ok, Err, lit<, lit≤, MatchOption, pow-le-pow_right, nat_tests, digits_value-lt, AllByRecursion, join_with_byte, slice_split, AllDigits, IsNumeral, digits_value, Group, WordFault, AreGroups, IsGroup, group_value, separator_of, base_of, WritesNumber, is_word_sized, FindsMeaning, has}
+use Rattle.std.proofs.lemmas.Bool.{or_parts}
 use Rattle.std.specs.Result.{result_ok}
 use Rattle.flt_words.specs.declared.address.Group.TheVariants as group
 use Rattle.flt_words.specs.declared.number.WordFault.TheVariants as fault
-use Rattle.flt_words.proofs.Cuts.{digits_lack, neither, same}
+use Rattle.flt_words.proofs.Cuts.{digits_lack, same}
 
 not_small : (n : ℕ) → n < 2 ^ 32 → is_word_sized n ≡ false → ⊥
 not_small n small large = grind (arith, nat_tests)
@@ -32,13 +33,13 @@ group_below group.Quad digits g = small_hexadecimal digits 4 g.0.1 g.1
 split_none : (c : ℕ) (text : List ℕ) → has c text ≡ false → slice_split (λ b. b == c) text ≡ text ∷ []
 split_none c [] lacks = refl
 split_none c (b ∷ text) lacks =
-    let parts = neither (b == c) (has c text) lacks in
+    let parts = or_parts (b == c) (has c text) lacks in
     rw (parts.0, split_none c text parts.1) refl
 
 split_at : (c : ℕ) (front back : List ℕ) → has c front ≡ false → slice_split (λ b. b == c) (front ++ c ∷ back) ≡ front ∷ slice_split (λ b. b == c) back
 split_at c [] back lacks = rw (same c) refl
 split_at c (b ∷ front) back lacks =
-    let parts = neither (b == c) (has c front) lacks in
+    let parts = or_parts (b == c) (has c front) lacks in
     rw (parts.0, split_at c front back parts.1) refl
 
 pub split_joined : (form : Group) (first : List ℕ) (groups : List (List ℕ)) → AllByRecursion (IsGroup form) (first ∷ groups) → slice_split (λ b. b == separator_of form) (join_with_byte (separator_of form) (first ∷ groups)) ≡ first ∷ groups

@@ -1,5 +1,5 @@
 -- A word stands for one thing at most.
-use Rattle.flt_words.proofs.Common.{◌≡◌, ℕ, ◌<◌, List, [], ◌∷◌, ◌++◌, length, refl, sym, ap, ◌∙◌, arith, true, nat_lt, get_or, Some, ◌+◌, ◌-◌, replicate, lit<, nat_tests, number_from_digits, AllByRecursion, TokenKind, AreGroups, AreIp6Ends, IsDotted, IsGroup, IsIp6, IsMac, IsWholeIp6, group_values, shortened, whole, IsNumber, IsRange, WritesNumber, joined, decimal, octal, hexadecimal, capital_hexadecimal, keyword_of, Spells, keyword, number, dotted, range, mac, ip6}
+use Rattle.flt_words.proofs.Common.{◌≡◌, ℕ, ◌<◌, List, [], ◌∷◌, ◌++◌, length, refl, sym, ap, ◌∙◌, arith, true, nat_lt, get_or, Some, ◌+◌, ◌-◌, replicate, lit<, nat_tests, number_from_digits, AllByRecursion, TokenKind, AreGroups, AreIp6Ends, IsDotted, IsGroup, IsIp6, IsMac, IsWholeIp6, group_values, shortened, whole, IsNumber, IsRange, WritesNumber, joined, decimal, octal, keyword_of, Spells, keyword, number, dotted, range, mac, ip6}
 use Rattle.std.proofs.lemmas.Str.Parse.{digit_from_value}
 use Rattle.flt_words.specs.declared.address.Group.TheVariants as group
 use Rattle.flt_words.specs.declared.token.TokenKind.TheVariants as token
@@ -53,8 +53,7 @@ decimal_first (d ∷ digits) w = let range = digit_from_value d w.numeral.1.0 in
 number_first : {word : List ℕ} {n : ℕ} → IsNumber word n → get_or word 0 0 < 58
 number_first {word} (decimal w) = decimal_first word w.writes
 number_first (octal w) = lit< tt
-number_first (hexadecimal w) = lit< tt
-number_first (capital_hexadecimal w) = lit< tt
+number_first _ = lit< tt
 
 range_first : {word : List ℕ} {first last : ℕ} → IsRange word first last → get_or word 0 0 < 58
 range_first (joined {front = []} v w) = absurd (omega (arith, v.writes.numeral.0))

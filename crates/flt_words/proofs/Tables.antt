@@ -1,10 +1,7 @@
 -- What holds of each entry of a table holds of what is looked up.
-use Rattle.flt_words.proofs.Common.{◌≡◌, ℕ, List, [], ◌∷◌, refl, sym, subst, Bool, true, false, ◌&&◌, not, cond, Option, Some, get_or, nat_lt, bytes_eq-Decides, list_all, bytes_eq, TokenKind, has, Spellings, keyword_of, look_up, fits}
+use Rattle.flt_words.proofs.Common.{◌≡◌, ℕ, List, [], ◌∷◌, refl, subst, Bool, true, false, ◌&&◌, not, cond, Option, Some, get_or, nat_lt, bytes_eq-Decides, list_all, bytes_eq, TokenKind, has, Spellings, keyword_of, look_up, fits}
+use Rattle.std.proofs.lemmas.Bool.{and_parts, not-true}
 use Rattle.flt_words.specs.Spellings.{keywords}
-
-pub both : (a b : Bool) → a && b ≡ true → (a ≡ true) × (b ≡ true)
-both true b h = (refl, h)
-both false b h = absurd (cc)
 
 found_step : (p : List ℕ → TokenKind → Bool) (spelling : List ℕ) (found : TokenKind) (piece : List ℕ) (kind : TokenKind) (later : Option TokenKind) (same : Bool) → bytes_eq spelling piece ≡ same → p spelling found ≡ true
     → (later ≡ Some kind → p piece kind ≡ true) → ◌≡◌ {A = Option TokenKind} (cond same (Some found) later) (Some kind) → p piece kind ≡ true
@@ -17,7 +14,7 @@ found_step p spelling found piece kind later false same pass more is = more is
 pub found_passes : (p : List ℕ → TokenKind → Bool) (table : Spellings) (piece : List ℕ) (kind : TokenKind) → list_all (λ entry. p entry.0 entry.1) table ≡ true → look_up table piece ≡ Some kind → p piece kind ≡ true
 found_passes p [] piece kind all found = absurd (cc)
 found_passes p (entry ∷ table) piece kind all found =
-    let parts = both (p entry.0 entry.1) (list_all (λ e. p e.0 e.1) table) all in
+    let parts = and_parts (p entry.0 entry.1) (list_all (λ e. p e.0 e.1) table) all in
     found_step p entry.0 entry.1 piece kind (look_up table piece) (bytes_eq entry.0 piece) refl parts.0 (found_passes p table piece kind parts.1) found
 
 keyword_test : List ℕ → TokenKind → Bool
@@ -26,10 +23,6 @@ keyword_test word kind = fits kind && (nat_lt 57 (get_or word 0 0) && (not (has 
 all_keywords : list_all (λ entry. keyword_test entry.0 entry.1) keywords ≡ true
 unfolding keyword_test keywords
 all_keywords = refl
-
-pub is_false : (b : Bool) → not b ≡ true → b ≡ false
-is_false true h = sym h
-is_false false h = refl
 
 -- a keyword is a token as it stands, begins with a letter, and has no colon or point
 pub record IsPlainWord (word : List ℕ) (kind : TokenKind) : Type 0 where
@@ -42,12 +35,12 @@ pub keyword_is_plain : (word : List ℕ) (kind : TokenKind) → keyword_of word 
 unfolding keyword_test
 keyword_is_plain word kind found =
     let pass = found_passes keyword_test keywords word kind all_keywords found in
-    let fit = both (fits kind) (nat_lt 57 (get_or word 0 0) && (not (has 58 word) && not (has 46 word))) pass in
-    let letter = both (nat_lt 57 (get_or word 0 0)) (not (has 58 word) && not (has 46 word)) fit.1 in
-    let colon = both (not (has 58 word)) (not (has 46 word)) letter.1 in
+    let fit = and_parts (fits kind) (nat_lt 57 (get_or word 0 0) && (not (has 58 word) && not (has 46 word))) pass in
+    let letter = and_parts (nat_lt 57 (get_or word 0 0)) (not (has 58 word) && not (has 46 word)) fit.1 in
+    let colon = and_parts (not (has 58 word)) (not (has 46 word)) letter.1 in
     record {
       fitting = fit.0;
       letter = letter.0;
-      no_colon = is_false (has 58 word) colon.0;
-      no_point = is_false (has 46 word) colon.1;
+      no_colon = not-true (has 58 word) colon.0;
+      no_point = not-true (has 46 word) colon.1;
     }

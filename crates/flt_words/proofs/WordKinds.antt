@@ -1,7 +1,9 @@
 -- The colons, points and dashes of the kinds of words.
-use Rattle.flt_words.proofs.Common.{◌≡◌, ℕ, ◌≤◌, List, [], ◌∷◌, ◌++◌, length, refl, ap, ◌∙◌, arith, Bool, true, false, ◌==◌, ◌||◌, cond, lit≤, None, Some, digit_value, AllByRecursion, join_with_byte, Group, TokenKind, AreGroups, IsDotted, IsGroup, IsIp6, IsMac, separator_of, shortened, whole, has, IsNumber, IsRange, decimal, octal, hexadecimal, capital_hexadecimal, joined, keyword_of, Spells, keyword, number, dotted, range, mac, ip6}
+use Rattle.flt_words.proofs.Common.{◌≡◌, ℕ, ◌≤◌, List, [], ◌∷◌, ◌++◌, length, refl, ap, ◌∙◌, arith, Bool, true, false, ◌==◌, cond, lit≤, None, Some, digit_value, AllByRecursion, join_with_byte, Group, TokenKind, AreGroups, IsDotted, IsGroup, IsIp6, IsMac, separator_of, shortened, whole, has, IsNumber, IsRange, decimal, octal, hexadecimal, capital_hexadecimal, joined, keyword_of, Spells, keyword, number, dotted, range, mac, ip6}
+use Rattle.std.proofs.Math.Bool.{or-true}
+use Rattle.std.proofs.lemmas.List.Folds.{list_any-append}
 use Rattle.flt_words.specs.declared.address.Group.TheVariants as group
-use Rattle.flt_words.proofs.Cuts.{digits_lack, has-append, same}
+use Rattle.flt_words.proofs.Cuts.{digits_lack, same}
 use Rattle.flt_words.proofs.Ranges.{decimal_lacks}
 use Rattle.flt_words.proofs.Tables.{keyword_is_plain}
 
@@ -25,14 +27,10 @@ lacks_more : (b c : ℕ) (text : List ℕ) → (b == c) ≡ false → has c text
 lacks_more b c text other lacks = rw (other, lacks) refl
 
 lacks_append : (c : ℕ) (front back : List ℕ) → has c front ≡ false → has c back ≡ false → has c (front ++ back) ≡ false
-lacks_append c front back v w = has-append c front back ∙ rw (v, w) refl
+lacks_append c front back v w = list_any-append (λ b. b == c) front back ∙ rw (v, w) refl
 
 has_append : (c : ℕ) (front back : List ℕ) → has c back ≡ true → has c (front ++ back) ≡ true
-has_append c front back w = has-append c front back ∙ rw w (or_true (has c front))
-  where
-    or_true : (b : Bool) → b || true ≡ true
-    or_true true = refl
-    or_true false = refl
+has_append c front back w = list_any-append (λ b. b == c) front back ∙ rw w (or-true (has c front))
 
 number_lacks : {word : List ℕ} {n : ℕ} (c : ℕ) → IsSign c → IsNumber word n → has c word ≡ false
 number_lacks c sign (decimal w) = decimal_lacks c (omega (arith, sign.high)) w
