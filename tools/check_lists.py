@@ -4,7 +4,7 @@
 usage: check_lists.py [--capkit PROGRAM] [COUNT [FIRST]]
 
 Which packets pass is read from each list as docs/FILTER.md says, member by member; `capkit print -w` has to write them.
-Packets have numbers of the list or next to them, or others; half of them are cut. COUNT lists (10,000) have the seeds
+Packets have numbers of the list or next to them, or others; most of them are cut. COUNT lists (10,000) have the seeds
 FIRST (1) and above. The status is 1 if anything differs.
 """
 import argparse
@@ -25,17 +25,18 @@ FRAMES = {link: {kind: (-2, 2, 0xFFFF, number) for kind, number in ETHERTYPES.it
 FRAMES[1] |= {"ethernet": (-14, 0, 0, 0), "typed": (-14, 0, 0, 0)}
 FRAMES[113] |= {"typed": (-16, 0, 0, 0)}
 FRAMES[101] = {"ip": (0, 1, 0xF0, 0x40), "ip6": (0, 1, 0xF0, 0x60)}
-# Kinds of members: the bytes of a number, the protocols and types of a value, and in each kind of frame the places of the
-# source and the destination, or of the only number. Ports of IPv4 count from the end of its header.
+# Kinds of members: the bytes of a number, the protocols before it, the types of members of one list, and in each kind of
+# frame the places of the source and the destination, or of the only number. Ports of IPv4 count from the end of its header.
 KINDS = {
-    "ip4": (4, ["", "", "ip", "ip", "arp", "rarp"], ["host", "net", "mask"], {"ip": (12, 16), "arp": (14, 24), "rarp": (14, 24)}),
-    "ip6": (16, ["", "ip6"], ["host", "net"], {"ip6": (8, 24)}),
+    "ip4": (4, ["", "", "", "ip", "ip", "ip", "arp", "rarp"], ["host", "net", "host net", "host net mask"],
+            {"ip": (12, 16), "arp": (14, 24), "rarp": (14, 24)}),
+    "ip6": (16, ["", "ip6"], ["host", "net", "host net"], {"ip6": (8, 24)}),
     "mac": (6, ["ether"], ["host"], {"ethernet": (-8, -14)}),
-    "port": (2, ["", "", "tcp", "udp"], ["port", "portrange"], {"ip": (0, 2), "ip6": (40, 42)}),
+    "port": (2, ["", "", "tcp", "udp"], ["port", "portrange", "port portrange"], {"ip": (0, 2), "ip6": (40, 42)}),
     "proto": (1, ["", "ip", "ip6"], ["proto"], {"ip": (9,), "ip6": (6,)}),
     "type": (2, ["ether"], ["proto"], {"typed": (-2,)}),
 }
-DIRECTIONS = ["", "", "src or dst", "dst or src", "src", "dst", "src and dst", "dst and src"]
+DIRECTIONS = ["", "", "", "src or dst", "dst or src", "src", "dst", "src and dst"]
 
 
 def is_in(data, at, size, mask, low, high):
@@ -111,7 +112,7 @@ class Maker(random.Random):
         while len(terms) < size:
             kind, left = self.choice(["ip4"] * 6 + ["port"] * 4 + [*KINDS]), size - len(terms)
             _, protocols, types, _ = KINDS[kind]
-            types, count = self.sample(types, self.randint(1, len(types))), self.choice([left, self.randint(1, left)])
+            types, count = self.choice(types).split(), self.choice([left, self.randint(1, left)])
             protocol, direction = self.choice(protocols), self.choice(DIRECTIONS) if types != ["proto"] else ""
             made = [self.member(kind, protocol, direction, self.choice(types)) for _ in range(count)]
             terms += self.choice([made, sorted(made, key=lambda it: it[2]), sorted(made, key=lambda it: -it[2])])
@@ -124,7 +125,7 @@ class Maker(random.Random):
     def packet(self):
         """The bytes of a packet of some kind, whole or cut. One in a VLAN, or of another EtherType, is else like IPv4."""
         frame, words = self.choice(["ip"] * 4 + ["ip6"] * 2 + ["arp", "rarp", "typed"]), self.choice([5, 5, 5, 6, self.randrange(16)])
-        data = bytearray(self.randbytes(96))
+        data, cuts = bytearray(self.randbytes(96)), [96, self.randint(16 - self.start, 96)]
         first, ethertype = {"ip6": 0x60, "arp": 0, "rarp": 0}.get(frame, 0x40 | words), self.choice([0x8100, self.number("type")])
         data[14:17] = struct.pack(">HB", ETHERTYPES.get(frame, ethertype), first)
         data[22:24] = self.choice([b"\0\0", b"\0\0", b"\x40\0", b"\x20\0", b"\0\1", b"\x1f\xff", b"\x30\1"])
@@ -133,7 +134,8 @@ class Maker(random.Random):
                 number = self.choice([6, 17, 1, 58]) if kind == "proto" and self.random() < 0.8 else self.number(kind)
                 at += 16 + (4 * words if kind == "port" and frame == "ip" else 0)
                 data[at : at + size] = number.to_bytes(size, "big")
-        return bytes(data[16 - self.start : self.choice([96, self.randint(16 - self.start, 96)])])
+                cuts.append(at + self.randint(0, size))
+        return bytes(data[16 - self.start : self.choice([96, self.choice(cuts), self.choice(cuts)])])
 
 
 def main():
@@ -145,7 +147,7 @@ def main():
     command, wrong = [arguments.capkit or built_program(), "print", "-w", "-", "--format", "pcap", "-"], []
     for seed in range(arguments.first, arguments.first + arguments.count):
         maker = Maker(seed)
-        text, reads, _ = maker.expression(int(2 ** maker.uniform(0, maker.choice([4, 4, 7, 8.5]))))
+        text, reads, _ = maker.expression(int(2 ** maker.uniform(0, maker.choice([4, 6, 7, 8.5]))))
         capture = kept = struct.pack("<IHHiIII", 0xA1B2C3D4, 2, 4, 0, 0, 262144, maker.link)
         for number in range(100):
             data = maker.packet()
