@@ -11,7 +11,6 @@
 
 ghost use Rattle.std.specs.Prelude.{◌≡◌, ◌≢◌, ◌↔◌, ◌+◌, ◌-◌, ◌%◌, ◌^◌, ◌==◌, ◌&&◌, length};
 ghost use Rattle.std.specs.Prelude.{IsTrue, All, true, false};
-ghost use Rattle.std.specs.Option.{option_map_or};
 ghost use Rattle.flt_bpf.specs.Instructions.{operation_of};
 ghost use Rattle.flt_short.specs.Alike.{Shortens};
 ghost use Rattle.flt_short.specs.inside.Alike.{goes_on, same_step};
@@ -219,17 +218,6 @@ pub fn puts_number_into_index(number: Wide, copy: Wide) -> bool
         && copy.code == Operation::CopyToIndex.code()
 }
 
-/// Whether `new` loads, at a fixed place, the bytes that `load` loads if X is this number.
-fn is_direct(new: Wide, number: u32, load: Wide) -> bool
-    ensures { result ≡ (option_map_or (λ code. code == new.code)
-        (direct_code (operation_of load.code)) false && (number + load.k) % 2 ^ 32 == new.k) }
-{
-    match direct_code(load.code) {
-        None => false,
-        Some(code) => code == new.code && number.wrapping_add(load.k) == new.k,
-    }
-}
-
 /// Rule 3: one load at a fixed place (`40 i + k`) replaces three instructions: a number into A, A
 /// into X, a load at X (`0 i`, `7`, `72 k`). X isn't read after them.
 #[tactic(auto, unfolding(crate::specs::inside::Alike::direct_load))]
@@ -245,7 +233,9 @@ fn is_direct_load(
 {
     match after {
         [to_index, load, ..] => {
-            (puts_number_into_index(old, *to_index) && is_direct(new, old.k, *load))
+            (puts_number_into_index(old, *to_index)
+                && (direct_code(load.code) == Some(new.code)
+                    && old.k.wrapping_add(load.k) == new.k))
                 && lands_at(
                     code,
                     following,

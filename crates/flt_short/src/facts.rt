@@ -106,11 +106,7 @@ pub fn unreached() -> Known
 pub fn same_optional(one: Option<u32>, other: Option<u32>) -> bool
     ensures { result ≡ same_optional one other }
 {
-    match (one, other) {
-        (None, None) => true,
-        (Some(one), Some(other)) => one == other,
-        (None, Some(_)) | (Some(_), None) => false,
-    }
+    one == other
 }
 
 /// Whether two fields are values of the same load, with the same mask or both without one.
