@@ -50,30 +50,20 @@ fn has_index_copy(insns: &[Wide]) -> bool {
     false
 }
 
-/// One round of the optimiser: threads and shortens code.
+/// The code after a round of the optimiser, which threads and shortens it, if one is wanted; else
+/// the code itself.
 fn optimised<A: Allocator + Clone>(
-    alloc: A,
-    insns: Vec<Wide, A>,
-) -> Result<Vec<Wide, A>, AllocError>
-    ensures { IfOk result (λ new. IsRound new.items insns.items) }
-{
-    let moved = threaded(alloc.clone()?, insns)?;
-    shortened(alloc, moved)
-}
-
-/// The code after one more round if that is wanted; else the code itself.
-fn optimised_if<A: Allocator + Clone>(
     alloc: A,
     insns: Vec<Wide, A>,
     is_wanted: bool,
 ) -> Result<Vec<Wide, A>, AllocError>
     ensures { IfOk result (λ new. IsRound new.items insns.items) }
 {
-    if is_wanted {
-        optimised(alloc, insns)
-    } else {
-        Ok(insns)
+    if !is_wanted {
+        return Ok(insns);
     }
+    let moved = threaded(alloc.clone()?, insns)?;
+    shortened(alloc, moved)
 }
 
 /// A program that accepts (returns non-zero) exactly the packets that the expression, read on the
@@ -102,8 +92,8 @@ pub fn generate<A: Allocator + Clone, B: Allocator>(
     // the second round can pass it. `has_index_copy` needs no clause: a mistake would only cost
     // length or time.
     let copies_to_index = has_index_copy(&code);
-    let once = optimised(alloc.clone()?, code)?;
-    let short = optimised_if(alloc.clone()?, once, copies_to_index)?;
+    let once = optimised(alloc.clone()?, code, true)?;
+    let short = optimised(alloc.clone()?, once, copies_to_index)?;
     if short.len() >= TOO_MANY {
         return Err(AllocError);
     }
