@@ -1,5 +1,5 @@
 -- The names that most proofs here cite, passed on from one place. Declares nothing.
-pub use Rattle.std.proofs.Common.{◌≡◌, ℕ, ◌+◌, ◌-◌, ◌<◌, ◌≤◌, List, [], ◌∷◌, ◌++◌, length, take, drop, Option, Some, None, Ok, refl, sym, ap, ◌∙◌, subst, arith, min, ◌↔◌, ◌⊎◌, inl, inr, zero, suc, ◌%◌, ◌^◌, get_or, Bool, true, false, ◌==◌, nat_lt, nat_le, ◌&&◌, ◌||◌, not, if◌then◌else◌, slice_set, bit_and, Err, ap₂, rules}
+pub use Rattle.std.proofs.Common.{◌≡◌, ℕ, ◌+◌, ◌-◌, ◌<◌, ◌≤◌, List, [], ◌∷◌, ◌++◌, length, take, drop, Option, Some, None, Ok, Result, refl, sym, ap, ◌∙◌, subst, arith, min, ◌↔◌, ◌⊎◌, inl, inr, zero, suc, ◌%◌, ◌^◌, get_or, Bool, true, false, ◌==◌, nat_lt, nat_le, ◌&&◌, ◌||◌, not, if◌then◌else◌, slice_set, bit_and, Err, ap₂, rules}
 pub use Rattle.std.specs.List.{slice_get, list_all}
 pub use Rattle.std.specs.Option.{option_map}
 pub use Rattle.std.proofs.lemmas.List.{drop-take, length-take-le, take-append-drop, take-take, drop-drop, length-drop, get_or-drop, append-nil}
@@ -36,8 +36,6 @@ pub use Rattle.capkit_c.specs.Compiling.{IsFor}
 pub use Rattle.capkit_c.specs.Portable.{sign_bit, half_sign_bit, operation_keeps, keeps_x_small, operation_alike, runs_alike, operation_alike_on_libpcap, runs_alike_on_libpcap, is_live_at, operation_wants, is_live_before, live_places, none_read_unwritten, most_attached, is_portable, portability}
 pub use Rattle.capkit_c.specs.Matching.{Judges, Skips, at_packet, past_packet, past_unit}
 pub use Rattle.capkit_c.specs.Buffers.{WriteLeaves, written_packet}
-pub use Rattle.capkit_c.specs.Listings.{is_read, no_listing, no_memory, no_room, breaks}
-pub use Rattle.capkit_c.specs.inside.Listings.{IsFailure, IsUnlisted}
 pub use Rattle.flt_bpf.specs.declared.insn.Insn.{Insn}
 pub use Rattle.flt_bpf.specs.Machine.{Next, Goes, Ends, Lost, step_if_there, does, does_if_known, into, word_into, into_word, with_register, held, field, compute, operand_value, test_holds, header_length, run_from, progress_after, machine, start}
 pub use Rattle.flt_bpf.proofs.Checking.{parts}

@@ -154,13 +154,10 @@ index_kept (Some (Load Index Length)) i p n s e h = cc
 index_kept (Some LoadHeaderLength) i p n s e h = header_index (field p i.k Byte) s
 index_kept (Some (Store register)) i p n s e h = put_index (nat_lt i.k (length s.memory)) s (slice_set s.memory i.k (held register s)) half_sign_bit h
 index_kept (Some (Compute operator operand)) i p n s e h = into_index (compute operator s.accumulator (operand_value operand i.k s.index)) s half_sign_bit h
-index_kept (Some Negate) i p n s e h = h
-index_kept (Some Jump) i p n s e h = h
-index_kept (Some (JumpIf test operand)) i p n s e h = h
 index_kept (Some ReturnConstant) i p n s e h = omega arith
 index_kept (Some ReturnAccumulator) i p n s e h = omega arith
 index_kept (Some CopyToIndex) i p n s e h = cc
-index_kept (Some CopyToAccumulator) i p n s e h = h
+index_kept (Some _) i p n s e h = h
 
 -- ---- whole runs
 

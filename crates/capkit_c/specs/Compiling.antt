@@ -13,7 +13,8 @@ use Rattle.cap_filter.specs.Compilation.{IsCompiled}
 use Rattle.cap_filter.specs.Expressions.{IsTextFault}
 use Rattle.cap_octet.specs.Link.{link_of}
 use Rattle.capkit_c.specs.declared.compiling.Failure.{Failure}
-use Rattle.capkit_c.specs.declared.compiling.Failure.TheVariants.{Text, NotUtf8, LinkType, NoRoom}
+use Rattle.capkit_c.specs.declared.compiling.Failure.TheVariants.{Text, NotUtf8, LinkType, NoRoom, NotListing, Invalid}
+use Rattle.capkit_c.specs.Running.{rule_number}
 
 -- what libpcap's pcap_datalink() calls raw IP
 abbrev pub DLT_RAW : ℕ
@@ -62,13 +63,18 @@ pub record IsNotUtf8 (text : List ℕ) (at : ℕ) : Type 0 where
   pub valid : IsValidUpTo text before
   pub counted : at ≡ before + 1
 
--- why there is no program; memory may be refused whatever the text is
+-- why a text isn't an expression; memory may be refused whatever the text is
+abbrev pub IsTextFailure : List ℕ → Failure → Type 0
+IsTextFailure text (Text refusal) = IsTextFault text refusal
+IsTextFailure text (NotUtf8 at) = IsNotUtf8 text at
+IsTextFailure text _ = ⊥
+
+-- why there is no program
 abbrev pub IsFailure : List ℕ → ℕ → ℕ → Failure → Type 0
-IsFailure text link_type room (Text refusal) = IsTextFault text refusal
-IsFailure text link_type room (NotUtf8 at) = IsNotUtf8 text at
 IsFailure text link_type room LinkType = HasNoLink text link_type
 IsFailure text link_type room (NoRoom needed) =
     (room < needed) × ((prog : List Insn) × IsFor text link_type prog × (length prog ≡ needed))
+IsFailure text link_type room failure = IsTextFailure text failure
 
 -- the status of a failure
 abbrev pub failure_status : Failure → ℕ
@@ -88,29 +94,26 @@ failure_status (Text fault.Memory) = 13
 failure_status (NotUtf8 at) = 14
 failure_status LinkType = 15
 failure_status (NoRoom needed) = 16
+failure_status (NotListing line) = 17
+failure_status (Invalid rule) = rule_number rule
 
--- the number next to the status: if the text is wrong, in bytes from 1; how many instructions are
--- needed; else 0
+-- the number next to the status: if the text is wrong, in bytes or lines from 1; how many
+-- instructions there are; else 0
 abbrev pub failure_number : Failure → ℕ
 failure_number (Text refusal) = unwrap_or (messages.place_of refusal) 0
 failure_number (NotUtf8 at) = at
-failure_number LinkType = 0
 failure_number (NoRoom needed) = needed
+failure_number (NotListing line) = line
+failure_number _ = 0
 
--- nothing is compiled: why, with the failure's status and its number; the instructions are as they
--- were
-pub record Fails (text : List ℕ) (link_type : ℕ) (old new : List Insn)
-    (number status : ℕ) : Type 0 where
-  pub failure : Failure
-  pub why : IsFailure text link_type (length old) failure
-  pub exact : status ≡ failure_status failure
-  pub where_at : number ≡ failure_number failure
-  pub kept : new ≡ old
+-- what a number and a status mean: 0, and the call is done; or the failure's, and why not
+pub data Tells (Done : ℕ → Type 0) (Why : Failure → Type 0) (number : ℕ) : ℕ → Type 0 where
+  is_done : Done number → Tells Done Why number 0
+  has_failed : (failure : Failure) → Why failure → number ≡ failure_number failure
+      → Tells Done Why number (failure_status failure)
 
--- 0 and a program, or another status and nothing
-pub data CompilesText (text : List ℕ) (link_type : ℕ) (old new : List Insn) (number : ℕ) : ℕ
-    → Type 0 where
-  compiles : WritesProgram text link_type old new number
-      → CompilesText text link_type old new number 0
-  fails : {status : ℕ} → Fails text link_type old new number status
-      → CompilesText text link_type old new number status
+-- 0 and a program, or another status, and the instructions are as they were
+abbrev pub CompilesText : List ℕ → ℕ → (old new : List Insn) → (number status : ℕ) → Type 0
+CompilesText text link_type old new number status =
+    Tells (WritesProgram text link_type old new)
+    (λ failure. IsFailure text link_type (length old) failure × (new ≡ old)) number status

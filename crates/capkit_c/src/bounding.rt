@@ -1,9 +1,9 @@
 //! The bound of a program's length, before it is compiled.
 ghost use Rattle.std.specs.Prelude.{IfOk, IfErr};
-ghost use Rattle.capkit_c.specs.Bounding.{BoundLeaves, IsBound, IsTextFailure};
+ghost use Rattle.capkit_c.specs.Bounding.{BoundLeaves, IsBound};
+ghost use Rattle.capkit_c.specs.Compiling.{IsTextFailure};
 
-use crate::compiling::{Failure, utf8_text};
-use cap_filter::expression::read_expression;
+use crate::compiling::{Failure, read_text, tell};
 use flt_lang::bound;
 use std::alloc::Global;
 
@@ -13,14 +13,8 @@ fn bound_of_text(alloc: Global, text: &[u8]) -> Result<usize, Failure>
     ensures bounded { IfOk result (IsBound text.now) }
     ensures failed { IfErr result (IsTextFailure text.now) }
 {
-    let text = match utf8_text(text) {
-        Ok(text) => text,
-        Err(at) => return Err(Failure::NotUtf8(at)),
-    };
-    match read_expression(alloc, text) {
-        Ok(checked) => Ok(bound(&checked) as usize),
-        Err(fault) => Err(Failure::Text(fault)),
-    }
+    let checked = read_text(alloc, text)?;
+    Ok(bound(&checked) as usize)
 }
 
 /// Bounds the program of an expression, for every link type. If it returns 0, `number` is the most
@@ -30,14 +24,5 @@ fn bound_of_text(alloc: Global, text: &[u8]) -> Result<usize, Failure>
 pub extern "C" fn capkit_bound(alloc: Global, text: &[u8], number: &mut usize) -> u32
     ensures { BoundLeaves text.now number.new result }
 {
-    match bound_of_text(alloc, text) {
-        Ok(count) => {
-            *number = count;
-            0
-        }
-        Err(failure) => {
-            *number = failure.number();
-            failure.status()
-        }
-    }
+    tell(bound_of_text(alloc, text), number)
 }

@@ -1,21 +1,24 @@
 //! Compilations into the caller's memory.
 ghost use Rattle.std.specs.Prelude.{◌≡◌, ◌≤◌, IfOk, IfErr, IfSome, IfNone, OnErr, length};
 ghost use Rattle.flt_words.specs.Characters.{is_blank};
-ghost use Rattle.capkit_c.specs.Compiling.{CompilesText, IsFailure, WritesProgram};
+ghost use Rattle.cap_filter.specs.Expressions.{IsExpression};
+ghost use Rattle.capkit_c.specs.Compiling.{CompilesText, IsFailure, IsTextFailure, WritesProgram};
 ghost use Rattle.capkit_c.specs.Compiling.{HasNoLink, IsLinkFor, IsNotUtf8, are_blanks};
 ghost use Rattle.capkit_c.specs.Compiling.{failure_number, failure_status, file_link_type};
 
-use cap_filter::expression::compile_text;
+use crate::running::rule_number;
+use cap_filter::expression::{compile_text, read_expression};
 use cap_octet::Link;
 use cap_octet::assigned::LINKTYPE_RAW;
-use flt_bpf::Insn;
+use flt_bpf::{CheckFault, Insn};
+use flt_lang::Checked;
 use flt_words::ExprFault;
 use std::alloc::Global;
 
 /// The number that libpcap's pcap_datalink() has for raw IP (DLT_RAW), where files have 101.
 const DLT_RAW: u16 = 12;
 
-/// Why nothing was compiled.
+/// Why a call isn't done.
 #[derive(Clone, Copy)]
 pub enum Failure {
     /// The text is refused, or there was no memory.
@@ -24,8 +27,12 @@ pub enum Failure {
     NotUtf8(usize),
     /// Expressions aren't read on packets of this link type, except the empty one.
     LinkType,
-    /// The number of the program's instructions: more than there is room for.
+    /// The number of the instructions: more than there is room for.
     NoRoom(usize),
+    /// The text isn't a listing: its first wrong line, from 1.
+    NotListing(usize),
+    /// The instructions aren't a valid program: the first rule that they break.
+    Invalid(CheckFault),
 }
 
 /// The link type as files have it, of one that may be as libpcap's pcap_datalink() gives it: raw IP
@@ -69,13 +76,29 @@ fn link_for(text: &[u8], link_type: u16) -> Option<Link>
 
 /// The bytes as text. An error is the place of the byte, counted from 1, from which on they aren't
 /// UTF-8.
-pub(crate) fn utf8_text(bytes: &[u8]) -> Result<&str, usize>
+fn utf8_text(bytes: &[u8]) -> Result<&str, usize>
     ensures text { IfOk result (λ text. text.now ≡ bytes.now) }
     ensures failed { IfErr result (IsNotUtf8 bytes.now) }
 {
     match std::str::from_utf8(bytes) {
         Ok(text) => Ok(text),
         Err(fault) => Err(fault.valid_up_to() + 1),
+    }
+}
+
+/// The expression that bytes are, with the qualifiers that are left out filled in. An error is why
+/// they aren't one, or that memory ran out.
+pub(crate) fn read_text(alloc: Global, text: &[u8]) -> Result<Checked<Global>, Failure>
+    ensures expression { IfOk result (λ checked. IsExpression text.now checked.expr) }
+    ensures failed { IfErr result (IsTextFailure text.now) }
+{
+    let text = match utf8_text(text) {
+        Ok(text) => text,
+        Err(at) => return Err(Failure::NotUtf8(at)),
+    };
+    match read_expression(alloc, text) {
+        Ok(checked) => Ok(checked),
+        Err(fault) => Err(Failure::Text(fault)),
     }
 }
 
@@ -113,7 +136,7 @@ fn compile_into(
 }
 
 impl Failure {
-    /// The status that C sees, 1 to 16, as `library/include/capkit.h` has it.
+    /// The status that C sees, 1 to 17 or that of a rule, as `library/include/capkit.h` has it.
     pub(crate) fn status(self) -> u32
         ensures { result ≡ failure_status self }
     {
@@ -134,11 +157,13 @@ impl Failure {
             Failure::NotUtf8(_) => 14,
             Failure::LinkType => 15,
             Failure::NoRoom(_) => 16,
+            Failure::NotListing(_) => 17,
+            Failure::Invalid(rule) => rule_number(rule),
         }
     }
 
-    /// The number that C sees next to the status: if the text is wrong, in bytes from 1, or how
-    /// many instructions there are; else 0.
+    /// The number that C sees next to the status: if the text is wrong, in bytes or lines from 1,
+    /// or how many instructions there are; else 0.
     pub(crate) fn number(self) -> usize
         ensures { result ≡ failure_number self }
     {
@@ -148,8 +173,28 @@ impl Failure {
                 None => 0,
             },
             Failure::NotUtf8(at) => at,
-            Failure::LinkType => 0,
             Failure::NoRoom(count) => count,
+            Failure::NotListing(line) => line,
+            Failure::LinkType | Failure::Invalid(_) => 0,
+        }
+    }
+}
+
+/// Reports to C how a call ended: returns 0 if it is done, else the status of the failure. `number`
+/// becomes the number that goes with it.
+pub(crate) fn tell(ended: Result<usize, Failure>, number: &mut usize) -> u32
+    ensures ok { IfOk ended (λ value. (number.new ≡ value) × (result ≡ 0)) }
+    ensures err { IfErr ended (λ failure. (number.new ≡ failure_number failure)
+        × (result ≡ failure_status failure)) }
+{
+    match ended {
+        Ok(value) => {
+            *number = value;
+            0
+        }
+        Err(failure) => {
+            *number = failure.number();
+            failure.status()
         }
     }
 }
@@ -169,14 +214,5 @@ pub extern "C" fn capkit_compile(
 ) -> u32
     ensures { CompilesText text.now link_type insns.old insns.new number.new result }
 {
-    match compile_into(alloc, text, link_type, insns) {
-        Ok(count) => {
-            *number = count;
-            0
-        }
-        Err(failure) => {
-            *number = failure.number();
-            failure.status()
-        }
-    }
+    tell(compile_into(alloc, text, link_type, insns), number)
 }

@@ -1,31 +1,25 @@
 //! The meaning of an expression, written out as an expression again.
-ghost use Rattle.std.specs.Prelude.{IfOk, IfErr, string_bytes};
-ghost use Rattle.capkit_c.specs.Bounding.{IsTextFailure};
-ghost use Rattle.capkit_c.specs.Explaining.{ExplainLeaves, Explains};
+ghost use Rattle.std.specs.Prelude.{◌≡◌, IfOk, IfErr, OnErr};
+ghost use Rattle.capkit_c.specs.Compiling.{IsTextFailure};
+ghost use Rattle.capkit_c.specs.Explaining.{ExplainLeaves, PutsMeaning};
 
-use crate::compiling::{Failure, utf8_text};
+use crate::compiling::{Failure, read_text, tell};
 use crate::texts::put_text;
-use cap_filter::expression::read_expression;
 use flt_explain::explain;
 use flt_words::ExprFault;
 use std::alloc::Global;
 
-/// The meaning of the expression in a text, written out as a text again. An error is why the first
-/// text isn't an expression, or that memory ran out.
-fn meaning_of(alloc: Global, text: &[u8]) -> Result<String, Failure>
-    ensures meaning { IfOk result (λ meaning. Explains text.now (string_bytes meaning)) }
+/// Puts the meaning of the expression in a text into a buffer, as far as there is room, and returns
+/// how long the whole is. An error is why the text isn't an expression, or that memory ran out, and
+/// then the buffer is unchanged.
+fn put_meaning(alloc: Global, text: &[u8], buffer: &mut [u8]) -> Result<usize, Failure>
+    ensures put { IfOk result (PutsMeaning text.now buffer.old buffer.new) }
     ensures failed { IfErr result (IsTextFailure text.now) }
+    ensures kept { OnErr result (buffer.new ≡ buffer.old) }
 {
-    let text = match utf8_text(text) {
-        Ok(text) => text,
-        Err(at) => return Err(Failure::NotUtf8(at)),
-    };
-    let checked = match read_expression(alloc, text) {
-        Ok(checked) => checked,
-        Err(fault) => return Err(Failure::Text(fault)),
-    };
+    let checked = read_text(alloc, text)?;
     match explain(alloc, &checked.expr) {
-        Ok(meaning) => Ok(meaning),
+        Ok(meaning) => Ok(put_text(meaning.as_bytes(), buffer)),
         // Nothing else keeps an expression from being written out.
         Err(_) => Err(Failure::Text(ExprFault::Memory)),
     }
@@ -44,14 +38,5 @@ pub extern "C" fn capkit_explain(
 ) -> u32
     ensures { ExplainLeaves text.now buffer.old buffer.new number.new result }
 {
-    match meaning_of(alloc, text) {
-        Ok(meaning) => {
-            *number = put_text(meaning.as_bytes(), buffer);
-            0
-        }
-        Err(failure) => {
-            *number = failure.number();
-            failure.status()
-        }
-    }
+    tell(put_meaning(alloc, text, buffer), number)
 }

@@ -1,16 +1,6 @@
--- What was written is told by 0 and its count, and a failure by its number and place.
-use Rattle.capkit_c.specs.Compiling.{compiles, fails}
+-- What was written is reported, or the failure.
+use Rattle.capkit_c.proofs.Telling.{told_kept}
 use Rattle.capkit_c.proofs.compiling.capkit_compile.Goals as goal
 
-pub returns-in-Ok : goal.returns-in-Ok
-returns-in-Ok c = compiles c.in-Ok.ensures.written
-
-pub returns-in-Err : goal.returns-in-Err
-returns-in-Err c =
-    fails (record {
-      failure = c.in-Err.failure;
-      why = c.in-Err.ensures.failed;
-      exact = c.status.ensures;
-      where_at = c.number.ensures;
-      kept = c.in-Err.ensures.kept;
-    })
+pub returns : goal.returns
+returns c = told_kept _ _ c.compile_into.result _ _ c.compile_into.ensures.written c.compile_into.ensures.failed c.compile_into.ensures.kept c.tell.ensures.ok c.tell.ensures.err

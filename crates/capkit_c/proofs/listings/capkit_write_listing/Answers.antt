@@ -1,8 +1,6 @@
--- What was written is told by 0 and its length, and a broken rule by its number.
-use Rattle.capkit_c.proofs.Common.{refl, subst, breaks, IsUnlisted}
+-- What was put is reported, or the failure.
+use Rattle.capkit_c.proofs.Telling.{told_kept}
 use Rattle.capkit_c.proofs.listings.capkit_write_listing.Goals as goal
 
-pub returns-in-Err-Invalid : goal.returns-in-Err-Invalid
-returns-in-Err-Invalid c =
-    let broken = subst (IsUnlisted c.args.insns.now) c.in-Err-Invalid.field-0-is c.in-Err-Invalid.ensures.failed in
-    breaks c.in-Err-Invalid.rule broken.0 broken.1 c.rule_number.ensures refl c.in-Err-Invalid.ensures.kept
+pub returns : goal.returns
+returns c = told_kept _ _ c.put_listing.result _ _ c.put_listing.ensures.put c.put_listing.ensures.failed c.put_listing.ensures.kept c.tell.ensures.ok c.tell.ensures.err
