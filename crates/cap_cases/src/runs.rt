@@ -2,10 +2,10 @@
 
 use crate::case::Case;
 use crate::shown::Difference;
-use cap_command::{Command, Compile, Edit, Print};
+use cap_command::Command;
 use cap_octet::{TrialInput, TrialOutput};
 use cap_tools::{Job, Turn, run};
-use cap_trial::Trial;
+use cap_trial::{Trial, command_over, names_over};
 use capkit::Line;
 use std::alloc::{AllocError, Global};
 
@@ -160,80 +160,11 @@ impl Outcome {
     }
 }
 
-/// The command of the line over other memory, with the bytes of its listing.
-fn command_over<'m>(
-    memory: &'m Memory,
-    line: &Line,
-    case: &Case<'_>,
-) -> Result<Command<&'m Memory>, AllocError> {
-    match &line.command {
-        Command::Edit(edit) => {
-            let ranges = Vec::from_slice(memory, &edit.ranges)?;
-            Ok(Command::Edit(Edit {
-                ranges,
-                keep: edit.keep,
-                start: edit.start,
-                stop: edit.stop,
-                chop_start: edit.chop_start,
-                chop_end: edit.chop_end,
-                snap: edit.snap,
-                shift: edit.shift,
-                window: edit.window,
-                format: edit.format,
-            }))
-        }
-        Command::Merge(merge) => Ok(Command::Merge(*merge)),
-        Command::Infos => Ok(Command::Infos),
-        Command::Print(print) => {
-            let code = listing_over(memory, line, case)?;
-            let expr = String::from_str(memory, &print.expr)?;
-            Ok(Command::Print(Print {
-                expr,
-                code,
-                count: print.count,
-                link: print.link,
-                bytes: print.bytes,
-                write: print.write,
-            }))
-        }
-        Command::Compile(compile) => {
-            let expr = String::from_str(memory, &compile.expr)?;
-            let link = compile.link;
-            Ok(Command::Compile(Compile { expr, link }))
-        }
-    }
-}
-
-/// The bytes of the listing that the line names.
-fn listing_over<'m>(
-    memory: &'m Memory,
-    line: &Line,
-    case: &Case<'_>,
-) -> Result<Option<Vec<u8, &'m Memory>>, AllocError> {
+/// The bytes of the listing that the line names; none if it names none.
+fn listing_of<'c>(line: &Line, case: &'c Case<'_>) -> &'c [u8] {
     match &line.code {
-        Some(name) => {
-            let bytes = case.file(name, &case.listing);
-            Ok(Some(Vec::from_slice(memory, bytes)?))
-        }
-        None => Ok(None),
-    }
-}
-
-/// The names of the line's inputs and then of its output.
-fn names_over<'m>(memory: &'m Memory, line: &Line) -> Result<Names<'m>, AllocError> {
-    let mut names = Vec::new(memory);
-    for name in line.inputs.iter() {
-        names.push(String::from_str(memory, name)?)?;
-    }
-    names.push(String::from_str(memory, output_name(line))?)?;
-    Ok(names)
-}
-
-/// The name of the line's output.
-pub fn output_name(line: &Line) -> &str {
-    match &line.output {
-        Some(name) => name,
-        None => "-",
+        Some(name) => case.file(name, &case.listing),
+        None => &[],
     }
 }
 
@@ -311,7 +242,7 @@ fn run_in(
     devices: Devices,
     (output, messages): (&mut [u8], &mut [u8]),
 ) -> Result<(Option<u8>, usize, usize), Difference> {
-    let command = command_over(memory, line, case)?;
+    let command = command_over(memory, line, listing_of(line, case))?;
     let names = names_over(memory, line)?;
     let inputs = inputs_over(memory, line, case, devices)?;
     let piece = devices.piece.max(1);

@@ -1,7 +1,7 @@
 //! What no command line shows of expressions and programs.
 
 mod clone_only;
-mod compilation;
+pub mod compilation;
 mod expressions;
 mod jumps;
 mod layout;

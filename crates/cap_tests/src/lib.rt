@@ -6,6 +6,8 @@
 #![tactic(auto)]
 
 #[cfg(test)]
+mod captures;
+#[cfg(test)]
 mod devices;
 #[cfg(test)]
 mod endings;
@@ -23,3 +25,7 @@ mod proper;
 mod streams;
 #[cfg(test)]
 mod surface;
+#[cfg(test)]
+mod watched;
+#[cfg(test)]
+mod words;

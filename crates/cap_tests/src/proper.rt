@@ -1,153 +1,114 @@
 //! Which commands are proper: what the command line never gives is refused too.
 
-use cap_command::{Command, Compile, Edit, Merge, Print, Shift};
-use cap_octet::{Format, Link};
-use std::alloc::{AllocError, Global};
+use crate::words::line_of;
+use cap_command::{Command, Edit, Print, Shift};
+use cap_octet::Format;
+use capkit::Line;
+use std::alloc::Global;
 use std::test::Fail;
 
 /// 2^63.
 const END: u64 = 9_223_372_036_854_775_808;
 
-/// The fields of an edit that have limits, and whether it is proper.
-type EditRow = (
-    Option<(u64, u64)>,
-    (Option<u64>, Option<u64>),
-    (Option<u32>, Shift, Option<u32>),
-    bool,
-);
-
-/// Nothing is asked for, and then each limit from both sides.
-const EDITS: &[EditRow] = &[
-    (None, (None, None), (None, Shift::None, None), true),
-    (
-        Some((1, END - 1)),
-        (None, None),
-        (None, Shift::None, None),
-        true,
-    ),
-    (Some((0, 1)), (None, None), (None, Shift::None, None), false),
-    (Some((2, 1)), (None, None), (None, Shift::None, None), false),
-    (
-        Some((1, END)),
-        (None, None),
-        (None, Shift::None, None),
-        false,
-    ),
-    (None, (Some(END - 1), None), (None, Shift::None, None), true),
-    (None, (Some(END), None), (None, Shift::None, None), false),
-    (None, (None, Some(END - 1)), (None, Shift::None, None), true),
-    (None, (None, Some(END)), (None, Shift::None, None), false),
-    (None, (None, None), (Some(1), Shift::None, None), true),
-    (None, (None, None), (Some(0), Shift::None, None), false),
-    (
-        None,
-        (None, None),
-        (None, Shift::Later(END - 1), None),
-        true,
-    ),
-    (None, (None, None), (None, Shift::Later(END), None), false),
-    (
-        None,
-        (None, None),
-        (None, Shift::Earlier(END - 1), None),
-        true,
-    ),
-    (None, (None, None), (None, Shift::Earlier(END), None), false),
-    (None, (None, None), (None, Shift::None, Some(2)), true),
-    (
-        None,
-        (None, None),
-        (None, Shift::None, Some(1_000_000)),
-        true,
-    ),
-    (None, (None, None), (None, Shift::None, Some(1)), false),
-    (
-        None,
-        (None, None),
-        (None, Shift::None, Some(1_000_001)),
-        false,
-    ),
+/// A field of an edit, its value, and whether the edit is proper: each limit from both sides.
+const EDITS: [(&str, u64, bool); 19] = [
+    ("nothing", 0, true),
+    ("first", 0, false),
+    ("first", 2, false),
+    ("last", END - 1, true),
+    ("last", END, false),
+    ("start", END - 1, true),
+    ("start", END, false),
+    ("stop", END - 1, true),
+    ("stop", END, false),
+    ("snap", 1, true),
+    ("snap", 0, false),
+    ("later", END - 1, true),
+    ("later", END, false),
+    ("earlier", END - 1, true),
+    ("earlier", END, false),
+    ("window", 2, true),
+    ("window", 1_000_000, true),
+    ("window", 1, false),
+    ("window", 1_000_001, false),
 ];
 
-/// The edit of a row.
-fn edit_of(alloc: Global, row: &EditRow) -> Result<Command, AllocError> {
-    let (range, (start, stop), (snap, shift, window), _) = *row;
-    let mut ranges = Vec::new(alloc);
-    if let Some(range) = range {
-        ranges.push(range)?;
+/// Gives a field of an edit this value; `first` and `last` are of the range from 1 to 1.
+fn set(edit: &mut Edit, field: &str, value: u64) -> Result<(), Fail> {
+    match field {
+        "first" => edit.ranges.push((value, 1))?,
+        "last" => edit.ranges.push((1, value))?,
+        "start" => edit.start = Some(value),
+        "stop" => edit.stop = Some(value),
+        "snap" => edit.snap = Some(u32::try_from(value)?),
+        "later" => edit.shift = Shift::Later(value),
+        "earlier" => edit.shift = Shift::Earlier(value),
+        "window" => edit.window = Some(u32::try_from(value)?),
+        _ => {}
     }
-    Ok(Command::Edit(Edit {
-        ranges,
-        keep: false,
-        start,
-        stop,
-        chop_start: 0,
-        chop_end: 0,
-        snap,
-        shift,
-        window,
-        format: Format::Pcap,
-    }))
+    Ok(())
 }
 
-/// The words, whether there is a listing, after how many packets it ends, whether lines have link
-/// headers or bytes, whether packets are written, and whether the print is proper.
-type PrintRow = (&'static str, bool, Option<u64>, (bool, bool), bool, bool);
-
-const PRINTS: &[PrintRow] = &[
-    ("", false, None, (false, false), false, true),
-    ("ip", false, Some(1), (true, true), false, true),
-    ("", true, None, (true, true), false, true),
-    ("ip", true, None, (false, false), false, false),
-    ("", false, Some(0), (false, false), false, false),
-    ("ip", false, None, (false, false), true, true),
-    ("ip", false, None, (true, false), true, false),
-    ("ip", false, None, (false, true), true, false),
+/// Lines, and whether they are proper with a listing of no bytes, if the row says so, and written
+/// packets, if it says so.
+const PRINTS: [(&str, bool, bool, bool); 7] = [
+    ("print in", false, false, true),
+    ("print -c 1 -e -x in ip", false, false, true),
+    ("print -e -x in", true, false, true),
+    ("print in ip", true, false, false),
+    ("print in ip", false, true, true),
+    ("print -e in ip", false, true, false),
+    ("print -x in ip", false, true, false),
 ];
 
-/// The print of a row.
-fn print_of(alloc: Global, row: &PrintRow) -> Result<Command, AllocError> {
-    let (text, has_code, count, (link, bytes), writes, _) = *row;
-    let expr = String::from_str(alloc, text)?;
-    let code = if has_code {
-        Some(Vec::new(alloc))
-    } else {
-        None
-    };
-    let write = if writes { Some(Format::Pcap) } else { None };
-    Ok(Command::Print(Print {
-        expr,
-        code,
-        count,
-        link,
-        bytes,
-        write,
-    }))
+/// Adds these to a print.
+fn add(print: &mut Print, has_code: bool, writes: bool, alloc: Global) {
+    if has_code {
+        print.code = Some(Vec::new(alloc));
+    }
+    if writes {
+        print.write = Some(Format::Pcap);
+    }
+}
+
+/// The command that these words ask for.
+fn command_of(alloc: Global, words: &str) -> Result<Command, Fail> {
+    let Line { command, .. } = line_of(alloc, words)?;
+    Ok(command)
+}
+
+/// Whether the command is proper with one input, or isn't, and never with none or two.
+fn is_of_one(command: &Command, is_proper: bool) -> bool {
+    command.is_proper(1) == is_proper && !command.is_proper(0) && !command.is_proper(2)
 }
 
 #[test]
 fn proper_commands(rt: HostRuntime) -> Result<(), Fail> {
-    for row in EDITS {
-        let command = edit_of(rt.alloc(), row)?;
-        assert!(rt; command.is_proper(1) == row.3);
-        assert!(rt; !command.is_proper(0) && !command.is_proper(2));
+    for (field, value, is_proper) in EDITS {
+        let mut command = command_of(rt.alloc(), "edit in out")?;
+        if let Command::Edit(edit) = &mut command {
+            set(edit, field, value)?;
+        }
+        assert!(rt; is_of_one(&command, is_proper), "{field} {value}");
     }
-    for row in PRINTS {
-        let command = print_of(rt.alloc(), row)?;
-        assert!(rt; command.is_proper(1) == row.5);
-        assert!(rt; !command.is_proper(0) && !command.is_proper(2));
+    for (words, has_code, writes, is_proper) in PRINTS {
+        let mut command = command_of(rt.alloc(), words)?;
+        if let Command::Print(print) = &mut command {
+            add(print, has_code, writes, rt.alloc());
+        }
+        assert!(rt; is_of_one(&command, is_proper), "{words}");
     }
-    let append = false;
-    let format = Format::Pcap;
-    let merge: Command = Command::Merge(Merge { append, format });
-    let infos: Command = Command::Infos;
-    for command in [merge, infos] {
-        assert!(rt; command.is_proper(1) && command.is_proper(256));
-        assert!(rt; !command.is_proper(0) && !command.is_proper(257));
+    let mut command = command_of(rt.alloc(), "print in")?;
+    if let Command::Print(print) = &mut command {
+        print.count = Some(0);
     }
-    let expr = String::new(rt.alloc());
-    let link = Link::Ether;
-    let compile = Command::Compile(Compile { expr, link });
+    assert!(rt; !command.is_proper(1));
+    for words in ["merge -w out in", "infos in"] {
+        let command = command_of(rt.alloc(), words)?;
+        assert!(rt; command.is_proper(1) && command.is_proper(256), "{words}");
+        assert!(rt; !command.is_proper(0) && !command.is_proper(257), "{words}");
+    }
+    let compile = command_of(rt.alloc(), "compile")?;
     assert!(rt; compile.is_proper(0) && !compile.is_proper(1));
     Ok(())
 }

@@ -2,6 +2,7 @@
 ghost use Rattle.std.specs.Prelude.{◌≤◌};
 
 use crate::devices::marked::Manner;
+use std::alloc::{AllocError, Global};
 use std::io::{ErrorKind, Result};
 use std::process::Abort;
 use std::time::{SystemTime, UNIX_EPOCH};
@@ -16,22 +17,8 @@ pub struct Course {
 }
 
 impl Course {
-    /// `len` bytes, in small calls and one that is large.
-    pub fn long(len: usize, (capacity, piece, failing, large): LongCourse) -> Self {
-        Course {
-            len,
-            capacity,
-            sizes: [16, 1, 1500, 24, large, 8],
-            manner: Manner {
-                piece,
-                failing,
-                kind: ErrorKind::TimedOut,
-            },
-        }
-    }
-
-    /// A few calls over a small buffer.
-    pub fn small(capacity: usize, piece: usize, failing: usize) -> Self {
+    /// A few calls over a small buffer, of which those that fail do so like this.
+    pub fn small(capacity: usize, (piece, failing, kind): (usize, usize, ErrorKind)) -> Self {
         Course {
             len: 100,
             capacity,
@@ -39,16 +26,16 @@ impl Course {
             manner: Manner {
                 piece,
                 failing,
-                kind: ErrorKind::TimedOut,
+                kind,
             },
         }
     }
 
-    /// The same, with reads and writes that a signal interrupts.
-    pub fn interrupted(capacity: usize, piece: usize, failing: usize) -> Self {
-        let mut course = Course::small(capacity, piece, failing);
-        course.manner.kind = ErrorKind::Interrupted;
-        course
+    /// The same for `len` bytes, in small calls and one that is large.
+    fn lengthened(mut self, len: usize, large: usize) -> Self {
+        self.len = len;
+        self.sizes = [16, 1, 1500, 24, large, 8];
+        self
     }
 
     /// Names the course on which something doesn't hold.
@@ -74,7 +61,7 @@ pub const LARGEST: usize = 70_000;
 
 /// How many bytes go through a device on long courses: more than 4 MiB, and as many as the clock
 /// says, so that no number of bytes is the last one in each run.
-pub fn drawn_length(rt: &HostRuntime) -> Result<usize> {
+fn drawn_length(rt: &HostRuntime) -> Result<usize> {
     let now = SystemTime::now(rt)?;
     let nanos = match now.duration_since(UNIX_EPOCH) {
         Ok(since) => since.subsec_nanos(),
@@ -83,20 +70,29 @@ pub fn drawn_length(rt: &HostRuntime) -> Result<usize> {
     Ok(5_000_000 + nanos as usize % 3_000_000)
 }
 
-/// Capacity, piece, failing calls and the size of large ones.
-pub type LongCourse = (usize, usize, usize, usize);
+/// Long courses, in small calls and one that is large. In turn: every call goes through; large
+/// calls go past the buffer; only small calls fill the program's buffer.
+pub fn long_courses(rt: &HostRuntime) -> Result<[Course; 3]> {
+    let len = drawn_length(rt)?;
+    Ok([
+        Course::small(0, (4096, 5, ErrorKind::TimedOut)).lengthened(len, LARGEST),
+        Course::small(8192, (1000, 7, ErrorKind::TimedOut)).lengthened(len, LARGEST),
+        Course::small(65_536, (usize::MAX, 3, ErrorKind::TimedOut)).lengthened(len, 1000),
+    ])
+}
 
-/// Long courses. In turn: every call goes through; large calls go past the buffer; only small
-/// calls fill the program's buffer.
-pub const LONG: [LongCourse; 3] = [
-    (0, 4096, 5, LARGEST),
-    (8192, 1000, 7, LARGEST),
-    (65_536, usize::MAX, 3, 1000),
-];
-
-/// Small courses: capacity, piece and failing calls, each with each.
+/// The capacities of small buffers.
 pub const CAPACITIES: [usize; 5] = [1, 2, 7, 16, 17];
 
-pub const PIECES: [usize; 5] = [1, 2, 3, 5, usize::MAX];
-
-pub const FAILING: [usize; 4] = [0, 2, 3, 7];
+/// Small courses: each capacity, with each number of bytes that a call moves, and failing calls.
+pub fn small_courses(alloc: Global) -> std::result::Result<Vec<Course>, AllocError> {
+    let mut courses = Vec::new(alloc);
+    for capacity in CAPACITIES {
+        for piece in [1, 2, 3, 5, usize::MAX] {
+            for failing in [0, 2, 3, 7] {
+                courses.push(Course::small(capacity, (piece, failing, ErrorKind::TimedOut)))?;
+            }
+        }
+    }
+    Ok(courses)
+}

@@ -1,18 +1,21 @@
 //! Reads of the device over std's readers, each next to what the reader did in that call.
-use crate::devices::courses::{CAPACITIES, Course, FAILING, LARGEST, LONG, PIECES, drawn_length};
+use crate::devices::courses::{CAPACITIES, Course, LARGEST, long_courses, small_courses};
 use crate::devices::marked::{Counts, MarkedReader, are_marks};
 use cap_octet::{DeviceFault, Input, StdInput, read_full};
 use std::alloc::Global;
 use std::cell::Cell;
-use std::io::{BufReader, Result as IoResult};
+use std::io::{BufReader, ErrorKind, Result as IoResult};
 use std::test::Fail;
+
+/// An input over a marked reader.
+type MarkedInput<'a> = StdInput<MarkedReader<'a>>;
 
 /// An input over a marked reader of this course.
 fn input_of<'a>(
     alloc: Global,
     course: &Course,
     counts: &'a Cell<Counts>,
-) -> IoResult<StdInput<MarkedReader<'a>>> {
+) -> IoResult<MarkedInput<'a>> {
     let reader = MarkedReader {
         len: course.len,
         manner: course.manner,
@@ -22,26 +25,8 @@ fn input_of<'a>(
     Ok(StdInput::new(buffered))
 }
 
-/// Whether what a read returned is what the reader did in that call: it was called once the device
-/// had given all of its bytes, and then once.
-fn is_the_readers(
-    returned: Result<usize, DeviceFault>,
-    buf: &[u8],
-    given: usize,
-    old: Counts,
-    new: Counts,
-) -> bool {
-    let calls = usize::from(old.bytes == given);
-    let fails = usize::from(returned.is_err());
-    let count = returned.unwrap_or(0);
-    new.calls == old.calls.wrapping_add(calls)
-        && new.failures == old.failures.wrapping_add(fails)
-        && count == buf.len().min(new.bytes.wrapping_sub(given))
-        && are_marks(given, &buf[..count])
-}
-
 /// How an input is read.
-#[derive(Clone, Copy)]
+#[derive(Clone, Copy, PartialEq, Eq)]
 enum Way {
     /// By single reads.
     Single,
@@ -51,70 +36,66 @@ enum Way {
     AtHand,
 }
 
-/// What a turn took, and whether the end was met.
-type Turn = (usize, bool);
-
-/// A read, if it returned what the reader did.
-fn read_once(
-    input: &mut StdInput<MarkedReader<'_>>,
-    counts: &Cell<Counts>,
-    buf: &mut [u8],
-    given: usize,
-) -> Option<Turn> {
-    let old = counts.get();
-    let returned = input.read(buf);
-    if !is_the_readers(returned, buf, given, old, counts.get()) {
-        return None;
-    }
-    Some((returned.unwrap_or(0), returned == Ok(0)))
-}
-
-/// Whether these are only zeros.
-fn are_zeros(bytes: &[u8]) -> bool {
-    for byte in bytes {
+/// Whether a buffer of zeros has `count` bytes of the stream at its start, and no others.
+fn is_filled(buf: &[u8], given: usize, count: usize) -> bool {
+    let Some((front, back)) = buf.split_at_checked(count) else {
+        return false;
+    };
+    for byte in back {
         if *byte != 0 {
             return false;
         }
     }
-    true
+    are_marks(given, front)
 }
 
-/// Whether a buffer of zeros has a given number of bytes of the stream at its start, and no others.
-fn is_filled(buf: &[u8], given: usize, count: usize) -> bool {
-    count <= buf.len() && are_marks(given, &buf[..count]) && are_zeros(&buf[count..])
-}
-
-/// A read that fills a buffer, if it returned what the reader did. A buffer is full but at the end,
-/// or if the reader failed: then it has all that the reader gave.
-fn fill_once(
-    input: &mut StdInput<MarkedReader<'_>>,
-    counts: &Cell<Counts>,
+/// A read, after `given` bytes of `len`: how many bytes came, and whether the end was met; if it
+/// failed as often as the reader. A single read calls the reader once all of its bytes were given,
+/// and then once. A buffer is full but at the end, or if the reader failed: then it has all that
+/// the reader gave.
+fn read_by(
+    (input, counts): (&mut MarkedInput<'_>, &Cell<Counts>),
+    way: Way,
     buf: &mut [u8],
     (given, len): (usize, usize),
-) -> Option<Turn> {
-    buf.fill(0);
+) -> Option<(usize, bool)> {
     let old = counts.get();
-    let returned = read_full(input, buf);
-    let new = counts.get();
-    let (count, fits) = match returned {
-        Ok(count) => (count, count == buf.len().min(len.wrapping_sub(given))),
-        Err(DeviceFault) => {
-            let count = new.bytes.wrapping_sub(given);
-            (count, count < buf.len())
-        }
+    let returned = if way == Way::Full {
+        buf.fill(0);
+        read_full(input, buf)
+    } else {
+        input.read(buf)
     };
-    let failures = old.failures.wrapping_add(usize::from(returned.is_err()));
-    if !fits || new.failures != failures || !is_filled(buf, given, count) {
-        return None;
-    }
-    Some((count, returned == Ok(0)))
+    let new = counts.get();
+    let failed = usize::from(returned.is_err());
+    let (room, came) = (buf.len(), new.bytes.wrapping_sub(given));
+    let count = match returned {
+        Ok(count) => count,
+        Err(DeviceFault) if way == Way::Full => came,
+        Err(DeviceFault) => 0,
+    };
+    let fits = match way {
+        Way::Single => {
+            let calls = usize::from(old.bytes == given);
+            new.calls == old.calls.wrapping_add(calls) && count == room.min(came)
+        }
+        Way::Full if failed == 0 => count == room.min(len.wrapping_sub(given)),
+        Way::Full => count < room,
+        Way::AtHand => true,
+    };
+    let is_marked = if way == Way::Full {
+        is_filled(buf, given, count)
+    } else {
+        count <= room && are_marks(given, &buf[..count])
+    };
+    let is_counted = new.failures == old.failures.wrapping_add(failed);
+    (fits && is_marked && is_counted).then_some((count, returned == Ok(0)))
 }
 
 /// Takes half of what is at hand, and now and then more than that, which can't be taken; if these
 /// are the bytes from here on, and no reader is called for them.
 fn take_at_hand(
-    input: &mut StdInput<MarkedReader<'_>>,
-    counts: &Cell<Counts>,
+    (input, counts): (&mut MarkedInput<'_>, &Cell<Counts>),
     turn: usize,
     given: usize,
 ) -> Option<usize> {
@@ -132,35 +113,21 @@ fn take_at_hand(
     Some(if passed { count } else { 0 })
 }
 
-/// Takes what is at hand, and then reads, if all bytes came once and in their order.
-fn take_and_read(
-    input: &mut StdInput<MarkedReader<'_>>,
-    counts: &Cell<Counts>,
-    buf: &mut [u8],
-    (turn, given): (usize, usize),
-) -> Option<Turn> {
-    let taken = take_at_hand(input, counts, turn, given)?;
-    let returned = input.read(buf);
-    let came = returned.unwrap_or(0);
-    if came > buf.len() || !are_marks(given.wrapping_add(taken), &buf[..came]) {
-        return None;
-    }
-    Some((taken.wrapping_add(came), returned == Ok(0)))
-}
-
 /// Reads to the end. Whether each call returned what the reader did, and all bytes came.
 fn reads_hold(alloc: Global, course: &Course, way: Way, room: &mut [u8]) -> Result<bool, Fail> {
     let counts = Cell::new(Counts::new());
     let mut input = input_of(alloc, course, &counts)?;
     let mut given = 0usize;
     for turn in 0..usize::MAX {
+        if way == Way::AtHand {
+            let Some(taken) = take_at_hand((&mut input, &counts), turn, given) else {
+                return Ok(false);
+            };
+            given = given.wrapping_add(taken);
+        }
         let size = course.size(turn, room.len());
-        let buf = &mut room[..size];
-        let took = match way {
-            Way::Single => read_once(&mut input, &counts, buf, given),
-            Way::Full => fill_once(&mut input, &counts, buf, (given, course.len)),
-            Way::AtHand => take_and_read(&mut input, &counts, buf, (turn, given)),
-        };
+        let place = (given, course.len);
+        let took = read_by((&mut input, &counts), way, &mut room[..size], place);
         let Some((count, is_end)) = took else {
             return Ok(false);
         };
@@ -175,9 +142,7 @@ fn reads_hold(alloc: Global, course: &Course, way: Way, room: &mut [u8]) -> Resu
 #[test]
 fn reads_past_4_mib_are_the_readers(rt: HostRuntime) -> Result<(), Fail> {
     let mut room = vec![in rt.alloc(); 0; LARGEST]?;
-    let len = drawn_length(&rt)?;
-    for row in LONG {
-        let course = Course::long(len, row);
+    for course in long_courses(&rt)? {
         course.expect(
             &rt,
             reads_hold(rt.alloc(), &course, Way::Single, &mut room)?,
@@ -189,20 +154,9 @@ fn reads_past_4_mib_are_the_readers(rt: HostRuntime) -> Result<(), Fail> {
 #[test]
 fn reads_over_small_buffers_are_the_readers(rt: HostRuntime) -> Result<(), Fail> {
     let mut room = [0; 20];
-    for capacity in CAPACITIES {
-        for piece in PIECES {
-            for failing in FAILING {
-                let course = Course::small(capacity, piece, failing);
-                course.expect(
-                    &rt,
-                    reads_hold(rt.alloc(), &course, Way::Single, &mut room)?,
-                );
-                course.expect(&rt, reads_hold(rt.alloc(), &course, Way::Full, &mut room)?);
-                course.expect(
-                    &rt,
-                    reads_hold(rt.alloc(), &course, Way::AtHand, &mut room)?,
-                );
-            }
+    for course in &small_courses(rt.alloc())? {
+        for way in [Way::Single, Way::Full, Way::AtHand] {
+            course.expect(&rt, reads_hold(rt.alloc(), course, way, &mut room)?);
         }
     }
     Ok(())
@@ -212,13 +166,11 @@ fn reads_over_small_buffers_are_the_readers(rt: HostRuntime) -> Result<(), Fail>
 #[test]
 fn an_interrupted_read_fails(rt: HostRuntime) -> Result<(), Fail> {
     let mut room = [0; 20];
-    for capacity in &[0, 1, 7] {
-        let course = Course::interrupted(*capacity, 2, 2);
-        course.expect(
-            &rt,
-            reads_hold(rt.alloc(), &course, Way::Single, &mut room)?,
-        );
-        course.expect(&rt, reads_hold(rt.alloc(), &course, Way::Full, &mut room)?);
+    for capacity in [0, 1, 7] {
+        let course = Course::small(capacity, (2, 2, ErrorKind::Interrupted));
+        for way in [Way::Single, Way::Full] {
+            course.expect(&rt, reads_hold(rt.alloc(), &course, way, &mut room)?);
+        }
     }
     Ok(())
 }
@@ -228,7 +180,8 @@ fn an_interrupted_read_fails(rt: HostRuntime) -> Result<(), Fail> {
 fn reads_of_a_broken_reader_fail(rt: HostRuntime) -> Result<(), Fail> {
     for capacity in CAPACITIES {
         let counts = Cell::new(Counts::new());
-        let mut input = input_of(rt.alloc(), &Course::small(capacity, 1, 1), &counts)?;
+        let course = Course::small(capacity, (1, 1, ErrorKind::TimedOut));
+        let mut input = input_of(rt.alloc(), &course, &counts)?;
         for calls in 1..9 {
             assert!(rt; input.read(&mut [0; 3]) == Err(DeviceFault));
             assert!(rt; counts.get().calls == calls && counts.get().failures == calls);

@@ -1,5 +1,6 @@
 //! Times as printed dates and as read. The values are from Python's `datetime`.
 use cap_octet::{date_bytes, span_of, time_of};
+use std::test::Fail;
 
 /// Times, and the dates that are printed of them.
 const PRINTED: &[(u64, &str)] = &[
@@ -26,111 +27,59 @@ fn dates_are_printed(rt: HostRuntime) {
     }
 }
 
-/// Texts, the times that they are as dates or seconds, and how many nanoseconds only as seconds.
-const READ: &[(&str, Option<u64>, Option<u64>)] = &[
-    ("1970-01-01T00:00:00Z", Some(0), None),
-    ("1970-01-01T00:00:00.000000001Z", Some(1), None),
-    ("1972-02-29T00:00:00Z", Some(68_169_600_000_000_000), None),
-    ("1972-02-29T00:00:00.0Z", Some(68_169_600_000_000_000), None),
-    (
-        "2000-02-29T12:34:56.000000001Z",
-        Some(951_827_696_000_000_001),
-        None,
-    ),
-    (
-        "2099-12-31T23:59:59.1Z",
-        Some(4_102_444_799_100_000_000),
-        None,
-    ),
-    (
-        "2100-02-28T23:59:59Z",
-        Some(4_107_542_399_000_000_000),
-        None,
-    ),
-    (
-        "2100-03-01T00:00:00Z",
-        Some(4_107_542_400_000_000_000),
-        None,
-    ),
-    (
-        "2262-04-11T23:47:16.854775807Z",
-        Some(9_223_372_036_854_775_807),
-        None,
-    ),
-    (
-        "9223372036.854775807",
-        Some(9_223_372_036_854_775_807),
-        Some(9_223_372_036_854_775_807),
-    ),
-    ("0", Some(0), Some(0)),
-    ("000000000000000000000000000000", Some(0), Some(0)),
-    (
-        "0000000000000000000000000000001.5",
-        Some(1_500_000_000),
-        Some(1_500_000_000),
-    ),
-    ("1.500000000", Some(1_500_000_000), Some(1_500_000_000)),
-    ("0.000000001", Some(1), Some(1)),
-    ("3600", Some(3_600_000_000_000), Some(3_600_000_000_000)),
-    (
-        "9223372036",
-        Some(9_223_372_036_000_000_000),
-        Some(9_223_372_036_000_000_000),
-    ),
-    // Texts that are neither times nor spans.
-    ("", None, None),
-    (".", None, None),
-    ("5.", None, None),
-    (".5", None, None),
-    ("+1", None, None),
-    ("-1", None, None),
-    (" 1", None, None),
-    ("1 ", None, None),
-    ("1,5", None, None),
-    ("1.5.5", None, None),
-    ("1.+5", None, None),
-    ("0x1", None, None),
-    ("1e3", None, None),
-    ("1s", None, None),
-    ("1.0000000000", None, None),
-    ("9223372036.854775808", None, None),
-    ("9223372037", None, None),
-    ("18446744073709551616", None, None),
-    ("99999999999999999999999999999", None, None),
-    ("1970-01-01", None, None),
-    ("1970-01-01T00:00:00", None, None),
-    ("1970-01-01 00:00:00Z", None, None),
-    ("1970-01-01t00:00:00Z", None, None),
-    ("1970-01-01T00:00:00z", None, None),
-    ("1970-01-01T00:00:00+00:00", None, None),
-    ("1970-01-01T00:00Z", None, None),
-    ("1970-1-1T00:00:00Z", None, None),
-    ("+1970-01-01T00:00:00Z", None, None),
-    ("1970-01-01T00:00:00.Z", None, None),
-    ("1970-01-01T00:00:00,5Z", None, None),
-    ("1970-01-01T00:00:00.0000000000Z", None, None),
-    ("1970-01-01T00:00:00.-1Z", None, None),
-    ("1970-01-01T24:00:00Z", None, None),
-    ("1970-01-01T00:60:00Z", None, None),
-    ("2016-12-31T23:59:60Z", None, None),
-    ("1970-00-01T00:00:00Z", None, None),
-    ("1970-13-01T00:00:00Z", None, None),
-    ("1970-01-00T00:00:00Z", None, None),
-    ("1970-01-32T00:00:00Z", None, None),
-    ("1970-04-31T00:00:00Z", None, None),
-    ("1971-02-29T00:00:00Z", None, None),
-    ("2100-02-29T00:00:00Z", None, None),
-    ("1969-12-31T23:59:59Z", None, None),
-    ("0000-01-01T00:00:00Z", None, None),
-    ("2262-04-11T23:47:16.854775808Z", None, None),
-    ("2262-04-12T00:00:00Z", None, None),
-    ("9999-12-31T23:59:59Z", None, None),
-    ("197é-01-01T00:00:00Z", None, None),
-];
+/// Times in nanoseconds, and the dates that are read as them.
+const DATES: &str = "\
+0 1970-01-01T00:00:00Z
+1 1970-01-01T00:00:00.000000001Z
+68169600000000000 1972-02-29T00:00:00Z
+68169600000000000 1972-02-29T00:00:00.0Z
+951827696000000001 2000-02-29T12:34:56.000000001Z
+4102444799100000000 2099-12-31T23:59:59.1Z
+4107542399000000000 2100-02-28T23:59:59Z
+4107542400000000000 2100-03-01T00:00:00Z
+9223372036854775807 2262-04-11T23:47:16.854775807Z";
+
+/// Times in nanoseconds, and the numbers of seconds that are read as them, and as spans.
+const SECONDS: &str = "\
+9223372036854775807 9223372036.854775807
+0 0
+0 000000000000000000000000000000
+1500000000 0000000000000000000000000000001.5
+1500000000 1.500000000
+1 0.000000001
+3600000000000 3600
+9223372036000000000 9223372036";
+
+/// Texts that are neither times nor spans: with a blank or empty, and others.
+const WITH_A_BLANK: [&str; 4] = ["", " 1", "1 ", "1970-01-01 00:00:00Z"];
+
+const NEITHER: &str = "\
+. 5. .5 +1 -1 1,5 1.5.5 1.+5 0x1 1e3 1s 1.0000000000 9223372036.854775808 9223372037 \
+    18446744073709551616 99999999999999999999999999999 1970-01-01 1970-01-01T00:00:00 \
+    1970-01-01t00:00:00Z 1970-01-01T00:00:00z 1970-01-01T00:00:00+00:00 1970-01-01T00:00Z \
+    1970-1-1T00:00:00Z +1970-01-01T00:00:00Z 1970-01-01T00:00:00.Z 1970-01-01T00:00:00,5Z \
+    1970-01-01T00:00:00.0000000000Z 1970-01-01T00:00:00.-1Z 1970-01-01T24:00:00Z \
+    1970-01-01T00:60:00Z 2016-12-31T23:59:60Z 1970-00-01T00:00:00Z 1970-13-01T00:00:00Z \
+    1970-01-00T00:00:00Z 1970-01-32T00:00:00Z 1970-04-31T00:00:00Z 1971-02-29T00:00:00Z \
+    2100-02-29T00:00:00Z 1969-12-31T23:59:59Z 0000-01-01T00:00:00Z \
+    2262-04-11T23:47:16.854775808Z 2262-04-12T00:00:00Z 9999-12-31T23:59:59Z \
+    197é-01-01T00:00:00Z";
 
 #[test]
-fn texts_are_read(rt: HostRuntime) {
-    for (text, time, span) in READ {
-        assert!(rt; time_of(text) == *time && span_of(text) == *span, "{text}");
+fn texts_are_read(rt: HostRuntime) -> Result<(), Fail> {
+    for (rows, is_span) in [(DATES, false), (SECONDS, true)] {
+        for row in rows.lines() {
+            let (time, text) = row.split_once(" ").unwrap_or((row, ""));
+            let time = Some(time.parse::<u64>()?);
+            let span = if is_span { time } else { None };
+            assert!(rt; time_of(text) == time && span_of(text) == span, "{text}");
+        }
     }
+    for text in WITH_A_BLANK {
+        assert!(rt; time_of(text) == None && span_of(text) == None, "{text}");
+    }
+    for text in NEITHER.split_whitespace() {
+        assert!(rt; time_of(text) == None && span_of(text) == None, "{text}");
+    }
+    Ok(())
 }

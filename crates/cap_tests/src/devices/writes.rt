@@ -1,5 +1,5 @@
 //! Writes of the device over std's writers, each next to what the writer did in that call.
-use crate::devices::courses::{CAPACITIES, Course, FAILING, LARGEST, LONG, PIECES, drawn_length};
+use crate::devices::courses::{CAPACITIES, Course, LARGEST, long_courses, small_courses};
 use crate::devices::marked::{Counts, MarkedWriter, write_marks};
 use cap_octet::{DeviceFault, Output, StdOutput, write_all};
 use std::alloc::Global;
@@ -85,9 +85,7 @@ fn writes_hold(alloc: Global, course: &Course, whole: bool, room: &mut [u8]) -> 
 #[test]
 fn writes_past_4_mib_come_to_the_writer(rt: HostRuntime) -> Result<(), Fail> {
     let mut room = vec![in rt.alloc(); 0; LARGEST]?;
-    let len = drawn_length(&rt)?;
-    for row in LONG {
-        let course = Course::long(len, row);
+    for course in long_courses(&rt)? {
         course.expect(&rt, writes_hold(rt.alloc(), &course, false, &mut room)?);
     }
     Ok(())
@@ -96,51 +94,36 @@ fn writes_past_4_mib_come_to_the_writer(rt: HostRuntime) -> Result<(), Fail> {
 #[test]
 fn writes_over_small_buffers_come_to_the_writer(rt: HostRuntime) -> Result<(), Fail> {
     let mut room = [0; 20];
-    for capacity in CAPACITIES {
-        for piece in PIECES {
-            for failing in FAILING {
-                let course = Course::small(capacity, piece, failing);
-                course.expect(&rt, writes_hold(rt.alloc(), &course, false, &mut room)?);
-                course.expect(&rt, writes_hold(rt.alloc(), &course, true, &mut room)?);
-            }
+    for course in &small_courses(rt.alloc())? {
+        for whole in [false, true] {
+            course.expect(&rt, writes_hold(rt.alloc(), course, whole, &mut room)?);
         }
     }
     Ok(())
 }
 
-/// Whether a write of a given number of bytes returns this, after a given number of calls in all.
-fn is_written(
-    output: &mut StdOutput<MarkedWriter<'_>>,
-    counts: &Cell<Counts>,
-    (size, answer, calls): (usize, Result<usize, DeviceFault>, usize),
-) -> bool {
-    let written = output.write([0; 5].get(..size).unwrap_or_default());
-    written == answer && counts.get().calls == calls
-}
-
 /// Every second call is interrupted. std's buffer makes its own writes again; a write past the
-/// buffer fails, as at any other failure. Whether it does.
-fn is_interrupted_past_the_buffer(alloc: Global) -> Result<bool, Fail> {
-    let course = Course::interrupted(4, usize::MAX, 2);
-    let counts = Cell::new(Counts::new());
-    let mut output = output_of(alloc, &course, &counts)?;
-    let mut holds = true;
-    for row in [
-        (3, Ok(3), 0),
-        (3, Ok(3), 1),
-        (3, Ok(3), 3),
-        (5, Err(DeviceFault), 6),
-        (5, Ok(5), 7),
-    ] {
-        holds = holds && is_written(&mut output, &counts, row);
-    }
-    let (_, cause) = output.into_inner();
-    Ok(holds && cause == Some(ErrorKind::Interrupted) && counts.get().bytes == 14)
-}
-
+/// buffer fails, as at any other failure. In turn: how many bytes are written, what is returned,
+/// and how many calls were made by then.
 #[test]
 fn an_interrupted_write_fails_past_the_buffer(rt: HostRuntime) -> Result<(), Fail> {
-    assert!(rt; is_interrupted_past_the_buffer(rt.alloc())?);
+    let course = Course::small(4, (usize::MAX, 2, ErrorKind::Interrupted));
+    let counts = Cell::new(Counts::new());
+    let mut output = output_of(rt.alloc(), &course, &counts)?;
+    for (bytes, answer, calls) in [
+        ([0; 3].as_slice(), Ok(3), 0),
+        (&[0; 3], Ok(3), 1),
+        (&[0; 3], Ok(3), 3),
+        (&[0; 5], Err(DeviceFault), 6),
+        (&[0; 5], Ok(5), 7),
+    ] {
+        assert!(rt;
+            output.write(bytes) == answer && counts.get().calls == calls,
+            "{calls}"
+        );
+    }
+    let (_, cause) = output.into_inner();
+    assert!(rt; cause == Some(ErrorKind::Interrupted) && counts.get().bytes == 14);
     Ok(())
 }
 
@@ -149,7 +132,8 @@ fn an_interrupted_write_fails_past_the_buffer(rt: HostRuntime) -> Result<(), Fai
 fn writes_to_a_broken_writer_fail(rt: HostRuntime) -> Result<(), Fail> {
     for capacity in CAPACITIES {
         let counts = Cell::new(Counts::new());
-        let mut output = output_of(rt.alloc(), &Course::small(capacity, 1, 1), &counts)?;
+        let course = Course::small(capacity, (1, 1, ErrorKind::TimedOut));
+        let mut output = output_of(rt.alloc(), &course, &counts)?;
         for calls in 1..9 {
             assert!(rt; output.write(&[0; 17]) == Err(DeviceFault));
             assert!(rt; counts.get().calls == calls && counts.get().failures == calls);

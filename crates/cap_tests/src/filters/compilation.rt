@@ -1,29 +1,36 @@
-//! Programs that a run of `compile` writes, which tests of several modules read.
+//! Trees of texts, programs that a run of `compile` writes, and code from text.
 
+use crate::words::words_of;
 use cap_command::{Command, Compile};
 use cap_octet::{Link, MemInput, MemOutput};
 use cap_tools::run;
 use flt_bpf::{Insn, read_listing};
-use std::alloc::{AllocError, Global};
+use flt_lang::{Checked, check, parse, resolve};
+use flt_words::{ExprFault, lex};
+use std::alloc::{Allocator, Global};
 use std::test::Fail;
 
-/// How many bytes the listings have at most.
-const ROOM: usize = 30_000;
+/// The code of `ja`.
+pub const JUMP: u16 = 5;
 
-/// The command that compiles the text.
-fn compile(alloc: Global, text: &str) -> Result<Command, AllocError> {
-    let expr = String::from_str(alloc, text)?;
-    let link = Link::Ether;
-    Ok(Command::Compile(Compile { expr, link }))
+/// The bits of a code that say its class.
+pub const CLASS: u16 = 7;
+
+/// The tree of a text.
+pub fn checked<A: Allocator + Clone>(alloc: &A, text: &str) -> Result<Checked<A>, ExprFault> {
+    let tokens = lex(alloc.clone()?, text)?;
+    let tree = parse(alloc.clone()?, &tokens)?;
+    check(resolve(tree)?)
 }
 
 /// The instructions of the listing that a run of `compile` writes.
 pub fn compiled(alloc: Global, text: &str) -> Result<Vec<Insn>, Fail> {
-    let command = compile(alloc, text)?;
-    let mut names = Vec::new(alloc);
-    names.push(String::from_str(alloc, "out")?)?;
+    let expr = String::from_str(alloc, text)?;
+    let link = Link::Ether;
+    let command = Command::Compile(Compile { expr, link });
+    let names = words_of(alloc, "out")?;
     let inputs: Vec<MemInput<'_>> = Vec::new(alloc);
-    let mut listing = vec![in alloc; 0u8; ROOM]?;
+    let mut listing = vec![in alloc; 0u8; 30_000]?;
     let (out, err) = (MemOutput::new(&mut listing), MemOutput::new(&mut []));
     if !command.is_proper(inputs.len()) {
         return Err(Fail::from("the command may not be run"));
@@ -33,4 +40,31 @@ pub fn compiled(alloc: Global, text: &str) -> Result<Vec<Insn>, Fail> {
         return Err(Fail::from("no listing"));
     }
     Ok(read_listing(alloc, out.written())?)
+}
+
+/// The instructions of a text, four numbers each, with `; ` between them. A word means an
+/// instruction that many have: `type` loads the type of an Ethernet frame, `protocol` the protocol
+/// of an IPv4 packet, and `yes` and `no` return.
+pub fn code_of(alloc: Global, text: &str) -> Result<Vec<Insn>, Fail> {
+    let mut listing = format!(in alloc; "{}\n", text.split("; ").count())?;
+    for insn in text.split("; ") {
+        listing.push_str(match insn {
+            "type" => "40 0 0 12",
+            "protocol" => "48 0 0 23",
+            "yes" => "6 0 0 262144",
+            "no" => "6 0 0 0",
+            _ => insn,
+        })?;
+        listing.push_str("\n")?;
+    }
+    Ok(read_listing(alloc, listing.as_bytes())?)
+}
+
+/// How many instructions have this code.
+pub fn count_of(insns: &[Insn], code: u16) -> usize {
+    let mut count = 0usize;
+    for insn in insns {
+        count = count.saturating_add(usize::from(insn.code == code));
+    }
+    count
 }

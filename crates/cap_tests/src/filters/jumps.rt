@@ -1,15 +1,9 @@
 //! The place where the program of an expression has jumps (`ja`).
 
-use crate::filters::compilation::compiled;
+use crate::filters::compilation::{CLASS, JUMP, compiled, count_of};
 use flt_bpf::Insn;
 use std::alloc::Global;
 use std::test::Fail;
-
-/// The code of `ja`.
-const JUMP: u16 = 5;
-
-/// The bits of a code that say its class, and the class of jumps.
-const CLASS: u16 = 7;
 
 /// The farthest that a conditional jump reaches by its own offsets.
 const FARTHEST: usize = 255;
@@ -40,17 +34,6 @@ fn jumps_are_needed(insns: &[Insn]) -> bool {
     true
 }
 
-/// How many instructions are `ja`.
-fn count_jumps(insns: &[Insn]) -> usize {
-    let mut count = 0usize;
-    for insn in insns {
-        if insn.code == JUMP {
-            count = count.saturating_add(1);
-        }
-    }
-    count
-}
-
 /// How many instructions a program has at most: 2, `for_a_test` for each test, and 6 for each node.
 fn bound(for_a_test: usize, tests: usize, nodes: usize) -> usize {
     let of_tests = tests.saturating_mul(for_a_test);
@@ -68,7 +51,7 @@ fn meets_bounds(insns: &[Insn], times: usize) -> bool {
     let short = bound(4, tests, nodes);
     jumps_are_needed(insns)
         && insns.len() <= bound(6, tests, nodes)
-        && (short > 256 || count_jumps(insns) == 0 && insns.len() <= short)
+        && (short > 256 || count_of(insns, JUMP) == 0 && insns.len() <= short)
 }
 
 /// `ip or len = 1` and so on, or with another number of the packet instead of the length, each time
@@ -82,7 +65,7 @@ fn longest_has(alloc: Global, number: &str, step: usize) -> Result<usize, Fail> 
         if !meets_bounds(&insns, times) {
             return Err(Fail::new(format_args!("{times} times")));
         }
-        jumps = count_jumps(&insns);
+        jumps = count_of(&insns, JUMP);
         let value = step.saturating_mul(times).saturating_add(1);
         text.push_str(&format!(in alloc; " or {number} = {value}")?)?;
     }

@@ -1,15 +1,9 @@
 //! How programs of lists look for a number.
 
-use crate::filters::compilation::compiled;
+use crate::filters::compilation::{CLASS, JUMP, compiled, count_of};
 use flt_bpf::Insn;
 use std::alloc::{AllocError, Global};
 use std::test::Fail;
-
-/// The code of `ja`.
-const JUMP: u16 = 5;
-
-/// The bits of a code that say its class.
-const CLASS: u16 = 7;
 
 /// The class of returns.
 const RETURN: u16 = 6;
@@ -42,17 +36,6 @@ fn longest_run(alloc: Global, insns: &[Insn]) -> Result<usize, AllocError> {
     Ok(longest_after(&longest, 0))
 }
 
-/// How many instructions load four bytes.
-fn count_loads(insns: &[Insn]) -> usize {
-    let mut count = 0usize;
-    for insn in insns {
-        if insn.code == LOAD_WORD {
-            count = count.saturating_add(1);
-        }
-    }
-    count
-}
-
 /// Sixteen ports are searched by halves: one after another they take 26 instructions.
 #[test]
 fn numbers_are_searched(rt: HostRuntime) -> Result<(), Fail> {
@@ -69,6 +52,6 @@ fn fields_are_gathered(rt: HostRuntime) -> Result<(), Fail> {
     let hosts = "ip host 192.0.2.1 or 192.0.2.3 or 192.0.2.5 or 192.0.2.7 or 192.0.2.9 \
                  or 192.0.2.11 or 192.0.2.13 or 192.0.2.15 or 192.0.2.17 or 192.0.2.19";
     let insns = compiled(rt.alloc(), hosts)?;
-    assert!(rt; count_loads(&insns) <= 3);
+    assert!(rt; count_of(&insns, LOAD_WORD) <= 3);
     Ok(())
 }

@@ -1,9 +1,5 @@
-//! A folder of a test's own, and words over its files.
-ghost use Rattle.std.specs.Prelude.{◌≡◌, IfSome, true};
-ghost use Rattle.capkit.specs.Line.{is_ready};
+//! A folder of a test's own.
 
-use capkit::{Line, command_of};
-use std::alloc::{AllocError, Global};
 use std::{env, fs, io, process};
 
 /// A capture of two packets, of link types IPv4 and ARP, 14 bytes each.
@@ -33,21 +29,4 @@ pub fn enter(rt: &HostRuntime, test: &str) -> io::Result<()> {
 pub fn leave(rt: &HostRuntime) -> io::Result<()> {
     let folder = env::current_dir(rt)?;
     fs::remove_dir_all(rt, folder.as_str())
-}
-
-/// The words of a line, which blanks part.
-pub fn words_of(alloc: Global, line: &str) -> Result<Vec<String>, AllocError> {
-    let mut words = Vec::new(alloc);
-    for word in line.split_whitespace() {
-        words.push(String::from_str(alloc, word)?)?;
-    }
-    Ok(words)
-}
-
-/// What these words ask for, if they ask for something.
-pub fn line_of(alloc: Global, words: &str) -> Option<Line>
-    ensures { IfSome result (λ line. is_ready line ≡ true) }
-{
-    let words = words_of(alloc, words).ok()?;
-    command_of(alloc, words).ok()
 }

@@ -1,28 +1,15 @@
 //! Files that are known again under other names.
 
-use super::folder::{CAPTURE, enter, leave, line_of, words_of};
+use super::folder::{CAPTURE, enter, leave};
+use crate::words::{line_of, words_of};
 use capkit::Usage;
 use capkit_host::files::{Identify, Identity, is_plain};
 use capkit_host::overwrites::overwrites_input;
 use capkit_host::waiting::may_wait;
-use capkit_host::words;
-use std::alloc::Global;
+use capkit_host::words::line_of_words;
+use std::fs;
 use std::os::unix::fs::symlink;
-use std::{fs, io};
-
-/// Whether the output of these words is a file that they read too. None if they aren't a line.
-fn overwrites(alloc: Global, files: &impl Identify, words: &str) -> Option<bool> {
-    let line = line_of(alloc, words)?;
-    Some(overwrites_input(files, &line))
-}
-
-/// Whether the program refuses the words since a name is used twice.
-fn is_used_twice(rt: &HostRuntime, words: &str) -> bool {
-    match words_of(rt.alloc(), words) {
-        Ok(words) => matches!(words::line_of_words(rt, words), Err(Usage::NameUsedTwice)),
-        Err(_) => false,
-    }
-}
+use std::test::Fail;
 
 /// Words, and whether their output is a file that they read too.
 const FOLDER: [(&str, bool); 16] = [
@@ -45,28 +32,23 @@ const FOLDER: [(&str, bool); 16] = [
     ("edit - ./-", false),
 ];
 
-/// Gives the file `in` a link and a second name, and puts others next to it.
-fn enter_with_links(rt: &HostRuntime) -> io::Result<()> {
-    enter(rt, "known")?;
-    symlink(rt, "in", "link")?;
-    fs::hard_link(rt, "in", "second")?;
-    fs::write(rt, "other", &CAPTURE)?;
-    fs::write(rt, "-", &CAPTURE)
-}
-
 /// A file is known again through a path that goes round, a link and a second name; others and new
-/// ones aren't inputs.
+/// ones aren't inputs. Words that read their output are refused.
 #[test]
-fn one_file_under_two_names_is_known(rt: HostRuntime) {
-    assert!(rt; enter_with_links(&rt).is_ok());
+fn one_file_under_two_names_is_known(rt: HostRuntime) -> Result<(), Fail> {
+    enter(&rt, "known")?;
+    symlink(&rt, "in", "link")?;
+    fs::hard_link(&rt, "in", "second")?;
+    fs::write(&rt, "other", &CAPTURE)?;
+    fs::write(&rt, "-", &CAPTURE)?;
     for (words, wanted) in FOLDER {
-        assert!(rt;
-            overwrites(rt.alloc(), &rt, words) == Some(wanted),
-            "{words}"
-        );
-        assert!(rt; is_used_twice(&rt, words) == wanted, "{words}");
+        let line = line_of(rt.alloc(), words)?;
+        assert!(rt; overwrites_input(&rt, &line) == wanted, "{words}");
+        let line = line_of_words(&rt, words_of(rt.alloc(), words)?);
+        let is_refused = matches!(line, Err(Usage::NameUsedTwice));
+        assert!(rt; is_refused == wanted, "{words}");
     }
-    assert!(rt; leave(&rt).is_ok());
+    Ok(leave(&rt)?)
 }
 
 /// A machine on which these two paths lead to one file, and no other path leads anywhere.
@@ -98,22 +80,15 @@ const REDIRECTED: [(&str, bool); 6] = [
 /// The file that standard output is redirected to is looked for among the inputs and the listing,
 /// and that of standard input among the outputs.
 #[test]
-fn standard_output_may_be_an_input(rt: HostRuntime) {
+fn standard_output_may_be_an_input(rt: HostRuntime) -> Result<(), Fail> {
     for (words, wanted) in REDIRECTED {
+        let line = line_of(rt.alloc(), words)?;
         let files = OneFile("/dev/stdout", "in");
-        assert!(rt;
-            overwrites(rt.alloc(), &files, words) == Some(wanted),
-            "{words}"
-        );
+        assert!(rt; overwrites_input(&files, &line) == wanted, "{words}");
     }
-    let files = OneFile("/dev/stdin", "out");
-    assert!(rt; overwrites(rt.alloc(), &files, "edit - out") == Some(true));
-}
-
-/// Whether a read of some input may wait. None if memory ran out.
-fn waits(alloc: Global, files: &impl Identify, inputs: &str) -> Option<bool> {
-    let names = words_of(alloc, inputs).ok()?;
-    Some(may_wait(files, names.as_slice()))
+    let line = line_of(rt.alloc(), "edit - out")?;
+    assert!(rt; overwrites_input(&OneFile("/dev/stdin", "out"), &line));
+    Ok(())
 }
 
 /// Inputs, and whether a read of some of them may wait.
@@ -129,37 +104,32 @@ const WAITED: [(&str, bool); 6] = [
 /// Inputs that aren't plain files may be waited for: devices, and what isn't there. Standard input
 /// goes by the file that it is.
 #[test]
-fn devices_are_waited_for(rt: HostRuntime) {
-    assert!(rt; enter(&rt, "waited").is_ok());
+fn devices_are_waited_for(rt: HostRuntime) -> Result<(), Fail> {
+    enter(&rt, "waited")?;
     assert!(rt; is_plain(&rt, "in") && !is_plain(&rt, "."));
     for (inputs, wanted) in WAITED {
-        assert!(rt; waits(rt.alloc(), &rt, inputs) == Some(wanted), "{inputs}");
+        let names = words_of(rt.alloc(), inputs)?;
+        assert!(rt; may_wait(&rt, names.as_slice()) == wanted, "{inputs}");
     }
     for (file, wanted) in [("/dev/stdin", false), ("/dev/stdout", true), ("-", true)] {
+        let names = words_of(rt.alloc(), "-")?;
         assert!(rt;
-            waits(rt.alloc(), &OneFile(file, ""), "-") == Some(wanted),
+            may_wait(&OneFile(file, ""), names.as_slice()) == wanted,
             "{file}"
         );
     }
-    assert!(rt; leave(&rt).is_ok());
+    Ok(leave(&rt)?)
 }
 
-/// Whether the devices of these files are two, and a file of the other's device with the inode of
-/// the first would be a third. None if one isn't a plain file.
-fn are_told_apart(rt: &HostRuntime, name: &str, other: &str) -> Option<bool> {
-    let file = rt.identity_of(name)?;
-    let other = rt.identity_of(other)?;
-    let twin = Identity {
-        device: other.device,
-        inode: file.inode,
-    };
-    Some(file.device != other.device && file != twin)
-}
-
-/// Files of two file systems are two, whatever their numbers there.
+/// Files of two file systems are two, whatever their numbers there: one of the other's device with
+/// the inode of the first would be a third.
 #[test]
-fn file_systems_are_told_apart(rt: HostRuntime) {
-    assert!(rt; enter(&rt, "systems").is_ok());
-    assert!(rt; are_told_apart(&rt, "in", "/proc/version") == Some(true));
-    assert!(rt; leave(&rt).is_ok());
+fn file_systems_are_told_apart(rt: HostRuntime) -> Result<(), Fail> {
+    enter(&rt, "systems")?;
+    let file = rt.identity_of("in").ok_or("no plain file")?;
+    let other = rt.identity_of("/proc/version").ok_or("no plain file")?;
+    let Identity { device, .. } = other;
+    let inode = file.inode;
+    assert!(rt; file.device != device && file != Identity { device, inode });
+    Ok(leave(&rt)?)
 }

@@ -1,5 +1,4 @@
 //! When outputs are written, flushed and found to fail.
-ghost use Rattle.std.specs.Prelude.{◌≤◌};
 
 use super::folder::{enter, leave};
 use cap_octet::{Output, StdOutput};
@@ -9,65 +8,53 @@ use capkit_host::stop::Stop;
 use capkit_host::streams::Created;
 use std::fs;
 use std::io::{self, BufWriter, Error, ErrorKind, IsTerminal, Write};
+use std::test::Fail;
 
 /// The buffer before the output of that name.
-fn target_of(rt: &HostRuntime, name: &str, may_wait: bool) -> Option<Target> {
-    let created = create_output(rt, name).ok()?;
-    buffer_output(rt, created, may_wait).ok()
+fn target_of(rt: &HostRuntime, name: &str, may_wait: bool) -> Result<Target, Fail> {
+    match create_output(rt, name) {
+        Ok(created) => match buffer_output(rt, created, may_wait) {
+            Ok(target) => Ok(target),
+            Err(_) => Err(Fail::from("no buffer")),
+        },
+        Err(_) => Err(Fail::from("not created")),
+    }
 }
 
 /// Whether this is the failure of a device that takes nothing.
-fn is_full(failure: Option<Error>) -> bool {
-    matches!(failure, Some(error) if error.kind() == ErrorKind::StorageFull)
-}
-
-/// Whether a run of this status writes what is buffered at its end, and says so if it can't.
-fn makes_last_write(rt: &HostRuntime, status: u8) -> io::Result<bool>
-    requires { status ≤ 2 }
-{
-    let messages = BufWriter::new(rt.alloc(), Vec::new(rt.alloc()))?;
-    let Some(mut target) = target_of(rt, "/dev/full", false) else {
-        return Ok(false);
-    };
-    let is_buffered = matches!(target.write(b"a"), Ok(1));
-    let (mut writer, _) = target.into_inner();
-    let is_written = is_full(flush_output(status, &mut writer).err());
-    let (out, err) = (StdOutput::new(writer), StdOutput::new(messages));
-    let ended = finish(rt.alloc(), status, out, err, "out");
-    Ok(is_buffered && is_written && matches!(ended, Err(Stop::WriteFailed("out"))))
+fn is_full(written: io::Result<()>) -> bool {
+    matches!(written, Err(error) if error.kind() == ErrorKind::StorageFull)
 }
 
 /// What is buffered at the end of a run is written, whatever its status; and if it can't be, the
 /// run says so.
 #[test]
-fn last_writes_are_made(rt: HostRuntime) {
+fn last_writes_are_made(rt: HostRuntime) -> Result<(), Fail> {
     for status in 0..3 {
-        assert!(rt;
-            matches!(makes_last_write(&rt, status), Ok(true)),
-            "{status}"
-        );
+        let mut target = target_of(&rt, "/dev/full", false)?;
+        assert!(rt; matches!(target.write(b"a"), Ok(1)));
+        let (mut writer, _) = target.into_inner();
+        assert!(rt; is_full(flush_output(status, &mut writer)), "{status}");
+        let messages = BufWriter::new(rt.alloc(), Vec::new(rt.alloc()))?;
+        let (out, err) = (StdOutput::new(writer), StdOutput::new(messages));
+        let ended = finish(rt.alloc(), status, out, err, "out");
+        assert!(rt; matches!(ended, Err(Stop::WriteFailed("out"))), "{status}");
     }
-}
-
-/// Whether an output is written before a read if one may wait, and else when it is flushed.
-fn is_written_in_time(rt: &HostRuntime, may_wait: bool) -> bool {
-    let Some(mut target) = target_of(rt, "/dev/full", may_wait) else {
-        return false;
-    };
-    let is_buffered = matches!(target.write(b"a"), Ok(1));
-    let is_awaited = target.is_awaited() == may_wait;
-    let is_failed = !target.release();
-    let (mut writer, cause) = target.into_inner();
-    let is_told = cause == Some(ErrorKind::StorageFull);
-    is_buffered && is_awaited && is_failed && is_told && is_full(writer.flush().err())
+    Ok(())
 }
 
 /// If a read may wait, an output is one that is written before each. What can't be written then
 /// is reported, and stays.
 #[test]
-fn failures_before_reads_are_told(rt: HostRuntime) {
-    assert!(rt; is_written_in_time(&rt, true));
-    assert!(rt; is_written_in_time(&rt, false));
+fn failures_before_reads_are_told(rt: HostRuntime) -> Result<(), Fail> {
+    for may_wait in [true, false] {
+        let mut target = target_of(&rt, "/dev/full", may_wait)?;
+        assert!(rt; matches!(target.write(b"a"), Ok(1)) && target.is_awaited() == may_wait);
+        assert!(rt; !target.release());
+        let (mut writer, cause) = target.into_inner();
+        assert!(rt; cause == Some(ErrorKind::StorageFull) && is_full(writer.flush()));
+    }
+    Ok(())
 }
 
 /// A stream that takes all, whose flush fails, and that is a terminal.
@@ -90,13 +77,6 @@ impl IsTerminal for Unflushed {
     }
 }
 
-/// Whether an output passes everything on to a stream.
-fn passes_on() -> bool {
-    let mut stream = Created::Stream(Unflushed);
-    let is_written = matches!(stream.write(b"a"), Ok(1));
-    is_written && is_full(stream.flush().err()) && stream.is_terminal()
-}
-
 /// An output, whether a read may wait, the room of its buffer, and whether it is awaited.
 type Buffer = (&'static str, bool, usize, bool);
 
@@ -107,27 +87,24 @@ const BUFFERS: [Buffer; 4] = [
     ("/dev/ptmx", true, 0, false),
 ];
 
-/// Whether an output has this buffer.
-fn has_buffer(rt: &HostRuntime, row: Buffer) -> bool {
-    let (name, may_wait, room, is_awaited) = row;
-    match target_of(rt, name, may_wait) {
-        Some(target) => {
-            target.is_awaited() == is_awaited && target.into_inner().0.capacity() == room
-        }
-        None => false,
-    }
-}
-
 /// A terminal gets each write at once, under a name too. `/dev/ptmx` is one if the machine has
-/// it.
+/// it. An output passes everything on to its stream.
 #[test]
-fn terminals_are_known(rt: HostRuntime) {
-    assert!(rt; passes_on());
-    assert!(rt; enter(&rt, "terminals").is_ok());
-    let is_without = matches!(fs::exists(&rt, "/dev/ptmx"), Ok(false));
-    for row in BUFFERS {
-        let is_absent = is_without && row.0 != "out";
-        assert!(rt; is_absent || has_buffer(&rt, row), "{} {}", row.0, row.1);
+fn terminals_are_known(rt: HostRuntime) -> Result<(), Fail> {
+    let mut stream = Created::Stream(Unflushed);
+    assert!(rt; matches!(stream.write(b"a"), Ok(1)) && is_full(stream.flush()));
+    assert!(rt; stream.is_terminal());
+    enter(&rt, "terminals")?;
+    let has_terminal = fs::exists(&rt, "/dev/ptmx")?;
+    for (name, may_wait, room, is_awaited) in BUFFERS {
+        if has_terminal || name == "out" {
+            let target = target_of(&rt, name, may_wait)?;
+            assert!(rt; target.is_awaited() == is_awaited, "{name} {may_wait}");
+            assert!(rt;
+                target.into_inner().0.capacity() == room,
+                "{name} {may_wait}"
+            );
+        }
     }
-    assert!(rt; leave(&rt).is_ok());
+    Ok(leave(&rt)?)
 }

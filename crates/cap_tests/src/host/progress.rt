@@ -1,16 +1,17 @@
 //! The line of progress.
 
-use super::folder::{CAPTURE, LISTING, enter, leave, line_of, words_of};
+use super::folder::{CAPTURE, LISTING, enter, leave};
 use super::streams::Streams;
+use crate::words::{line_of, words_of};
 use capkit::Line;
 use capkit_engine::Jobs;
 use capkit_host::progress::{
     Progress, can_write_over, is_in_foreground, progress_start, total_size,
 };
 use capkit_host::runner::run_command;
-use std::alloc::{AllocError, Global};
 use std::fs;
-use std::io::{self, IsTerminal};
+use std::io::IsTerminal;
+use std::test::Fail;
 use std::time::Instant;
 
 /// The bytes of a MiB.
@@ -30,26 +31,20 @@ const READS: [Read; 7] = [
     (false, 7 * MIB, 3, "\r\x1b[K7 MiB read, 2 MiB/s"),
 ];
 
-/// Whether a read shows its line, which is erased then.
-fn shows(alloc: Global, progress: &Progress<'_>, row: Read) -> bool {
-    let (_, bytes, seconds, line) = row;
-    let streams = Streams::new(alloc, None);
-    progress.count_at(&streams, bytes, seconds);
-    let is_shown = streams.have("", line);
-    let streams = Streams::new(alloc, None);
-    progress.erase(&streams);
-    let erasure = if line.is_empty() { "" } else { "\r\x1b[K" };
-    is_shown && streams.have("", erasure)
-}
-
 /// The line is shown from second 2 on, once a second, and erased in place.
 #[test]
 fn progress_is_shown_once_a_second(rt: HostRuntime) {
     let known = Progress::since(&rt, None, 209_715_200);
     let unknown = Progress::since(&rt, None, 0);
-    for row in READS {
-        let progress = if row.0 { &known } else { &unknown };
-        assert!(rt; shows(rt.alloc(), progress, row), "{}", row.3);
+    for (is_known, bytes, seconds, line) in READS {
+        let progress = if is_known { &known } else { &unknown };
+        let streams = Streams::new(rt.alloc(), None);
+        progress.count_at(&streams, bytes, seconds);
+        assert!(rt; streams.have("", line), "{line}");
+        let streams = Streams::new(rt.alloc(), None);
+        progress.erase(&streams);
+        let erasure = if line.is_empty() { "" } else { "\r\x1b[K" };
+        assert!(rt; streams.have("", erasure), "{line}");
     }
 }
 
@@ -60,13 +55,6 @@ const SIZES: [(&str, u64); 4] = [
     ("in /dev/null", 0),
     ("none in", 0),
 ];
-
-/// Whether inputs have this size, and progress over them is shown only on a terminal.
-fn has_size(rt: &HostRuntime, inputs: &str, size: u64) -> Result<bool, AllocError> {
-    let names = words_of(rt.alloc(), inputs)?;
-    let counts = Progress::new(rt, names.as_slice(), "new").is_counting();
-    Ok(total_size(rt, names.as_slice()) == size && (!counts || rt.stderr().is_terminal()))
-}
 
 /// Whether standard error is a terminal, its name, and whether a line can be written over on it.
 const TERMINALS: [(bool, Option<&str>, bool); 4] = [
@@ -99,10 +87,13 @@ fn the_foreground_is_known(rt: HostRuntime) {
 /// Progress is shown on a terminal that can be written over, if the output is a file, be it a
 /// new one. The size of all inputs is known if they are plain files.
 #[test]
-fn progress_is_of_plain_files(rt: HostRuntime) {
-    assert!(rt; enter(&rt, "progress").is_ok());
+fn progress_is_of_plain_files(rt: HostRuntime) -> Result<(), Fail> {
+    enter(&rt, "progress")?;
     for (inputs, size) in SIZES {
-        assert!(rt; matches!(has_size(&rt, inputs, size), Ok(true)), "{inputs}");
+        let names = words_of(rt.alloc(), inputs)?;
+        assert!(rt; total_size(&rt, names.as_slice()) == size, "{inputs}");
+        let counts = Progress::new(&rt, names.as_slice(), "new").is_counting();
+        assert!(rt; !counts || rt.stderr().is_terminal(), "{inputs}");
     }
     for (output, wanted) in [
         ("-", false),
@@ -110,59 +101,43 @@ fn progress_is_of_plain_files(rt: HostRuntime) {
         ("/none", true),
         ("in", true),
     ] {
-        assert!(rt;
-            progress_start(&rt, output, true).is_some() == wanted,
-            "{output}"
-        );
+        let start = progress_start(&rt, output, true);
+        assert!(rt; start.is_some() == wanted, "{output}");
         assert!(rt; progress_start(&rt, output, false).is_none(), "{output}");
     }
     for (is_terminal, name, wanted) in TERMINALS {
         assert!(rt; can_write_over(is_terminal, name) == wanted, "{name:?}");
     }
-    assert!(rt; leave(&rt).is_ok());
+    Ok(leave(&rt)?)
 }
 
-/// Writes a capture of more than twice the bytes that are read at once.
-fn write_long(rt: &HostRuntime) -> io::Result<()> {
-    let mut bytes = Vec::new(rt.alloc());
-    bytes.extend_from_slice(&CAPTURE[..24])?;
+/// A run counts what it reads, of more than twice the bytes that are read at once, writes out what
+/// is waited for before it reads on, and erases the line that stands. What can't be written ends it
+/// there.
+#[test]
+fn runs_count_up_to_failed_writes(rt: HostRuntime) -> Result<(), Fail> {
+    enter(&rt, "counted")?;
+    let mut bytes = Vec::from_slice(rt.alloc(), &CAPTURE[..24])?;
     for _ in 0..5000 {
         bytes.extend_from_slice(&CAPTURE[24..54])?;
     }
-    fs::write(rt, "long", &bytes)
-}
-
-/// Whether a run counts what it reads, writes out what is waited for before it reads on, and erases
-/// the line that stands. What can't be written ends it there.
-fn counts_up_to_failed_write(rt: &HostRuntime) -> bool {
+    fs::write(&rt, "long", &bytes)?;
     let words = "merge -a -F pcap -w - long /dev/null";
-    let (Ok(()), Some(line)) = (write_long(rt), line_of(rt.alloc(), words)) else {
-        return false;
-    };
     let Line {
         command,
         inputs,
         output: _,
         code: _,
-    } = line;
-    let progress = Progress::since(rt, Instant::now(rt).ok(), 655_360);
+    } = line_of(rt.alloc(), words)?;
+    let progress = Progress::since(&rt, Instant::now(&rt).ok(), 655_360);
     let streams = Streams::new(rt.alloc(), None);
     progress.count_at(&streams, 0, 2);
-    let is_begun = streams.have("", "\r\x1b[K0% read, 0 MiB/s");
-    let is_fault = run_command::<Jobs>(rt, command, inputs, "/dev/full", &progress) == 1;
+    assert!(rt; streams.have("", "\r\x1b[K0% read, 0 MiB/s"));
+    assert!(rt; run_command::<Jobs>(&rt, command, inputs, "/dev/full", &progress) == 1);
     let streams = Streams::new(rt.alloc(), None);
     progress.erase(&streams);
-    let is_erased = streams.have("", "");
+    assert!(rt; streams.have("", ""));
     progress.count_at(&streams, 0, 3);
-    let is_counted = streams.have("", "\r\x1b[K10% read, 0 MiB/s");
-    is_begun && is_fault && is_erased && is_counted
-}
-
-/// A run counts what it reads, writes out what is waited for before it reads on, and erases the
-/// line that stands.
-#[test]
-fn runs_count_up_to_failed_writes(rt: HostRuntime) {
-    assert!(rt; enter(&rt, "counted").is_ok());
-    assert!(rt; counts_up_to_failed_write(&rt));
-    assert!(rt; leave(&rt).is_ok());
+    assert!(rt; streams.have("", "\r\x1b[K10% read, 0 MiB/s"));
+    Ok(leave(&rt)?)
 }

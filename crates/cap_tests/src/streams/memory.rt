@@ -1,5 +1,6 @@
 //! How often a source and a sink take memory.
-use crate::streams::captures::{HEADER, capture, joined, packet, read_on, returns};
+use crate::captures::HEADER;
+use crate::streams::captures::{capture, packet, read_on};
 use cap_io::{Sink, Source};
 use cap_octet::{Fault, Format, MemInput, MemOutput};
 use cap_trial::Trial;
@@ -15,7 +16,7 @@ fn growths(rt: HostRuntime) -> Result<(), Fail> {
     assert!(rt; trial.growths() == 0);
     assert!(rt; source.advance() == Ok(true));
     assert!(rt; trial.growths() == 1, "the first packet");
-    assert!(rt; read_on(&mut source) == returns(6, Ok(false), 101_380));
+    assert!(rt; read_on(&mut source) == (6, Ok(false), 101_380));
     assert!(rt; trial.growths() == 3);
     Ok(())
 }
@@ -24,20 +25,17 @@ fn growths(rt: HostRuntime) -> Result<(), Fail> {
 fn is_refused_for_free(alloc: Global, bytes: &[u8], offset: u64) -> bool {
     let trial = Trial::new(alloc);
     let mut source = Source::new(&trial, MemInput::new(bytes));
-    let seen = read_on(&mut source);
-    seen == returns(0, Err(Fault::TooLong), offset) && trial.growths() == 0
+    read_on(&mut source) == (0, Err(Fault::TooLong), offset) && trial.growths() == 0
 }
 
 /// A captured length over the limit, or a total length, asks for no memory.
 #[test]
 fn no_growth_for_what_is_too_long(rt: HostRuntime) -> Result<(), Fail> {
-    let record = [0, 0, 0, 0, 0, 0, 0, 0, 0xff, 0xff, 0xff, 0xff, 0, 0, 0, 0];
-    let bytes = joined(rt.alloc(), &[&HEADER, &record])?;
+    let mut bytes = Vec::from_slice(rt.alloc(), HEADER)?;
+    bytes.extend_from_slice(b"\0\0\0\0\0\0\0\0\xff\xff\xff\xff\0\0\0\0")?;
     assert!(rt; is_refused_for_free(rt.alloc(), &bytes, 24));
-    let block = [
-        0x0a, 0x0d, 0x0d, 0x0a, 0xfc, 0xff, 0xff, 0xff, 0x4d, 0x3c, 0x2b, 0x1a,
-    ];
-    assert!(rt; is_refused_for_free(rt.alloc(), &block, 0));
+    let block = b"\n\r\r\n\xfc\xff\xff\xffM<+\x1a";
+    assert!(rt; is_refused_for_free(rt.alloc(), block, 0));
     Ok(())
 }
 

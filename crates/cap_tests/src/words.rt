@@ -1,0 +1,37 @@
+//! Words of command lines, and tables of rows.
+ghost use Rattle.std.specs.Prelude.{◌≡◌, IfOk, true};
+ghost use Rattle.capkit.specs.Line.{is_ready};
+
+use capkit::{Line, command_of};
+use std::alloc::{AllocError, Global};
+use std::test::Fail;
+
+/// The words of a line, which blanks part.
+pub fn words_of(alloc: Global, line: &str) -> Result<Vec<String>, AllocError> {
+    let mut words = Vec::new(alloc);
+    for word in line.split_whitespace() {
+        words.push(String::from_str(alloc, word)?)?;
+    }
+    Ok(words)
+}
+
+/// What these words ask for. An error is that they ask for nothing.
+pub fn line_of(alloc: Global, words: &str) -> Result<Line, Fail>
+    ensures { IfOk result (λ line. is_ready line ≡ true) }
+{
+    let words = words_of(alloc, words)?;
+    match command_of(alloc, words) {
+        Ok(line) => Ok(line),
+        Err(_) => Err(Fail::from("no line")),
+    }
+}
+
+/// The fields of a table's row, which ` | ` parts; the last one has the rest. Those that it lacks are
+/// empty.
+pub fn fields<const N: usize>(row: &'static str) -> [&'static str; N] {
+    let mut fields = [""; N];
+    for (field, text) in fields.iter_mut().zip(row.splitn(N, " | ")) {
+        *field = text;
+    }
+    fields
+}
