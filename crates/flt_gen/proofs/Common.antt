@@ -41,7 +41,7 @@ pub use Rattle.flt_bpf.specs.Check.{fault_if_known, operation_fault, unless, end
 pub use Rattle.flt_bpf.specs.Layout.{is_branch, JUMP, HasNoJump, IsShort, JumpsAreNeeded}
 pub use Rattle.flt_bpf.proofs.Suffix.{answer_drop, valid_if_short, faultless_drop, ends_drop, machine_answers}
 pub use Rattle.flt_gen.specs.Numbers.{accessor_tests, width_of, base, number, result_of, accessors}
-pub use Rattle.flt_gen.specs.inside.Code.{Block, block, emit_all, low_of, plain, constant, computation, takes_constant, constant_operand, branch_insn, emit_branch, emit_comparison, emit_field, emit_mask, emit_accessor, emit_number, at_top, emit_interval, emit_chain, are_few, MOST_HALVINGS, emit_elementary, emit_formula, alu_operation, emit_base, emit_transport, emit_operands, emit_test, emit_relation, emit_masked, emit_side, emit_others, emit_few, emit_index, emit_at_index, emit_second, emit_at_sides, emit_many, fewest_at_index, are_at_index, emit_among, emit_right}
+pub use Rattle.flt_gen.specs.inside.Code.{accessor_offset, emit_indexed, Block, block, emit_all, low_of, plain, constant, computation, takes_constant, constant_operand, branch_insn, emit_branch, emit_comparison, emit_field, emit_mask, emit_accessor, emit_number, at_top, emit_interval, emit_chain, are_few, MOST_HALVINGS, emit_elementary, emit_formula, alu_operation, emit_base, emit_transport, emit_operands, emit_test, emit_relation, emit_masked, emit_side, emit_others, emit_few, emit_index, emit_at_index, emit_second, emit_at_sides, emit_many, fewest_at_index, are_at_index, emit_among, emit_right}
 pub use Rattle.flt_gen.specs.declared.elementary.Interval.{Interval}
 pub use Rattle.flt_gen.specs.Formula.{Formula, Single, Compare, Both, Either, Except, Split, Sought, is_in, is_within, no_interval, all_of, sides, Numbers, no_numbers, both, either, negation, reads, relation_reads, guarded_formula, checked_formula}
 pub use Rattle.flt_gen.specs.declared.elementary.FrameKind.{FrameKind}

@@ -1,6 +1,6 @@
 -- The code of a formula has no fault and no jump, and no more instructions and branches than are
 -- counted.
-use Rattle.flt_gen.proofs.Common.{alu_operation, ◌≡◌, ℕ, zero, suc, ◌+◌, ◌-◌, ◌*◌, ◌/◌, ◌<◌, ◌≤◌, List, [], ◌∷◌, length, take, drop, Bool, true, false, cond, Option, Some, None, refl, sym, ap, ◌∙◌, arith, length-drop, length-take, ◌≢◌, nat_lt, nat_le, ◌==◌, not, ◌&&◌, if◌then◌else◌, count_by, nat_tests, sum_by-cons, All-cons, Insn, Operand, Constant, IndexRegister, Operation, LoadAbsolute, LoadIndirect, Load, LoadHeaderLength, Store, Compute, Negate, Jump, JumpIf, CopyToIndex, Word, Accumulator, Index, Immediate, Memory, Length, Test, Width, fault_if_known, operation_fault, unless, ends_in_return, IsValidUnlessLong, code_of, is_branch, JUMP, HasNoJump, Comparison, Equal, NotEqual, Less, AtMost, Greater, AtLeast, Operator, Protocol, Tcp, Udp, Icmp, number_words, number_size, NumberTree, literal, len, named, load, negated, applied, Link, network_offset, Interval, Elementary, Outcome, Field, Offset, Fixed, AfterHeader, width_of, Formula, Single, Compare, Both, Either, Except, Split, Sought, Numbers, Sides, Direction, Source, Destination, And, Or, max, subst, plain, computation, takes_constant, constant, constant_operand, branch_insn, emit_branch, emit_comparison, emit_field, emit_mask, emit_accessor, emit_number, Block, at_top, emit_interval, emit_chain, are_few, low_of, MOST_HALVINGS, emit_elementary, emit_formula, emit_masked, emit_side, emit_others, emit_few, emit_index, emit_at_index, emit_many, fewest_at_index, are_at_index, emit_among, words, nodes, first_ends, sought_tests, tests}
+use Rattle.flt_gen.proofs.Common.{accessor_offset, alu_operation, ◌≡◌, ℕ, zero, suc, ◌+◌, ◌-◌, ◌*◌, ◌/◌, ◌<◌, ◌≤◌, List, [], ◌∷◌, length, take, drop, Bool, true, false, cond, Option, Some, None, refl, sym, ap, ◌∙◌, arith, length-drop, length-take, ◌≢◌, nat_lt, nat_le, ◌==◌, not, ◌&&◌, if◌then◌else◌, count_by, nat_tests, sum_by-cons, All-cons, Insn, Operand, Constant, IndexRegister, Operation, LoadAbsolute, LoadIndirect, Load, LoadHeaderLength, Store, Compute, Negate, Jump, JumpIf, CopyToIndex, Word, Accumulator, Index, Immediate, Memory, Length, Test, Width, fault_if_known, operation_fault, unless, ends_in_return, IsValidUnlessLong, code_of, is_branch, JUMP, HasNoJump, Comparison, Equal, NotEqual, Less, AtMost, Greater, AtLeast, Operator, Protocol, Tcp, Udp, Icmp, number_words, number_size, NumberTree, literal, len, named, load, negated, applied, Link, network_offset, Interval, Elementary, Outcome, Field, Offset, Fixed, AfterHeader, width_of, Formula, Single, Compare, Both, Either, Except, Split, Sought, Numbers, Sides, Direction, Source, Destination, And, Or, max, subst, plain, computation, takes_constant, constant, constant_operand, branch_insn, emit_branch, emit_comparison, emit_field, emit_mask, emit_accessor, emit_number, Block, at_top, emit_interval, emit_chain, are_few, low_of, MOST_HALVINGS, emit_elementary, emit_formula, emit_masked, emit_side, emit_others, emit_few, emit_index, emit_at_index, emit_many, fewest_at_index, are_at_index, emit_among, words, nodes, first_ends, sought_tests, tests}
 use Rattle.flt_ast.specs.declared.qualifiers.Direction.TheVariants as direction
 use Rattle.flt_bpf.specs.declared.fault.CheckFault.{CheckFault}
 use Rattle.std.specs.Option.{is_none}
@@ -13,7 +13,7 @@ use Rattle.flt_gen.specs.inside.Code.{emit_search}
 use Rattle.flt_gen.proofs.Ascending.{if_case, Searchable, Reached, Ready, Searches, length_without, ends_few as first_few}
 use Rattle.flt_gen.proofs.Codes.{code_is}
 use Rattle.flt_gen.proofs.Numbers.{operand_is}
-use Rattle.flt_gen.proofs.Tails.{by_right}
+use Rattle.flt_gen.proofs.Tails.{by_right, by_index}
 
 abbrev pub branches : List Insn → ℕ
 branches c = count_by (λ i. is_branch (operation_of i.code)) c
@@ -169,8 +169,10 @@ number_grows link (named k) slot few g = grows_more _ _ (omega arith) (omega ari
 number_grows link len slot few g = grows_more _ _ (omega arith) (omega arith) (grows_put (Load Accumulator Length) 0 refl refl g)
 number_grows link (negated a) slot few g =
     grows_more _ _ (omega arith) (omega arith) (number_grows link a slot few (grows_put Negate 0 refl refl g))
-number_grows link (load protocol size i) slot few g =
-    grows_more _ _ (omega arith) (omega arith) (number_grows link i slot few (accessor_grows link protocol (width_of size) g))
+number_grows link (load protocol size i) slot {c = c} {d = d} {m = m} {w = w} few g =
+    by_index (λ b. Grows c b (m + 6 * number_size (load protocol size i)) (w + 6 * number_size (load protocol size i))) (constant i) _ _
+    (λ k is. grows_more _ _ (omega arith) (omega arith) (field_grows (accessor_offset link protocol k) (width_of size) g))
+    (grows_more _ _ (omega arith) (omega arith) (number_grows link i slot few (accessor_grows link protocol (width_of size) g)))
 number_grows link (applied operator l r) slot {c = c} {d = d} {m = m} {w = w} few g =
     grows_more _ _ (omega arith) (omega arith)
     (number_grows link l slot (omega arith)

@@ -1,9 +1,9 @@
 -- What the code of arithmetic does.
-use Rattle.flt_gen.proofs.Common.{◌≡◌, ℕ, ◌+◌, ◌-◌, ◌%◌, ◌^◌, ◌<◌, ◌≤◌, List, ◌∷◌, length, Bool, true, false, Option, Some, None, refl, sym, ap, ap₂, ◌∙◌, subst, arith, slice_get, slice_set, nat_lt, if◌then◌else◌, option_map, mod-add-mod, nat_tests, get_or-set_same, get_or-set_other, Insn, State, Accumulator, Index, Width, Byte, Operand, Constant, IndexRegister, Goes, Lost, field, compute, operand_value, into, word_into, header_length, Operator, Protocol, Ether, Tcp, Udp, Icmp, NumberTree, literal, len, named, load, negated, applied, Link, with, network_offset, width_of, base, result_of, number, number_words, plain, alu_operation, computation, takes_constant, constant, constant_operand, emit_base, emit_transport, emit_accessor, emit_operands, emit_number, answer_of, answer_after, LoadIndirect, Load, LoadHeaderLength, Store, Negate, CopyToIndex, Immediate, Memory, Length}
+use Rattle.flt_gen.proofs.Common.{LoadAbsolute, accessor_offset, emit_field, ◌≡◌, ℕ, ◌+◌, ◌-◌, ◌%◌, ◌^◌, ◌<◌, ◌≤◌, List, ◌∷◌, length, Bool, true, false, Option, Some, None, refl, sym, ap, ap₂, ◌∙◌, subst, arith, slice_get, slice_set, nat_lt, if◌then◌else◌, option_map, mod-add-mod, nat_tests, get_or-set_same, get_or-set_other, Insn, State, Accumulator, Index, Width, Byte, Operand, Constant, IndexRegister, Goes, Lost, field, compute, operand_value, into, word_into, header_length, Operator, Protocol, Ether, Tcp, Udp, Icmp, NumberTree, literal, len, named, load, negated, applied, Link, with, network_offset, width_of, base, result_of, number, number_words, plain, alu_operation, computation, takes_constant, constant, constant_operand, emit_base, emit_transport, emit_accessor, emit_operands, emit_number, answer_of, answer_after, LoadIndirect, Load, LoadHeaderLength, Store, Negate, CopyToIndex, Immediate, Memory, Length}
 use Rattle.std.proofs.Math.ListN.{length-set}
 use Rattle.std.proofs.lemmas.Option.{slice_get-get_or}
 use Rattle.flt_words.specs.declared.token.Operator.TheVariants.{Add}
-use Rattle.flt_gen.proofs.Tails.{by_right}
+use Rattle.flt_gen.proofs.Tails.{by_right, by_index}
 use Rattle.flt_gen.proofs.Codes.{run_plain}
 
 get_set_same : (xs : List ℕ) (i v : ℕ) → i < length xs → slice_get (slice_set xs i v) i ≡ Some v
@@ -122,6 +122,33 @@ module _ (p : List ℕ) (n : ℕ) where
   accessor_runs link Icmp w c slot v s t f k e h = transport_runs link w c slot v s t f k e h _ refl
   accessor_runs link _ w c slot v s t f k e h = base_runs (network_offset link) w c slot v s t f k e h
 
+  -- the field of an accessor with a constant index
+  header_runs : (at j : ℕ) (w : Width) (c : List Insn) (slot v : ℕ) (s : State) (f : ℕ → ℕ) → Keeps slot s s → GoesOn c slot s f → (o : Option ℕ) → field p at Byte ≡ o → answer_of (plain LoadHeaderLength at ∷ plain (LoadIndirect w) ((at + v) % 2 ^ 32) ∷ c) p n 0 s ≡ Some (answer_for (with (with (with o (λ b. Some (header_length b))) (λ x. Some (x + at))) (λ k. field p ((k + v) % 2 ^ 32) w)) f)
+  header_runs at j w c slot v s f k h o is =
+      run_plain p n LoadHeaderLength at (plain (LoadIndirect w) ((at + v) % 2 ^ 32) ∷ c) s
+      ∙ ap (λ q. answer_after (answer_of (plain (LoadIndirect w) ((at + v) % 2 ^ 32) ∷ c) p n) (into Index (option_map header_length q) s)) is
+      ∙ by_header o
+    where
+      by_header : (q : Option ℕ) → answer_after (answer_of (plain (LoadIndirect w) ((at + v) % 2 ^ 32) ∷ c) p n) (into Index (option_map header_length q) s) ≡ Some (answer_for (with (with (with q (λ b. Some (header_length b))) (λ x. Some (x + at))) (λ k. field p ((k + v) % 2 ^ 32) w)) f)
+      by_header None = refl
+      by_header (Some b) =
+          let x = header_length b in
+          let u : State = record s { index = x } in
+          let place : (x + (at + v) % 2 ^ 32) % 2 ^ 32 ≡ (x + at + v) % 2 ^ 32 = omega arith in
+          run_plain p n (LoadIndirect w) ((at + v) % 2 ^ 32) c u
+          ∙ ap (λ k. answer_after (answer_of c p n) (into Accumulator (field p k w) u)) place
+          ∙ into_runs (field p ((x + at + v) % 2 ^ 32) w) c slot s u f (record { long = k.long; kept = k.kept }) h
+
+  fixed_runs : (at : ℕ) (w : Width) (c : List Insn) (slot : ℕ) (s : State) (f : ℕ → ℕ) → Keeps slot s s → GoesOn c slot s f → answer_of (plain (LoadAbsolute w) at ∷ c) p n 0 s ≡ Some (answer_for (field p at w) f)
+  fixed_runs at w c slot s f k h = run_plain p n (LoadAbsolute w) at c s ∙ into_runs (field p at w) c slot s s f k h
+
+  indexed_runs : (link : Link) (protocol : Protocol) (w : Width) (c : List Insn) (slot v : ℕ) (s : State) (f : ℕ → ℕ) → Keeps slot s s → GoesOn c slot s f → answer_of (emit_field (accessor_offset link protocol v) w c) p n 0 s ≡ Some (answer_for (with (base link protocol p) (λ at. field p ((at + v) % 2 ^ 32) w)) f)
+  indexed_runs link Ether w c slot v s f k h = fixed_runs _ w c slot s f k h
+  indexed_runs link Tcp w c slot v s f k h = header_runs (network_offset link) 0 w c slot v s f k h _ refl
+  indexed_runs link Udp w c slot v s f k h = header_runs (network_offset link) 0 w c slot v s f k h _ refl
+  indexed_runs link Icmp w c slot v s f k h = header_runs (network_offset link) 0 w c slot v s f k h _ refl
+  indexed_runs link _ w c slot v s f k h = fixed_runs _ w c slot s f k h
+
   -- the code of arithmetic has the answer for its value
   abbrev pub Runs : Link → NumberTree → ℕ → List Insn → Type 0
   Runs link e slot c = (s : State) (f : ℕ → ℕ) → length s.memory ≡ 16 → GoesOn c slot s f → answer_of (emit_number link e slot c) p n 0 s ≡ Some (answer_for (number link e p n) f)
@@ -149,8 +176,11 @@ module _ (p : List ℕ) (n : ℕ) where
   number_runs link (named k) slot c few = λ s f long h. run_plain p n (Load Accumulator Immediate) k c s ∙ h k (record s { accumulator = k }) (record { long = long; kept = λ j l. refl }) refl
   number_runs link len slot c few = λ s f long h. run_plain p n (Load Accumulator Length) 0 c s ∙ h n (record s { accumulator = n }) (record { long = long; kept = λ j l. refl }) refl
   number_runs link (load protocol size i) slot c few =
-      λ s f long h. number_runs link i slot (emit_accessor link protocol (width_of size) c) few s _ long (λ v t k e. accessor_runs link protocol (width_of size) c slot v s t f k e h)
-      ∙ ap Some (for_with (number link i p n) (λ v. with (base link protocol p) (λ at. field p ((at + v) % 2 ^ 32) (width_of size))) f)
+      λ s f long h. by_index (λ b. answer_of b p n 0 s ≡ Some (answer_for (number link (load protocol size i) p n) f)) (constant i) _ _
+      (λ k is. indexed_runs link protocol (width_of size) c slot k s f (record { long = long; kept = λ j l. refl }) h
+      ∙ ap (λ o. Some (answer_for (with o (λ v. with (base link protocol p) (λ at. field p ((at + v) % 2 ^ 32) (width_of size)))) f)) (sym (constant_is link i k is)))
+      (number_runs link i slot (emit_accessor link protocol (width_of size) c) few s _ long (λ v t k e. accessor_runs link protocol (width_of size) c slot v s t f k e h)
+      ∙ ap Some (for_with (number link i p n) (λ v. with (base link protocol p) (λ at. field p ((at + v) % 2 ^ 32) (width_of size))) f))
   number_runs link (negated a) slot c few =
       λ s f long h. number_runs link a slot (plain Negate 0 ∷ c) few s (λ v. f ((2 ^ 32 - v) % 2 ^ 32)) long
       (λ v t k e. run_plain p n Negate 0 c t ∙ h ((2 ^ 32 - v) % 2 ^ 32) (record t { accumulator = (2 ^ 32 - t.accumulator) % 2 ^ 32 }) (record { long = k.long; kept = k.kept }) (ap (λ m. (2 ^ 32 - m) % 2 ^ 32) e))

@@ -1,5 +1,5 @@
 -- Code that grew in front still stands at its end.
-use Rattle.flt_gen.proofs.Common.{◌≡◌, ℕ, zero, suc, ◌+◌, ◌-◌, ◌/◌, ◌≤◌, List, [], ◌∷◌, length, take, drop, Bool, true, false, Option, Some, None, refl, ap, ◌∙◌, arith, ◌==◌, Insn, Width, Test, Operand, Constant, IndexRegister, Comparison, Equal, Protocol, Tcp, Udp, Icmp, NumberTree, load, negated, applied, Link, Offset, Fixed, AfterHeader, Interval, Elementary, Outcome, Field, width_of, Formula, Single, Compare, Both, Either, Except, Split, Sought, Numbers, Sides, Direction, plain, emit_branch, emit_comparison, emit_field, emit_mask, emit_accessor, constant, constant_operand, emit_right, emit_number, emit_relation, Block, emit_interval, emit_chain, are_few, low_of, MOST_HALVINGS, emit_elementary, emit_formula, emit_masked, emit_side, emit_others, emit_few, emit_index, emit_at_index, emit_many, are_at_index, emit_among, Store, Accumulator, Source, Destination, And, Or}
+use Rattle.flt_gen.proofs.Common.{accessor_offset, emit_indexed, ◌≡◌, ℕ, zero, suc, ◌+◌, ◌-◌, ◌/◌, ◌≤◌, List, [], ◌∷◌, length, take, drop, Bool, true, false, Option, Some, None, refl, ap, ◌∙◌, arith, ◌==◌, Insn, Width, Test, Operand, Constant, IndexRegister, Comparison, Equal, Protocol, Tcp, Udp, Icmp, NumberTree, load, negated, applied, Link, Offset, Fixed, AfterHeader, Interval, Elementary, Outcome, Field, width_of, Formula, Single, Compare, Both, Either, Except, Split, Sought, Numbers, Sides, Direction, plain, emit_branch, emit_comparison, emit_field, emit_mask, emit_accessor, constant, constant_operand, emit_right, emit_number, emit_relation, Block, emit_interval, emit_chain, are_few, low_of, MOST_HALVINGS, emit_elementary, emit_formula, emit_masked, emit_side, emit_others, emit_few, emit_index, emit_at_index, emit_many, are_at_index, emit_among, Store, Accumulator, Source, Destination, And, Or}
 use Rattle.flt_ast.specs.declared.qualifiers.Direction.TheVariants as direction
 use Rattle.flt_bpf.specs.declared.operation.Test.TheVariants as test
 use Rattle.flt_gen.specs.inside.Code.{emit_search}
@@ -57,8 +57,16 @@ pub by_right : (P : List Insn → Type 0) (o : Option ℕ) (slot : ℕ) (short :
 by_right P None slot short long one all = all
 by_right P (Some k) slot short long one all = one k refl
 
+-- by the index of an accessor
+pub by_index : (P : List Insn → Type 0) (o : Option ℕ) (short : ℕ → List Insn) (long : List Insn) → ((k : ℕ) → o ≡ Some k → P (short k)) → P long → P (emit_indexed o short long)
+by_index P None short long one all = all
+by_index P (Some k) short long one all = one k refl
+
 number_extends : (link : Link) (e : NumberTree) (slot : ℕ) (c d : List Insn) → Extends c d → Extends c (emit_number link e slot d)
-number_extends link (load protocol size i) slot c d e = number_extends link i slot c _ (accessor_extends link protocol (width_of size) c d e)
+number_extends link (load protocol size i) slot c d e =
+    by_index (λ b. Extends c b) (constant i) _ _
+    (λ k is. field_extends (accessor_offset link protocol k) (width_of size) c d e)
+    (number_extends link i slot c _ (accessor_extends link protocol (width_of size) c d e))
 number_extends link (negated a) slot c d e = number_extends link a slot c _ (extends_put c d _ e)
 number_extends link (applied operator l r) slot c d e =
     number_extends link l slot c _ (by_right (λ b. Extends c b) (constant_operand operator r) slot _ _

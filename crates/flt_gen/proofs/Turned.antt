@@ -32,6 +32,8 @@ both_walked link w v (node.Apply o) (node.Literal k) ns e = or_walked link w _ v
 both_walked link w v (node.Apply o) (node.Named k) ns e = or_walked link w _ v _ ns e
 both_walked link w v (node.Compare c) (node.Literal k) ns e = ap (λ x. emit_nodes link x ns) (is_some _ v e)
 both_walked link w v (node.Compare c) (node.Named k) ns e = ap (λ x. emit_nodes link x ns) (is_some _ v e)
+both_walked link w v (node.Load p s) (node.Literal k) ns e = ap (λ x. emit_nodes link x ns) (is_some _ v e)
+both_walked link w v (node.Load p s) (node.Named k) ns e = ap (λ x. emit_nodes link x ns) (is_some _ v e)
 both_walked link w v _ _ ns e = cc
 
 one_walked : (link : Link) (w : Walk) (n m : Node) (ns : List Node) → emit_both_nodes link w n m ≡ None → emit_nodes link w (n ∷ m ∷ ns) ≡ emit_nodes link (emit_node link w n) (m ∷ ns)
@@ -39,6 +41,8 @@ one_walked link w (node.Apply o) (node.Literal k) ns e = none_walked link _ _ ns
 one_walked link w (node.Apply o) (node.Named k) ns e = none_walked link _ _ ns e
 one_walked link w (node.Compare c) (node.Literal k) ns e = cc
 one_walked link w (node.Compare c) (node.Named k) ns e = cc
+one_walked link w (node.Load p s) (node.Literal k) ns e = cc
+one_walked link w (node.Load p s) (node.Named k) ns e = cc
 one_walked link w _ _ ns e = refl
 
 last_walked : (link : Link) (w : Walk) (n : Node) → emit_nodes link w (n ∷ []) ≡ emit_node link w n

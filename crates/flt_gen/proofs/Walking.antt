@@ -26,6 +26,9 @@ constant_walked link o k a w d left true = left _
 constant_walked link o k a w d left false = left _
 
 number_walked : (link : Link) (a : NumberTree) (w : Walk) (d : List Node) → emit_nodes link w (number_onto a d) ≡ emit_nodes link (finish_number link w.numbers (with_number link a w)) d
+number_walked link (load p s (literal k)) w d = refl
+number_walked link (load p s (named k)) w d = refl
+number_walked link (load p s len) w d = refl
 number_walked link (load p s a) w d = number_walked link a _ d
 number_walked link (negated a) w d = number_walked link a _ d
 number_walked link (applied o a (literal k)) w d = constant_walked link o k a w d (λ v. number_walked link a v d) (takes_constant o k)

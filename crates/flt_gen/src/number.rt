@@ -9,6 +9,7 @@
 
 ghost use Rattle.std.specs.Prelude.{◌≡◌, OnOk, reverse};
 ghost use Rattle.flt_gen.specs.inside.Code.{emit_base, emit_transport, emit_accessor};
+ghost use Rattle.flt_gen.specs.inside.Code.{accessor_offset};
 ghost use Rattle.flt_gen.specs.inside.Code.{alu_operation, computation, takes_constant};
 ghost use Rattle.flt_gen.specs.inside.Code.{emit_operands, emit_all};
 ghost use Rattle.flt_gen.specs.inside.ProgramCode.{emit_accessor_tests};
@@ -16,7 +17,7 @@ ghost use Rattle.flt_gen.specs.Numbers.{accessor_tests, width_of};
 ghost use Rattle.flt_gen.specs.inside.Emits.{Emits};
 
 use crate::code::{Code, Targets};
-use crate::elementary::{FrameKind, first_fragment, has_ip_proto, kind_test, network_offset};
+use crate::elementary::{Offset, FrameKind, first_fragment, has_ip_proto, kind_test, network_offset};
 use cap_octet::Link;
 use cap_octet::assigned::{IPPROTO_ICMP, IPPROTO_TCP, IPPROTO_UDP};
 use flt_bpf::constant_fault;
@@ -100,6 +101,20 @@ fn emit_transport<A: Allocator>(
     code.emit_plain(Operation::CopyToIndex, 0)?;
     code.emit_plain(computation(Operator::Add, Operand::IndexRegister), 0)?;
     code.emit_plain(Operation::LoadHeaderLength, start)
+}
+
+/// The place of an accessor's field with a constant index.
+pub fn accessor_offset(link: Link, protocol: Protocol, index: u32) -> Offset
+    ensures { result ≡ accessor_offset link protocol index }
+{
+    let start = network_offset(link);
+    match protocol {
+        Protocol::Ether => Offset::Fixed(index),
+        Protocol::Tcp | Protocol::Udp | Protocol::Icmp => {
+            Offset::AfterHeader(start, start.wrapping_add(index))
+        }
+        _ => Offset::Fixed(start.wrapping_add(index)),
+    }
 }
 
 /// Emits the load of an accessor's field into A, which holds the accessor's index until then.

@@ -16,9 +16,8 @@
 //! - `>` and 5 become one test (`emit_both_nodes`).
 //! - `+`: its left operand waits in `numbers`, with the word of memory (`slot`) for it.
 //! - `len`: its load is emitted, and in front of that the store of the left operand, which is next.
-//! - `tcp[..]`: its load is emitted, and it waits in `numbers` for its index.
-//! - 13: the index. Its protocol goes into `accessors`. Nothing waits in `numbers`, so the tests of
-//!   `accessors` are emitted in front (`finish_relation`).
+//! - `tcp[..]` and 13, a constant index, become one load. Its protocol goes into `accessors`. Nothing
+//!   waits in `numbers`, so the tests of `accessors` are emitted in front (`finish_relation`).
 
 ghost use Rattle.std.specs.Prelude.{◌≡◌, true, Some, None, if◌then◌else◌, OnOk, IfOk, reverse};
 ghost use Rattle.flt_gen.specs.inside.Code.{block};
@@ -27,6 +26,7 @@ ghost use Rattle.flt_gen.specs.Primitives.{sized_formula};
 ghost use Rattle.flt_gen.specs.inside.Group.{no_group, larger_group, group_formula};
 ghost use Rattle.flt_gen.specs.inside.Steps.{meaning};
 ghost use Rattle.flt_gen.specs.inside.Walk.{start_walk, insns_of, emit_nodes, emit_both_nodes};
+ghost use Rattle.flt_gen.specs.inside.Walk.{emit_load_at};
 ghost use Rattle.flt_gen.specs.inside.Walk.{emit_operator_with, emit_comparison_with, emit_node};
 ghost use Rattle.flt_gen.specs.inside.Walk.{emit_join, emit_value, emit_truth_node, is_truth_node};
 ghost use Rattle.flt_gen.specs.inside.Walk.{begin_right, flush_group, finish_formula, emit_parts};
@@ -36,7 +36,7 @@ ghost use Rattle.flt_gen.specs.inside.Walk.{begin_operands, finish_number, finis
 use crate::code::{Code, Targets};
 use crate::group::Group;
 use crate::number::{
-    computation, emit_accessor, emit_accessor_tests, emit_operands, takes_constant, width_of,
+    accessor_offset, computation, emit_accessor, emit_accessor_tests, emit_operands, takes_constant, width_of,
 };
 use crate::stack::Stack;
 use crate::steps::{Step, Steps};
@@ -138,8 +138,8 @@ impl<A: Allocator + Clone> Walk<A> {
         Ok(())
     }
 
-    /// Emits a node and the one before it at once, if that is its right operand and a constant
-    /// that its instruction may have. `false`: it isn't, and nothing is emitted.
+    /// Emits a node and the one before it at once, if that is its right operand or its index, and a
+    /// constant that its instruction may have. `false`: it isn't, and nothing is emitted.
     fn emit_both_nodes(
         &mut self,
         link: Link,
@@ -159,8 +159,28 @@ impl<A: Allocator + Clone> Walk<A> {
                 self.emit_comparison_with(link, *comparison, *n, steps)?;
                 Ok(true)
             }
+            (Node::Load(protocol, size), Node::Literal(n) | Node::Named(n)) => {
+                self.emit_load_at(link, *protocol, *size, *n)?;
+                Ok(true)
+            }
             _ => Ok(false),
         }
+    }
+
+    /// Emits an accessor with a constant index.
+    fn emit_load_at(
+        &mut self,
+        link: Link,
+        protocol: Protocol,
+        size: u32,
+        index: u32,
+    ) -> Result<(), AllocError>
+        ensures { OnOk result (self.new ≡ emit_load_at link protocol size index self.old) }
+    {
+        let offset = accessor_offset(link, protocol, index);
+        self.code.emit_field(offset, width_of(size))?;
+        self.numbers.push(Waiting::Index(protocol))?;
+        self.finish_number(link)
     }
 
     /// Emits an operator with a constant as its right operand. `false`: its instruction may not

@@ -1,5 +1,5 @@
 -- The code of a formula, which is emitted in front of the code that is present.
-use Rattle.std.specs.Prelude.{ℕ, zero, suc, ◌+◌, ◌-◌, ◌/◌, true, false, nat_le, ◌==◌, ◌&&◌, if◌then◌else◌, Bool, List, [], ◌∷◌, length, take, drop, Option, Some, None}
+use Rattle.std.specs.Prelude.{ℕ, zero, suc, ◌+◌, ◌-◌, ◌/◌, ◌%◌, ◌^◌, true, false, nat_le, ◌==◌, ◌&&◌, if◌then◌else◌, Bool, List, [], ◌∷◌, length, take, drop, Option, Some, None}
 use Rattle.std.specs.Option.{is_none}
 use Rattle.flt_bpf.specs.Check.{constant_fault}
 use Rattle.flt_bpf.specs.declared.insn.Insn.{Insn}
@@ -136,6 +136,19 @@ emit_accessor link Udp width c = emit_transport link width c
 emit_accessor link Icmp width c = emit_transport link width c
 emit_accessor link _ width c = emit_base (network_offset link) width c
 
+-- the place of an accessor's field with a constant index
+abbrev pub accessor_offset : Link → Protocol → ℕ → Offset
+accessor_offset link Ether k = Fixed ((0 + k) % 2 ^ 32)
+accessor_offset link Tcp k = AfterHeader (network_offset link) ((network_offset link + k) % 2 ^ 32)
+accessor_offset link Udp k = AfterHeader (network_offset link) ((network_offset link + k) % 2 ^ 32)
+accessor_offset link Icmp k = AfterHeader (network_offset link) ((network_offset link + k) % 2 ^ 32)
+accessor_offset link _ k = Fixed ((network_offset link + k) % 2 ^ 32)
+
+-- an accessor's field goes into A: at a constant index, or else after the code of the index
+abbrev pub emit_indexed : Option ℕ → (ℕ → List Insn) → List Insn → List Insn
+emit_indexed (Some k) short long = short k
+emit_indexed None short long = long
+
 -- the right operand, which is in A, goes into X, and the left one comes back into A from its word
 abbrev pub emit_operands : ℕ → List Insn → List Insn
 emit_operands slot c = plain CopyToIndex 0 ∷ plain (Load Accumulator Memory) slot ∷ c
@@ -152,7 +165,8 @@ emit_number link (literal k) slot c = plain (Load Accumulator Immediate) k ∷ c
 emit_number link (named k) slot c = plain (Load Accumulator Immediate) k ∷ c
 emit_number link len slot c = plain (Load Accumulator Length) 0 ∷ c
 emit_number link (load protocol size i) slot c =
-    emit_number link i slot (emit_accessor link protocol (width_of size) c)
+    emit_indexed (constant i) (λ k. emit_field (accessor_offset link protocol k) (width_of size) c)
+    (emit_number link i slot (emit_accessor link protocol (width_of size) c))
 emit_number link (negated a) slot c = emit_number link a slot (plain Negate 0 ∷ c)
 emit_number link (applied operator l r) slot c =
     emit_number link l slot (emit_right (constant_operand operator r) slot

@@ -24,7 +24,7 @@ use Rattle.flt_gen.specs.Formula.{Formula}
 use Rattle.flt_gen.specs.inside.Emitted.{with_accessor, qualified_needed}
 use Rattle.flt_gen.specs.inside.Group.{Group, no_group, larger_group, group_formula}
 use Rattle.flt_gen.specs.Primitives.{check_formula, cast_formula, sized_formula}
-use Rattle.flt_gen.specs.inside.Code.{plain, emit_comparison, emit_accessor, computation, takes_constant, emit_operands, Block, block, emit_formula}
+use Rattle.flt_gen.specs.inside.Code.{plain, emit_comparison, emit_field, accessor_offset, emit_accessor, computation, takes_constant, emit_operands, Block, block, emit_formula}
 use Rattle.flt_gen.specs.inside.Steps.{Part, Leaf, Joint}
 use Rattle.flt_gen.specs.inside.ProgramCode.{emit_accessor_tests, returns_code}
 use Rattle.flt_bpf.specs.declared.operation.Operation.TheVariants.{Load, Store, Negate}
@@ -214,8 +214,14 @@ abbrev pub emit_comparison_with : Comparison → ℕ → Walk → Option Walk
 emit_comparison_with comparison k w =
     Some (with_insns (emit_comparison comparison Constant k w.to.yes w.to.no w.code) w)
 
--- an operator or a comparison and its right operand, a constant, at once; none if the nodes are
--- others, or the instruction may not have this constant
+-- an accessor with a constant index
+abbrev pub emit_load_at : Link → Protocol → ℕ → ℕ → Walk → Walk
+emit_load_at link protocol size k w =
+    finish_number link (Index protocol ∷ w.numbers)
+    (with_insns (emit_field (accessor_offset link protocol k) (width_of size) w.code) w)
+
+-- an operator, a comparison or an accessor, and its right operand or index, a constant, at once;
+-- none if the nodes are others, or the instruction may not have this constant
 abbrev pub emit_both_nodes : Link → Walk → Node → Node → Option Walk
 emit_both_nodes link w (node.Apply operator) (node.Literal k) = emit_operator_with operator k w
 emit_both_nodes link w (node.Apply operator) (node.Named k) = emit_operator_with operator k w
@@ -223,6 +229,8 @@ emit_both_nodes link w (node.Compare comparison) (node.Literal k) =
     emit_comparison_with comparison k (flush_group link w)
 emit_both_nodes link w (node.Compare comparison) (node.Named k) =
     emit_comparison_with comparison k (flush_group link w)
+emit_both_nodes link w (node.Load p s) (node.Literal k) = Some (emit_load_at link p s k w)
+emit_both_nodes link w (node.Load p s) (node.Named k) = Some (emit_load_at link p s k w)
 emit_both_nodes link w _ _ = None
 
 -- a node of arithmetic
@@ -280,6 +288,10 @@ emit_nodes link w (node.Compare c ∷ node.Literal k ∷ ns) =
     emit_nodes link (emit_pair link w (node.Compare c) (node.Literal k)) ns
 emit_nodes link w (node.Compare c ∷ node.Named k ∷ ns) =
     emit_nodes link (emit_pair link w (node.Compare c) (node.Named k)) ns
+emit_nodes link w (node.Load p s ∷ node.Literal k ∷ ns) =
+    emit_nodes link (emit_pair link w (node.Load p s) (node.Literal k)) ns
+emit_nodes link w (node.Load p s ∷ node.Named k ∷ ns) =
+    emit_nodes link (emit_pair link w (node.Load p s) (node.Named k)) ns
 emit_nodes link w (n ∷ ns) = emit_nodes link (emit_node link w n) ns
 
 -- the instructions from the beginning of the program
