@@ -22,7 +22,7 @@ pub use Rattle.flt_short.specs.declared.facts.Known.{Known}
 pub use Rattle.flt_short.specs.inside.Facts.{nothing_known, unreached, nothing_claimed, same_optional, same_field, claims_nothing, allows, entails_some, entails, one_of_two, joined_claim, joined_with_any, joined_fact, joined_held, common_header, joined_by, joined, outcome_by_claim, decided, other_by_claim, other_number, with_fact, captures, any_captures, holds_field, is_captured, claim_after, known_by, known_by_test, masked_by, masked_held, held_without_index, known_after, field_of, masked_field}
 pub use Rattle.flt_short.specs.inside.Arrivals.{known_at, arrived, at_start}
 pub use Rattle.flt_bpf.specs.inside.Flow.{goes_on_or_rejects}
-pub use Rattle.flt_short.specs.inside.Alike.{goes_on, direct_code, rejects, is_sure, same_target, goes_on_alike, are_copies, lands_at_if, lands_at, code_from, stands_at, stands, are_alike, begins}
+pub use Rattle.flt_short.specs.inside.Alike.{goes_on, rejects, is_sure, same_target, goes_on_alike, are_copies, lands_at_if, lands_at, code_from, stands_at, stands, are_alike, begins}
 pub use Rattle.flt_short.specs.declared.facts.Field.{Field}
 pub use Rattle.flt_short.specs.declared.facts.Held.{Held}
 pub use Rattle.flt_short.specs.inside.Threads.{threaded_offset, threaded_by, threaded_insn, is_reached, with_arrivals_by, with_arrivals, flow, field_at, other_field, spot_at, holds_load, past_insn, ignores_accumulator, ignores_accumulator_at, is_free_by, is_free, can_stop, walk_on, FUEL, walk_from, best_after, target_by, target}

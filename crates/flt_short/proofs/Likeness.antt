@@ -1,5 +1,5 @@
 -- Code that is alike has the answers of the old code, and a run of it meets no more instructions.
-use Rattle.flt_short.proofs.Common.{◌≡◌, inl, inr, ℕ, zero, suc, ◌+◌, ◌-◌, ◌%◌, ◌^◌, ◌<◌, ◌≤◌, List, [], ◌∷◌, length, drop, length-drop, Bool, true, false, Option, Some, None, refl, sym, ap, ◌∙◌, subst, arith, ◌≢◌, All, count_by, ◌==◌, nat_lt, ◌&&◌, ◌||◌, not, if◌then◌else◌, slice_get, slice_set, bit_and, option_map, option_map_or, and_parts, or_cases, nat_tests, slice_get_within, get_or_from_slice_get, Insn, State, Operation, LoadAbsolute, LoadIndirect, Load, LoadHeaderLength, Store, Compute, Negate, Jump, JumpIf, ReturnConstant, ReturnAccumulator, CopyToIndex, CopyToAccumulator, Accumulator, Index, Immediate, Memory, Length, Constant, IndexRegister, Byte, code_of, Next, Goes, Ends, Lost, does, does_if_known, into, into_word, operand_value, test_holds, field, compute, header_length, Answered, run_from, progress_after, step_if_there, machine, start, IsValidUnlessLong, JUMP, is_branch, goes_on, direct_code, rejects, is_sure, goes_on_or_rejects, same_target, goes_on_alike, are_copies, lands_at_if, lands_at, code_from, stands_at, stands, are_alike, begins, answer_of, answer_after, parts}
+use Rattle.flt_short.proofs.Common.{◌≡◌, inl, inr, ℕ, zero, suc, ◌+◌, ◌-◌, ◌%◌, ◌^◌, ◌<◌, ◌≤◌, List, [], ◌∷◌, length, drop, length-drop, Bool, true, false, Option, Some, None, refl, sym, ap, ◌∙◌, subst, arith, ◌≢◌, All, count_by, ◌==◌, nat_lt, ◌&&◌, ◌||◌, not, if◌then◌else◌, slice_get, slice_set, bit_and, option_map, option_map_or, and_parts, or_cases, nat_tests, slice_get_within, get_or_from_slice_get, Insn, State, Operation, LoadAbsolute, LoadIndirect, Load, LoadHeaderLength, Store, Compute, Negate, Jump, JumpIf, ReturnConstant, ReturnAccumulator, CopyToIndex, CopyToAccumulator, Accumulator, Index, Immediate, Memory, Length, Constant, IndexRegister, Byte, code_of, Next, Goes, Ends, Lost, does, does_if_known, into, into_word, operand_value, test_holds, field, compute, header_length, Answered, run_from, progress_after, step_if_there, machine, start, IsValidUnlessLong, JUMP, is_branch, goes_on, rejects, is_sure, goes_on_or_rejects, same_target, goes_on_alike, are_copies, lands_at_if, lands_at, code_from, stands_at, stands, are_alike, begins, answer_of, answer_after, parts}
 use Rattle.std.specs.Option.{is_some}
 use Rattle.std.proofs.lemmas.List.{drop-drop}
 use Rattle.std.proofs.Math.Seq.{drop-nil}
@@ -11,7 +11,7 @@ use Rattle.flt_bpf.specs.Machine.{step}
 use Rattle.flt_short.specs.declared.alike.Landing.{Landing}
 use Rattle.flt_short.specs.Alike.{Comes, Shortens}
 use Rattle.flt_bpf.specs.Registers.{reads_accumulator, reads_index, sets_accumulator, sets_index}
-use Rattle.flt_short.specs.inside.Alike.{same_step, one_test, direct_load, header_load, left_out}
+use Rattle.flt_short.specs.inside.Alike.{same_step, one_test, left_out}
 use Rattle.flt_bpf.proofs.Codes.{code_is}
 use Rattle.flt_bpf.proofs.Suffix.{answer_drop, machine_answers, valid_if_short}
 use Rattle.flt_short.proofs.Basics.{known_step, into_both, word_both, stored_both, plain_both}
@@ -268,77 +268,6 @@ module _ (p : List ℕ) (n : ℕ) where
           let one : 1 + u.jf ≡ suc u.jf = omega arith in
           subst (λ m. AsGood (code_from c (l.place - 1)) (u ∷ is) p n j.jt m (other s a x) (record s { accumulator = bit_and s.accumulator i.k })) one (fit c (u ∷ is) ls l all low (1 + u.jf) j.jt false l.index g (record s { accumulator = bit_and s.accumulator i.k }) a x (λ q. cc) hx)
 
-  -- one load for a number that goes to X by A, and a load at X
-  direct_is : (old new : ℕ) (o : Option Operation) → operation_of old ≡ o → option_map_or (λ n. n == new) (direct_code o) false ≡ true → (w : Width) × ((operation_of old ≡ Some (LoadIndirect w)) × (operation_of new ≡ Some (LoadAbsolute w)))
-  direct_is old new (Some (LoadIndirect w)) e f =
-      let same : code_of (LoadAbsolute w) ≡ new = grind (arith, nat_tests) in
-      (w, (e, ap operation_of (sym same) ∙ code_is (LoadAbsolute w)))
-  direct_is old new _ e f = cc
-
-  direct_good : (c is : List Insn) (ls : List Landing) (l : Landing) (all : AllLand c is ls) (low : l.place ≤ length c) (j i : Insn) → direct_load c j l i is ls ≡ true → (s : State) (a x : ℕ) → AsGood (j ∷ code_from c (l.place - 1)) (i ∷ is) p n 0 0 (other s a x) s
-  unfolding direct_load
-  direct_good c (u ∷ v ∷ is) ls l all low j i f s a x =
-      let q : (i.code ≡ 0) × (u.code ≡ 7) × (option_map_or (λ m. m == j.code) (direct_code (operation_of v.code)) false ≡ true) × ((i.k + v.k) % 2 ^ 32 ≡ j.k) × (lands_at c ls 2 (l.place - (1 + 0)) true false ≡ true) = grind (arith, nat_tests) in
-      let w = direct_is v.code j.code (operation_of v.code) refl q.2 in
-      let d = code_from c (l.place - 1) in
-      let s' : State = record s { accumulator = i.k } in
-      let s'' : State = record s { accumulator = i.k; index = i.k } in
-      let third = known_step p n v (Some (LoadIndirect w.0)) s'' w.1.0 ∙ ap (λ m. into Accumulator (field p m w.0) s'') q.3 in
-      old_alone (j ∷ d) (u ∷ v ∷ is) i 0 (other s a x) s s' (coded_step (Load Accumulator Immediate) i s q.0)
-      (old_alone (j ∷ d) (v ∷ is) u 0 (other s a x) s' s'' (coded_step CopyToIndex u s' q.1)
-      (both d is j v (other s a x) s'' _ _ (known_step p n j (Some (LoadAbsolute w.0)) (other s a x) w.1.1) third
-      (into_both p n (Follows d is p n) (ends d is) (lost d is) Accumulator (field p j.k w.0) (other s a x) s'' (λ y e. fit c (u ∷ v ∷ is) ls l all low 2 0 true false q.4 (record s'' { accumulator = y }) y x (λ z. refl) (λ z. cc)))))
-  direct_good c _ ls l all low j i f s a x = cc
-
-  -- the header length and a load after it, for a number and the header length that are added in A
-  -- and go to X
-  indirect_is : (o : Option Operation) → is_some (direct_code o) ≡ true → (w : Width) × (o ≡ Some (LoadIndirect w))
-  indirect_is (Some (LoadIndirect w)) e = (w, refl)
-  indirect_is _ e = cc
-
-  place_is : (i h w j : ℕ) → (i + w) % 2 ^ 32 ≡ j → ((i + h) % 2 ^ 32 + w) % 2 ^ 32 ≡ (h + j) % 2 ^ 32
-  place_is i h w j e = omega arith
-
-  module _ (c is : List Insn) (ls : List Landing) (l : Landing) (t u v w : Insn) (all : AllLand c (t ∷ u ∷ v ∷ w ∷ is) ls) (low : l.place ≤ length c) (fitting : lands_at c ls 4 (l.place - 1 - (1 + 0)) true false ≡ true) (i j : Insn) (width : Width) (u_is : operation_of u.code ≡ Some (Compute arithmetic.Add IndexRegister)) (v_is : operation_of v.code ≡ Some CopyToIndex) (w_is : operation_of w.code ≡ Some (LoadIndirect width)) (j_is : operation_of j.code ≡ Some (LoadIndirect width)) (k : (i.k + w.k) % 2 ^ 32 ≡ j.k) where
-    abbrev beyond : List Insn
-    beyond = code_from c (l.place - 1 - 1)
-
-    -- after the header length
-    measured : (s : State) (a h : ℕ) → s.accumulator ≡ i.k → AsGood (j ∷ beyond) (u ∷ v ∷ w ∷ is) p n 0 0 (other s a h) (record s { index = h })
-    measured s a h number =
-        let m = (i.k + h) % 2 ^ 32 in
-        let s2 : State = record s { index = h } in
-        let s3 : State = record s { accumulator = m; index = h } in
-        let s4 : State = record s { accumulator = m; index = m } in
-        let first = known_step p n u (Some (Compute arithmetic.Add IndexRegister)) s2 u_is ∙ ap (λ z. into Accumulator (compute arithmetic.Add z h) s2) number in
-        let third = known_step p n w (Some (LoadIndirect width)) s4 w_is ∙ ap (λ z. into Accumulator (field p z width) s4) (place_is i.k h w.k j.k k) in
-        old_alone (j ∷ beyond) (v ∷ w ∷ is) u 0 (other s a h) s2 s3 first
-        (old_alone (j ∷ beyond) (w ∷ is) v 0 (other s a h) s3 s4 (known_step p n v (Some CopyToIndex) s3 v_is)
-        (both beyond is j w (other s a h) s4 _ _ (known_step p n j (Some (LoadIndirect width)) (other s a h) j_is) third
-        (into_both p n (Follows beyond is p n) (ends beyond is) (lost beyond is) Accumulator (field p ((h + j.k) % 2 ^ 32) width) (other s a h) s4
-        (λ y e. fit c (t ∷ u ∷ v ∷ w ∷ is) ls (record l { place = l.place - 1 }) all (omega arith) 4 0 true false fitting (record s4 { accumulator = y }) y h (λ z. refl) (λ z. cc)))))
-
-  header_good : (c is : List Insn) (ls : List Landing) (l : Landing) (all : AllLand c is ls) (low : l.place ≤ length c) (h i : Insn) (js : List Insn) → js ≡ code_from c (l.place - 1) → header_load c (h ∷ js) l i is ls ≡ true → (s : State) (a x : ℕ) → AsGood (h ∷ code_from c (l.place - 1)) (i ∷ is) p n 0 0 (other s a x) s
-  unfolding header_load
-  header_good c is ls l all low h i [] at f s a x = cc
-  header_good c (t ∷ u ∷ v ∷ w ∷ is) ls l all low h i (j ∷ js) at f s a x =
-      let q : (i.code ≡ 0) × (t.code ≡ 177) × (u.code ≡ 12) × (v.code ≡ 7) × (t.code ≡ h.code) × (t.k ≡ h.k) × (is_some (direct_code (operation_of w.code)) ≡ true) × (w.code ≡ j.code) × ((i.k + w.k) % 2 ^ 32 ≡ j.k) × (lands_at c ls 4 (l.place - 1 - (1 + 0)) true false ≡ true) = grind (arith, nat_tests) in
-      let t_is = ap operation_of q.1 ∙ code_is LoadHeaderLength in
-      let load = indirect_is (operation_of w.code) q.6 in
-      let s1 : State = record s { accumulator = i.k } in
-      let second = known_step p n t (Some LoadHeaderLength) s1 t_is ∙ ap (λ m. into Index (option_map header_length (field p m Byte)) s1) q.5 in
-      let new = known_step p n h (Some LoadHeaderLength) (other s a x) (ap operation_of (sym q.4) ∙ t_is) in
-      let some : 0 < l.place - 1 = omega (arith, ap length at, length-drop (length c - (l.place - 1)) c) in
-      let rest : j ∷ code_from c (l.place - 1 - 1) ≡ code_from c (l.place - 1) = ap (λ z. j ∷ z) (sym (tail_after c (l.place - 1) j js some (omega arith) (sym at))) ∙ at in
-      let d = j ∷ code_from c (l.place - 1 - 1) in
-      let rest_is = u ∷ v ∷ w ∷ is in
-      let after = measured c is ls l t u v w all low q.9 i j load.0 (ap operation_of q.2 ∙ code_is (Compute arithmetic.Add IndexRegister)) (ap operation_of q.3 ∙ code_is CopyToIndex) load.1 (ap operation_of (sym q.7) ∙ load.1) q.8 s1 a in
-      subst (λ z. AsGood (h ∷ z) (i ∷ t ∷ rest_is) p n 0 0 (other s a x) s) rest
-      (old_alone (h ∷ d) (t ∷ rest_is) i 0 (other s a x) s s1 (coded_step (Load Accumulator Immediate) i s q.0)
-      (both d rest_is h t (other s a x) s1 _ _ new second
-      (into_both p n (Follows d rest_is p n) (ends d rest_is) (lost d rest_is) Index (option_map header_length (field p h.k Byte)) (other s a x) s1 (λ y e. after y refl))))
-  header_good c _ ls l all low h i _ at f s a x = cc
-
   -- an instruction that is left out
   rejected : (j : Insn) (js : List Insn) (s : State) → rejects j ≡ true → (answer_of (j ∷ js) p n 0 s ≡ Some 0) × (steps_of (j ∷ js) p n 0 s ≡ 1)
   rejected j js s e =
@@ -423,14 +352,12 @@ module _ (p : List ℕ) (n : ℕ) where
   abbrev Good : List Insn → Landing → Insn → Insn → State → ℕ → ℕ → List Insn → Type 0
   Good c l j i s a x is = AsGood (j ∷ code_from c (l.place - 1)) (i ∷ is) p n 0 0 (other s a x) s
 
-  -- by one of five ways
-  one_of : (c is : List Insn) (ls : List Landing) (l : Landing) (all : AllLand c is ls) (low : l.place ≤ length c) (j i : Insn) (js : List Insn) → code_from c l.place ≡ j ∷ js → js ≡ code_from c (l.place - 1) → ((same_step c (operation_of i.code) j l i ls || one_test c j l i is ls) || ((direct_load c j l i is ls || header_load c (j ∷ js) l i is ls) || left_out c (operation_of i.code) j l i ls)) ≡ true → (s : State) (a x : ℕ) → Same l.accumulator a s.accumulator → Same l.index x s.index → AsGood (j ∷ code_from c (l.place - 1)) (i ∷ is) p n 0 0 (other s a x) s
+  -- by one of three ways
+  one_of : (c is : List Insn) (ls : List Landing) (l : Landing) (all : AllLand c is ls) (low : l.place ≤ length c) (j i : Insn) (js : List Insn) → code_from c l.place ≡ j ∷ js → js ≡ code_from c (l.place - 1) → ((same_step c (operation_of i.code) j l i ls || one_test c j l i is ls) || left_out c (operation_of i.code) j l i ls) ≡ true → (s : State) (a x : ℕ) → Same l.accumulator a s.accumulator → Same l.index x s.index → AsGood (j ∷ code_from c (l.place - 1)) (i ∷ is) p n 0 0 (other s a x) s
   one_of c is ls l all low j i js first next f s a x ha hx =
-      or_either (Good c l j i s a x is) (same_step c (operation_of i.code) j l i ls || one_test c j l i is ls) ((direct_load c j l i is ls || header_load c (j ∷ js) l i is ls) || left_out c (operation_of i.code) j l i ls) f
+      or_either (Good c l j i s a x is) (same_step c (operation_of i.code) j l i ls || one_test c j l i is ls) (left_out c (operation_of i.code) j l i ls) f
       (λ e. or_either (Good c l j i s a x is) (same_step c (operation_of i.code) j l i ls) (one_test c j l i is ls) e (λ g. same_good c is ls l all low j i (operation_of i.code) refl g s a x ha hx) (λ g. one_good c is ls l all low j i g s a x ha hx))
-      (λ e. or_either (Good c l j i s a x is) (direct_load c j l i is ls || header_load c (j ∷ js) l i is ls) (left_out c (operation_of i.code) j l i ls) e
-      (λ f. or_either (Good c l j i s a x is) (direct_load c j l i is ls) (header_load c (j ∷ js) l i is ls) f (λ g. direct_good c is ls l all low j i g s a x) (λ g. header_good c is ls l all low j i js next g s a x))
-      (λ f. subst (λ d. AsGood d (i ∷ is) p n 0 0 (other s a x) s) (first ∙ ap (λ z. j ∷ z) next) (left_good c is ls l all i s a x ha hx (operation_of i.code) j js first refl f)))
+      (λ e. subst (λ d. AsGood d (i ∷ is) p n 0 0 (other s a x) s) (first ∙ ap (λ z. j ∷ z) next) (left_good c is ls l all i s a x ha hx (operation_of i.code) j js first refl e))
 
   here : (c is : List Insn) (ls : List Landing) (l : Landing) (i : Insn) → AllLand c is ls → 0 < l.place → l.place ≤ length c → (d : List Insn) → code_from c l.place ≡ d → stands_at c d l i is ls ≡ true → Lands c (i ∷ is) l 0
   here c is ls l i all some low [] e f s a x ha hx = cc

@@ -2,7 +2,7 @@
 //! be the same in both only if they may be read later.
 //!
 //! Each instruction of the old program has a landing: the place from which on the new program does
-//! the same, or nowhere. The rules 1 to 5 (`stands`) check this. `old` is an instruction of the old
+//! the same, or nowhere. The rules 1 to 3 (`stands`) check this. `old` is an instruction of the old
 //! program and `landing` is its landing; `after` are the instructions after it and `following`
 //! their landings; `new` is the instruction of the new program at `landing`.
 //!
@@ -14,9 +14,8 @@ ghost use Rattle.std.specs.Prelude.{IsTrue, All, true, false};
 ghost use Rattle.flt_bpf.specs.Instructions.{operation_of};
 ghost use Rattle.flt_short.specs.Alike.{Shortens};
 ghost use Rattle.flt_short.specs.inside.Alike.{goes_on, same_step};
-ghost use Rattle.flt_short.specs.inside.Alike.{is_masked_test, one_test, direct_code, direct_load};
-ghost use Rattle.flt_short.specs.inside.Alike.{puts_number_into_index, adds_header};
-ghost use Rattle.flt_short.specs.inside.Alike.{header_load, rejects, is_sure, begins};
+ghost use Rattle.flt_short.specs.inside.Alike.{is_masked_test, one_test};
+ghost use Rattle.flt_short.specs.inside.Alike.{rejects, is_sure, begins};
 ghost use Rattle.flt_bpf.specs.inside.Flow.{goes_on_or_rejects};
 ghost use Rattle.flt_short.specs.inside.Alike.{code_from, are_copies, lands_at};
 ghost use Rattle.flt_short.specs.inside.Alike.{left_out, stands, are_alike};
@@ -199,94 +198,6 @@ fn is_one_test(
     }
 }
 
-/// The code of the load at a fixed place that loads as many bytes as the load at X with the code
-/// `indirect`; `None` if `indirect` isn't the code of a load at X.
-pub fn direct_code(indirect: u16) -> Option<u16>
-    ensures { result ≡ direct_code (operation_of indirect) }
-{
-    match decode(indirect) {
-        Some(Operation::LoadIndirect(width)) => Some(Operation::LoadAbsolute(width).code()),
-        _ => None,
-    }
-}
-
-/// Whether two instructions put a number into A, and copy A to X.
-pub fn puts_number_into_index(number: Wide, copy: Wide) -> bool
-    ensures { result ≡ puts_number_into_index number copy }
-{
-    number.code == Operation::Load(Register::Accumulator, Source::Immediate).code()
-        && copy.code == Operation::CopyToIndex.code()
-}
-
-/// Rule 3: one load at a fixed place (`40 i + k`) replaces three instructions: a number into A, A
-/// into X, a load at X (`0 i`, `7`, `72 k`). X isn't read after them.
-#[tactic(auto, unfolding(crate::specs::inside::Alike::direct_load))]
-fn is_direct_load(
-    code: &[Wide],
-    new: Wide,
-    landing: Landing,
-    old: Wide,
-    after: &[Wide],
-    following: &[Landing],
-) -> bool
-    ensures { result ≡ direct_load code.now new landing old after.now following.now }
-{
-    match after {
-        [to_index, load, ..] => {
-            (puts_number_into_index(old, *to_index)
-                && (direct_code(load.code) == Some(new.code)
-                    && old.k.wrapping_add(load.k) == new.k))
-                && lands_at(
-                    code,
-                    following,
-                    2,
-                    place_past(landing.place, 0),
-                    true,
-                    false,
-                )
-        }
-        _ => false,
-    }
-}
-
-/// Whether four instructions put a number into A and the length of a header into X, add them in A,
-/// and copy the sum to X.
-pub fn adds_header(number: Wide, length: Wide, add: Wide, to_index: Wide) -> bool
-    ensures { result ≡ adds_header number length add to_index }
-{
-    (number.code == Operation::Load(Register::Accumulator, Source::Immediate).code()
-        && length.code == Operation::LoadHeaderLength.code())
-        && (add.code == Operation::Compute(AluOperation::Add, Operand::IndexRegister).code()
-            && to_index.code == Operation::CopyToIndex.code())
-}
-
-/// Rule 4: the length of a header and a load at X (`177 L`, `80 i + k`) replace five instructions:
-/// a number into A, the length of the header into X, their sum into A, A into X, a load at X
-/// (`0 i`, `177 L`, `12`, `7`, `80 k`). X isn't read after them.
-#[tactic(auto, unfolding(crate::specs::inside::Alike::header_load))]
-fn is_header_load(
-    code: &[Wide],
-    new: &[Wide],
-    landing: Landing,
-    old: Wide,
-    after: &[Wide],
-    following: &[Landing],
-) -> bool
-    ensures { result ≡ header_load code.now new.now landing old after.now following.now }
-{
-    match (new, after) {
-        ([length, load, ..], [header_length, add, to_index, indirect, ..]) => {
-            let second = place_past(place_past(landing.place, 0), 0);
-            adds_header(old, *header_length, *add, *to_index)
-                && ((header_length.code == length.code && header_length.k == length.k)
-                    && (direct_code(indirect.code).is_some() && indirect.code == load.code)
-                    && (old.k.wrapping_add(indirect.k) == load.k
-                        && lands_at(code, following, 4, second, true, false)))
-        }
-        _ => false,
-    }
-}
-
 /// Whether an instruction returns the number 0, and so rejects the packet.
 pub fn is_rejection(insn: Wide) -> bool
     ensures { result ≡ rejects insn }
@@ -326,7 +237,7 @@ pub fn goes_on_or_rejects(operation: Operation) -> bool
     )
 }
 
-/// Rule 5: the new program omits the instruction. Each way from it leads to its own landing; and it
+/// Rule 3: the new program omits the instruction. Each way from it leads to its own landing; and it
 /// has no effect that matters from there on, or the packet is rejected there.
 #[tactic(auto, unfolding(crate::specs::inside::Alike::left_out))]
 fn is_left_out(code: &[Wide], new: Wide, landing: Landing, old: Wide, following: &[Landing]) -> bool
@@ -354,7 +265,7 @@ fn is_left_out(code: &[Wide], new: Wide, landing: Landing, old: Wide, following:
 }
 
 /// Whether the code, from a landing on, does what an instruction of the old code and those after it
-/// do, by one of the five rules. An instruction that lands nowhere needs none.
+/// do, by one of the three rules. An instruction that lands nowhere needs none.
 fn stands(code: &[Wide], landing: Landing, old: Wide, after: &[Wide], following: &[Landing]) -> bool
     ensures { result ≡ stands code.now landing old after.now following.now }
 {
@@ -371,9 +282,7 @@ fn stands(code: &[Wide], landing: Landing, old: Wide, after: &[Wide], following:
             let new = *new;
             (is_same_step(code, new, landing, old, following)
                 || is_one_test(code, new, landing, old, after, following))
-                || ((is_direct_load(code, new, landing, old, after, following)
-                    || is_header_load(code, from, landing, old, after, following))
-                    || is_left_out(code, new, landing, old, following))
+                || is_left_out(code, new, landing, old, following)
         }
     }
 }

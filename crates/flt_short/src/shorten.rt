@@ -16,8 +16,7 @@ ghost use Rattle.std.specs.Option.{IfSome};
 ghost use Rattle.flt_short.specs.Alike.{Shortens};
 
 use crate::alike::{
-    Landing, adds_header, direct_code, goes_on_or_rejects, is_masked_test, is_rejection, is_sure,
-    puts_number_into_index, replaces,
+    Landing, goes_on_or_rejects, is_masked_test, is_rejection, is_sure, replaces,
 };
 use flt_bpf::operation::{AluOperation, Operand, Operation, Register, Source, Test, decode};
 use flt_bpf::{Wide, reads_accumulator, reads_index, sets_accumulator, sets_index};
@@ -243,70 +242,11 @@ impl Shortening<'_> {
         })
     }
 
-    /// The load at a fixed place (`40 i + k`) that replaces the number at `at`, its copy to X, and
-    /// the load at X (`0 i`, `7`, `72 k`). `None` if these aren't the instructions at `at`, if X is
-    /// read after them, or if the packet is rejected after them.
-    fn direct_load_at(&self, at: usize) -> Option<Wide> {
-        let [number, copy, load, ..] = self.insns_from(at) else {
-            return None;
-        };
-        if !puts_number_into_index(*number, *copy) {
-            return None;
-        }
-        let next = self.landing_at(index_after(at, 2));
-        if next.index || self.rejects(next.place) {
-            return None;
-        }
-        let code = direct_code(load.code)?;
-        let k = number.k.wrapping_add(load.k);
-        Some(Wide { code, k, ..*load })
-    }
-
-    /// The length of a header into X, and the load at X (`177 L`, `80 i + k`), which replace the
-    /// number at `at`, that length, their sum, its copy to X, and the load at X (`0 i`, `177 L`,
-    /// `12`, `7`, `80 k`). `None` if these aren't the instructions at `at`, if X is read after
-    /// them, or if the packet is rejected after them.
-    fn header_load_at(&self, at: usize) -> Option<(Wide, Wide)> {
-        let [number, length, add, copy, load, ..] = self.insns_from(at) else {
-            return None;
-        };
-        if !adds_header(*number, *length, *add, *copy) || direct_code(load.code).is_none() {
-            return None;
-        }
-        let next = self.landing_at(index_after(at, 4));
-        if next.index || self.rejects(next.place) {
-            return None;
-        }
-        let k = number.k.wrapping_add(load.k);
-        Some((*length, Wide { k, ..*load }))
-    }
-
-    /// Whether one of the four instructions before `at` puts a number into A, and is joined with
-    /// the next two (`direct_load_at`) or four (`header_load_at`), so with the one at `at`.
-    fn is_joined_by_number(&self, at: usize) -> bool {
-        for before in 1..5 {
-            let number = at.saturating_sub(before);
-            if at >= before
-                && (before <= 2 && self.direct_load_at(number).is_some()
-                    || self.header_load_at(number).is_some())
-            {
-                return true;
-            }
-        }
-        false
-    }
-
     /// Whether an earlier instruction of the old code is joined with this one at `at`, which then
     /// isn't emitted and lands nowhere. If a run jumps to that one, the new code isn't taken.
     fn is_joined(&self, at: usize, insn: Wide) -> bool {
         match decode(insn.code) {
             Some(Operation::JumpIf(_, _)) => at >= 1 && self.bits_test_at(at - 1).is_some(),
-            Some(
-                Operation::LoadHeaderLength
-                | Operation::Compute(AluOperation::Add, Operand::IndexRegister)
-                | Operation::CopyToIndex
-                | Operation::LoadIndirect(_),
-            ) => self.is_joined_by_number(at),
             _ => false,
         }
     }
@@ -501,27 +441,11 @@ impl Shortening<'_> {
         }
     }
 
-    /// Emits an instruction of the old code, joined with those after it if that is shorter.
+    /// Emits an instruction of the old code, joined with the one after it if that is shorter.
     fn emit(&mut self, at: usize, insn: Wide) {
-        let may_join = matches!(
-            decode(insn.code),
-            Some(
-                Operation::Compute(AluOperation::And, Operand::Constant)
-                    | Operation::Load(Register::Accumulator, Source::Immediate)
-            )
-        );
-        if !may_join {
-            self.emit_alone(at, insn);
-        } else if let Some(test) = self.bits_test_at(at) {
-            self.emit_test(at, test, index_after(at, 0));
-        } else if let Some(load) = self.direct_load_at(at) {
-            self.emit_plain(at, load, index_after(at, 2));
-        } else if let Some((length, load)) = self.header_load_at(at) {
-            self.emit_plain(at, load, index_after(at, 4));
-            // The length is put before the load, whose landing `at` has until now.
-            self.emit_plain(at, length, at);
-        } else {
-            self.emit_alone(at, insn);
+        match self.bits_test_at(at) {
+            Some(test) => self.emit_test(at, test, index_after(at, 0)),
+            None => self.emit_alone(at, insn),
         }
     }
 

@@ -97,42 +97,6 @@ one_test c j l i (t ∷ is) ls =
     && (lands_at c ls (1 + t.jt) (l.place - (1 + j.jf)) false l.index
     && lands_at c ls (1 + t.jf) (l.place - (1 + j.jt)) false l.index))
 
--- the code of the load at a fixed place that takes as many bytes as this load at X
-abbrev pub direct_code : Option Operation → Option ℕ
-direct_code (Some (LoadIndirect width)) = Some (code_of (LoadAbsolute width))
-direct_code _ = None
-
--- i puts a number into A, and t copies it to X
-abbrev pub puts_number_into_index : Insn → Insn → Bool
-puts_number_into_index i t = i.code == code_of (Load Accumulator Immediate) && t.code == code_of CopyToIndex
-
--- j is one load at a fixed place instead of i, which puts a number into A, its copy to X, and a
--- load at X; X isn't read after them
-unfoldable pub direct_load : List Insn → Insn → Landing → Insn → List Insn → List Landing → Bool
-direct_load c j l i [] ls = false
-direct_load c j l i (t ∷ []) ls = false
-direct_load c j l i (t ∷ u ∷ is) ls =
-    (puts_number_into_index i t
-    && (option_map_or (λ n. n == j.code) (direct_code (operation_of u.code)) false && (i.k + u.k) % 2 ^ 32 == j.k))
-    && lands_at c ls 2 (l.place - 1) true false
-
--- four instructions put a number and a header's length into A and X, add them in A, and copy the
--- sum to X
-abbrev pub adds_header : Insn → Insn → Insn → Insn → Bool
-adds_header i t u v =
-    (i.code == code_of (Load Accumulator Immediate) && t.code == code_of LoadHeaderLength)
-    && (u.code == code_of (Compute Add IndexRegister) && v.code == code_of CopyToIndex)
-
--- the new code loads the same header's length and then equally many bytes at X, instead of i, which
--- puts a number into A, the load of the header's length, their sum, its copy to X, and a load at X;
--- X isn't read after them
-unfoldable pub header_load : List Insn → List Insn → Landing → Insn → List Insn → List Landing → Bool
-header_load c (h ∷ j ∷ js) l i (t ∷ u ∷ v ∷ w ∷ is) ls =
-    adds_header i t u v && (((t.code == h.code && t.k == h.k)
-    && (is_some (direct_code (operation_of w.code)) && w.code == j.code))
-    && ((i.k + w.k) % 2 ^ 32 == j.k && lands_at c ls 4 (l.place - 1 - 1) true false))
-header_load c js l i is ls = false
-
 -- an instruction returns 0
 abbrev pub rejects : Insn → Bool
 rejects i = i.code == code_of ReturnConstant && i.k == 0
@@ -163,14 +127,13 @@ left_out c (Some op) j l i ls =
     && lands_at c ls 0 l.place (l.accumulator && not (sets_accumulator op))
     (l.index && not (sets_index op))
 
--- the code, from a landing on, does what the instruction i and those after it do, by one of five
+-- the code, from a landing on, does what the instruction i and those after it do, by one of three
 -- rules
 abbrev pub stands_at : List Insn → List Insn → Landing → Insn → List Insn → List Landing → Bool
 stands_at c [] l i is ls = false
 stands_at c (j ∷ js) l i is ls =
     (same_step c (operation_of i.code) j l i ls || one_test c j l i is ls)
-    || ((direct_load c j l i is ls || header_load c (j ∷ js) l i is ls)
-    || left_out c (operation_of i.code) j l i ls)
+    || left_out c (operation_of i.code) j l i ls
 
 -- the code does at the landing of i what i and those after it do; nothing is asked if i lands
 -- nowhere
