@@ -3,7 +3,7 @@
 
 use crate::captures::capture_of;
 use crate::watched::{Asked, Watched};
-use crate::words::{fields, line_of};
+use crate::words::{field, line_of};
 use cap_command::Command;
 use cap_octet::{MemInput, MemOutput};
 use cap_tools::{Job, Turn, run};
@@ -51,7 +51,11 @@ struct Work {
 
 /// The work of a row.
 fn work_of(alloc: Global, row: &'static str) -> Result<Work, Fail> {
-    let [words, first, second, status, of_first, of_second] = fields::<6>(row);
+    let (words, rest) = field(row);
+    let (first, rest) = field(rest);
+    let (second, rest) = field(rest);
+    let (status, rest) = field(rest);
+    let (of_first, of_second) = field(rest);
     Ok(Work {
         line: line_of(alloc, words)?,
         files: [capture_of(alloc, first)?, capture_of(alloc, second)?],

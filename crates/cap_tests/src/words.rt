@@ -26,12 +26,7 @@ pub fn line_of(alloc: Global, words: &str) -> Result<Line, Fail>
     }
 }
 
-/// The fields of a table's row, which ` | ` parts; the last one has the rest. Those that it lacks are
-/// empty.
-pub fn fields<const N: usize>(row: &'static str) -> [&'static str; N] {
-    let mut fields = [""; N];
-    for (field, text) in fields.iter_mut().zip(row.splitn(N, " | ")) {
-        *field = text;
-    }
-    fields
+/// The first field of a table's row, which ` | ` parts, and the rest; that is empty after the last.
+pub fn field(row: &'static str) -> (&'static str, &'static str) {
+    row.split_once(" | ").unwrap_or((row, ""))
 }

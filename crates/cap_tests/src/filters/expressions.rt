@@ -1,7 +1,7 @@
 //! How many tests, nodes and words expressions have.
 
 use crate::filters::compilation::checked;
-use crate::words::fields;
+use crate::words::field;
 use flt_lang::{bound, nodes, tests, words};
 use std::alloc::Global;
 use std::test::Fail;
@@ -52,7 +52,7 @@ fn counts(rt: HostRuntime) -> Result<(), Fail> {
     flt_lang::laws::one_tree();
     assert!(rt; counts_of(rt.alloc(), " \t\r\n")?.as_str() == "0 0 0 2");
     for row in COUNTS.lines() {
-        let [wanted, text] = fields::<2>(row);
+        let (wanted, text) = field(row);
         assert!(rt; counts_of(rt.alloc(), text)?.as_str() == wanted, "{text}");
     }
     for (part, times, end, wanted) in CHAINS {

@@ -1,6 +1,6 @@
 //! The values and places of tokens, which no command line shows.
 
-use crate::words::fields;
+use crate::words::field;
 use flt_words::{Comparison, Join, Operator, Protocol, Token, TokenKind, lex};
 use std::alloc::{AllocError, Global};
 use std::test::Fail;
@@ -78,7 +78,7 @@ ffff:ffff:ffff:ffff:ffff:ffff:ffff:ffff | ip6 ffffffffffffffffffffffffffffffff
 #[test]
 fn values(rt: HostRuntime) -> Result<(), Fail> {
     for row in VALUES.lines() {
-        let [word, token] = fields::<2>(row);
+        let (word, token) = field(row);
         let shown = tokens_of(rt.alloc(), &format!(in rt.alloc(); " {word} ")?)?;
         assert!(rt; shown.strip_prefix(" 2 ") == Some(token), "{row}");
     }

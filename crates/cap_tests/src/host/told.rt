@@ -1,7 +1,7 @@
 //! What is reported to a user, and how.
 
 use super::streams::{Streams, Written};
-use crate::words::{fields, words_of};
+use crate::words::{field, words_of};
 use capkit::{Usage, command_of};
 use capkit_host::ending::tell_end;
 use capkit_host::message::{Shown, ShownBytes, refusal_text};
@@ -171,7 +171,8 @@ Usage: capkit <COMMAND>
 #[test]
 fn habits_are_hinted_at(rt: HostRuntime) -> Result<(), Fail> {
     for row in HABITS.lines() {
-        let [words, option, hint] = fields::<3>(row);
+        let (words, rest) = field(row);
+        let (option, hint) = field(rest);
         let (command, _) = words.split_once(" ").unwrap_or((words, ""));
         let wanted = format!(in rt.alloc();
             "error: unexpected argument '{option}' found\n\n  tip: {hint}\n\n\

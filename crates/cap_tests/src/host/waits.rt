@@ -2,7 +2,7 @@
 //! nothing does.
 
 use crate::captures::capture_of;
-use crate::words::{fields, line_of};
+use crate::words::{field, line_of};
 use cap_octet::{StdInput, StdOutput};
 use cap_tools::{Job, Turn, run};
 use cap_trial::names_over;
@@ -36,7 +36,11 @@ struct Row {
 
 /// The row of a text.
 fn row_of(alloc: Global, text: &'static str) -> Result<Row, Fail> {
-    let [words, first, second, start, each, needed] = fields::<6>(text);
+    let (words, rest) = field(text);
+    let (first, rest) = field(rest);
+    let (second, rest) = field(rest);
+    let (start, rest) = field(rest);
+    let (each, needed) = field(rest);
     let mut row = Row {
         words,
         captures: [capture_of(alloc, first)?, capture_of(alloc, second)?],

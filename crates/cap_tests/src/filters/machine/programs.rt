@@ -2,7 +2,7 @@
 
 use super::{IPV4, insn, program_of};
 use crate::filters::compilation::code_of;
-use crate::words::fields;
+use crate::words::field;
 use flt_bpf::operation::{Operation, decode};
 use flt_bpf::{CheckFault, ListingFault, check, run};
 use std::alloc::Global;
@@ -101,7 +101,9 @@ fn bytes_of(alloc: Global, text: &str) -> Result<Vec<u8>, Fail> {
 
 /// Runs the program of a row.
 fn answers(alloc: Global, row: &'static str) -> Result<bool, Fail> {
-    let [wanted, len, packet, code] = fields::<4>(row);
+    let (wanted, rest) = field(row);
+    let (len, rest) = field(rest);
+    let (packet, code) = field(rest);
     let packet = bytes_of(alloc, packet)?;
     let mut program = check(code_of(alloc, code)?)?;
     let (answer, count) = run(&mut program, &packet, len.parse::<u32>()?);
