@@ -14,9 +14,8 @@ type; 21 0 1 2048; yes; no
 the same with another type
 type; 21 0 1 2054; yes; no
 
-a load at X, in which a number is, is one at a fixed place
+a load at X, in which a number is: accessors with a constant index aren't emitted so
 0 0 0 14; 7 0 0 0; 72 0 0 2; 22 0 0 0
-40 0 0 16; 22 0 0 0
 
 a load at X, in which none is
 177 0 0 14; 72 0 0 2; 22 0 0 0
@@ -26,8 +25,7 @@ a mask and a test for 0 are one test of bits, whose sides are exchanged
 48 0 0 20; 69 1 0 31; yes; no
 
 the second byte of UDP's source port in a packet that isn't a later fragment
-40 0 0 20; 84 0 0 8191; 21 0 6 0; 0 0 0 13; 177 0 0 14; 12 0 0 0; 7 0 0 0; 80 0 0 14; \
-    21 0 1 2; yes; no
+40 0 0 20; 84 0 0 8191; 21 0 3 0; 177 0 0 14; 80 0 0 27; 21 0 1 2; yes; no
 40 0 0 20; 69 3 0 8191; 177 0 0 14; 80 0 0 27; 21 0 1 2; yes; no
 
 tests that end at the same place are left out
