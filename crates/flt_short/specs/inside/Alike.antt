@@ -5,12 +5,11 @@ use Rattle.std.specs.Prelude.{ℕ, ◌+◌, ◌-◌, ◌%◌, ◌^◌, ◌==◌,
 use Rattle.std.specs.Option.{is_some, option_map_or}
 use Rattle.flt_bpf.specs.declared.insn.Insn.{Insn}
 use Rattle.flt_bpf.specs.declared.operation.Operation.{Operation}
-use Rattle.flt_bpf.specs.declared.operation.Operation.TheVariants.{LoadAbsolute, LoadIndirect, Load, LoadHeaderLength, Compute, Negate, Jump, JumpIf, ReturnConstant, ReturnAccumulator, CopyToIndex, CopyToAccumulator}
-use Rattle.flt_bpf.specs.declared.operation.Register.TheVariants.{Accumulator}
+use Rattle.flt_bpf.specs.declared.operation.Operation.TheVariants.{Load, Compute, Negate, Jump, JumpIf, ReturnConstant, ReturnAccumulator, CopyToIndex, CopyToAccumulator}
 use Rattle.flt_bpf.specs.declared.operation.Source.TheVariants.{Immediate, Length}
-use Rattle.flt_bpf.specs.declared.operation.Operand.TheVariants.{Constant, IndexRegister}
+use Rattle.flt_bpf.specs.declared.operation.Operand.TheVariants.{Constant}
 use Rattle.flt_bpf.specs.declared.operation.Test.TheVariants as test
-use Rattle.flt_bpf.specs.declared.operation.AluOperation.TheVariants.{Add, And, Divide, Remainder}
+use Rattle.flt_bpf.specs.declared.operation.AluOperation.TheVariants.{And, Divide, Remainder}
 use Rattle.flt_bpf.specs.Instructions.{code_of, operation_of}
 use Rattle.flt_bpf.specs.inside.Flow.{goes_on_or_rejects}
 use Rattle.flt_bpf.specs.Registers.{reads_accumulator, reads_index, sets_accumulator, sets_index}
