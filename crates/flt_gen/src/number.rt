@@ -17,7 +17,9 @@ ghost use Rattle.flt_gen.specs.Numbers.{accessor_tests, width_of};
 ghost use Rattle.flt_gen.specs.inside.Emits.{Emits};
 
 use crate::code::{Code, Targets};
-use crate::elementary::{Offset, FrameKind, first_fragment, has_ip_proto, kind_test, network_offset};
+use crate::elementary::{
+    FrameKind, Offset, first_fragment, has_ip_proto, kind_test, network_offset,
+};
 use cap_octet::Link;
 use cap_octet::assigned::{IPPROTO_ICMP, IPPROTO_TCP, IPPROTO_UDP};
 use flt_bpf::constant_fault;

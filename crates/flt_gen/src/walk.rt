@@ -36,7 +36,8 @@ ghost use Rattle.flt_gen.specs.inside.Walk.{begin_operands, finish_number, finis
 use crate::code::{Code, Targets};
 use crate::group::Group;
 use crate::number::{
-    accessor_offset, computation, emit_accessor, emit_accessor_tests, emit_operands, takes_constant, width_of,
+    accessor_offset, computation, emit_accessor, emit_accessor_tests, emit_operands,
+    takes_constant, width_of,
 };
 use crate::stack::Stack;
 use crate::steps::{Step, Steps};

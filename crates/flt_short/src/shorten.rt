@@ -15,9 +15,7 @@ ghost use Rattle.std.specs.Prelude.{IfOk};
 ghost use Rattle.std.specs.Option.{IfSome};
 ghost use Rattle.flt_short.specs.Alike.{Shortens};
 
-use crate::alike::{
-    Landing, goes_on_or_rejects, is_masked_test, is_rejection, is_sure, replaces,
-};
+use crate::alike::{Landing, goes_on_or_rejects, is_masked_test, is_rejection, is_sure, replaces};
 use flt_bpf::operation::{AluOperation, Operand, Operation, Register, Source, Test, decode};
 use flt_bpf::{Wide, reads_accumulator, reads_index, sets_accumulator, sets_index};
 use std::alloc::{AllocError, Allocator};
