@@ -14,7 +14,7 @@ import textwrap
 from source_files import (
     ROOT, WORD, Source, Spec, blanked, doc_start, end_of_group, imports_of, without_attributes)
 
-TEST_CRATES = {"cap_cases", "cap_tests", "cap_trial", "capkit_damaged"}
+TEST_CRATES = {"cap_cases", "cap_tests", "cap_trial"}
 
 WORDS = re.compile(rf"\.?(?:«\w+»|{WORD})(?:\.{WORD})*")
 # (x y : T), λ x y., λ (x, y)., let x
@@ -71,9 +71,15 @@ def used_names(code, scope, bound):
 
 def named_by(target, fields):
     """The uses that a name with fields stands for: of an item, or of what a module or a type of src/ has."""
-    if isinstance(target, dict):
+    while isinstance(target, dict):
         target = target.get(fields[0] if fields else "", target.get(""))
+        fields = fields[1:]
     return {target} if target else set()
+
+
+def targets_of(target):
+    """All items that a name may stand for."""
+    return {key for it in target.values() for key in targets_of(it)} if isinstance(target, dict) else {target}
 
 
 class Sources:
@@ -133,7 +139,7 @@ class Sources:
         key = file.key(name)
         if variants:
             return {variant: (*key, variant) for variant, _ in file.variants(file.types[name])}
-        return {name: key, "": key}
+        return {name: {"": key, **self.variants_of(key)}, "": key}
 
     def resolved(self, file, path, depth=0):
         """The item of a Rust path that begins in this file, or None."""
@@ -234,7 +240,7 @@ class Sources:
         used = {use for piece in pieces for use in piece.uses | piece.patterns}
         used |= {use[:3] for use in used}
         for name, target in self.imported(spec.imports, spec.path).items():
-            if not used & (set(target.values()) if isinstance(target, dict) else {target}):
+            if not used & targets_of(target):
                 yield name
 
     def equation(self, spec, name, comment, text):

@@ -2,7 +2,7 @@
 //!
 //! [`Job`] reads the inputs of a command, decides their packets and writes its output, one step per
 //! call of `step`; a [`Turn`] shows whether it goes on. [`run`] makes all steps and returns the
-//! status: the program calls it through `capkit_engine`, and `cap_cases` and `cap_tests` call both.
+//! status: `capkit_host` calls it for the program, and `cap_cases` and `cap_tests` call both.
 #![tactic(auto)]
 
 mod job;

@@ -1,7 +1,7 @@
 -- One more row of a table, and then those after it.
-use Rattle.std.proofs.Common.{◌≡◌, ◌∙◌, ◌∷◌, ◌+◌, ◌<◌, ◌≤◌, ap, sym, add-one, drop-cons, ℕ, List, length, drop, map, slice_index_or}
+use Rattle.std.proofs.Common.{◌≡◌, ◌∙◌, ◌||◌, Bool, false, ◌∷◌, ◌+◌, ◌<◌, ◌≤◌, ap, sym, add-one, drop-cons, ℕ, List, length, drop, map, slice_index_or}
+use Rattle.std.proofs.{Math.Bool.or-false, lemmas.List.drop_all}
 use Rattle.std.specs.Prelude.{fold}
-use Rattle.std.proofs.lemmas.List.{drop_all}
 
 pub one_more : {A B X : Type 0} (step : A → B → A) (f : X → B) (xs : List X) (i : ℕ) (d : X) (old new : A) (made : B) → i < length xs
     → new ≡ step old made → made ≡ f (slice_index_or xs i d)
@@ -14,3 +14,7 @@ one_more step f xs i d old new made within adds is =
 pub no_more : {A B X : Type 0} (step : A → B → A) (f : X → B) (xs : List X) (i : ℕ) (new whole : A) → length xs ≤ i
     → fold step new (map f (drop i xs)) ≡ whole → new ≡ whole
 no_more step f xs i new whole past is = ap (λ rest. fold step new (map f rest)) (sym (drop_all i xs past)) ∙ is
+
+-- an argument of one command alone leaves the command without arguments of all subcommands
+pub stays : (new old own : Bool) → new ≡ (old || own) → own ≡ false → new ≡ old
+stays new old own is local = is ∙ ap (λ b. old || b) local ∙ or-false old

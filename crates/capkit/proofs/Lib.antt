@@ -1,10 +1,8 @@
 mod Enters
-mod FileNames
 mod Folds
 pub mod Common
 pub mod Getters
-mod Joining
-mod LocalOptions
+mod Listings
 mod Numbers
 mod OptionValues
 mod Parses

@@ -1,10 +1,9 @@
 -- What a text of digits parses to, and where a word has a hyphen.
 use Rattle.capkit.proofs.Common.{inl, inr, lit<, suc, ◌+◌, ◌≤◌, cond, ◌≡◌, ◌<◌, ◌^◌, ℕ, Bool, true, false, List, [], ◌∷◌, length, refl, subst, sym, ◌∙◌, rules, arith, IfSome, nat_lt, Result, Ok, Err, ◌||◌, not, if◌then◌else◌, Option, Some, None, is_ascii_digit, after_first, before_first, list_all, list_any, position_or_len, Bor, MatchOption, ParsesUnsigned, digits_value, and_parts, cases_lt, le-ltb, lt-ltb, ltb-true, IsDigitsTest, numerals_by_value, parse_digits, is_hyphen, range_number, is_decimal, sides_of}
 use Rattle.std.specs.Result.{OkIff}
-use Rattle.std.proofs.lemmas.Bool.Decides.{nat_tests}
-use Rattle.std.proofs.lemmas.Str.Pattern.{IsSplitOnceResult, split_once_first}
+use Rattle.std.proofs.lemmas.{Bool.Decides.nat_tests, Str.Pattern.IsSplitOnceResult, Str.Pattern.split_once_first}
 
-test : IsDigitsTest (λ ds. list_all is_ascii_digit ds ≡ true)
+pub test : IsDigitsTest (λ ds. list_all is_ascii_digit ds ≡ true)
 test = search rules
 
 -- a text of digits alone parses to its number where that fits

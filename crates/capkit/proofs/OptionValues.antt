@@ -1,11 +1,10 @@
 -- What the options of an edit and of a print mean.
 use Rattle.capkit.proofs.Common.{◌≡◌, ◌≤◌, ◌^◌, ◌+◌, ◌-◌, ◌*◌, ◌∙◌, ◌==◌, ap, refl, ℕ, Bool, true, false, length, take, drop, Option, Some, None, Result, Ok, Err, arith, ◌&&◌, IfSome, nat_le, nat_lt, if◌then◌else◌, position, option_and_then, option_map_or, ParsesUnsigned, digits_value, without_leading_plus, and_from, and_parts, le-leb, is_at_least_one, is_time, is_window, least_window, most_window, ReadsOne, Text, number_between}
-use Rattle.cap_octet.specs.Date.{NANOS_PER_SECOND}
-use Rattle.cap_octet.specs.Digits.{decimal_value}
+use Rattle.cap_octet.specs.{Date.NANOS_PER_SECOND, Digits.decimal_value}
 use Rattle.cap_octet.specs.Seconds.{fraction_nanoseconds, duration_at, duration_value, duration_of_parts, time_below_end}
 use Rattle.cap_octet.specs.Timestamp.{clock_of_parts, date_time_value, day_of_parts, number_at, optional_fraction, is_date_time, time_value, time_of_parts}
 use Rattle.clap.specs.ValueTests.{is_numeral, is_unsigned_in}
-use Rattle.clap.specs.declared.builder.value_parser.ValueParser.TheVariants as parser
+use Rattle.clap.specs.declared.builder.value_parser.ValueParser.{ValueParser}
 use Rattle.clap.proofs.ValueTestLemmas.{Accepts-accepts, accepts-Accepts}
 
 -- ---- numbers
@@ -30,12 +29,12 @@ number_read E G parses least most (Some t) r none some = go r (some t refl)
     go : (o : Option ℕ) → ReadsOne G t o → option_and_then (kept least most) o ≡ number_between least most t
     go (Some n) given =
         let read = parses t (Ok n) given in
-        let passes : is_unsigned_in 0 value t ≡ true = Accepts-accepts false (parser.Unsigned 0 value) t (read.0.0, read.0.1, omega arith, omega arith) in
+        let passes : is_unsigned_in 0 value t ≡ true = Accepts-accepts false (ValueParser.Unsigned 0 value) t (read.0.0, read.0.1, omega arith, omega arith) in
         let numeral : is_numeral (without_leading_plus t) ≡ true = (and_parts _ _ passes).0 in
         let fits : nat_lt value (2 ^ 64) ≡ true = (and_parts _ _ (and_parts _ _ passes).1).0 in
         ap (kept least most) read.1 ∙ rw (numeral, fits) refl
     go None given = refused (is_unsigned_in least most t) refl (λ is.
-        let accepted = accepts-Accepts false (parser.Unsigned least most) t is in
+        let accepted = accepts-Accepts false (ValueParser.Unsigned least most) t is in
         parses t (Err given.0) given.1 (accepted.0, accepted.1))
 
 pub one_or_more : (most : ℕ) (number : Option ℕ) → IfSome number (λ n. (1 ≤ n) × (n ≤ most)) → option_map_or is_at_least_one number true ≡ true

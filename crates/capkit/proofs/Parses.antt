@@ -1,12 +1,8 @@
 -- What a parse of the command line gives and refuses.
 use Rattle.capkit.proofs.Common.{◌≡◌, ◌∙◌, ap, sym, subst, true, List, Result, Ok, Err, IfOk, IfErr, map, refl, inl, App, FailsBy, HasKind, HasMatchesOf, Text, fault_of, is_simple, is_simple_and_free, kind_of, subcommand_of, subcommand_rows_of, takes, AreChoices, RefusesWords, TakesWords, format_names, line_app, link_names}
-use Rattle.clap.specs.declared.builder.value_parser.ValueParser.{ValueParser}
-use Rattle.clap.specs.declared.builder.value_parser.ValueParser.TheVariants as parser
-use Rattle.clap.specs.declared.error.Error.{Error}
-use Rattle.clap.specs.declared.error.kind.ErrorKind.TheVariants.{OutOfMemory}
-use Rattle.clap.specs.declared.parser.matches.ArgMatches.{ArgMatches}
-use Rattle.cap_octet.specs.Format.{all_formats}
-use Rattle.cap_octet.specs.Link.{all_links}
+use Rattle.clap.specs.declared.{builder.value_parser.ValueParser.ValueParser, error.Error.Error}
+use Rattle.clap.specs.declared.{error.kind.ErrorKind.TheVariants.OutOfMemory, parser.matches.ArgMatches.ArgMatches}
+use Rattle.cap_octet.specs.{Format.all_formats, Link.all_links}
 
 simple_line : (formats links : ValueParser) → is_simple (line_app formats links) ≡ true
 simple_line formats links = refl
@@ -41,7 +37,7 @@ refuses_words app formats links words (Err error) is are named memory kinds = re
 }
 
 choices : List Text → ValueParser
-choices texts = parser.Names (record { ref_ptr = (0, 0); now = map (λ text. record { ref_ptr = (0, 0); now = text }) texts })
+choices texts = ValueParser.Names (record { ref_ptr = (0, 0); now = map (λ text. record { ref_ptr = (0, 0); now = text }) texts })
 
 are_formats : AreChoices format_names (choices format_names)
 unfolding choices all_formats

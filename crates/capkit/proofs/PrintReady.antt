@@ -1,7 +1,6 @@
 -- The line of a print without a fault may be run.
-use Rattle.capkit.proofs.Common.{◌≡◌, ◌∙◌, ap, arith, refl, codes, Bool, true, false, List, [], ◌∷◌, length, Option, Some, None, String, string_bytes, vec_len, ◌&&◌, ◌||◌, is_none, is_some, nat_eq, nat_lt, not, option_map, if◌then◌else◌, Global, join_by, option_map_or, and_from, eq-eqb, lt-ltb, has_at_most_one_filter, has_at_most_one_output, is_at_least_one, is_proper, Row, Text, first_of, IsPrintOf, flag_in, format_in, has_exclusion, has_expression, has_two_filters, has_two_outputs, is_ready, or_else, print_fault, texts_in, Line, Usage, OptionsExclude}
-use Rattle.std.proofs.lemmas.Bool.{or_parts}
-use Rattle.std.proofs.Math.Bool.{or-true}
+use Rattle.capkit.proofs.Common.{◌≡◌, ◌∙◌, ap, arith, refl, codes, Bool, true, false, List, [], ◌∷◌, length, Option, Some, None, String, string_bytes, vec_len, ◌&&◌, ◌||◌, is_none, is_some, nat_eq, nat_lt, not, option_map, if◌then◌else◌, Global, join_by, option_map_or, and_from, eq-eqb, lt-ltb, has_at_most_one_filter, has_at_most_one_output, is_at_least_one, is_proper, Row, Text, first_of, IsPrintOf, flag_in, format_in, has_exclusion, has_expression, has_two_filters, has_two_outputs, is_ready, or_else, print_fault, texts_in, Line, Usage, OptionsExclude, ◌++◌, ℕ, map}
+use Rattle.std.proofs.{Common.flat_map, Math.Bool.or-true, lemmas.Bool.or_parts}
 use Rattle.cap_octet.specs.declared.format.Format.{Format}
 use Rattle.capkit.specs.declared.ids.TheConstants as ids
 
@@ -41,3 +40,15 @@ ready matches line is none one count =
     ap (λ command. is_proper command (vec_len line.inputs) && (is_none line.code || not (has_expression command))) is.command
     ∙ and_from _ _ (and_from _ _ (eq-eqb _ 1 one) (and_from _ _ unread (and_from _ _ output count)))
     (one_filter (first_of ids.LISTING.now matches) line.code (texts_in ids.WORD.now matches) (string_bytes print.expr) is.code is.expr filters.0)
+
+-- ---- joining texts is joining what they read as
+
+following : {X : Type 0} (f : X → List ℕ) (separator : List ℕ) (xs : List X)
+    → flat_map (λ x. separator ++ f x) xs ≡ flat_map (λ (text : List ℕ). separator ++ text) (map f xs)
+following f separator [] = refl
+following f separator (x ∷ xs) = ap (λ rest. (separator ++ f x) ++ rest) (following f separator xs)
+
+pub joined : {X : Type 0} (f : X → List ℕ) (separator : List ℕ) (xs : List X)
+    → join_by f separator xs ≡ join_by (λ (text : List ℕ). text) separator (map f xs)
+joined f separator [] = refl
+joined f separator (x ∷ xs) = ap (λ rest. f x ++ rest) (following f separator xs)

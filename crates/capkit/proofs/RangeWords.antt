@@ -1,5 +1,6 @@
--- When the words for ranges have a fault.
-use Rattle.capkit.proofs.Common.{◌≡◌, ◌≤◌, ◌<◌, ◌∙◌, ap, sym, refl, ℕ, Bool, true, false, List, [], ◌∷◌, length, map, take, Option, Some, None, slice_index_or, is_none, if◌then◌else◌, Bor, list_all, list_any, cond-false, and_from, cond-true, le-leb, le-ltb, lt-ltb, length-map, take_all, list_any-map, has_proper_ranges, is_range, most_ranges, Text, range_fault, range_number, range_between, range_of, sides_of, BadRange, TooManyValues}
+-- When the words for ranges, and the names of several inputs, have a fault.
+use Rattle.capkit.proofs.Common.{◌≡◌, ◌≤◌, ◌<◌, ◌∙◌, ap, sym, refl, ℕ, Bool, true, false, List, [], ◌∷◌, length, map, take, Option, Some, None, slice_index_or, is_none, if◌then◌else◌, Bor, list_all, list_any, cond-false, and_from, cond-true, le-leb, le-ltb, lt-ltb, length-map, take_all, list_any-map, has_proper_ranges, is_range, most_ranges, Text, range_fault, range_number, range_between, range_of, sides_of, BadRange, TooManyValues, ap₂, nat_lt, most_inputs, files_fault, or_else, uses_name_twice, Usage, NameUsedTwice}
+use Rattle.capkit.proofs.WrittenRanges.{between}
 use Rattle.std.proofs.lemmas.List.Folds.{list_any_at}
 
 abbrev is_bad : Text → Bool
@@ -18,7 +19,7 @@ none_bad (word ∷ words) (range ∷ ranges) same =
     let more : map Some ranges ≡ map range_of words = cc in
     rw (← here) (none_bad words ranges more)
 
-abbrev text_of : Bor Text → Text
+abbrev pub text_of : Bor Text → Text
 text_of word = word.now
 
 still_few : (words : List (Bor Text)) → length words ≤ most_ranges → length (map text_of words) ≤ most_ranges
@@ -48,24 +49,13 @@ bad_range words i d enough lt bad =
 
 -- ---- the ranges that the words name
 
-is_range_between : (first last : Option ℕ) (range : ℕ × ℕ) → Some range ≡ range_between first last → is_range range.0 range.1 ≡ true
-is_range_between None last range same = cc
-is_range_between (Some n) None range same = cc
-is_range_between (Some n) (Some m) range same = go (is_range n m) refl same
-  where
-    go : (b : Bool) → is_range n m ≡ b → Some range ≡ (if b then Some (n, m) else None) → is_range range.0 range.1 ≡ true
-    go true is found =
-        let pair : range ≡ (n, m) = cc in
-        ap (λ (r : ℕ × ℕ). is_range r.0 r.1) pair ∙ is
-    go false is found = cc
-
 all_ranges : (words : List Text) (ranges : List (ℕ × ℕ)) → map Some ranges ≡ map range_of words → list_all (λ range. is_range range.0 range.1) ranges ≡ true
 all_ranges words [] same = refl
 all_ranges [] (range ∷ ranges) same = cc
 all_ranges (word ∷ words) (range ∷ ranges) same =
     let here : Some range ≡ range_of word = cc in
     let more : map Some ranges ≡ map range_of words = cc in
-    and_from _ _ (is_range_between (range_number (sides_of word).0) (range_number (sides_of word).1) range here) (all_ranges words ranges more)
+    and_from _ _ (between (range_number (sides_of word).0) (range_number (sides_of word).1) range (sym here)).2 (all_ranges words ranges more)
 
 -- as many as the words
 as_many : (words : List Text) (ranges : List (ℕ × ℕ)) → map Some ranges ≡ map range_of words → length ranges ≡ length words
@@ -79,3 +69,24 @@ proper_ranges words ranges i enough all same =
     let whole : map Some ranges ≡ map range_of (map text_of words) = same ∙ ap (λ ws. map range_of (map text_of ws)) (take_all i words all) in
     let upper_bound : length ranges ≤ most_ranges = rw (as_many (map text_of words) ranges whole) (still_few words enough) in
     and_from _ _ (le-leb (length ranges) most_ranges upper_bound) (all_ranges (map text_of words) ranges whole)
+
+-- ---- the names of several inputs
+
+abbrev first_of_two : (many twice : Bool) → Option Usage
+first_of_two many twice = or_else (if many then Some TooManyValues else None) (if twice then Some NameUsedTwice else None)
+
+-- the fault of inputs with these names, by the two tests
+fault_is : (names : List (Bor Text)) (inputs : List Text) (output : Option Text) (many twice : Bool) → map text_of names ≡ inputs
+    → nat_lt most_inputs (length names) ≡ many → uses_name_twice (map text_of names) output ≡ twice → files_fault inputs output ≡ first_of_two many twice
+fault_is names inputs output many twice same is_many is_twice =
+    let count : nat_lt most_inputs (length inputs) ≡ many =
+    ap (λ texts. nat_lt most_inputs (length texts)) (sym same) ∙ ap (nat_lt most_inputs) (length-map names text_of) ∙ is_many in
+    ap₂ first_of_two count (ap (λ texts. uses_name_twice texts output) (sym same) ∙ is_twice)
+
+pub used_twice : (names : List (Bor Text)) (inputs : List Text) (output : Option Text) → map text_of names ≡ inputs → length names ≤ most_inputs
+    → uses_name_twice (map text_of names) output ≡ true → files_fault inputs output ≡ Some NameUsedTwice
+used_twice names inputs output same upper_bound twice = fault_is names inputs output false true same (le-ltb most_inputs (length names) upper_bound) twice
+
+pub faultless : (names : List (Bor Text)) (inputs : List Text) (output : Option Text) → map text_of names ≡ inputs → length names ≤ most_inputs
+    → uses_name_twice (map text_of names) output ≡ false → files_fault inputs output ≡ None
+faultless names inputs output same upper_bound once = fault_is names inputs output false false same (le-ltb most_inputs (length names) upper_bound) once

@@ -1,17 +1,12 @@
 -- The command line as clap parses it.
 use Rattle.std.specs.Prelude.{◌≡◌, ℕ, List, [], ◌∷◌, Option, Some, true, codes, fold, map, pos, slice_get, ◌-◌, ◌^◌}
 use Rattle.clap.specs.Words.{App, HasKind, Row, Rule, Shape, Text, fault_of, is_simple, is_simple_and_free, kind_of, new_app, new_rule, subcommand_of, takes, with_rule, with_subcommand}
-use Rattle.clap.specs.declared.builder.action.ArgAction.TheVariants.{SetTrue}
-use Rattle.clap.specs.declared.builder.value_parser.ValueParser.{ValueParser}
-use Rattle.clap.specs.declared.builder.value_parser.ValueParser.TheVariants as parser
-use Rattle.clap.specs.declared.error.Error.{Error}
-use Rattle.clap.specs.declared.error.kind.ErrorKind.TheVariants.{OutOfMemory}
-use Rattle.cap_octet.specs.Format.{all_formats, format_name}
-use Rattle.cap_octet.specs.Link.{all_links, link_name}
+use Rattle.clap.specs.declared.builder.{action.ArgAction.TheVariants.SetTrue, value_parser.ValueParser.ValueParser}
+use Rattle.clap.specs.declared.error.{Error.Error, kind.ErrorKind.TheVariants.OutOfMemory}
+use Rattle.cap_octet.specs.{Format.all_formats, Format.format_name, Link.all_links, Link.link_name}
 use Rattle.cap_command.specs.Command.{least_window, most_window}
 use Rattle.capkit.specs.declared.ids.TheConstants as ids
 use Rattle.capkit.specs.declared.arguments.Subcommand.{Subcommand}
-use Rattle.capkit.specs.declared.arguments.Subcommand.TheVariants as sub
 
 -- the greatest number of 32 bits
 abbrev pub most_32 : ℕ
@@ -44,11 +39,11 @@ with_one_value rule = record rule { value_names = 1 }
 -- an argument that takes a number from `least` to `most`, below 2^63
 abbrev pub with_bounds : (least most : ℕ) → Rule → Rule
 with_bounds least most rule =
-    record (with_one_value rule) { parser = Some (parser.Signed (pos least) (pos most)) }
+    record (with_one_value rule) { parser = Some (ValueParser.Signed (pos least) (pos most)) }
 
 -- an argument that takes a number from `least` to `most`, below 2^64
 abbrev pub with_wide_bounds : (least most : ℕ) → Rule → Rule
-with_wide_bounds least most rule = record (with_one_value rule) { parser = Some (parser.Unsigned least most) }
+with_wide_bounds least most rule = record (with_one_value rule) { parser = Some (ValueParser.Unsigned least most) }
 
 -- an argument that takes one of some names
 abbrev pub with_choices : ValueParser → Rule → Rule
@@ -66,11 +61,11 @@ many rule = record rule {
 
 -- the name of a subcommand
 abbrev pub name_of : Subcommand → Text
-name_of sub.Edit = codes "edit"
-name_of sub.Merge = codes "merge"
-name_of sub.Infos = codes "infos"
-name_of sub.Print = codes "print"
-name_of sub.Compile = codes "compile"
+name_of Subcommand.Edit = codes "edit"
+name_of Subcommand.Merge = codes "merge"
+name_of Subcommand.Infos = codes "infos"
+name_of Subcommand.Print = codes "print"
+name_of Subcommand.Compile = codes "compile"
 
 -- the arguments of `edit`: its options, and then those by place, each in the order in which its
 -- help lists them
@@ -151,11 +146,11 @@ line_without_commands =
 -- the subcommands, in the order in which help lists them
 abbrev pub line_shapes : (formats links : ValueParser) → List Shape
 line_shapes formats links =
-    shape_of (name_of sub.Edit) (edit_rules formats)
-    ∷ shape_of (name_of sub.Merge) (merge_rules formats)
-    ∷ shape_of (name_of sub.Infos) infos_rules
-    ∷ shape_of (name_of sub.Print) (print_rules formats)
-    ∷ shape_of (name_of sub.Compile) (compile_rules links)
+    shape_of (name_of Subcommand.Edit) (edit_rules formats)
+    ∷ shape_of (name_of Subcommand.Merge) (merge_rules formats)
+    ∷ shape_of (name_of Subcommand.Infos) infos_rules
+    ∷ shape_of (name_of Subcommand.Print) (print_rules formats)
+    ∷ shape_of (name_of Subcommand.Compile) (compile_rules links)
     ∷ []
 
 -- the whole line after the program's name, with `--version` and no subcommand `help`
@@ -181,7 +176,7 @@ link_names = map link_name all_links
 -- the values that an argument may have; a list is the program's, so no definition can name its
 -- place in memory
 abbrev pub AreChoices : List Text → ValueParser → Type 0
-AreChoices texts (parser.Names names) = map (λ name. name.now) names.now ≡ texts
+AreChoices texts (ValueParser.Names names) = map (λ name. name.now) names.now ≡ texts
 AreChoices texts _ = ⊥
 
 -- clap has nothing against the words, and they enter this subcommand with these matches

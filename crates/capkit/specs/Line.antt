@@ -1,39 +1,20 @@
 -- What the words of a command line ask for.
-use Rattle.std.specs.Prelude.{◌≡◌, ◌&&◌, ◌||◌, ◌⊎◌, ℕ, Bool, false, not, List, [], ◌∷◌, length, map, nat_lt, codes}
-use Rattle.std.specs.Prelude.{Option, Some, None, is_none, is_some, option_map, unwrap_or, if◌then◌else◌, string_bytes, vec_len}
-use Rattle.std.specs.Global.{Global, Vec}
-use Rattle.std.specs.List.{join_by, list_any}
+use Rattle.std.specs.{Global.Global, Global.Vec, List.join_by, List.list_any}
 use Rattle.std.specs.Option.{option_and_then, option_map_or, option_to_list}
-use Rattle.std.specs.Str.{bytes_eq}
-use Rattle.std.specs.Str.Parse.{digits_value, without_leading_plus}
-use Rattle.cap_octet.specs.Seconds.{duration_value}
-use Rattle.cap_octet.specs.Timestamp.{time_value}
-use Rattle.cap_octet.specs.declared.format.Format.{Format}
-use Rattle.cap_octet.specs.declared.format.Format.TheVariants.{Pcapng}
-use Rattle.cap_octet.specs.Format.{format_of_name}
-use Rattle.cap_octet.specs.Link.{link_of_name}
+use Rattle.std.specs.Prelude.{◌≡◌, ◌&&◌, ◌||◌, ◌⊎◌, ℕ, Bool, false, not, List, [], ◌∷◌, length, map, nat_lt, codes, Option, Some, None, is_none, is_some, option_map, unwrap_or, if◌then◌else◌, string_bytes, vec_len}
+use Rattle.std.specs.Str.{bytes_eq, Parse.digits_value, Parse.without_leading_plus}
+use Rattle.cap_octet.specs.{Format.format_of_name, Link.link_of_name, Seconds.duration_value, Timestamp.time_value}
+use Rattle.cap_octet.specs.declared.format.Format.{Format, TheVariants.Pcapng}
+use Rattle.cap_octet.specs.declared.link.Link.{Link, TheVariants.Ether}
 use Rattle.cap_command.specs.Command.{is_proper, least_window, most_inputs, most_ranges, most_window}
 use Rattle.cap_command.specs.declared.command.Command.{Command}
-use Rattle.cap_command.specs.declared.command.Command.TheVariants as command
-use Rattle.cap_command.specs.declared.command.Compile.{Compile}
-use Rattle.cap_command.specs.declared.command.Edit.{Edit}
-use Rattle.cap_command.specs.declared.command.Merge.{Merge}
-use Rattle.cap_command.specs.declared.command.Print.{Print}
-use Rattle.cap_command.specs.declared.command.Shift.{Shift}
-use Rattle.cap_command.specs.declared.command.Shift.TheVariants as shift
-use Rattle.clap.specs.ValueTests.{is_unsigned_in}
-use Rattle.clap.specs.Words.{Row, Text, all_of, first_of, one_of}
-use Rattle.cap_octet.specs.declared.link.Link.{Link}
-use Rattle.cap_octet.specs.declared.link.Link.TheVariants.{Ether}
+use Rattle.cap_command.specs.declared.command.{Compile.Compile, Edit.Edit, Merge.Merge, Print.Print, Shift.Shift}
+use Rattle.clap.specs.{ValueTests.is_unsigned_in, Words.Row, Words.Text, Words.all_of, Words.first_of, Words.one_of}
 use Rattle.capkit.specs.Arguments.{RefusesWords, TakesWords, most_32, most_64, name_of}
-use Rattle.capkit.specs.declared.ids.TheConstants as ids
-use Rattle.capkit.specs.Names.{uses_name_twice}
-use Rattle.capkit.specs.Range.{range_of}
-use Rattle.capkit.specs.declared.arguments.Subcommand.{Subcommand}
-use Rattle.capkit.specs.declared.arguments.Subcommand.TheVariants as sub
-use Rattle.capkit.specs.declared.line.Line.{Line}
-use Rattle.capkit.specs.declared.usage.Usage.{Usage}
+use Rattle.capkit.specs.{Names.uses_name_twice, Range.range_of}
+use Rattle.capkit.specs.declared.{arguments.Subcommand.Subcommand, line.Line.Line, usage.Usage.Usage}
 use Rattle.capkit.specs.declared.usage.Usage.TheVariants.{BadRange, BadTime, Memory, NameUsedTwice, OptionsExclude, Refused, TooManyValues}
+use Rattle.capkit.specs.declared.ids.TheConstants as ids
 
 -- ---- clap's matches
 
@@ -79,9 +60,9 @@ duration_in id matches = option_and_then duration_value (first_of id matches)
 
 -- times are shifted by one of the spans, in nanoseconds, or not; for both by the first
 abbrev pub shift_by : (later earlier : Option ℕ) → Shift
-shift_by (Some span) earlier = shift.Later span
-shift_by None (Some span) = shift.Earlier span
-shift_by None None = shift.None
+shift_by (Some span) earlier = Shift.Later span
+shift_by None (Some span) = Shift.Earlier span
+shift_by None None = Shift.None
 
 -- how times are shifted: by `--later` or `--earlier`, or not
 abbrev pub shift_in : List Row → Shift
@@ -226,7 +207,7 @@ pub record HasOptions (matches : List Row) (edit : Edit Global) : Type 0 where
 -- the line is the edit that the matches ask for
 pub record IsEditOf (matches : List Row) (line : Line) : Type 0 where
   pub edit : Edit Global
-  pub command : line.command ≡ command.Edit edit
+  pub command : line.command ≡ Command.Edit edit
   pub ranges : map Some edit.ranges.items ≡ map range_of (texts_in ids.RANGE.now matches)
   pub options : HasOptions matches edit
   pub inputs : map string_bytes line.inputs.items ≡ text_in ids.IN.now matches ∷ []
@@ -236,7 +217,7 @@ pub record IsEditOf (matches : List Row) (line : Line) : Type 0 where
 -- the line is the merge that the matches ask for
 pub record IsMergeOf (matches : List Row) (line : Line) : Type 0 where
   pub merge : Merge
-  pub command : line.command ≡ command.Merge merge
+  pub command : line.command ≡ Command.Merge merge
   pub append : merge.append ≡ flag_in ids.APPEND.now matches
   pub format : merge.format ≡ format_in ids.FORMAT.now matches
   pub inputs : map string_bytes line.inputs.items ≡ files_in matches
@@ -245,7 +226,7 @@ pub record IsMergeOf (matches : List Row) (line : Line) : Type 0 where
 
 -- the line asks for the reports that the matches ask for
 pub record IsInfosOf (matches : List Row) (line : Line) : Type 0 where
-  pub command : line.command ≡ command.Infos
+  pub command : line.command ≡ Command.Infos
   pub inputs : map string_bytes line.inputs.items ≡ files_in matches
   pub output : line.output ≡ None
   pub code : line.code ≡ None
@@ -253,7 +234,7 @@ pub record IsInfosOf (matches : List Row) (line : Line) : Type 0 where
 -- the line is the print that the matches ask for; the listing is named, and not yet read
 pub record IsPrintOf (matches : List Row) (line : Line) : Type 0 where
   pub print : Print Global
-  pub command : line.command ≡ command.Print print
+  pub command : line.command ≡ Command.Print print
   pub expr : string_bytes print.expr ≡ expression_in matches
   pub unread : print.code ≡ None
   pub count : print.count ≡ argument_number 1 most_64 ids.COUNT.now matches
@@ -267,7 +248,7 @@ pub record IsPrintOf (matches : List Row) (line : Line) : Type 0 where
 -- the line is the compilation that the matches ask for
 pub record IsCompileOf (matches : List Row) (line : Line) : Type 0 where
   pub compile : Compile Global
-  pub command : line.command ≡ command.Compile compile
+  pub command : line.command ≡ Command.Compile compile
   pub expr : string_bytes compile.expr ≡ expression_in matches
   pub link : compile.link ≡ link_in ids.LINK.now matches
   pub inputs : line.inputs.items ≡ []
@@ -278,19 +259,19 @@ pub record IsCompileOf (matches : List Row) (line : Line) : Type 0 where
 
 -- the first fault of the words of a subcommand
 abbrev pub fault_in : Subcommand → List Row → Option Usage
-fault_in sub.Edit matches = edit_fault matches
-fault_in sub.Merge matches = merge_fault matches
-fault_in sub.Infos matches = infos_fault matches
-fault_in sub.Print matches = print_fault matches
-fault_in sub.Compile matches = None
+fault_in Subcommand.Edit matches = edit_fault matches
+fault_in Subcommand.Merge matches = merge_fault matches
+fault_in Subcommand.Infos matches = infos_fault matches
+fault_in Subcommand.Print matches = print_fault matches
+fault_in Subcommand.Compile matches = None
 
 -- the line is what the matches of a subcommand ask for
 abbrev pub IsLineOf : Subcommand → List Row → Line → Type 0
-IsLineOf sub.Edit matches line = IsEditOf matches line
-IsLineOf sub.Merge matches line = IsMergeOf matches line
-IsLineOf sub.Infos matches line = IsInfosOf matches line
-IsLineOf sub.Print matches line = IsPrintOf matches line
-IsLineOf sub.Compile matches line = IsCompileOf matches line
+IsLineOf Subcommand.Edit matches line = IsEditOf matches line
+IsLineOf Subcommand.Merge matches line = IsMergeOf matches line
+IsLineOf Subcommand.Infos matches line = IsInfosOf matches line
+IsLineOf Subcommand.Print matches line = IsPrintOf matches line
+IsLineOf Subcommand.Compile matches line = IsCompileOf matches line
 
 -- a line is not read: memory ran out, or this is its first fault
 abbrev pub IsUsageOf : Option Usage → Usage → Type 0
@@ -318,7 +299,7 @@ SaysFault words usage =
 
 -- the command is a print with an expression that is not empty
 abbrev pub has_expression : {Z : Type 0} → Command Z → Bool
-has_expression (command.Print print) = nat_lt 0 (length (string_bytes print.expr))
+has_expression (Command.Print print) = nat_lt 0 (length (string_bytes print.expr))
 has_expression _ = false
 
 -- a line may be run once its listing is read
@@ -329,5 +310,5 @@ is_ready line =
 
 -- the command with a listing of these bytes; only a print takes one
 abbrev pub with_code : Command Global → Vec ℕ → Command Global
-with_code (command.Print print) bytes = command.Print (record print { code = Some bytes })
+with_code (Command.Print print) bytes = Command.Print (record print { code = Some bytes })
 with_code asked bytes = asked

@@ -1,8 +1,6 @@
 -- The ranges of packets that words of a command line name.
-use Rattle.std.specs.Prelude.{◌==◌, ◌&&◌, ℕ, Bool, List, length, nat_lt}
-use Rattle.std.specs.Prelude.{Option, Some, None, if◌then◌else◌}
-use Rattle.std.specs.Char.{is_ascii_digit}
-use Rattle.std.specs.List.{after_first, before_first, list_all, list_any}
+use Rattle.std.specs.{Char.is_ascii_digit, List.after_first, List.before_first, List.list_all, List.list_any}
+use Rattle.std.specs.Prelude.{◌==◌, ◌&&◌, ℕ, Bool, List, length, nat_lt, Option, Some, None, if◌then◌else◌}
 use Rattle.std.specs.Str.Parse.{digits_value}
 use Rattle.cap_command.specs.Command.{is_range}
 

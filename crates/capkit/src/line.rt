@@ -1,15 +1,12 @@
 //! What the words of a command line ask for.
 ghost use Rattle.std.specs.Prelude.{◌≡◌, IfOk, IfErr, OnOk, None, map, true, string_bytes};
 ghost use Rattle.clap.specs.Words.{found_of, rows_of};
-ghost use Rattle.capkit.specs.Line.{fault_in, is_ready, with_code, IsUsageOf, IsLineOf};
-ghost use Rattle.capkit.specs.Line.{SaysLine, SaysFault};
+ghost use Rattle.capkit.specs.Line.{fault_in, is_ready, with_code, IsUsageOf, IsLineOf, SaysLine, SaysFault};
 
 use crate::arguments::{Subcommand, matches_of, subcommand_of_name};
-use crate::compile_line::compile_line;
 use crate::edit_line::edit_line;
-use crate::infos_line::infos_line;
-use crate::merge_line::merge_line;
-use crate::print_line::print_line;
+use crate::merge_line::{infos_line, merge_line};
+use crate::print_line::{compile_line, print_line};
 use crate::usage::Usage;
 use cap_command::{Command, Print};
 use clap::ArgMatches;

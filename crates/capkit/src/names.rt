@@ -1,6 +1,6 @@
 //! Names of inputs and outputs: which are standard streams, and which are used twice.
-ghost use Rattle.std.specs.Prelude.{◌≡◌, option_map, map, count_by};
 ghost use Rattle.std.specs.List.{list_any};
+ghost use Rattle.std.specs.Prelude.{◌≡◌, option_map, map, count_by};
 ghost use Rattle.std.specs.Str.{bytes_eq};
 ghost use Rattle.capkit.specs.Names.{is_standard, uses_name_twice};
 
@@ -24,7 +24,7 @@ fn standard_stream_count(names: &[&str]) -> usize
 
 /// Whether the output, unless it is standard output, is an input too, or standard input is two
 /// inputs. Names are compared as they are written; that two may lead to one file is seen by
-/// `overwrites_input` of capkit_host.
+/// `overwrites_input`.
 pub fn uses_name_twice(inputs: &[&str], output: Option<&str>) -> bool
     ensures { result ≡ uses_name_twice (map (λ name. name.now) inputs.now)
         (option_map (λ name. name.now) output.entry) }

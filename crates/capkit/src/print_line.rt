@@ -1,31 +1,29 @@
-//! The command line of `print`: its expression or its listing, its options and its names, or the
-//! first fault of them.
-ghost use Rattle.std.specs.Prelude.{◌≡◌, ◌∷◌, ◌≤◌, IfOk, IfErr, IfSome, OnOk, Some, None};
-ghost use Rattle.std.specs.Prelude.{option_map, string_bytes, true};
+//! The command lines of `print`, with its expression or its listing, its options and its names, or
+//! the first fault of them, and of `compile`.
 ghost use Rattle.std.specs.Option.{option_map_or, option_to_list};
+ghost use Rattle.std.specs.Prelude.{◌≡◌, ◌∷◌, ◌≤◌, IfOk, IfErr, IfSome, OnOk, Some, None, option_map, string_bytes, true};
 ghost use Rattle.cap_command.specs.Command.{is_at_least_one};
 ghost use Rattle.clap.specs.Words.{found_of, rows_of};
-ghost use Rattle.capkit.specs.Line.{expression_in, flag_in, has_exclusion, has_idle_format};
-ghost use Rattle.capkit.specs.Line.{has_two_filters, has_two_outputs, is_ready};
 ghost use Rattle.capkit.specs.Arguments.{most_64};
-ghost use Rattle.capkit.specs.declared.ids.TheConstants.{BYTES, COUNT, LINK_HEADER};
-ghost use Rattle.capkit.specs.Line.{argument_number, print_fault, write_in, IsUsageOf, IsPrintOf};
+ghost use Rattle.capkit.specs.Line.{expression_in, flag_in, has_exclusion, has_idle_format, has_two_filters, has_two_outputs, is_ready, argument_number, print_fault, write_in, IsUsageOf, IsPrintOf, IsCompileOf};
 ghost use Rattle.capkit.specs.Names.{uses_name_twice};
+ghost use Rattle.capkit.specs.declared.ids.TheConstants.{BYTES, COUNT, LINK_HEADER};
+ghost use Rattle.capkit.specs.declared.usage.Usage.TheVariants.{Memory};
 
 use crate::files::copies_of_texts;
 use crate::ids;
 use crate::line::Line;
 use crate::names::uses_name_twice;
 use crate::usage::Usage;
-use crate::values::{flag, format, number, optional_text, text, texts};
-use cap_command::{Command, Print};
+use crate::values::{flag, format, link, number, optional_text, text, texts};
+use cap_command::{Command, Compile, Print};
 use cap_octet::Format;
 use clap::ArgMatches;
 use std::alloc::{AllocError, Global};
 
 /// The text of an expression: its words, with a blank between each two; empty without words. An
 /// error means that memory ran out.
-pub fn expression_text(alloc: Global, matches: &ArgMatches<'_>) -> Result<String, AllocError>
+fn expression_text(alloc: Global, matches: &ArgMatches<'_>) -> Result<String, AllocError>
     ensures { IfOk result (λ expr. string_bytes expr
         ≡ expression_in (rows_of (found_of matches.now))) }
 {
@@ -167,5 +165,24 @@ pub fn print_line(alloc: Global, matches: &ArgMatches<'_>) -> Result<Line, Usage
         inputs,
         output,
         code,
+    })
+}
+
+/// The line of a compilation, by clap's matches: it has no inputs, and its listing goes to standard
+/// output. An error means that memory ran out.
+pub fn compile_line(alloc: Global, matches: &ArgMatches<'_>) -> Result<Line, Usage>
+    ensures line { IfOk result (IsCompileOf (rows_of (found_of matches.now))) }
+    ensures ready { IfOk result (λ line. is_ready line ≡ true) }
+    ensures fault { IfErr result (λ usage. usage ≡ Memory) }
+{
+    let compile = Compile {
+        expr: expression_text(alloc, matches)?,
+        link: link(matches, ids::LINK),
+    };
+    Ok(Line {
+        command: Command::Compile(compile),
+        inputs: Vec::new(alloc),
+        output: None,
+        code: None,
     })
 }

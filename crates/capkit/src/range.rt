@@ -1,7 +1,6 @@
 //! The ranges of packets that words name.
+ghost use Rattle.std.specs.{Char.is_ascii_digit, List.list_all};
 ghost use Rattle.std.specs.Prelude.{◌≡◌, ◌≤◌, ◌^◌, ℕ, IfSome, IfNone, Some};
-ghost use Rattle.std.specs.Char.{is_ascii_digit};
-ghost use Rattle.std.specs.List.{list_all};
 ghost use Rattle.capkit.specs.Range.{range_number, range_of, sides_of};
 ghost use Rattle.capkit.specs.inside.Range.{WritesRange};
 

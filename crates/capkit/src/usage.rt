@@ -25,8 +25,8 @@ pub enum Usage {
     #[error("options exclude each other")]
     OptionsExclude,
     /// The output, unless it is standard output, is an input or the listing too, or standard input
-    /// is two of these. capkit_host returns it even if the output is one of their files by
-    /// another name.
+    /// is two of these. `line_of_words` returns it even if the output is one of their files
+    /// by another name.
     #[error("name used twice")]
     NameUsedTwice,
     /// No memory was left for the words or the line; `Refused` reports clap's own lack of it.

@@ -1,97 +1,53 @@
-//! A run: a command over the files and standard streams that its names mean.
-ghost use Rattle.std.specs.Prelude.{◌≡◌, ◌+◌, ◌≤◌, [], ◌∷◌, ◌++◌, IfOk, codes, length, map};
-ghost use Rattle.std.specs.Prelude.{option_map, string_bytes, true, unwrap_or, vec_len};
-ghost use Rattle.cap_command.specs.Command.{is_proper};
+//! The program: its words, and a command over the files and standard streams that its names mean.
+ghost use Rattle.std.specs.Prelude.{◌≡◌, ◌≤◌, IsTrue, map, string_bytes, true, vec_len};
+ghost use Rattle.cap_octet.specs.Views.{device_view, fresh_input, fresh_output};
+ghost use Rattle.cap_command.specs.{Call.call_of, Call.run_result, Command.is_proper};
+ghost use Rattle.cap_tools.specs.{Run.CommandRuns, Start.assignment};
 ghost use Rattle.capkit.specs.Line.{is_ready};
 
-use crate::ending::finish;
-use crate::engine::Engine;
-use crate::opening::{
-    Source, Target, buffer_or_stop, buffer_output, create_output, open_inputs, with_listing,
-};
-use crate::progress::Progress;
-use crate::stop::{Stop, report_stop};
-use crate::waiting::may_wait;
 use cap_command::Command;
-use cap_octet::StdOutput;
-use capkit::{Line, STANDARD};
+use cap_octet::{Input, Output};
+use capkit::ending::finish;
+use capkit::opening::{Devices, open_devices, output_name, with_listing, with_output_name};
+use capkit::progress::Progress;
+use capkit::refusal::{refuse, refuse_not_utf8, run_or_refuse};
+use capkit::stop::{Stop, report_stop};
+use capkit::words::line_of_words;
+use capkit::{Line, Usage};
 use std::alloc::AllocError;
-use std::io::{BufWriter, Stderr};
+use std::env;
+use std::io::ErrorKind;
 
-/// What a command is run over: its inputs, its output, and the messages' device.
-struct Devices<'p> {
-    inputs: Vec<Source<'p>>,
-    output: Target,
-    messages: StdOutput<Stderr>,
-}
-
-/// Opens the inputs in order, creates the output, and takes standard error for messages. An error
-/// is the first of these that can't be done, or that memory ran out.
-fn open_devices<'a, 'p>(
-    rt: &HostRuntime,
-    names: &'a [String],
-    output: &'a str,
-    progress: &'p Progress<'p>,
-) -> Result<Devices<'p>, Stop<'a>>
-    ensures { IfOk result (λ devices. vec_len devices.inputs ≡ length names.entry.now) }
-{
-    let inputs = open_inputs(rt, names, progress)?;
-    let created = create_output(rt, output)?;
-    let may_wait = may_wait(rt, names);
-    let output = buffer_output(rt, created, may_wait)?;
-    let messages = buffer_or_stop(BufWriter::new(rt.alloc(), rt.stderr()))?;
-    Ok(Devices {
-        inputs,
-        output,
-        messages: StdOutput::new(messages),
-    })
-}
-
-/// Runs the command over its devices, ends its progress and its output, and returns the status. A
-/// failed write that the command has reported is not reported again.
-fn run_over_devices<J: Engine>(
+/// Runs the command over its devices, and ends its progress. `names` are those of the inputs, then
+/// of the output. It returns the status, and hands back the output and the messages' device.
+fn run_over_devices<I: Input + Drop, O: Output, E: Output>(
     rt: &HostRuntime,
     command: Command,
     names: Vec<String>,
-    devices: Devices<'_>,
-    output: &str,
+    devices: Devices<I, O, E>,
     progress: &Progress<'_>,
-) -> u8
+) -> (u8, O, E)
     requires { is_proper command (vec_len devices.inputs) ≡ true }
-    ensures { result ≤ 2 }
+    ensures status { result.0 ≤ 2 }
+    ensures exact { IsTrue I.tells → IsTrue O.tells → CommandRuns (assignment command)
+        (call_of (map string_bytes names.items) (map (fresh_input I.Input) devices.inputs.items)
+        (fresh_output O.Output devices.output) (fresh_output E.Output devices.messages))
+        (run_result result.0 (device_view O.Output result.1) (device_view E.Output result.2)) }
 {
     let Devices {
         inputs,
-        output: out,
+        output,
         messages,
     } = devices;
-    let (status, target, messages) = J::run(rt.alloc(), command, names, inputs, out, messages);
+    let ended = cap_tools::run(rt.alloc(), command, names, inputs, output, messages);
     progress.end();
-    match finish(rt.alloc(), status, target, messages, output) {
-        Ok(status) => status,
-        Err(stop) => report_stop(rt, stop),
-    }
-}
-
-/// The names of the inputs, and that of the output after them, as an engine takes them. An error
-/// means that memory ran out.
-fn with_output_name(
-    rt: &HostRuntime,
-    mut names: Vec<String>,
-    output: &str,
-) -> Result<Vec<String>, AllocError>
-    ensures count { IfOk result (λ all. vec_len all ≡ vec_len names + 1) }
-    ensures names { IfOk result (λ all. map string_bytes all.items
-        ≡ map string_bytes names.items ++ output.now ∷ []) }
-{
-    names.push(String::from_str(rt.alloc(), output)?)?;
-    Ok(names)
+    ended
 }
 
 /// Opens the inputs in order, creates the output, runs the command, and returns its status. Where
 /// something can't be opened or created, or memory runs out for that, it reports so, runs nothing,
-/// and returns 1.
-pub fn run_command<J: Engine>(
+/// and returns 1. A failed write that the command has reported is not reported again.
+pub fn run_command(
     rt: &HostRuntime,
     command: Command,
     names: Vec<String>,
@@ -106,19 +62,14 @@ pub fn run_command<J: Engine>(
     };
     // The last name is the output's.
     let inputs = &names[..names.len() - 1];
-    match open_devices(rt, inputs, output, progress) {
-        Ok(devices) => run_over_devices::<J>(rt, command, names, devices, output, progress),
+    let devices = match open_devices(rt, inputs, output, progress) {
+        Ok(devices) => devices,
+        Err(stop) => return report_stop(rt, stop),
+    };
+    let (status, target, messages) = run_over_devices(rt, command, names, devices, progress);
+    match finish(rt.alloc(), status, target, messages, output) {
+        Ok(status) => status,
         Err(stop) => report_stop(rt, stop),
-    }
-}
-
-/// The name of a line's output; `-`, which is standard output, if the line has none.
-fn output_name(output: &Option<String>) -> &str
-    ensures { result.now ≡ unwrap_or (option_map string_bytes output.now) (codes "-") }
-{
-    match output {
-        Some(name) => name,
-        None => STANDARD,
     }
 }
 
@@ -128,7 +79,7 @@ fn output_name(output: &Option<String>) -> &str
 /// The listing is read, if one is named, then the inputs are opened in order, then the output is
 /// created, then the command runs. The first step before the command's that can't be done is
 /// reported; then the command doesn't run, and the status is 1.
-pub fn run<J: Engine>(rt: &HostRuntime, line: Line) -> u8
+pub fn run(rt: &HostRuntime, line: Line) -> u8
     requires { is_ready line ≡ true }
     ensures { result ≤ 2 }
 {
@@ -145,5 +96,29 @@ pub fn run<J: Engine>(rt: &HostRuntime, line: Line) -> u8
         Err(stop) => return report_stop(rt, stop),
     };
     let progress = Progress::new(rt, names.as_slice(), output);
-    run_command::<J>(rt, command, names, output, &progress)
+    run_command(rt, command, names, output, &progress)
+}
+
+/// Does what the words after the program's name ask for, and returns the status.
+pub fn run_program(rt: &HostRuntime) -> u8
+    ensures { result ≤ 2 }
+{
+    let words = match env::args(rt) {
+        Ok(words) => words.skip(1).collect(rt.alloc()),
+        Err(error) if error.kind() == ErrorKind::InvalidData => return refuse_not_utf8(rt),
+        // If every word is UTF-8, only the lack of memory keeps them from being copied.
+        Err(_) => Err(AllocError),
+    };
+    let Ok(words) = words else {
+        return refuse(rt, Usage::Memory);
+    };
+    let parsed = line_of_words(rt, words);
+    run_or_refuse(
+        rt,
+        parsed,
+        |line: Line| -> u8
+            requires { is_ready line ≡ true }
+            ensures { result ≤ 2 }
+        { run(rt, line) },
+    )
 }

@@ -1,15 +1,14 @@
 //! capkit: a workbench for saved packet captures.
 //!
 //! This is the program that users run; `main` is all it has. It calls `run_program` of
-//! `capkit_host`, which parses the words and reports errors, with `Jobs` of `capkit_engine`, which
-//! runs the commands.
+//! `capkit_host`, which parses the words, runs the command and reports errors. Its stored run is
+//! over a capture that ends inside a record.
 #![tactic(auto)]
 
-use capkit_engine::Jobs;
-use capkit_host::program::run_program;
+use capkit_host::run_program;
 use std::process::ExitCode;
 
 /// Does what the words ask for, and exits with its status: 0 success, 1 error, 2 refused.
 fn main(rt: HostRuntime) -> ExitCode {
-    ExitCode::from(run_program::<Jobs>(&rt))
+    ExitCode::from(run_program(&rt))
 }

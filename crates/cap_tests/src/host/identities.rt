@@ -3,10 +3,10 @@
 use super::folder::{CAPTURE, enter, leave};
 use crate::words::{line_of, words_of};
 use capkit::Usage;
-use capkit_host::files::{Identify, Identity, is_plain};
-use capkit_host::overwrites::overwrites_input;
-use capkit_host::waiting::may_wait;
-use capkit_host::words::line_of_words;
+use capkit::identity::{Identify, Identity, is_plain};
+use capkit::overwrites::overwrites_input;
+use capkit::waiting::may_wait;
+use capkit::words::line_of_words;
 use std::fs;
 use std::os::unix::fs::symlink;
 use std::test::Fail;

@@ -2,10 +2,10 @@
 
 use super::folder::{enter, leave};
 use cap_octet::{Output, StdOutput};
-use capkit_host::ending::{finish, flush_output};
-use capkit_host::opening::{Target, buffer_output, create_output};
-use capkit_host::stop::Stop;
-use capkit_host::streams::Created;
+use capkit::ending::{finish, flush_output};
+use capkit::opening::{Target, buffer_output, create_output};
+use capkit::stop::Stop;
+use capkit::streams::Created;
 use std::fs;
 use std::io::{self, BufWriter, Error, ErrorKind, IsTerminal, Write};
 use std::test::Fail;

@@ -4,11 +4,8 @@ use super::folder::{CAPTURE, LISTING, enter, leave};
 use super::streams::Streams;
 use crate::words::{line_of, words_of};
 use capkit::Line;
-use capkit_engine::Jobs;
-use capkit_host::progress::{
-    Progress, can_write_over, is_in_foreground, progress_start, total_size,
-};
-use capkit_host::runner::run_command;
+use capkit::progress::{Progress, can_write_over, is_in_foreground, progress_start, total_size};
+use capkit_host::run_command;
 use std::fs;
 use std::io::IsTerminal;
 use std::test::Fail;
@@ -133,7 +130,7 @@ fn runs_count_up_to_failed_writes(rt: HostRuntime) -> Result<(), Fail> {
     let streams = Streams::new(rt.alloc(), None);
     progress.count_at(&streams, 0, 2);
     assert!(rt; streams.have("", "\r\x1b[K0% read, 0 MiB/s"));
-    assert!(rt; run_command::<Jobs>(&rt, command, inputs, "/dev/full", &progress) == 1);
+    assert!(rt; run_command(&rt, command, inputs, "/dev/full", &progress) == 1);
     let streams = Streams::new(rt.alloc(), None);
     progress.erase(&streams);
     assert!(rt; streams.have("", ""));

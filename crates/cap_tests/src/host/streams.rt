@@ -1,6 +1,6 @@
 //! Standard streams that keep what is written to them.
 
-use capkit_host::message::Errors;
+use capkit::message::Errors;
 use std::alloc::Global;
 use std::cell::RefCell;
 use std::fmt::Display;

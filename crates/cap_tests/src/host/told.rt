@@ -2,12 +2,12 @@
 
 use super::streams::{Streams, Written};
 use crate::words::{field, words_of};
+use capkit::ending::tell_end;
+use capkit::message::{Shown, ShownBytes, refusal_text};
+use capkit::refusal::{refuse, tell_refusal};
+use capkit::stop::{Stop, report_stop};
+use capkit::words::with_help_option;
 use capkit::{Usage, command_of};
-use capkit_host::ending::tell_end;
-use capkit_host::message::{Shown, ShownBytes, refusal_text};
-use capkit_host::refusal::{refuse, tell_refusal};
-use capkit_host::stop::{Stop, report_stop};
-use capkit_host::words::with_help_option;
 use std::alloc::Global;
 use std::fmt::Display;
 use std::io::ErrorKind;

@@ -1,37 +1,29 @@
 -- A rule and an app, as the calls of clap's builder make them.
-use Rattle.std.specs.Prelude.{Some, if◌then◌else◌, map}
-use Rattle.std.specs.Str.{bytes_eq}
+use Rattle.std.specs.{Prelude.Some, Prelude.if◌then◌else◌, Prelude.map, Str.bytes_eq}
 use Rattle.clap.specs.Words.{App, Rule, Shape, Text, new_app, new_rule}
-use Rattle.clap.specs.declared.builder.value_parser.ValueParser.TheVariants as parser
-use Rattle.capkit.specs.declared.arguments.Choices.{Choices}
-use Rattle.capkit.specs.declared.arguments.Subcommand.{Subcommand}
-use Rattle.capkit.specs.declared.arguments.Subcommand.TheVariants as sub
-use Rattle.capkit.specs.declared.options.Argument.{Argument}
-use Rattle.capkit.specs.declared.options.CommandRow.{CommandRow}
-use Rattle.capkit.specs.declared.options.Name.{Name}
-use Rattle.capkit.specs.declared.options.Name.TheVariants as name
-use Rattle.capkit.specs.declared.options.Value.{Value}
-use Rattle.capkit.specs.declared.options.Value.TheVariants as value
+use Rattle.clap.specs.declared.builder.value_parser.ValueParser.{ValueParser}
 use Rattle.capkit.specs.Arguments.{flag, with_one_value, with_wide_bounds, with_choices, as_required, many, name_of, with_rules}
+use Rattle.capkit.specs.declared.arguments.{Choices.Choices, Subcommand.Subcommand}
+use Rattle.capkit.specs.declared.options.{Argument.Argument, CommandRow.CommandRow, Name.Name, Value.Value}
 
 -- an argument with the name of a row
 abbrev pub with_name : Name → Rule → Rule
-with_name name.Place rule = rule
-with_name (name.Letter letter) rule = record rule { short = Some letter }
-with_name (name.Long long) rule = record rule { long = Some long.now }
+with_name Name.Place rule = rule
+with_name (Name.Letter letter) rule = record rule { short = Some letter }
+with_name (Name.Long long) rule = record rule { long = Some long.now }
 
 -- an argument that takes what a row says
 abbrev pub with_value : Choices → Value → Rule → Rule
-with_value choices value.Flag rule = flag rule
-with_value choices (value.Text shown) rule = with_one_value rule
-with_value choices (value.Number shown least most) rule =
-    record (with_one_value rule) { parser = Some (parser.Signed least most) }
-with_value choices (value.Wide shown least most) rule = with_wide_bounds least most rule
-with_value choices value.Format rule = with_choices (parser.Names choices.formats) rule
-with_value choices value.Link rule = with_choices (parser.Names choices.links) rule
-with_value choices value.File rule = rule
-with_value choices value.NeededFile rule = as_required rule
-with_value choices value.Words rule = many rule
+with_value choices Value.Flag rule = flag rule
+with_value choices (Value.Text shown) rule = with_one_value rule
+with_value choices (Value.Number shown least most) rule =
+    record (with_one_value rule) { parser = Some (ValueParser.Signed least most) }
+with_value choices (Value.Wide shown least most) rule = with_wide_bounds least most rule
+with_value choices Value.Format rule = with_choices (ValueParser.Names choices.formats) rule
+with_value choices Value.Link rule = with_choices (ValueParser.Names choices.links) rule
+with_value choices Value.File rule = rule
+with_value choices Value.NeededFile rule = as_required rule
+with_value choices Value.Words rule = many rule
 
 -- the rule of an argument's row
 abbrev pub rule_by : Choices → Argument → Rule
@@ -49,7 +41,7 @@ shape_by choices row = (app_by choices row).top
 -- the subcommand of a name; what isn't one of the first four is `compile`
 abbrev pub subcommand_of_name : Text → Subcommand
 subcommand_of_name name =
-    if bytes_eq name (name_of sub.Edit) then sub.Edit
-    else (if bytes_eq name (name_of sub.Merge) then sub.Merge
-    else (if bytes_eq name (name_of sub.Infos) then sub.Infos
-    else (if bytes_eq name (name_of sub.Print) then sub.Print else sub.Compile)))
+    if bytes_eq name (name_of Subcommand.Edit) then Subcommand.Edit
+    else (if bytes_eq name (name_of Subcommand.Merge) then Subcommand.Merge
+    else (if bytes_eq name (name_of Subcommand.Infos) then Subcommand.Infos
+    else (if bytes_eq name (name_of Subcommand.Print) then Subcommand.Print else Subcommand.Compile)))

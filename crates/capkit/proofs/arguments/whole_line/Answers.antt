@@ -1,8 +1,6 @@
-use Rattle.std.proofs.Common.{ap, map}
-use Rattle.std.proofs.lemmas.Result.{IfOk-weaker}
+use Rattle.std.proofs.{Common.ap, Common.map, lemmas.Result.IfOk-weaker}
 use Rattle.clap.specs.declared.builder.value_parser.ValueParser.TheVariants.{Names}
-use Rattle.cap_octet.specs.Format.{all_formats}
-use Rattle.cap_octet.specs.Link.{all_links}
+use Rattle.cap_octet.specs.{Format.all_formats, Link.all_links}
 use Rattle.capkit.proofs.arguments.whole_line.Goals as goal
 
 pub returns : goal.returns

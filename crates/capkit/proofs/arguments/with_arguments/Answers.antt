@@ -1,6 +1,4 @@
-use Rattle.capkit.proofs.Common.{◌∙◌, with_rule, rule_by}
-use Rattle.capkit.proofs.Folds.{no_more, one_more}
-use Rattle.capkit.proofs.LocalOptions.{stays}
+use Rattle.capkit.proofs.{Common.◌∙◌, Common.with_rule, Common.rule_by, Folds.no_more, Folds.one_more, Folds.stays}
 use Rattle.capkit.proofs.arguments.with_arguments.Goals as goal
 
 pub loop-argument-preserved : goal.loop-argument-preserved

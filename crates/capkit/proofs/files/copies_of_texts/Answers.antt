@@ -1,5 +1,4 @@
-use Rattle.std.proofs.Common.{arith}
-use Rattle.std.proofs.lemmas.Grind.{common_steps}
+use Rattle.std.proofs.{Common.arith, lemmas.Grind.common_steps}
 use Rattle.capkit.proofs.files.copies_of_texts.Goals as goal
 
 pub loop-name-preserved : goal.loop-name-preserved

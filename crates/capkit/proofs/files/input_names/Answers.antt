@@ -1,5 +1,5 @@
 use Rattle.capkit.proofs.Common.{◌∙◌, ap, sym, inl, inr, arith, map, refl, common_steps, err_from_is_err_and, option_map}
-use Rattle.capkit.proofs.FileNames.{faultless, text_of, used_twice}
+use Rattle.capkit.proofs.RangeWords.{faultless, text_of, used_twice}
 use Rattle.capkit.proofs.files.input_names.Goals as goal
 
 pub returns-in_err-names-clause-fault : goal.returns-in_err-names-clause-fault

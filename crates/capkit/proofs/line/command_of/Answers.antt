@@ -1,6 +1,5 @@
 use Rattle.capkit.proofs.Common.{◌≡◌, sym, map, string_bytes, subst, List, String, Global, found_of, rows_of, subcommand_rows_of, ArgMatches, TakesWords, Asks}
-use Rattle.capkit.proofs.Enters.{always_enters, asks_of}
-use Rattle.capkit.proofs.Saying.{says_fault, says_line}
+use Rattle.capkit.proofs.{Enters.always_enters, Enters.asks_of, Saying.says_fault, Saying.says_line}
 use Rattle.capkit.proofs.line.command_of.Goals as goal
 
 pub unreachable-requires : goal.unreachable-requires

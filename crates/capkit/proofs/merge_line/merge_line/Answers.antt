@@ -1,5 +1,4 @@
-use Rattle.std.proofs.Common.{◌∙◌, ap, refl, Some}
-use Rattle.std.proofs.lemmas.Bool.{and_from}
+use Rattle.std.proofs.{Common.◌∙◌, Common.ap, Common.refl, Common.Some, lemmas.Bool.and_from}
 use Rattle.capkit.proofs.merge_line.merge_line.Goals as goal
 
 pub returns-clause-line : goal.returns-clause-line

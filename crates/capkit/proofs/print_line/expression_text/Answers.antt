@@ -1,6 +1,6 @@
 use Rattle.std.proofs.Common.{◌∙◌, ap, codes, List, ℕ}
 use Rattle.std.specs.List.{join_by}
-use Rattle.capkit.proofs.Joining.{joined}
+use Rattle.capkit.proofs.PrintReady.{joined}
 use Rattle.capkit.proofs.print_line.expression_text.Goals as goal
 
 pub returns : goal.returns

@@ -1,0 +1,20 @@
+-- How a run ends, by what became of what it wrote.
+use Rattle.std.specs.Prelude.{ℕ, Bool, true, false, ◌||◌, Option, Some, None, is_some, max, if◌then◌else◌}
+use Rattle.std.specs.declared.io.ErrorKind.{ErrorKind, TheVariants.BrokenPipe}
+
+-- a write failed because the reader of a pipe went away
+abbrev pub is_broken_pipe : Option ErrorKind → Bool
+is_broken_pipe (Some BrokenPipe) = true
+is_broken_pipe _ = false
+
+-- a write of the job failed (`cause`), or the write of what was buffered, after the job (`flushed`)
+abbrev pub has_failed : (cause flushed : Option ErrorKind) → Bool
+has_failed cause flushed = is_some cause || is_some flushed
+
+-- The status of a run that the job ended with `status`. The job's message reports a failed write of
+-- the job. That of what was buffered isn't: None says that it is still to be reported, unless the
+-- reader of a pipe went away.
+abbrev pub status_after_writes : (status : ℕ) → (cause flushed : Option ErrorKind) → Option ℕ
+status_after_writes status None None = Some status
+status_after_writes status (Some cause) flushed = Some (max status 1)
+status_after_writes status None (Some flushed) = if is_broken_pipe (Some flushed) then Some 1 else None

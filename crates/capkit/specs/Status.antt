@@ -1,0 +1,20 @@
+-- The status that words which aren't a command line end with.
+use Rattle.std.specs.Prelude.{ℕ, Bool, true, false, if◌then◌else◌}
+use Rattle.clap.specs.Words.{kind_of}
+use Rattle.clap.specs.declared.error.kind.ErrorKind.{ErrorKind, TheVariants.DisplayHelp, TheVariants.DisplayVersion}
+use Rattle.capkit.specs.declared.usage.Usage.{Usage, TheVariants.Memory, TheVariants.Refused}
+
+-- the words ask for help or the version
+abbrev pub is_request : ErrorKind → Bool
+is_request DisplayHelp = true
+is_request DisplayVersion = true
+is_request _ = false
+
+-- For a request for help or the version: 0 if the answer could be written, else 1. 1 too if memory
+-- ran out once clap had read the words. For other words that are refused: 2, and so where clap ran
+-- out of memory.
+abbrev pub status_of : Usage → (is_written : Bool) → ℕ
+status_of (Refused error) is_written =
+    if is_request (kind_of error) then (if is_written then 0 else 1) else 2
+status_of Memory is_written = 1
+status_of _ is_written = 2

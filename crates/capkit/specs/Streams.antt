@@ -1,0 +1,19 @@
+-- What a name means: a path, or a standard stream.
+use Rattle.std.specs.Fd.{file_raw_fd}
+use Rattle.std.specs.Prelude.{ℤ, pos, int_lt, Bool, true, false, not}
+use Rattle.capkit.specs.declared.streams.Created.{Created}
+
+-- the output is a file that may still hold what it held before it was opened
+abbrev pub holds_old_bytes : {S : Type 0} → Created S → Bool
+holds_old_bytes (Created.File output) = not output.is_emptied
+holds_old_bytes (Created.Stream stream) = false
+
+-- the number of an open file is none of those of standard input, output and error: 0 to 2
+abbrev pub is_beside_streams : ℤ → Bool
+is_beside_streams number = int_lt (pos 2) number
+
+-- an output that is a file hasn't the number of a standard stream, so that what is written to that
+-- stream, as a message, never goes into the file
+abbrev pub is_output_beside_streams : {S : Type 0} → Created S → Bool
+is_output_beside_streams (Created.File output) = is_beside_streams (file_raw_fd output.file)
+is_output_beside_streams (Created.Stream stream) = true

@@ -1,0 +1,29 @@
+-- Which names are paths, and which are standard streams.
+use Rattle.std.specs.Fd.{file_raw_fd}
+use Rattle.std.specs.Prelude.{ℕ, Bool, true, false, List, Option, Some, None, codes, if◌then◌else◌}
+use Rattle.capkit.specs.{Names.is_standard, Streams.is_beside_streams}
+use Rattle.capkit.specs.declared.streams.{Created.Created, Opened.Opened}
+
+-- the path of what is read under a name
+abbrev pub input_path : List ℕ → List ℕ
+input_path name = if is_standard name then codes "/dev/stdin" else name
+
+-- the path of what is written under a name, or without one
+abbrev pub output_path : Option (List ℕ) → List ℕ
+output_path (Some name) = if is_standard name then codes "/dev/stdout" else name
+output_path None = codes "/dev/stdout"
+
+-- whether an input is standard input
+abbrev pub is_standard_input : Opened → Bool
+is_standard_input (Opened.File file) = false
+is_standard_input (Opened.Stream stream) = true
+
+-- whether an output is standard output
+abbrev pub is_standard_output : {S : Type 0} → Created S → Bool
+is_standard_output (Created.File output) = false
+is_standard_output (Created.Stream stream) = true
+
+-- an input that is a file hasn't the number of a standard stream
+abbrev pub is_input_beside_streams : Opened → Bool
+is_input_beside_streams (Opened.File file) = is_beside_streams (file_raw_fd file)
+is_input_beside_streams (Opened.Stream stream) = true

@@ -1,0 +1,133 @@
+//! What a refusal of clap doesn't show: which option here does what an option of another tool does,
+//! and what each command is for. It is found by the text of the refusal, as the version of clap
+//! that is built in writes it.
+
+use crate::command_of;
+use std::alloc::{AllocError, Global};
+
+/// What clap's refusal of an option that it doesn't know begins with.
+const UNKNOWN: &str = "error: unexpected argument '";
+
+/// What stands before the name of the command whose usage is shown.
+const USAGE_OF: &str = "\nUsage: capkit ";
+
+/// The head of the list of commands in the help of the program.
+const COMMANDS: &str = "\nCommands:\n";
+
+/// The option in `HINTS` that is a number with a dash before it; for such a word clap shows the
+/// dash and the first digit.
+const NEGATIVE: &str = "-N";
+
+/// Options of other tools, one per line: the command, the option, and after the colon what does the
+/// same here. They are those of editcap, mergecap, capinfos, tcpdump and tshark that clap refuses
+/// without advice.
+const HINTS: &str = "\
+edit -t: see --later, --earlier
+edit -S: see --later, --earlier
+edit -C: see --chop-start, --chop-end
+edit --chop: see --chop-start, --chop-end
+edit --novlan: see --chop-start
+edit --skip-radiotap-header: see --chop-start
+edit -c: split by -r and ranges: 1-100, 101-200
+edit -i: split by -A and -B
+edit -d: see -D
+edit -w: OUT is named after IN, without -w
+edit --format: see -F
+edit -T: the link type stays as it is read
+edit -L: original lengths stay as they are read
+edit -a: comments are kept, and none is added
+edit --inject-secrets: secrets are neither read nor written
+edit --discard-all-secrets: secrets are never written
+edit -N: for --later -5 write --earlier 5; a range is 1-5
+merge --format: see -F
+merge -o: see -w
+merge -s: see edit -s
+merge -I: equal interfaces become one
+infos -T: reports have one form; awk makes a table of them
+infos -M: numbers are whole, in bytes and packets
+infos -c: a report has all it has; take its lines by grep
+infos -d: a report has all it has; take its lines by grep
+infos -s: a report has all it has; take its lines by grep
+infos -t: a report has all it has; take its lines by grep
+infos -u: a report has all it has; take its lines by grep
+infos -a: a report has all it has; take its lines by grep
+infos -e: a report has all it has; take its lines by grep
+print -r: the file is named without -r
+print -n: names are never looked up
+print -N: names are never looked up
+print -X: see -x
+print -A: see -x
+print -F: see --format; for words in a file \"$(cat FILE)\"
+print -d: see compile
+print -s: see edit -s
+print -i: FILE - reads what tcpdump -i eth0 -U -w - writes
+print -t: each line begins with date and time, of 29 columns
+print -v: lines have one form; see -e, -x
+print -q: lines have one form; see -e, -x
+print -l: lines are written before each read that waits
+print -U: packets are written before each read that waits
+print --count: count the lines: | wc -l
+print -C: see edit -r, which splits by ranges
+print -G: see edit -A, -B, which split by time
+print -Y: an expression is written after FILE, without -Y
+compile -d: a listing has the form of tcpdump -ddd
+compile -y: see --link";
+
+/// Whether an option, as clap shows it, is the one that a hint has as `name`; a digit after a dash
+/// (`-5`) is the option `NEGATIVE`.
+fn is_option_of_hint(option: &str, name: &str) -> bool {
+    let is_negative = matches!(option.as_bytes(), [b'-', b'0'..=b'9']);
+    option == name || is_negative && name == NEGATIVE
+}
+
+/// The hint of a line of `HINTS`, if it is that for this option of this command.
+fn hint_of_line<'a>(line: &'a str, command: &str, option: &str) -> Option<&'a str> {
+    let (words, hint) = line.split_once(": ")?;
+    let (place, name) = words.split_once(" ")?;
+    if place == command && is_option_of_hint(option, name) {
+        return Some(hint);
+    }
+    None
+}
+
+/// The hint for an option that a command doesn't know, of `HINTS`; `None` if it has none.
+fn hint_for_option(command: &str, option: &str) -> Option<&'static str> {
+    for line in HINTS.lines() {
+        if let Some(hint) = hint_of_line(line, command, option) {
+            return Some(hint);
+        }
+    }
+    None
+}
+
+/// The hint for a refusal of clap's with this text: the text shows the option and, in its usage,
+/// the command. `None` if it isn't the refusal of an unknown option, or the option has no hint.
+pub(crate) fn hint_for_refusal(refusal: &str) -> Option<&'static str> {
+    let (option, following) = refusal.strip_prefix(UNKNOWN)?.split_once("'")?;
+    let (_, usage) = following.split_once(USAGE_OF)?;
+    let (command, _) = usage.split_once(" ")?;
+    hint_for_option(command, option)
+}
+
+/// The help of the program, as `--help` prints it. An error means that memory ran out.
+fn help_text(alloc: Global) -> Result<String, AllocError> {
+    let mut words = Vec::new(alloc);
+    words.push(String::from_str(alloc, "--help")?)?;
+    match command_of(alloc, words) {
+        // Never so: what clap returns of a request for help is an error.
+        Ok(_) => Ok(String::new(alloc)),
+        Err(usage) => format!(in alloc; "{usage}"),
+    }
+}
+
+/// Adds to a text the list of the commands with what they do, as the help of the program has it;
+/// nothing if the help has no such list. An error means that memory ran out.
+pub(crate) fn add_commands(alloc: Global, text: &mut String) -> Result<(), AllocError> {
+    let help = help_text(alloc)?;
+    if let Some((_, list)) = help.split_once(COMMANDS)
+        && let Some((list, _)) = list.split_once("\n\n")
+    {
+        write!(text, "{COMMANDS}{list}\n")?;
+    }
+    Ok(())
+}

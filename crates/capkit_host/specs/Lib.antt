@@ -1,5 +1,0 @@
-pub mod Ending
-pub mod Status
-pub mod Streams
-pub mod Words
-pub mod inside
