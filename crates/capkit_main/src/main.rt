@@ -1,8 +1,7 @@
 //! capkit: a workbench for saved packet captures.
 //!
 //! This is the program that users run; `main` is all it has. It calls `run_program` of
-//! `capkit_host`, which parses the words, runs the command and reports errors. Its stored run is
-//! over a capture that ends inside a record.
+//! `capkit_host`, which parses the words, runs the command and reports errors.
 #![tactic(auto)]
 
 use capkit_host::run_program;
