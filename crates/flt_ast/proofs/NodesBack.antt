@@ -1,11 +1,10 @@
 -- The nodes as they are written, latest first, are those of the tree turned round.
 use Rattle.std.proofs.Common.{◌≡◌, List, [], refl, sym, ap, ◌∙◌}
 use mathlib.Core.List.{reverse_aux}
-use Rattle.flt_ast.specs.declared.node.Node.{Node}
-use Rattle.flt_ast.specs.Tree.{NumberTree, literal, len, named, load, negated, applied, TruthTree, check, cast, sized, bare, valued, qualified, compared, denied, joined, Expression, empty, truth}
 use Rattle.flt_ast.specs.Nodes.{number_nodes, truth_nodes, expr_nodes, tree_of}
-use Rattle.flt_ast.specs.inside.Nodes.{tree_back}
-use Rattle.flt_ast.specs.inside.Nodes.{number_onto, truth_onto, expr_onto}
+use Rattle.flt_ast.specs.Tree.{NumberTree, literal, len, named, load, negated, applied, TruthTree, check, cast, sized, bare, valued, qualified, compared, denied, joined, Expression, empty, truth}
+use Rattle.flt_ast.specs.declared.node.Node.{Node}
+use Rattle.flt_ast.specs.inside.Nodes.{tree_back, number_onto, truth_onto, expr_onto}
 
 number_turned : (a : NumberTree) (d rest : List Node) → reverse_aux (number_onto a d) rest ≡ reverse_aux d (number_nodes a rest)
 number_turned (literal n) d rest = refl

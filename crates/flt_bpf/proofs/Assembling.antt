@@ -5,15 +5,7 @@ use Rattle.std.proofs.Math.Seq.{take-append-add}
 
 -- the numbers of a line, put one before the other
 pub line_assembled : (i : Insn) (code jt jf k : ℕ) (a b c d : List ℕ) → code ≡ i.code → jt ≡ i.jt → jf ≡ i.jf → k ≡ i.k → a ≡ decimal code ++ BLANK ∷ b → b ≡ decimal jt ++ BLANK ∷ c → c ≡ decimal jf ++ BLANK ∷ d → d ≡ decimal k ++ LINE_FEED ∷ [] → a ≡ insn_line i ++ LINE_FEED ∷ []
-line_assembled i code jt jf k a b c d n1 n2 n3 n4 e1 e2 e3 e4 =
-    e1 ∙ ap (λ (x : List ℕ). decimal code ++ BLANK ∷ x) (e2 ∙ ap (λ (x : List ℕ). decimal jt ++ BLANK ∷ x) (e3 ∙ ap (λ (x : List ℕ). decimal jf ++ BLANK ∷ x) e4))
-    ∙ ap (λ n. decimal n ++ BLANK ∷ (decimal jt ++ BLANK ∷ (decimal jf ++ BLANK ∷ (decimal k ++ LINE_FEED ∷ [])))) n1
-    ∙ ap (λ n. decimal i.code ++ BLANK ∷ (decimal n ++ BLANK ∷ (decimal jf ++ BLANK ∷ (decimal k ++ LINE_FEED ∷ [])))) n2
-    ∙ ap (λ n. decimal i.code ++ BLANK ∷ (decimal i.jt ++ BLANK ∷ (decimal n ++ BLANK ∷ (decimal k ++ LINE_FEED ∷ [])))) n3
-    ∙ ap (λ n. decimal i.code ++ BLANK ∷ (decimal i.jt ++ BLANK ∷ (decimal i.jf ++ BLANK ∷ (decimal n ++ LINE_FEED ∷ [])))) n4
-    ∙ sym (append_assoc (decimal i.code) (BLANK ∷ (decimal i.jt ++ BLANK ∷ (decimal i.jf ++ BLANK ∷ decimal i.k))) (LINE_FEED ∷ [])
-    ∙ ap (λ (x : List ℕ). decimal i.code ++ BLANK ∷ x) (append_assoc (decimal i.jt) (BLANK ∷ (decimal i.jf ++ BLANK ∷ decimal i.k)) (LINE_FEED ∷ [])
-    ∙ ap (λ (x : List ℕ). decimal i.jt ++ BLANK ∷ x) (append_assoc (decimal i.jf) (BLANK ∷ decimal i.k) (LINE_FEED ∷ []))))
+line_assembled i code jt jf k a b c d n1 n2 n3 n4 e1 e2 e3 e4 = simp append_assoc (cc)
 
 -- the bytes of a line from where it starts
 pub line_bytes : (line : List ℕ) (start : ℕ) → length line ≡ 25 → take (25 - start) (drop start line) ≡ drop start line

@@ -16,10 +16,9 @@ pub use Rattle.flt_bpf.specs.declared.fault.CheckFault.TheVariants.{Empty, TooLo
 pub use Rattle.flt_bpf.specs.declared.operation.Operation.{Operation}
 pub use Rattle.flt_bpf.specs.declared.operation.Operation.TheVariants.{ReturnConstant, ReturnAccumulator, Load, Store, Compute, Jump, JumpIf, LoadAbsolute, LoadIndirect, LoadHeaderLength, Negate, CopyToIndex, CopyToAccumulator}
 pub use Rattle.flt_bpf.specs.Check.{is_return, ends_in_return, unless, constant_fault, fault_if_known, IsFaultless, IsValidUnlessLong}
-pub use Rattle.flt_bpf.specs.inside.Check.{first_at, first_check_fault, or_later, no_return, program_fault}
 pub use Rattle.flt_bpf.specs.Valid.{MOST_INSTRUCTIONS, IsReturn, OperationBreaks, Breaks, IsValid, turn_of, check_number, ComesBefore, BreaksFirst, WORDS}
 pub use Rattle.flt_bpf.specs.Instructions.{code_of, found, operations}
-pub use Rattle.flt_bpf.specs.inside.Reading.{numeral, line_numbers, insn_from, insn_of, onto, read_insn, read_insns, after, later_numbers, numbers_of, only_of, read, IsFaultOf, read_from, read_lines, pieces_after}
+pub use Rattle.flt_bpf.specs.inside.Reading.{numeral, line_numbers, insn_from, insn_of, after, later_numbers, numbers_of, only_of, pieces_after, AreInsns, HasInsn, WrongAfter, IsFaultAfter}
 pub use Rattle.flt_bpf.specs.inside.Reach.{program_reach}
 pub use Rattle.flt_bpf.specs.declared.operation.Source.TheVariants.{Memory, Immediate, Length}
 pub use Rattle.flt_bpf.specs.declared.operation.Operand.TheVariants.{Constant, IndexRegister}

@@ -3,7 +3,6 @@ pub mod Common
 pub mod Rules
 pub mod Codes
 pub mod Checking
-pub mod Scan
 pub mod Both
 pub mod Steps
 pub mod Suffix
@@ -20,6 +19,6 @@ pub mod Reach
 pub mod Readings
 pub mod Wrong
 pub mod Written
-pub mod Outcome
 pub mod Assembling
 pub mod Bytes
+pub mod T

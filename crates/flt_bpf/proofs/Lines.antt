@@ -1,7 +1,7 @@
 -- The numbers of a line, read one by one.
 use Rattle.flt_bpf.proofs.Common.{◌≡◌, ℕ, ◌<◌, List, [], ◌∷◌, length, Option, Some, None, refl, sym, ap, ◌∙◌, arith, ◌==◌, slice_split, length-slice_split, Insn, BLANK, numeral, after, later_numbers, numbers_of, line_numbers, insn_from, insn_of, only_of}
 
-numbers_more : (w : List ℕ) (ws : List (List ℕ)) → 0 < length ws → numbers_of (w ∷ ws) ≡ after (numeral w) (later_numbers ws)
+pub numbers_more : (w : List ℕ) (ws : List (List ℕ)) → 0 < length ws → numbers_of (w ∷ ws) ≡ after (numeral w) (later_numbers ws)
 numbers_more w [] l = absurd (omega arith)
 numbers_more w (v ∷ ws) l = refl
 

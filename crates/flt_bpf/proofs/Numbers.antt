@@ -1,5 +1,6 @@
 -- The numbers that the reader finds on a line are the line's.
 use Rattle.flt_bpf.proofs.Common.{◌≡◌, ℕ, zero, suc, ◌<◌, List, [], ◌∷◌, ◌++◌, length, append_assoc, Bool, Option, Some, None, refl, sym, ap, ◌∙◌, subst, arith, ◌==◌, replicate, slice_split, join_with_byte, slice_split_at, slice_split_none, length-slice_split, slice_split-cons_yes, join_with_byte-slice_split, BLANK, IsWrittenNumber, AreNumbers, numeral, after, later_numbers, numbers_of, line_numbers}
+use Rattle.flt_bpf.proofs.Lines.{numbers_more}
 use Rattle.flt_bpf.proofs.Digits.{numeral_is, numeral_read, number_lacks}
 
 -- blanks and then numbers
@@ -101,10 +102,6 @@ later_blanks (suc k) rest =
     let p : ℕ → Bool = λ b. b == BLANK in
     ap later_numbers (slice_split-cons_yes p BLANK (replicate k BLANK ++ rest) refl) ∙ later_skip (slice_split p (replicate k BLANK ++ rest)) (omega (arith, length-slice_split p (replicate k BLANK ++ rest))) ∙ later_blanks k rest
 
-numbers_split : (w : List ℕ) (ws : List (List ℕ)) → 0 < length ws → numbers_of (w ∷ ws) ≡ after (numeral w) (later_numbers ws)
-numbers_split w [] l = absurd (omega arith)
-numbers_split w (v ∷ ws) l = refl
-
 later_as_line : (rest : List ℕ) (ns : List ℕ) → AreNumbers rest ns → later_numbers (slice_split (λ b. b == BLANK) rest) ≡ line_numbers rest
 later_as_line rest ns h =
     let r = numbers_begin rest ns h in
@@ -120,6 +117,6 @@ line_numbers_read line (n ∷ m ∷ ns) h =
     let following = replicate h.more_blanks BLANK ++ h.rest in
     ap line_numbers (h.line_is ∙ append_assoc h.digits (BLANK ∷ replicate h.more_blanks BLANK) h.rest)
     ∙ ap numbers_of (slice_split_at p h.digits BLANK following (number_lacks BLANK h.digits n (omega arith) h.number) refl)
-    ∙ numbers_split h.digits (slice_split p following) (omega (arith, length-slice_split p following))
+    ∙ numbers_more h.digits (slice_split p following) (omega (arith, length-slice_split p following))
     ∙ ap (λ o. after o (later_numbers (slice_split p following))) (numeral_read h.digits n h.number)
     ∙ ap (after (Some n)) (later_blanks h.more_blanks h.rest ∙ later_as_line h.rest (m ∷ ns) h.rest_is ∙ line_numbers_read h.rest (m ∷ ns) h.rest_is)

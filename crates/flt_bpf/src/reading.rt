@@ -2,13 +2,13 @@
 //! each line after it one instruction, as four numbers (code, jt, jf, k).
 
 ghost use Rattle.std.specs.Prelude.{◌≡◌, ℕ, ◌+◌, ◌<◌, ◌≤◌, ◌==◌, List, ◌∷◌, length, Option, Some};
-ghost use Rattle.std.specs.Prelude.{Ok, IfOk, IfErr, IfSome, IfNone as OnNone, MatchResult};
+ghost use Rattle.std.specs.Prelude.{IfOk, IfErr, IfSome, IfNone as OnNone};
 ghost use Rattle.std.specs.List.{slice_split};
 ghost use Rattle.flt_bpf.specs.Listing.{lines_of, IsListing};
 ghost use Rattle.flt_bpf.specs.Refusal.{IsReasonFor};
 ghost use Rattle.flt_bpf.specs.inside.Reading.{pieces_after, numeral, after, later_numbers};
 ghost use Rattle.flt_bpf.specs.inside.Reading.{line_numbers, only_of, HasAtMostOne, insn_from};
-ghost use Rattle.flt_bpf.specs.inside.Reading.{insn_of, read_insns, read, IsFaultOf};
+ghost use Rattle.flt_bpf.specs.inside.Reading.{insn_of, AreInsns, IsFaultAfter};
 
 use crate::fault::ListingFault;
 use crate::insn::Insn;
@@ -172,9 +172,8 @@ fn insns_on_lines<A: Allocator>(
     text: &[u8],
 ) -> Result<Vec<Insn, A>, ListingFault>
     requires { count ≤ 32768 }
-    ensures { MatchResult result
-        (λ insns. read_insns count (lines_of text.now) 2 ≡ Ok insns.items)
-        (λ fault. IsFaultOf fault (read_insns count (lines_of text.now) 2)) }
+    ensures insns { IfOk result (λ insns. AreInsns count (lines_of text.now) insns.items) }
+    ensures wrong { IfErr result (IsFaultAfter count (lines_of text.now)) }
 {
     let mut insns = Vec::new(alloc);
     let mut rest = text;
@@ -198,11 +197,13 @@ fn insns_on_lines<A: Allocator>(
     }
 }
 
-/// Reads the instructions of a listing, as `read_listing` returns them. The clause here cites
-/// `read`, a definition that computes them; the clauses of `read_listing` state what a listing is.
-fn insns_of_listing<A: Allocator>(alloc: A, text: &[u8]) -> Result<Vec<Insn, A>, ListingFault>
-    ensures { MatchResult result (λ insns. read text.now ≡ Ok insns.items)
-        (λ fault. IsFaultOf fault (read text.now)) }
+/// Reads the instructions of a listing. Several blanks between numbers, leading zeros (at most 10
+/// digits per number) and a last line without a line feed are accepted too. Errors:
+/// `NotListing(n)`, n being the first wrong line (1 for a text over 1,048,576 bytes), or `Memory`
+/// if an allocation fails.
+pub fn read_listing<A: Allocator>(alloc: A, text: &[u8]) -> Result<Vec<Insn, A>, ListingFault>
+    ensures listing { IfOk result (λ insns. IsListing text.now insns.items) }
+    ensures refused { IfErr result (IsReasonFor text.now) }
 {
     if text.len() > MOST_BYTES || text.is_empty() {
         return Err(ListingFault::NotListing(1));
@@ -214,15 +215,4 @@ fn insns_of_listing<A: Allocator>(alloc: A, text: &[u8]) -> Result<Vec<Insn, A>,
         }
         _ => Err(ListingFault::NotListing(1)),
     }
-}
-
-/// Reads the instructions of a listing. Several blanks between numbers, leading zeros (at most 10
-/// digits per number) and a last line without a line feed are accepted too. Errors:
-/// `NotListing(n)`, n being the first wrong line (1 for a text over 1,048,576 bytes), or `Memory`
-/// if an allocation fails.
-pub fn read_listing<A: Allocator>(alloc: A, text: &[u8]) -> Result<Vec<Insn, A>, ListingFault>
-    ensures listing { IfOk result (λ insns. IsListing text.now insns.items) }
-    ensures refused { IfErr result (IsReasonFor text.now) }
-{
-    insns_of_listing(alloc, text)
 }

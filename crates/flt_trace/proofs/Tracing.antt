@@ -97,7 +97,7 @@ standing_next prog p n place s s' count k i valid at there leads =
       counted = omega (arith, at.counted);
       inside = omega (arith, inside, on);
       here = ap (λ t. machine prog p n t) more ∙ run_more prog p n count 0 0 start place s i k s' at.here there leads ∙ ap (λ m. Stands m s') on;
-      same = at.same ∙ run_goes prog p n place count s s' i k below there leads ∙ ap (λ m. run_from prog p n (length prog - (count + 1)) m s' (count + 1)) on;
+      same = at.same ∙ run_goes prog p n (length prog) place count s s' i k below there leads ∙ ap (λ m. run_from prog p n (length prog - (count + 1)) m s' (count + 1)) on;
     }
 
 -- the last step
@@ -105,7 +105,7 @@ pub standing_last : (prog : List Insn) (p : List ℕ) (n : ℕ) (old now : List 
 standing_last prog p n old now place s count a i at written there leads =
     let below : count < length prog = omega (arith, at.counted, at.inside) in
     record {
-      answers = at.same ∙ run_ends prog p n place count s i a below there leads;
+      answers = at.same ∙ run_ends prog p n (length prog) place count s i a below there leads;
       each = written.each;
       others = written.others;
     }
