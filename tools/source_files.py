@@ -87,6 +87,12 @@ def imports_of(line, module_of):
     """Yields the names that a `use` line brings in, by what they stand for."""
     found = re.match(r"\s*(?:ghost )?use ([\w.]+?)(?:\.\{(.*)\}|( as (\w+))?);?$", line.replace("\n", " "))
     path, names, alias = found[1], found[2], found[4]
+    if names and (deeper := re.findall(r"[^,]*\.[^,]*", names)):
+        for name in (name.strip() for name in deeper):
+            yield from imports_of(f"use {path}.{name.rpartition('.')[0]}.{{{name.rpartition('.')[2]}}}", module_of)
+        names = ",".join(name for name in names.split(",") if "." not in name)
+        if not names.strip():
+            return
     names_there = module_of(path)
     if names_there is None:
         return

@@ -1,6 +1,6 @@
 -- What fits: which values, protocols and directions go with a type, and which numbers are in range.
 use Rattle.std.specs.Prelude.{ℕ, Bool, true, false, ◌&&◌, ◌||◌, ◌==◌, nat_le, Option, Some, None}
-use Rattle.flt_words.specs.declared.token.{Cast.Cast, Join.Join, Protocol.Protocol, ValueType.ValueType}
+use Rattle.flt_words.specs.declared.token.{Cast.Cast, Join.TheVariants.Or, Protocol.Protocol, ValueType.ValueType}
 use Rattle.flt_words.specs.declared.token.ValueType.TheVariants.{Host, Net, Port, PortRange, Proto}
 use Rattle.flt_ast.specs.declared.{fits.Fit.Fit, qualifiers.Direction.Direction}
 use Rattle.flt_ast.specs.declared.value.{Dotted.Dotted, NetMask.NetMask, Value.Value}
@@ -102,7 +102,7 @@ is_proto _ = false
 -- the direction `src or dst`, as it is filled in if none is written: with a protocol's number
 -- none may be
 abbrev pub is_either : Direction → Bool
-is_either (Direction.Both Join.Or) = true
+is_either (Direction.Both Or) = true
 is_either _ = false
 
 -- `broadcast` does not go with `ip` and `ip6`

@@ -9,16 +9,11 @@ pub mod Suffix
 pub mod Jumps
 pub mod Standing
 pub mod Tests
-pub mod Cuts
 pub mod Digits
 pub mod Numbers
 pub mod Lines
 pub mod LineByLine
-pub mod InsnLines
-pub mod Reach
 pub mod Readings
 pub mod Wrong
 pub mod Written
 pub mod Assembling
-pub mod Bytes
-pub mod T

@@ -1,8 +1,7 @@
 -- A listing, read line by line.
 use Rattle.flt_bpf.proofs.Common.{◌≡◌, ℕ, zero, suc, ◌+◌, ◌-◌, ◌<◌, ◌≤◌, List, [], ◌∷◌, ◌++◌, length, length-append, Some, None, refl, sym, ap, ◌∙◌, subst, arith, ◌==◌, ◌⊎◌, Bool, true, false, cond, inl, inr, onto_first, slice_get, slice_split, length-slice_split, AllZip, Insn, LINE_FEED, lines_from, lines_of, IsInsnLine, line_numbers, insn_of, AreInsns, HasInsn, WrongAfter}
-use Rattle.std.proofs.lemmas.List.{append-nil}
-use Rattle.std.proofs.Math.Seq.{append_snoc}
-use Rattle.flt_bpf.proofs.InsnLines.{insn_is, insn_read}
+use Rattle.flt_bpf.proofs.Readings.{insn_is, insn_read}
+use Rattle.std.proofs.{Math.Seq.append_snoc, lemmas.List.append-nil}
 
 -- a line with others after it
 pub line_more : (text piece rest : List ℕ) → slice_split (λ b. b == LINE_FEED) text ≡ piece ∷ slice_split (λ b. b == LINE_FEED) rest → lines_of text ≡ piece ∷ lines_of rest
@@ -19,10 +18,7 @@ lines_some [] l = absurd (omega arith)
 lines_some (b ∷ bs) l = split (b == LINE_FEED) (slice_split (λ x. x == LINE_FEED) bs) (omega (arith, length-slice_split (λ x. x == LINE_FEED) bs))
   where
     split : (t : Bool) (ws : List (List ℕ)) → 0 < length ws → 0 < length (lines_from (cond t ([] ∷ ws) (onto_first b ws)))
-    split t [] l = absurd (omega arith)
-    split true (w ∷ ws) l = omega arith
-    split false (w ∷ []) l = omega arith
-    split false (w ∷ v ∷ ws) l = omega arith
+    split t ws l = grind arith
 
 lines_none : (text : List ℕ) → length text ≡ 0 → lines_of text ≡ []
 lines_none [] e = refl
@@ -42,8 +38,7 @@ wrong_later : {n : ℕ} {lines : List (List ℕ)} {k : ℕ} (line : List ℕ) (i
 wrong_later {n} {lines} {k} line i h r = record { wrong = later r.wrong; upper_bound = omega (arith, r.upper_bound); insns = earlier }
   where
     later : ((k < n) × ((i : Insn) → ¬ HasInsn (slice_get lines k) i)) ⊎ ((n ≤ k) × (k < length lines)) → ((suc k < suc n) × ((i : Insn) → ¬ HasInsn (slice_get (line ∷ lines) (suc k)) i)) ⊎ ((suc n ≤ suc k) × (suc k < length (line ∷ lines)))
-    later (inl w) = inl (omega (arith, w.0), w.1)
-    later (inr w) = inr (omega (arith, w.0), omega (arith, w.1))
+    later h = grind arith
 
     earlier : (j : ℕ) → j < suc k → (i : Insn) × HasInsn (slice_get (line ∷ lines) j) i
     earlier zero less = (i, h)

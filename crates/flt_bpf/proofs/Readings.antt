@@ -1,7 +1,23 @@
--- A text is read in one way: it is a listing of the instructions that are read, and of no others.
-use Rattle.flt_bpf.proofs.Common.{◌≡◌, ℕ, ◌≤◌, List, [], ◌∷◌, length, Option, Some, None, refl, sym, ap, ◌∙◌, subst, AllZip, Insn, MOST_INSTRUCTIONS, MOST_BYTES, IsWrittenNumber, IsInsnLine, lines_of, AreListingLines, IsListing, line_numbers, only_of, AreInsns}
-use Rattle.flt_bpf.proofs.Numbers.{line_numbers_are}
-use Rattle.flt_bpf.proofs.InsnLines.{insn_read}
+-- The instruction that the reader finds on a line is the line's, and so a text is read in one way.
+use Rattle.flt_bpf.proofs.Common.{◌≡◌, ℕ, ◌≤◌, List, [], ◌∷◌, length, Option, Some, None, refl, sym, ap, ◌∙◌, subst, AllZip, Insn, MOST_INSTRUCTIONS, MOST_BYTES, IsWrittenNumber, IsInsnLine, lines_of, AreListingLines, IsListing, line_numbers, only_of, AreInsns, arith, nat_tests, HasFieldsInRange, insn_from, insn_of}
+use Rattle.flt_bpf.proofs.Numbers.{line_numbers_are, line_numbers_read}
+
+-- four numbers that are an instruction are its fields, and in range
+four_numbers : (o : Option (List ℕ)) (i : Insn) → insn_of o ≡ Some i → o ≡ Some (i.code ∷ i.jt ∷ i.jf ∷ i.k ∷ [])
+four_numbers o i e = grind (arith, nat_tests)
+
+in_range : (o : Option (List ℕ)) (i : Insn) → insn_of o ≡ Some i → HasFieldsInRange i
+in_range o i e = grind (arith, nat_tests)
+
+insn_from_fields : (i : Insn) → HasFieldsInRange i → insn_from i.code i.jt i.jf i.k ≡ Some i
+insn_from_fields i h = grind (arith, nat_tests)
+
+-- the instruction that is read from a line is on it, and the other way round
+pub insn_is : (line : List ℕ) (i : Insn) → insn_of (line_numbers line) ≡ Some i → IsInsnLine line i
+insn_is line i e = record { numbers = line_numbers_are line _ (four_numbers (line_numbers line) i e); in_range = in_range (line_numbers line) i e }
+
+pub insn_read : (line : List ℕ) (i : Insn) → IsInsnLine line i → insn_of (line_numbers line) ≡ Some i
+insn_read line i h = ap insn_of (line_numbers_read line (i.code ∷ i.jt ∷ i.jf ∷ i.k ∷ []) h.numbers) ∙ insn_from_fields i h.in_range
 
 -- a line that is read as one number
 pub only_number_is : (line : List ℕ) (n : ℕ) → only_of (line_numbers line) ≡ Some n → IsWrittenNumber line n

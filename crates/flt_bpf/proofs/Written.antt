@@ -1,7 +1,6 @@
 -- The listing that is written of instructions is a listing of them.
-use Rattle.flt_bpf.proofs.Common.{◌≡◌, ℕ, suc, ◌*◌, ◌^◌, ◌<◌, ◌≤◌, List, [], ◌∷◌, ◌++◌, length, length-append, append_assoc, Bool, false, refl, sym, ap, ◌∙◌, subst, arith, ◌==◌, All, decimal, slice_split, AllZip, length-decimal-le, All-append, All-cons, slice_split_at, length-slice_split, Insn, BLANK, LINE_FEED, insn_line, insn_lines, listing, AreNumbers, HasFieldsInRange, IsInsnLine, lines_from, lines_of, AreListingLines, IsListing}
-use Rattle.flt_bpf.proofs.Digits.{decimal_number, number_lacks}
-use Rattle.flt_bpf.proofs.LineByLine.{line_more}
+use Rattle.flt_bpf.proofs.Common.{◌≡◌, ℕ, suc, ◌*◌, ◌^◌, ◌<◌, ◌≤◌, List, [], ◌∷◌, ◌++◌, length, length-append, append_assoc, Bool, false, refl, sym, ap, ◌∙◌, subst, arith, common_steps, ◌==◌, All, decimal, slice_split, AllZip, length-decimal-le, All-append, All-cons, slice_split_at, length-slice_split, Insn, BLANK, LINE_FEED, insn_line, insn_lines, listing, AreNumbers, HasFieldsInRange, IsInsnLine, lines_from, lines_of, AreListingLines, IsListing}
+use Rattle.flt_bpf.proofs.{Digits.decimal_number, Digits.field_lengths, Digits.number_lacks, LineByLine.line_more}
 
 -- a number, one blank, and a rest
 number_before : (n m : ℕ) (ns rest : List ℕ) → n < 2 ^ 32 → AreNumbers rest (m ∷ ns) → AreNumbers (decimal n ++ BLANK ∷ rest) (n ∷ m ∷ ns)
@@ -30,12 +29,7 @@ line_lacks i r =
 
 -- a line of an instruction has at most 24 bytes before its line feed
 pub line_short : (i : Insn) → HasFieldsInRange i → length (insn_line i) ≤ 24
-line_short i r =
-    let code = length-decimal-le 5 i.code (omega arith) (omega (arith, r.code)) (omega (arith, r.code)) in
-    let jt = length-decimal-le 3 i.jt (omega arith) (omega (arith, r.jt)) (omega (arith, r.jt)) in
-    let jf = length-decimal-le 3 i.jf (omega arith) (omega (arith, r.jf)) (omega (arith, r.jf)) in
-    let k = length-decimal-le 10 i.k (omega arith) (omega (arith, r.k)) (omega (arith, r.k)) in
-    omega (arith, code, jt, jf, k, length-append (decimal i.code) (BLANK ∷ (decimal i.jt ++ BLANK ∷ (decimal i.jf ++ BLANK ∷ decimal i.k))), length-append (decimal i.jt) (BLANK ∷ (decimal i.jf ++ BLANK ∷ decimal i.k)), length-append (decimal i.jf) (BLANK ∷ decimal i.k))
+line_short i r = grind (arith, common_steps, field_lengths)
 
 lines_short : (is : List Insn) → All HasFieldsInRange is → length (insn_lines is) ≤ 25 * length is
 lines_short [] r = omega arith

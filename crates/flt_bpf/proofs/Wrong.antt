@@ -1,10 +1,9 @@
 -- The line at which the reader refuses a text is the first wrong one, and a listing has none.
 use Rattle.flt_bpf.proofs.Common.{◌≡◌, ℕ, zero, suc, ◌+◌, ◌<◌, ◌≤◌, List, [], ◌∷◌, length, Some, None, refl, sym, ap, ◌∙◌, arith, ◌⊎◌, inl, inr, slice_get, AllZip, Insn, MOST_INSTRUCTIONS, MOST_BYTES, IsWrittenNumber, IsInsnLine, lines_of, AreListingLines, IsListing, HasCount, IsWrong, FirstWrong, IsRefusedAt, HasInsn, WrongAfter, IsFaultAfter, line_numbers, only_of}
-use Rattle.std.proofs.lemmas.Slice.Zip.{AllZip-long}
-use Rattle.flt_bpf.specs.declared.fault.ListingFault.{ListingFault}
-use Rattle.flt_bpf.specs.declared.fault.ListingFault.TheVariants.{NotListing, Memory}
-use Rattle.flt_bpf.specs.Refusal.{IsReasonFor}
 use Rattle.flt_bpf.proofs.Numbers.{line_numbers_read}
+use Rattle.std.proofs.lemmas.Slice.Zip.{AllZip-long}
+use Rattle.flt_bpf.specs.Refusal.{IsReasonFor}
+use Rattle.flt_bpf.specs.declared.fault.ListingFault.{ListingFault, TheVariants.NotListing, TheVariants.Memory}
 
 -- a line is a number in one way
 same_number : (digits : List ℕ) (m n : ℕ) → IsWrittenNumber digits m → IsWrittenNumber digits n → m ≡ n
@@ -16,8 +15,7 @@ first_wrong first others n k number upper_bound w =
     record { wrong = (n, record { number = number; upper_bound = upper_bound }, here w.wrong); first = λ j less h. earlier j less h }
   where
     here : ((k < n) × ((i : Insn) → ¬ HasInsn (slice_get others k) i)) ⊎ ((n ≤ k) × (k < length others)) → ((k < n) × ((i : Insn) → ¬ HasInsn (slice_get others k) i)) ⊎ ((n ≤ k) × (suc k < length (first ∷ others)))
-    here (inl h) = inl h
-    here (inr h) = inr (h.0, omega (arith, h.1))
+    here h = grind arith
 
     earlier : (j : ℕ) → j < suc k → IsWrong (first ∷ others) j → ⊥
     earlier zero less h = h n (record { number = number; upper_bound = upper_bound })

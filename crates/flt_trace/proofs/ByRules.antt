@@ -2,12 +2,9 @@
 -- machine's run where none does.
 use Rattle.flt_trace.proofs.Common.{◌≡◌, ℕ, zero, suc, ◌+◌, ◌-◌, ◌<◌, ◌≤◌, List, length, true, Option, Some, None, refl, sym, ap, ◌∙◌, subst, arith, slice_get, IsSomeAnd, slice_get_within, slice_get_past, Insn, State, Next, Goes, Ends, Lost, Progress, Stands, Answered, Stuck, step, step_if_there, progress_after, run_from, start, machine, step_unless, step_by_rules, by_rules_from, run_end, run_by_rules, BreaksRuleAt, MeetsNoBrokenRule, OperationBreaks, IsValid}
 use Rattle.std.proofs.Common.{◌⊎◌, inl, inr}
-use Rattle.std.proofs.lemmas.Option.{some_pair_parts}
 use Rattle.std.specs.Option.{is_some}
-use Rattle.flt_bpf.specs.declared.fault.CheckFault.{CheckFault}
+use Rattle.flt_bpf.specs.{Check.fault_of, Instructions.operation_of, declared.fault.CheckFault.CheckFault}
 use Rattle.flt_bpf.specs.declared.fault.CheckFault.TheVariants.{Empty, TooLong, UnknownCode, JumpOut, NoSuchWord, DivisionByZero, ShiftTooFar, NoReturn}
-use Rattle.flt_bpf.specs.Check.{fault_of}
-use Rattle.flt_bpf.specs.Instructions.{operation_of}
 use Rattle.flt_bpf.proofs.Rules.{found_breaks, breaks_found}
 
 -- one step of a run
@@ -21,8 +18,7 @@ by_rules_end prog p n place count s i a c g f e =
     let t : length prog - count ≡ suc (length prog - (count + 1)) = omega arith in rw (t, g, f, e)
 
 unless_fault : (o : Option CheckFault) (i : Insn) (p : List ℕ) (n : ℕ) (s : State) → is_some o ≡ true → step_unless o i p n s ≡ Lost
-unless_fault None i p n s e = cc
-unless_fault (Some fault) i p n s e = refl
+unless_fault o i p n s e = grind arith
 
 -- a run has no end at an instruction with a fault
 pub by_rules_break : (prog : List Insn) (p : List ℕ) (n place count : ℕ) (s : State) (i : Insn) → count < length prog → slice_get prog place ≡ Some i → is_some (fault_of i (length prog - (place + 1))) ≡ true → run_end (by_rules_from prog p n (length prog - count) place s count) ≡ None
@@ -74,9 +70,7 @@ same_or_broken prog p n (suc t) place count s = found (λ k s'. same_or_broken p
     found later (Some i) g = judged later i _ _ g refl refl
 
 end_answers : (m : Progress) (a c : ℕ) → run_end m ≡ Some (a, c) → m ≡ Answered a c
-end_answers (Stands place s) a c e = cc
-end_answers (Answered b d) a c e = let same = some_pair_parts b a d c e in cc
-end_answers Stuck a c e = cc
+end_answers m a c e = grind arith
 
 -- an answer that a run gives is the machine's
 pub answered : (prog : List Insn) (p : List ℕ) (n a c : ℕ) → run_by_rules prog p n ≡ Some (a, c) → machine prog p n (length prog) ≡ Answered a c

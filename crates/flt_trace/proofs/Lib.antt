@@ -3,4 +3,3 @@ pub mod Common
 pub mod ByRules
 pub mod Hexadecimal
 pub mod Tracing
-pub mod T

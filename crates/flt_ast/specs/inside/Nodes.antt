@@ -37,24 +37,17 @@ IsTree nodes = expr_nodes (tree_of nodes) ≡ nodes
 
 number_back : (a : NumberTree) (t : Trees) (rest : List Node)
     → fold with_node t (number_nodes a rest) ≡ fold with_node (with_number a t) rest
-number_back (literal n) t rest = refl
-number_back len t rest = refl
-number_back (named n) t rest = refl
 number_back (load p s a) t rest = number_back a t _
 number_back (negated a) t rest = number_back a t _
 number_back (applied o a b) t rest = number_back a t _ ∙ number_back b _ _
+number_back _ t rest = refl
 
 truth_back : (a : TruthTree) (t : Trees) (rest : List Node)
     → fold with_node t (truth_nodes a rest) ≡ fold with_node (with_truth a t) rest
-truth_back (check p) t rest = refl
-truth_back (cast p c) t rest = refl
-truth_back (sized s n) t rest = refl
-truth_back (bare v) t rest = refl
-truth_back (valued q v) t rest = refl
-truth_back (qualified q v) t rest = refl
 truth_back (compared c a b) t rest = number_back a t _ ∙ number_back b _ _
 truth_back (denied a) t rest = truth_back a t _
 truth_back (joined j a b) t rest = truth_back a t _ ∙ truth_back b _ _
+truth_back _ t rest = refl
 
 -- a tree is read back from its nodes
 pub tree_back : (e : Expression) → tree_of (expr_nodes e) ≡ e

@@ -1,12 +1,10 @@
 -- What the reader of listings computes of a line, and what it finds on the lines after the first.
+use Rattle.std.specs.{Borrow.Bor, List.slice_split, List.AllZip}
 use Rattle.std.specs.Prelude.{◌≡◌, ℕ, ◌+◌, ◌^◌, ◌<◌, ◌≤◌, ◌⊎◌, nat_lt, ◌==◌, ◌&&◌, if◌then◌else◌, List, [], ◌∷◌, length, slice_get, Option, Some, None, IsSomeAnd}
-use Rattle.std.specs.List.{slice_split, AllZip}
-use Rattle.std.specs.Borrow.{Bor}
 use Rattle.cap_octet.specs.Digits.{decimal_value}
-use Rattle.flt_bpf.specs.declared.insn.Insn.{Insn}
-use Rattle.flt_bpf.specs.declared.fault.ListingFault.{ListingFault}
-use Rattle.flt_bpf.specs.declared.fault.ListingFault.TheVariants.{NotListing, Memory}
 use Rattle.flt_bpf.specs.Listing.{BLANK, IsInsnLine}
+use Rattle.flt_bpf.specs.declared.fault.ListingFault.{ListingFault, TheVariants.NotListing, TheVariants.Memory}
+use Rattle.flt_bpf.specs.declared.insn.Insn.{Insn}
 
 -- the pieces of a text after the first, by what is left after that and `stop`; none if the first
 -- one is the whole text
@@ -70,7 +68,7 @@ pub record AreInsns (n : ℕ) (lines : List (List ℕ)) (is : List Insn) : Type 
   pub count : length is ≡ n
   pub each : AllZip IsInsnLine lines is
 
--- an instruction stands on a line that is there
+-- an instruction stands on a line, which is present
 abbrev pub HasInsn : Option (List ℕ) → Insn → Type 0
 HasInsn o i = IsSomeAnd o (λ line. IsInsnLine line i)
 

@@ -9,11 +9,6 @@ places-init c = record {
   written = written_none _ _ _ _;
 }
 
-pub put_step-requires : goal.put_step-requires
-put_step-requires c =
-    let few = (parts c.args.insns.now c.requires).short in
-    omega (arith, c.places.invariant.standing.inside)
-
 pub execute-requires-clause-sound : goal.execute-requires-clause-sound
 execute-requires-clause-sound c =
     sound_at c.args.insns.now c.places.place _ c.requires (slice_get-get_or c.args.insns.now c.places.place _ c.places.invariant.standing.inside)
