@@ -1,5 +1,5 @@
 -- A listing is assembled from the bytes of its lines, and a front of it is written at each place.
-use Rattle.flt_bpf.proofs.Common.{◌≡◌, ℕ, ◌+◌, ◌-◌, ◌<◌, ◌≤◌, List, [], ◌∷◌, ◌++◌, length, take, drop, length-append, append_assoc, refl, sym, ap, ◌∙◌, arith, get_or, decimal, take_all, take_more, drop_more, take-append-drop, take-append-le, Insn, BLANK, LINE_FEED, insn_line, insn_lines, listing}
+use Rattle.flt_bpf.proofs.Common.{◌≡◌, ℕ, ◌+◌, ◌-◌, ◌<◌, ◌≤◌, List, [], ◌∷◌, ◌++◌, length, take, drop, length-append, append_assoc, refl, sym, ap, ◌∙◌, arith, get_or, decimal, take_all, take_more, drop_more, take-append-drop, take-append-le, Insn, LINE_FEED, insn_line, insn_lines, listing}
 use Rattle.std.proofs.{Math.Seq.take-append-add, lemmas.List.length-drop}
 
 -- the bytes of a line from where it starts

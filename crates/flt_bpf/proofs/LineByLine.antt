@@ -1,5 +1,5 @@
 -- A listing, read line by line.
-use Rattle.flt_bpf.proofs.Common.{◌≡◌, ℕ, zero, suc, ◌+◌, ◌-◌, ◌<◌, ◌≤◌, List, [], ◌∷◌, ◌++◌, length, length-append, Some, None, refl, sym, ap, ◌∙◌, subst, arith, ◌==◌, ◌⊎◌, Bool, true, false, cond, inl, inr, onto_first, slice_get, slice_split, length-slice_split, AllZip, Insn, LINE_FEED, lines_from, lines_of, IsInsnLine, line_numbers, insn_of, AreInsns, HasInsn, WrongAfter}
+use Rattle.flt_bpf.proofs.Common.{◌≡◌, ℕ, zero, suc, ◌+◌, ◌-◌, ◌<◌, ◌≤◌, List, [], ◌∷◌, ◌++◌, length, length-append, Some, None, refl, sym, ap, ◌∙◌, subst, arith, ◌==◌, ◌⊎◌, Bool, cond, inl, inr, onto_first, slice_get, slice_split, length-slice_split, AllZip, Insn, LINE_FEED, lines_from, lines_of, IsInsnLine, line_numbers, insn_of, AreInsns, HasInsn, WrongAfter}
 use Rattle.flt_bpf.proofs.Readings.{insn_is, insn_read}
 use Rattle.std.proofs.{Math.Seq.append_snoc, lemmas.List.append-nil}
 

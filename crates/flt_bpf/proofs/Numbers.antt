@@ -1,5 +1,5 @@
 -- The numbers that the reader finds on a line are the line's.
-use Rattle.flt_bpf.proofs.Common.{◌≡◌, ℕ, zero, suc, ◌<◌, List, [], ◌∷◌, ◌++◌, length, append_assoc, Bool, Option, Some, None, refl, sym, ap, ◌∙◌, subst, arith, ◌==◌, replicate, slice_split, join_with_byte, slice_split_at, slice_split_none, length-slice_split, slice_split-cons_yes, join_with_byte-slice_split, BLANK, IsWrittenNumber, AreNumbers, numeral, after, later_numbers, numbers_of, line_numbers}
+use Rattle.flt_bpf.proofs.Common.{◌≡◌, ℕ, zero, suc, ◌<◌, List, [], ◌∷◌, ◌++◌, length, append_assoc, Bool, Option, Some, refl, sym, ap, ◌∙◌, subst, arith, ◌==◌, replicate, slice_split, join_with_byte, slice_split_at, slice_split_none, length-slice_split, slice_split-cons_yes, join_with_byte-slice_split, BLANK, AreNumbers, numeral, after, later_numbers, numbers_of, line_numbers}
 use Rattle.flt_bpf.proofs.{Digits.numeral_is, Digits.numeral_read, Digits.number_lacks, Lines.numbers_more}
 
 -- blanks and then numbers

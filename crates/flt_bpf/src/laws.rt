@@ -1,7 +1,8 @@
 //! Laws over the definitions of codes, listings and fields: each is a theorem, and its function
 //! does nothing.
 
-ghost use Rattle.std.specs.Prelude.{◌≡◌, ℕ, ◌+◌, ◌*◌, ◌<◌, ◌≤◌, List, length, All, Some, slice_index};
+ghost use Rattle.std.specs.Prelude.{◌≡◌, ℕ, ◌+◌, ◌*◌, ◌<◌, ◌≤◌, List, length, All, Some};
+ghost use Rattle.std.specs.Prelude.{slice_index};
 ghost use Rattle.flt_bpf.specs.Instructions.{code_of, operation_of};
 ghost use Rattle.flt_bpf.specs.Listing.{listing, HasFieldsInRange, IsListing, IsRefusedAt};
 ghost use Rattle.flt_bpf.specs.{Machine.big_endian_at, declared.insn.Insn.Insn};

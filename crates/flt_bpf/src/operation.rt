@@ -181,8 +181,8 @@ macro_rules! with_codes {
     };
 }
 
-/// The match from a code to its operation, `$none` for any other number, or from an operation to its
-/// code. `$more` gets the operation of the last row too (`known_operation` says why).
+/// The match from a code to its operation, `$none` for any other number, or from an operation to
+/// its code. `$more` gets the operation of the last row too (`known_operation` says why).
 macro_rules! matched {
     (
         (operation of $code:expr, $(also $more:literal,)? else $none:expr)

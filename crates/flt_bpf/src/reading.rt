@@ -2,9 +2,12 @@
 //! each line after it one instruction, as four numbers (code, jt, jf, k).
 
 ghost use Rattle.std.specs.List.{slice_split};
-ghost use Rattle.std.specs.Prelude.{◌≡◌, ℕ, ◌+◌, ◌<◌, ◌≤◌, ◌==◌, List, ◌∷◌, length, Option, Some, IfOk, IfErr, IfSome, IfNone as OnNone};
+ghost use Rattle.std.specs.Prelude.{◌≡◌, ℕ, ◌+◌, ◌<◌, ◌≤◌, ◌==◌, List, ◌∷◌, length, Option, Some};
+ghost use Rattle.std.specs.Prelude.{IfOk, IfErr, IfSome, IfNone as OnNone};
 ghost use Rattle.flt_bpf.specs.{Listing.lines_of, Listing.IsListing, Refusal.IsReasonFor};
-ghost use Rattle.flt_bpf.specs.inside.Reading.{pieces_after, numeral, after, later_numbers, line_numbers, only_of, HasAtMostOne, insn_from, insn_of, AreInsns, IsFaultAfter};
+ghost use Rattle.flt_bpf.specs.inside.Reading.{pieces_after, numeral, after, later_numbers};
+ghost use Rattle.flt_bpf.specs.inside.Reading.{line_numbers, only_of, HasAtMostOne, insn_from};
+ghost use Rattle.flt_bpf.specs.inside.Reading.{insn_of, AreInsns, IsFaultAfter};
 
 use crate::fault::ListingFault;
 use crate::insn::Insn;

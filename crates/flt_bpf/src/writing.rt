@@ -1,6 +1,7 @@
 //! Writes listings in the form that `reading` reads; each line is built from its end.
 
-ghost use Rattle.std.specs.Prelude.{◌≡◌, ℕ, ◌+◌, ◌<◌, ◌≤◌, List, [], ◌∷◌, ◌++◌, length, drop, decimal, IsTrue, IfErr};
+ghost use Rattle.std.specs.Prelude.{◌≡◌, ℕ, ◌+◌, ◌<◌, ◌≤◌, List, [], ◌∷◌, ◌++◌, length, drop};
+ghost use Rattle.std.specs.Prelude.{decimal, IsTrue, IfErr};
 ghost use Rattle.cap_octet.specs.Device.{WritesAll, failures_of};
 ghost use Rattle.flt_bpf.specs.Listing.{insn_line, listing};
 

@@ -1,5 +1,5 @@
 -- The four numbers of a line are found one after the other.
-use Rattle.std.proofs.Common.{◌∙◌, sym, arith, Some, None}
+use Rattle.std.proofs.Common.{◌∙◌, sym, Some, None}
 use Rattle.flt_bpf.proofs.Lines.{four_numbers}
 use Rattle.flt_bpf.proofs.reading.insn_on_line.Goals as goal
 

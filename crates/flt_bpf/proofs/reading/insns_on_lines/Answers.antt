@@ -1,5 +1,5 @@
 -- The instructions so far, and then those of the other lines, are those of all.
-use Rattle.flt_bpf.proofs.Common.{◌∙◌, sym, arith, rules, subst, lines_of}
+use Rattle.flt_bpf.proofs.Common.{◌∙◌, sym, arith, rules, subst}
 use Rattle.flt_bpf.proofs.LineByLine.{ReadTo, read_all, read_beyond, read_missing, read_more, read_none, read_wrong}
 use Rattle.flt_bpf.proofs.reading.insns_on_lines.Goals as goal
 

@@ -1,5 +1,5 @@
 -- What is read of a text is what its lines say.
-use Rattle.flt_bpf.proofs.Common.{◌≡◌, ◌∙◌, sym, arith, lines_of, IsWrittenNumber}
+use Rattle.flt_bpf.proofs.Common.{◌≡◌, ◌∙◌, sym, arith}
 use Rattle.flt_bpf.proofs.{Readings.insns_listing, Readings.only_number_is, Wrong.fault_reason, Wrong.no_count}
 use Rattle.flt_bpf.proofs.reading.read_listing.Goals.{in_default-via-in-Some+else-count, in_default-via-in_default}
 use Rattle.std.proofs.lemmas.Result.{IfOk-weaker, IfErr-weaker}

@@ -1,6 +1,6 @@
 -- Line by line the listing is written, and where the output fails a front of it was.
 use Rattle.flt_bpf.proofs.Assembling.{line_bytes, stopped_front, stopped_told, more_told, more_size}
-use Rattle.flt_bpf.proofs.Common.{length, ◌∙◌, arith, rules, common_steps, length-decimal-le}
+use Rattle.flt_bpf.proofs.Common.{length, ◌∙◌, arith, rules, length-decimal-le}
 use Rattle.flt_bpf.proofs.writing.write_insns.Goals as goal
 
 pub put_number-start-requires-clause-room : goal.put_number-start-requires-clause-room
