@@ -4,7 +4,7 @@ use Rattle.flt_trace.proofs.Common.{◌≡◌, ℕ, zero, suc, ◌+◌, ◌-◌,
 use Rattle.std.proofs.Common.{◌⊎◌, inl, inr}
 use Rattle.std.specs.Option.{is_some}
 use Rattle.flt_bpf.specs.{Check.fault_of, Instructions.operation_of, declared.fault.CheckFault.CheckFault}
-use Rattle.flt_bpf.specs.declared.fault.CheckFault.TheVariants.{Empty, TooLong, UnknownCode, JumpOut, NoSuchWord, DivisionByZero, ShiftTooFar, NoReturn}
+use Rattle.flt_bpf.specs.declared.fault.CheckFault.TheVariants.{Empty, TooLong, NoReturn}
 use Rattle.flt_bpf.proofs.Rules.{found_breaks, breaks_found}
 
 -- one step of a run
@@ -133,6 +133,8 @@ broken_from prog p n (suc t) (suc u) place count to s s' fault e b =
 pub broken_run : (prog : List Insn) (p : List ℕ) (n t place : ℕ) (s : State) (fault : CheckFault) → machine prog p n t ≡ Stands place s → BreaksRuleAt prog fault place → run_by_rules prog p n ≡ None
 broken_run prog p n t place s fault e b =
     broken_from prog p n (length prog) t 0 0 place start s fault e b
+
+pub ruleset run_laws = (answered, broken_run, same_run, valid_meets_none)
 
 -- what was found of an instruction with that many after it
 after_is : (prog : List Insn) (place : ℕ) → length prog - place - 1 ≡ length prog - (place + 1)

@@ -1,5 +1,5 @@
 -- Digits in base 16, from the last to the first.
-use Rattle.flt_trace.proofs.Common.{◌≡◌, ℕ, zero, suc, ◌+◌, ◌-◌, ◌/◌, ◌%◌, ◌^◌, ◌<◌, ◌≤◌, List, ◌∷◌, false, true, sym, ap, ◌∙◌, arith, rules, tests, drop, length, ◌==◌, if◌then◌else◌, slice_set, drop-set, digit_glyph, digits_onto}
+use Rattle.flt_trace.proofs.Common.{◌≡◌, ℕ, zero, suc, ◌+◌, ◌-◌, ◌/◌, ◌%◌, ◌^◌, ◌<◌, ◌≤◌, List, ◌∷◌, false, sym, ap, ◌∙◌, arith, tests, drop, length, slice_set, drop-set, digit_glyph, digits_onto}
 use Rattle.std.proofs.lemmas.Grind.{pow_more}
 
 -- one more digit of a number that has others

@@ -4,13 +4,14 @@ ghost use Rattle.std.specs.Prelude.{◌≡◌, ℕ, List, length, Some, None};
 ghost use Rattle.flt_bpf.specs.Machine.{machine, Stands, Answered};
 ghost use Rattle.flt_bpf.specs.{Valid.IsValid, declared.fault.CheckFault.CheckFault};
 ghost use Rattle.flt_bpf.specs.declared.{insn.Insn.Insn, machine.State.State};
-ghost use Rattle.flt_trace.specs.RunByRules.{run_by_rules, run_end, BreaksRuleAt, MeetsNoBrokenRule};
+ghost use Rattle.flt_trace.specs.RunByRules.{run_by_rules, run_end, BreaksRuleAt};
+ghost use Rattle.flt_trace.specs.RunByRules.{MeetsNoBrokenRule};
 
 /// What `run_any` returns, in terms of the machine's run. If that meets no instruction that
 /// breaks a rule, as with every valid program, it is the machine's answer and count, or `None`
 /// if the run goes past the end. If the run meets a broken rule it is `None`. An answer and
 /// count are always the machine's.
-#[tactic(auto, using(crate::proofs::ByRules::answered, crate::proofs::ByRules::broken_run, crate::proofs::ByRules::same_run, crate::proofs::ByRules::valid_meets_none))]
+#[tactic(auto, using(crate::proofs::ByRules::run_laws))]
 pub fn any_run()
     ensures unbroken { (insns : List Insn) (packet : List ℕ) (len : ℕ)
         → MeetsNoBrokenRule insns packet len

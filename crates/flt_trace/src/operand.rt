@@ -2,7 +2,8 @@
 //! that the clauses ask for in the line's 80 bytes is the length of the longest such text.
 
 ghost use Rattle.std.specs.Prelude.{◌≡◌, ◌+◌, ◌≤◌, ◌++◌, length, codes};
-ghost use Rattle.flt_trace.specs.Text.{arithmetic_name, constant_text, load_name, operation_name, hex, operand_text, signed_number, test_name};
+ghost use Rattle.flt_trace.specs.Text.{arithmetic_name, constant_text, load_name, operation_name};
+ghost use Rattle.flt_trace.specs.Text.{hex, operand_text, signed_number, test_name};
 
 use crate::line::Line;
 use flt_bpf::operation::{AluOperation, Operand, Operation, Register, Source, Test, Width};

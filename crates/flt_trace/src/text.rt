@@ -4,7 +4,8 @@
 //! blank.
 
 ghost use Rattle.std.specs.Prelude.{◌≡◌, ◌+◌, ◌-◌, ◌≤◌, ◌++◌, [], codes, length, replicate};
-ghost use Rattle.flt_trace.specs.Text.{branch_text, front_text, hex, insn_text, operand_text, filled_text, three_digits};
+ghost use Rattle.flt_trace.specs.Text.{branch_text, front_text, hex, insn_text, operand_text};
+ghost use Rattle.flt_trace.specs.Text.{filled_text, three_digits};
 
 use crate::line::Line;
 use crate::operand::{operation_name, push_operand};

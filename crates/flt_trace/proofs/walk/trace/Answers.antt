@@ -1,6 +1,7 @@
 -- Each round writes the step that the run is before, and goes on to the next one.
-use Rattle.flt_trace.proofs.Common.{◌+◌, ◌<◌, length, ◌∙◌, ap, arith, rules, subst, sym, slice_get-get_or, reach_next, parts, goes_inside, sound_at}
+use Rattle.flt_trace.proofs.Common.{◌+◌, ◌<◌, length, ◌∙◌, ap, rules, subst, sym, slice_get-get_or, reach_next, parts, goes_inside, sound_at}
 use Rattle.flt_trace.proofs.Tracing.{Standing, standing_first, standing_last, standing_next, written_more, written_none}
+use Rattle.flt_trace.proofs.walk.trace.Goals.{In-Further}
 use Rattle.flt_trace.proofs.walk.trace.Goals as goal
 
 pub places-init : goal.places-init
@@ -20,7 +21,7 @@ returns-in-End c =
     let there = slice_get-get_or c.args.insns.now c.places.place _ at.inside in
     standing_last _ _ _ _ _ c.places.place c.places.state c.places.count c.in-End.answer _ at written there (c.execute.ensures ∙ ap (λ t. reach_next t c.execute.new.state) c.in-End.is)
 
-inside : (c : goal.In-Further) → c.places.place + 1 + c.in-Further.further < length c.args.insns.now
+inside : (c : In-Further) → c.places.place + 1 + c.in-Further.further < length c.args.insns.now
 inside c =
     goes_inside c.args.insns.now c.places.place _ c.args.packet.now c.args.len c.places.state c.execute.new.state c.in-Further.further c.requires (slice_get-get_or c.args.insns.now c.places.place _ c.places.invariant.standing.inside) (c.execute.ensures ∙ ap (λ t. reach_next t c.execute.new.state) c.in-Further.is)
 
