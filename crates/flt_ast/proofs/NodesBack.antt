@@ -2,7 +2,7 @@
 use Rattle.std.proofs.Common.{◌≡◌, List, [], refl, sym, ap, ◌∙◌}
 use mathlib.Core.List.{reverse_aux}
 use Rattle.flt_ast.specs.Nodes.{number_nodes, truth_nodes, expr_nodes, tree_of}
-use Rattle.flt_ast.specs.Tree.{NumberTree, literal, len, named, load, negated, applied, TruthTree, check, cast, sized, bare, valued, qualified, compared, denied, joined, Expression, empty, truth}
+use Rattle.flt_ast.specs.Tree.{NumberTree, load, negated, applied, TruthTree, compared, denied, joined, Expression, empty, truth}
 use Rattle.flt_ast.specs.declared.node.Node.{Node}
 use Rattle.flt_ast.specs.inside.Nodes.{tree_back, number_onto, truth_onto, expr_onto}
 

@@ -70,10 +70,12 @@ fit_of Host (Value.Ip6 a None) p = fit_if (has_ip6_addresses p) true
 fit_of Host (Value.Mac a) p = fit_if (has_mac_addresses p) true
 fit_of Net (Value.Number n m) p =
     fit_if (is_net_mask m && has_ip4_addresses p) (nat_le n 255 && is_ip4_prefix_len m)
-fit_of Net (Value.Dotted d m) p = fit_if (is_net_mask m && has_ip4_addresses p) (is_ip4_prefix_len m)
+fit_of Net (Value.Dotted d m) p =
+    fit_if (is_net_mask m && has_ip4_addresses p) (is_ip4_prefix_len m)
 fit_of Net (Value.Ip6 a n) p = fit_if (has_ip6_addresses p) (is_ip6_prefix_len n)
 fit_of Port (Value.Number n NetMask.Unwritten) p = fit_if (has_port_numbers p) (nat_le n 65535)
-fit_of PortRange (Value.Range a b) p = fit_if (has_port_numbers p) (nat_le a 65535 && nat_le b 65535)
+fit_of PortRange (Value.Range a b) p =
+    fit_if (has_port_numbers p) (nat_le a 65535 && nat_le b 65535)
 fit_of Proto (Value.Number n NetMask.Unwritten) (Some Protocol.Ether) =
     fit_if true (nat_le 1536 n && nat_le n 65535)
 fit_of Proto (Value.Number n NetMask.Unwritten) p = fit_if (has_protocol_numbers p) (nat_le n 255)
