@@ -1,12 +1,9 @@
 -- The faults of a resolved tree: a division by 0, too many words, too long a program.
 use Rattle.std.specs.Prelude.{Bool, true, false, ◌&&◌, ◌||◌, ◌==◌, nat_lt, Option, Some, None}
-use Rattle.flt_words.specs.declared.token.Operator.{Operator}
-use Rattle.flt_words.specs.declared.token.Operator.TheVariants.{Divide, Remainder}
 use Rattle.flt_words.specs.declared.fault.ExprFault.{ExprFault}
-use Rattle.flt_words.specs.declared.fault.ExprFault.TheVariants as fault
+use Rattle.flt_words.specs.declared.token.Operator.{Operator, TheVariants.Divide, TheVariants.Remainder}
+use Rattle.flt_ast.specs.{Counts.words_of, Counts.bound_of, Resolved.some_primitive}
 use Rattle.flt_ast.specs.Tree.{NumberTree, literal, load, negated, applied, TruthTree, compared, Expression}
-use Rattle.flt_ast.specs.Resolved.{some_primitive}
-use Rattle.flt_ast.specs.Counts.{words_of, bound_of}
 
 -- the operators whose right side may not be 0
 abbrev pub is_division : Operator → Bool
@@ -34,9 +31,9 @@ divides_by_zero _ = false
 
 -- the first of E10, E11, E12 over the whole tree
 abbrev pub first_excess : Bool → Bool → Bool → Option ExprFault
-first_excess true words long = Some fault.DivisionByZero
-first_excess false true long = Some fault.TooManyWords
-first_excess false false true = Some fault.ProgramTooLong
+first_excess true words long = Some ExprFault.DivisionByZero
+first_excess false true long = Some ExprFault.TooManyWords
+first_excess false false true = Some ExprFault.ProgramTooLong
 first_excess false false false = None
 
 -- the fault that `flt_lang::check` reports of a resolved tree, or none

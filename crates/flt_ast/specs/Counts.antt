@@ -1,26 +1,17 @@
 -- The counts of an expression: sums over its tree. Each test of a primitive's formula counts one,
 -- and each node of arithmetic; `ether proto`, which is one test, counts two.
 use Rattle.std.specs.Prelude.{ℕ, ◌+◌, ◌*◌, max, Option, Some, None}
-use Rattle.flt_words.specs.declared.token.Protocol.{Protocol}
-use Rattle.flt_words.specs.declared.token.Protocol.TheVariants as protocol
-use Rattle.flt_words.specs.declared.token.Side.TheVariants.{Destination}
 use Rattle.flt_words.specs.declared.token.Cast.{Cast}
-use Rattle.flt_words.specs.declared.token.Cast.TheVariants as casts
-use Rattle.flt_words.specs.declared.token.ValueType.{ValueType}
+use Rattle.flt_words.specs.declared.token.{Protocol.Protocol, Side.TheVariants.Destination, ValueType.ValueType}
 use Rattle.flt_words.specs.declared.token.ValueType.TheVariants.{Host, Net, Port, PortRange, Proto}
-use Rattle.flt_ast.specs.declared.qualifiers.Direction.{Direction}
-use Rattle.flt_ast.specs.declared.qualifiers.Direction.TheVariants as direction
-use Rattle.flt_ast.specs.declared.qualifiers.CompleteQualifiers.{CompleteQualifiers}
-use Rattle.flt_ast.specs.declared.value.Value.{Value}
-use Rattle.flt_ast.specs.declared.value.Value.TheVariants as value
-use Rattle.flt_ast.specs.declared.node.Node.{Node}
-use Rattle.flt_ast.specs.declared.node.Node.TheVariants as node
 use Rattle.flt_ast.specs.Tree.{NumberTree, literal, len, load, negated, applied, TruthTree, check, cast, sized, qualified, compared, denied, joined, Expression, empty, truth}
+use Rattle.flt_ast.specs.declared.{node.Node.Node, qualifiers.CompleteQualifiers.CompleteQualifiers}
+use Rattle.flt_ast.specs.declared.{qualifiers.Direction.Direction, value.Value.Value}
 
 -- n tests for the source, for the destination, or for each of them
 abbrev pub side_tests : Direction → ℕ → ℕ
-side_tests (direction.One s) n = n
-side_tests (direction.Both j) n = n + n
+side_tests (Direction.One s) n = n
+side_tests (Direction.Both j) n = n + n
 
 -- the tests of a protocol number: that of IPv4 or of IPv6, and the number; without a protocol for
 -- both of them
@@ -31,10 +22,10 @@ proto_tests (Some p) = 1 + 1
 -- the tests of only a protocol: `tcp` and `udp` mean `proto 6` and `proto 17`, `icmp` means `ip
 -- proto 1`, `icmp6` means `ip6 proto 58`
 abbrev pub check_tests : Protocol → ℕ
-check_tests protocol.Tcp = proto_tests None
-check_tests protocol.Udp = proto_tests None
-check_tests protocol.Icmp = proto_tests (Some protocol.Ip)
-check_tests protocol.Icmp6 = proto_tests (Some protocol.Ip6)
+check_tests Protocol.Tcp = proto_tests None
+check_tests Protocol.Udp = proto_tests None
+check_tests Protocol.Icmp = proto_tests (Some Protocol.Ip)
+check_tests Protocol.Icmp6 = proto_tests (Some Protocol.Ip6)
 check_tests _ = 1
 
 -- the tests of a MAC address: that the link is Ethernet, and each side as four bytes and two
@@ -44,8 +35,8 @@ ether_tests d = 1 + side_tests d 2
 -- the tests of `broadcast`, a MAC address of the destination, and of `multicast`: the protocol, and
 -- one bit or byte
 abbrev pub cast_tests : Cast → ℕ
-cast_tests casts.Broadcast = ether_tests (direction.One Destination)
-cast_tests casts.Multicast = 1 + 1
+cast_tests Cast.Broadcast = ether_tests (Direction.One Destination)
+cast_tests Cast.Multicast = 1 + 1
 
 -- the tests of an IPv4 address, which without a protocol may be of IPv4, ARP or RARP
 abbrev pub ip4_tests : Option Protocol → Direction → ℕ
@@ -69,8 +60,8 @@ port_tests p d n =
 
 -- the tests of an address or a network, by its kind
 abbrev pub address_tests : Option Protocol → Direction → Value → ℕ
-address_tests p d (value.Mac a) = ether_tests d
-address_tests p d (value.Ip6 a n) = ip6_test_count d
+address_tests p d (Value.Mac a) = ether_tests d
+address_tests p d (Value.Ip6 a n) = ip6_test_count d
 address_tests p d _ = ip4_tests p d
 
 -- the tests of a value with these qualifiers
@@ -88,9 +79,9 @@ value_tests q v = typed_tests q.value_type q.protocol q.direction v
 -- the tests of an accessor: its protocol, or for one above IPv4 that of IPv4, its number and that
 -- the packet isn't a later fragment
 abbrev pub accessor_test_count : Protocol → ℕ
-accessor_test_count protocol.Tcp = 1 + 1 + 1
-accessor_test_count protocol.Udp = 1 + 1 + 1
-accessor_test_count protocol.Icmp = 1 + 1 + 1
+accessor_test_count Protocol.Tcp = 1 + 1 + 1
+accessor_test_count Protocol.Udp = 1 + 1 + 1
+accessor_test_count Protocol.Icmp = 1 + 1 + 1
 accessor_test_count _ = 1
 
 -- the tests of all accessors of a number
@@ -166,21 +157,21 @@ bound_of e = 2 + 6 * (tests_of e + nodes_of e)
 
 -- what a node itself adds to the tests of its tree
 abbrev pub node_tests : Node → ℕ
-node_tests (node.Check p) = check_tests p
-node_tests (node.Cast p c) = cast_tests c
-node_tests (node.Sized s n) = 1
-node_tests (node.Qualified q v) = value_tests q v
-node_tests (node.Compare c) = 1
-node_tests (node.Load p s) = accessor_test_count p
+node_tests (Node.Check p) = check_tests p
+node_tests (Node.Cast p c) = cast_tests c
+node_tests (Node.Sized s n) = 1
+node_tests (Node.Qualified q v) = value_tests q v
+node_tests (Node.Compare c) = 1
+node_tests (Node.Load p s) = accessor_test_count p
 node_tests _ = 0
 
 -- what a node itself adds to the nodes of its tree's arithmetic
 abbrev pub node_size : Node → ℕ
-node_size (node.Sized s n) = 2
-node_size (node.Literal n) = 1
-node_size node.Len = 1
-node_size (node.Named n) = 1
-node_size (node.Load p s) = 1
-node_size node.Negate = 1
-node_size (node.Apply o) = 1
+node_size (Node.Sized s n) = 2
+node_size (Node.Literal n) = 1
+node_size Node.Len = 1
+node_size (Node.Named n) = 1
+node_size (Node.Load p s) = 1
+node_size Node.Negate = 1
+node_size (Node.Apply o) = 1
 node_size _ = 0

@@ -1,14 +1,9 @@
 -- What a bare value inherits, and what is filled in if it is left out.
 use Rattle.std.specs.Prelude.{Some, None, unwrap_or}
-use Rattle.flt_words.specs.declared.token.Join.TheVariants as join
-use Rattle.flt_words.specs.declared.token.ValueType.{ValueType}
-use Rattle.flt_words.specs.declared.token.ValueType.TheVariants.{Host}
-use Rattle.flt_ast.specs.declared.qualifiers.Direction.TheVariants as direction
-use Rattle.flt_ast.specs.declared.qualifiers.Qualifiers.{Qualifiers}
-use Rattle.flt_ast.specs.declared.qualifiers.CompleteQualifiers.{CompleteQualifiers}
-use Rattle.flt_ast.specs.declared.node.Node.{Node}
-use Rattle.flt_ast.specs.declared.node.Node.TheVariants as node
+use Rattle.flt_words.specs.declared.token.{Join.Join, ValueType.ValueType, ValueType.TheVariants.Host}
 use Rattle.flt_ast.specs.Tree.{TruthTree, bare, valued, qualified, denied, joined, Expression, empty, truth}
+use Rattle.flt_ast.specs.declared.{node.Node.Node, qualifiers.CompleteQualifiers.CompleteQualifiers}
+use Rattle.flt_ast.specs.declared.qualifiers.{Direction.Direction, Qualifiers.Qualifiers}
 
 -- the qualifiers of the last value in a tree that has some written before it, or else q
 abbrev pub latest : Qualifiers → TruthTree → Qualifiers
@@ -34,7 +29,7 @@ abbrev pub completed_qualifiers : Qualifiers → CompleteQualifiers
 completed_qualifiers q =
     record {
       protocol = q.protocol;
-      direction = unwrap_or q.direction (direction.Both join.Or);
+      direction = unwrap_or q.direction (Direction.Both Join.Or);
       value_type = type_or_host q;
     }
 
@@ -61,5 +56,5 @@ fill_expression (truth a) = truth (complete (with_inherited only_host a))
 
 -- a node whose value has some qualifiers gets those that are left out; others are unchanged
 abbrev pub completed_node : Node → Node
-completed_node (node.Valued q v) = node.Qualified (completed_qualifiers q) v
+completed_node (Node.Valued q v) = Node.Qualified (completed_qualifiers q) v
 completed_node n = n

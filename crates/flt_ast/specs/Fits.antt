@@ -1,53 +1,41 @@
 -- What fits: which values, protocols and directions go with a type, and which numbers are in range.
 use Rattle.std.specs.Prelude.{ℕ, Bool, true, false, ◌&&◌, ◌||◌, ◌==◌, nat_le, Option, Some, None}
-use Rattle.flt_words.specs.declared.token.Protocol.{Protocol}
-use Rattle.flt_words.specs.declared.token.Protocol.TheVariants as protocol
-use Rattle.flt_words.specs.declared.token.Join.TheVariants as join
-use Rattle.flt_words.specs.declared.token.Cast.{Cast}
-use Rattle.flt_words.specs.declared.token.Cast.TheVariants as casts
-use Rattle.flt_words.specs.declared.token.ValueType.{ValueType}
+use Rattle.flt_words.specs.declared.token.{Cast.Cast, Join.TheVariants.Or, Protocol.Protocol, ValueType.ValueType}
 use Rattle.flt_words.specs.declared.token.ValueType.TheVariants.{Host, Net, Port, PortRange, Proto}
-use Rattle.flt_ast.specs.declared.qualifiers.Direction.{Direction}
-use Rattle.flt_ast.specs.declared.qualifiers.Direction.TheVariants as direction
-use Rattle.flt_ast.specs.declared.value.Dotted.{Dotted}
-use Rattle.flt_ast.specs.declared.value.NetMask.{NetMask}
-use Rattle.flt_ast.specs.declared.value.NetMask.TheVariants as mask
-use Rattle.flt_ast.specs.declared.value.Value.{Value}
-use Rattle.flt_ast.specs.declared.value.Value.TheVariants as value
-use Rattle.flt_ast.specs.declared.fits.Fit.{Fit}
-use Rattle.flt_ast.specs.declared.fits.Fit.TheVariants as fit
+use Rattle.flt_ast.specs.declared.{fits.Fit.Fit, qualifiers.Direction.Direction}
+use Rattle.flt_ast.specs.declared.value.{Dotted.Dotted, NetMask.NetMask, Value.Value}
 
 -- the protocols, or none, after which an IPv4 address may stand
 abbrev pub has_ip4_addresses : Option Protocol → Bool
 has_ip4_addresses None = true
-has_ip4_addresses (Some protocol.Ip) = true
-has_ip4_addresses (Some protocol.Arp) = true
-has_ip4_addresses (Some protocol.Rarp) = true
+has_ip4_addresses (Some Protocol.Ip) = true
+has_ip4_addresses (Some Protocol.Arp) = true
+has_ip4_addresses (Some Protocol.Rarp) = true
 has_ip4_addresses _ = false
 
 -- the protocols, or none, after which an IPv6 address may stand
 abbrev pub has_ip6_addresses : Option Protocol → Bool
 has_ip6_addresses None = true
-has_ip6_addresses (Some protocol.Ip6) = true
+has_ip6_addresses (Some Protocol.Ip6) = true
 has_ip6_addresses _ = false
 
 -- the protocols, or none, after which a port may stand
 abbrev pub has_port_numbers : Option Protocol → Bool
 has_port_numbers None = true
-has_port_numbers (Some protocol.Tcp) = true
-has_port_numbers (Some protocol.Udp) = true
+has_port_numbers (Some Protocol.Tcp) = true
+has_port_numbers (Some Protocol.Udp) = true
 has_port_numbers _ = false
 
 -- the protocols, or none, after which an IP protocol number may stand
 abbrev pub has_protocol_numbers : Option Protocol → Bool
 has_protocol_numbers None = true
-has_protocol_numbers (Some protocol.Ip) = true
-has_protocol_numbers (Some protocol.Ip6) = true
+has_protocol_numbers (Some Protocol.Ip) = true
+has_protocol_numbers (Some Protocol.Ip6) = true
 has_protocol_numbers _ = false
 
 -- the protocol after which a MAC address may stand
 abbrev pub has_mac_addresses : Option Protocol → Bool
-has_mac_addresses (Some protocol.Ether) = true
+has_mac_addresses (Some Protocol.Ether) = true
 has_mac_addresses _ = false
 
 -- all four parts of an IPv4 address are written
@@ -56,12 +44,12 @@ is_whole d = d.parts == 4
 
 -- a mask that a network may have: one of `mask D` has four parts
 abbrev pub is_net_mask : NetMask → Bool
-is_net_mask (mask.Mask d) = is_whole d
+is_net_mask (NetMask.Mask d) = is_whole d
 is_net_mask _ = true
 
 -- the length of a prefix, if one is written, is at most that of an IPv4 address
 abbrev pub is_ip4_prefix_len : NetMask → Bool
-is_ip4_prefix_len (mask.Prefix n) = nat_le n 32
+is_ip4_prefix_len (NetMask.Prefix n) = nat_le n 32
 is_ip4_prefix_len _ = true
 
 -- the length of a prefix, if one is written, is at most that of an IPv6 address
@@ -71,34 +59,36 @@ is_ip6_prefix_len (Some n) = nat_le n 128
 
 -- the fit of a value, by whether it goes with its type and protocol, and whether it is in range
 abbrev pub fit_if : Bool → Bool → Fit
-fit_if true true = fit.InRange
-fit_if true false = fit.OutOfRange
-fit_if false _ = fit.Misfit
+fit_if true true = Fit.InRange
+fit_if true false = Fit.OutOfRange
+fit_if false _ = Fit.Misfit
 
 -- how a value fits its type and protocol: the table of docs/FILTER.md ("What fits")
 abbrev pub fit_of : ValueType → Value → Option Protocol → Fit
-fit_of Host (value.Dotted d mask.Unwritten) p = fit_if (is_whole d && has_ip4_addresses p) true
-fit_of Host (value.Ip6 a None) p = fit_if (has_ip6_addresses p) true
-fit_of Host (value.Mac a) p = fit_if (has_mac_addresses p) true
-fit_of Net (value.Number n m) p =
+fit_of Host (Value.Dotted d NetMask.Unwritten) p = fit_if (is_whole d && has_ip4_addresses p) true
+fit_of Host (Value.Ip6 a None) p = fit_if (has_ip6_addresses p) true
+fit_of Host (Value.Mac a) p = fit_if (has_mac_addresses p) true
+fit_of Net (Value.Number n m) p =
     fit_if (is_net_mask m && has_ip4_addresses p) (nat_le n 255 && is_ip4_prefix_len m)
-fit_of Net (value.Dotted d m) p = fit_if (is_net_mask m && has_ip4_addresses p) (is_ip4_prefix_len m)
-fit_of Net (value.Ip6 a n) p = fit_if (has_ip6_addresses p) (is_ip6_prefix_len n)
-fit_of Port (value.Number n mask.Unwritten) p = fit_if (has_port_numbers p) (nat_le n 65535)
-fit_of PortRange (value.Range a b) p = fit_if (has_port_numbers p) (nat_le a 65535 && nat_le b 65535)
-fit_of Proto (value.Number n mask.Unwritten) (Some protocol.Ether) =
+fit_of Net (Value.Dotted d m) p =
+    fit_if (is_net_mask m && has_ip4_addresses p) (is_ip4_prefix_len m)
+fit_of Net (Value.Ip6 a n) p = fit_if (has_ip6_addresses p) (is_ip6_prefix_len n)
+fit_of Port (Value.Number n NetMask.Unwritten) p = fit_if (has_port_numbers p) (nat_le n 65535)
+fit_of PortRange (Value.Range a b) p =
+    fit_if (has_port_numbers p) (nat_le a 65535 && nat_le b 65535)
+fit_of Proto (Value.Number n NetMask.Unwritten) (Some Protocol.Ether) =
     fit_if true (nat_le 1536 n && nat_le n 65535)
-fit_of Proto (value.Number n mask.Unwritten) p = fit_if (has_protocol_numbers p) (nat_le n 255)
-fit_of _ _ _ = fit.Misfit
+fit_of Proto (Value.Number n NetMask.Unwritten) p = fit_if (has_protocol_numbers p) (nat_le n 255)
+fit_of _ _ _ = Fit.Misfit
 
 -- the value doesn't go with its type and protocol
 abbrev pub is_misfit_fit : Fit → Bool
-is_misfit_fit fit.Misfit = true
+is_misfit_fit Fit.Misfit = true
 is_misfit_fit _ = false
 
 -- the value goes with its type and protocol, but is out of range
 abbrev pub is_out_of_range_fit : Fit → Bool
-is_out_of_range_fit fit.OutOfRange = true
+is_out_of_range_fit Fit.OutOfRange = true
 is_out_of_range_fit _ = false
 
 -- the type `net`
@@ -114,13 +104,13 @@ is_proto _ = false
 -- the direction `src or dst`, as it is filled in if none is written: with a protocol's number
 -- none may be
 abbrev pub is_either : Direction → Bool
-is_either (direction.Both join.Or) = true
+is_either (Direction.Both Or) = true
 is_either _ = false
 
 -- `broadcast` does not go with `ip` and `ip6`
 abbrev pub is_cast_misfit : Option Protocol → Cast → Bool
-is_cast_misfit (Some protocol.Ip) casts.Broadcast = true
-is_cast_misfit (Some protocol.Ip6) casts.Broadcast = true
+is_cast_misfit (Some Protocol.Ip) Cast.Broadcast = true
+is_cast_misfit (Some Protocol.Ip6) Cast.Broadcast = true
 is_cast_misfit _ _ = false
 
 -- the sizes that an accessor may have, in bytes

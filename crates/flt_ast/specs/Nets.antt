@@ -1,11 +1,6 @@
 -- The networks that values mean: an address and its mask, as numbers of 32 or 128 bits.
 use Rattle.std.specs.Prelude.{ℕ, ◌-◌, ◌*◌, ◌%◌, ◌^◌, Bool, false, not, ◌||◌, ◌==◌, bit_and, Option, Some, None}
-use Rattle.flt_ast.specs.declared.value.NetMask.{NetMask}
-use Rattle.flt_ast.specs.declared.value.NetMask.TheVariants as mask
-use Rattle.flt_ast.specs.declared.value.Value.{Value}
-use Rattle.flt_ast.specs.declared.value.Value.TheVariants as value
-use Rattle.flt_ast.specs.declared.value.Ip4Net.{Ip4Net}
-use Rattle.flt_ast.specs.declared.value.Ip6Net.{Ip6Net}
+use Rattle.flt_ast.specs.declared.value.{Ip4Net.Ip4Net, Ip6Net.Ip6Net, NetMask.NetMask, Value.Value}
 
 -- the mask of the first n of a number of bits
 abbrev pub first_bits : ℕ → ℕ → ℕ
@@ -14,9 +9,9 @@ first_bits width n = 2 ^ width - 2 ^ (width - n)
 -- the mask of an IPv4 network: the one that is written, or else as many bytes as the address has
 -- parts
 abbrev pub ip4_mask : ℕ → NetMask → ℕ
-ip4_mask parts mask.Unwritten = first_bits 32 (8 * parts)
-ip4_mask parts (mask.Prefix n) = first_bits 32 n
-ip4_mask parts (mask.Mask d) = d.address
+ip4_mask parts NetMask.Unwritten = first_bits 32 (8 * parts)
+ip4_mask parts (NetMask.Prefix n) = first_bits 32 n
+ip4_mask parts (NetMask.Mask d) = d.address
 
 -- the mask of an IPv6 network; without the length of a prefix it is of all bits
 abbrev pub ip6_mask : Option ℕ → ℕ
@@ -25,13 +20,13 @@ ip6_mask (Some n) = first_bits 128 n
 
 -- the IPv4 network of a value, or none; a number is the first byte
 abbrev pub ip4_net : Value → Option Ip4Net
-ip4_net (value.Number n m) = Some (record { address = n % 256 * 2 ^ 24; mask = ip4_mask 1 m })
-ip4_net (value.Dotted d m) = Some (record { address = d.address; mask = ip4_mask d.parts m })
+ip4_net (Value.Number n m) = Some (record { address = n % 256 * 2 ^ 24; mask = ip4_mask 1 m })
+ip4_net (Value.Dotted d m) = Some (record { address = d.address; mask = ip4_mask d.parts m })
 ip4_net _ = None
 
 -- the IPv6 network of a value, or none
 abbrev pub ip6_net : Value → Option Ip6Net
-ip6_net (value.Ip6 a n) = Some (record { address = a; mask = ip6_mask n })
+ip6_net (Value.Ip6 a n) = Some (record { address = a; mask = ip6_mask n })
 ip6_net _ = None
 
 -- the address has bits that the mask leaves out

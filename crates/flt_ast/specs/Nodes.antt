@@ -1,30 +1,29 @@
 -- The nodes of a tree, operands first, and the tree of such nodes.
 use Rattle.std.specs.Prelude.{List, [], ◌∷◌, fold}
 use Rattle.flt_words.specs.declared.token.Comparison.{Comparison}
-use Rattle.flt_ast.specs.declared.node.Node.{Node}
-use Rattle.flt_ast.specs.declared.node.Node.TheVariants as node
 use Rattle.flt_ast.specs.Tree.{NumberTree, literal, len, named, load, negated, applied, TruthTree, check, cast, sized, bare, valued, qualified, compared, denied, joined, Expression, empty, truth}
+use Rattle.flt_ast.specs.declared.node.Node.{Node}
 
 -- the nodes of a number, and then the rest
 abbrev pub number_nodes : NumberTree → List Node → List Node
-number_nodes (literal n) rest = node.Literal n ∷ rest
-number_nodes len rest = node.Len ∷ rest
-number_nodes (named n) rest = node.Named n ∷ rest
-number_nodes (load p s a) rest = number_nodes a (node.Load p s ∷ rest)
-number_nodes (negated a) rest = number_nodes a (node.Negate ∷ rest)
-number_nodes (applied o a b) rest = number_nodes a (number_nodes b (node.Apply o ∷ rest))
+number_nodes (literal n) rest = Node.Literal n ∷ rest
+number_nodes len rest = Node.Len ∷ rest
+number_nodes (named n) rest = Node.Named n ∷ rest
+number_nodes (load p s a) rest = number_nodes a (Node.Load p s ∷ rest)
+number_nodes (negated a) rest = number_nodes a (Node.Negate ∷ rest)
+number_nodes (applied o a b) rest = number_nodes a (number_nodes b (Node.Apply o ∷ rest))
 
 -- the nodes of a truth, and then the rest
 abbrev pub truth_nodes : TruthTree → List Node → List Node
-truth_nodes (check p) rest = node.Check p ∷ rest
-truth_nodes (cast p c) rest = node.Cast p c ∷ rest
-truth_nodes (sized s n) rest = node.Sized s n ∷ rest
-truth_nodes (bare v) rest = node.Bare v ∷ rest
-truth_nodes (valued q v) rest = node.Valued q v ∷ rest
-truth_nodes (qualified q v) rest = node.Qualified q v ∷ rest
-truth_nodes (compared c a b) rest = number_nodes a (number_nodes b (node.Compare c ∷ rest))
-truth_nodes (denied a) rest = truth_nodes a (node.Not ∷ rest)
-truth_nodes (joined j a b) rest = truth_nodes a (truth_nodes b (node.Join j ∷ rest))
+truth_nodes (check p) rest = Node.Check p ∷ rest
+truth_nodes (cast p c) rest = Node.Cast p c ∷ rest
+truth_nodes (sized s n) rest = Node.Sized s n ∷ rest
+truth_nodes (bare v) rest = Node.Bare v ∷ rest
+truth_nodes (valued q v) rest = Node.Valued q v ∷ rest
+truth_nodes (qualified q v) rest = Node.Qualified q v ∷ rest
+truth_nodes (compared c a b) rest = number_nodes a (number_nodes b (Node.Compare c ∷ rest))
+truth_nodes (denied a) rest = truth_nodes a (Node.Not ∷ rest)
+truth_nodes (joined j a b) rest = truth_nodes a (truth_nodes b (Node.Join j ∷ rest))
 
 -- the nodes of an expression, operands first
 abbrev pub expr_nodes : Expression → List Node
@@ -61,22 +60,22 @@ with_truth a t = record { truths = a ∷ t.truths; numbers = t.numbers }
 
 -- the trees after one more node, which takes its operands
 abbrev pub with_node : Trees → Node → Trees
-with_node t (node.Check p) = with_truth (check p) t
-with_node t (node.Cast p c) = with_truth (cast p c) t
-with_node t (node.Sized s n) = with_truth (sized s n) t
-with_node t (node.Bare v) = with_truth (bare v) t
-with_node t (node.Valued q v) = with_truth (valued q v) t
-with_node t (node.Qualified q v) = with_truth (qualified q v) t
-with_node t (node.Compare c) = with_compared c t.truths t.numbers
-with_node t node.Not = record { truths = with_latest denied t.truths; numbers = t.numbers }
-with_node t (node.Join j) = record { truths = with_two (joined j) t.truths; numbers = t.numbers }
-with_node t (node.Literal n) = with_number (literal n) t
-with_node t node.Len = with_number len t
-with_node t (node.Named n) = with_number (named n) t
-with_node t (node.Load p s) =
+with_node t (Node.Check p) = with_truth (check p) t
+with_node t (Node.Cast p c) = with_truth (cast p c) t
+with_node t (Node.Sized s n) = with_truth (sized s n) t
+with_node t (Node.Bare v) = with_truth (bare v) t
+with_node t (Node.Valued q v) = with_truth (valued q v) t
+with_node t (Node.Qualified q v) = with_truth (qualified q v) t
+with_node t (Node.Compare c) = with_compared c t.truths t.numbers
+with_node t Node.Not = record { truths = with_latest denied t.truths; numbers = t.numbers }
+with_node t (Node.Join j) = record { truths = with_two (joined j) t.truths; numbers = t.numbers }
+with_node t (Node.Literal n) = with_number (literal n) t
+with_node t Node.Len = with_number len t
+with_node t (Node.Named n) = with_number (named n) t
+with_node t (Node.Load p s) =
     record { truths = t.truths; numbers = with_latest (load p s) t.numbers }
-with_node t node.Negate = record { truths = t.truths; numbers = with_latest negated t.numbers }
-with_node t (node.Apply o) = record { truths = t.truths; numbers = with_two (applied o) t.numbers }
+with_node t Node.Negate = record { truths = t.truths; numbers = with_latest negated t.numbers }
+with_node t (Node.Apply o) = record { truths = t.truths; numbers = with_two (applied o) t.numbers }
 
 -- the latest truth is the whole expression; without one it is the empty one
 abbrev pub first_truth : List TruthTree → Expression

@@ -2,13 +2,11 @@
 -- bits past a mask.
 use Rattle.std.specs.Prelude.{◌≡◌, Bool, true, false, not, ◌&&◌, ◌||◌, is_some, Option, Some, None}
 use Rattle.flt_words.specs.declared.fault.ExprFault.{ExprFault}
-use Rattle.flt_words.specs.declared.fault.ExprFault.TheVariants as fault
-use Rattle.flt_ast.specs.declared.node.Node.{Node}
-use Rattle.flt_ast.specs.declared.node.Node.TheVariants as node
-use Rattle.flt_ast.specs.Tree.{NumberTree, load, negated, applied, TruthTree, cast, bare, valued, qualified, compared, denied, joined, Expression, empty, truth}
-use Rattle.flt_ast.specs.Nets.{is_past_mask}
-use Rattle.flt_ast.specs.Fits.{fit_of, is_misfit_fit, is_out_of_range_fit, is_net, is_proto, is_either, is_cast_misfit, is_size}
 use Rattle.flt_ast.specs.Filled.{type_or_host, expr_inherited}
+use Rattle.flt_ast.specs.Fits.{fit_of, is_misfit_fit, is_out_of_range_fit, is_net, is_proto, is_either, is_cast_misfit, is_size}
+use Rattle.flt_ast.specs.Nets.{is_past_mask}
+use Rattle.flt_ast.specs.Tree.{NumberTree, load, negated, applied, TruthTree, cast, bare, valued, qualified, compared, denied, joined, Expression, empty, truth}
+use Rattle.flt_ast.specs.declared.node.Node.{Node}
 
 -- some accessor in a number has a size other than 1, 2 and 4
 abbrev pub has_wrong_size : NumberTree → Bool
@@ -60,9 +58,9 @@ some_primitive f (truth a) = any_primitive f a
 
 -- the first of E7, E8, E9 over the whole tree
 abbrev pub first_fault : Bool → Bool → Bool → Option ExprFault
-first_fault true out_of_range past = Some fault.QualifiersDoNotFit
-first_fault false true past = Some fault.ValueOutOfRange
-first_fault false false true = Some fault.BitsPastMask
+first_fault true out_of_range past = Some ExprFault.QualifiersDoNotFit
+first_fault false true past = Some ExprFault.ValueOutOfRange
+first_fault false false true = Some ExprFault.BitsPastMask
 first_fault false false false = None
 
 -- the fault of a tree whose bare values have inherited, or none: the one with the smallest number
@@ -85,20 +83,20 @@ pub record IsResolved (e : Expression) : Type 0 where
 
 -- what stands before a node's value, or before `broadcast`, doesn't go with it (E7)
 abbrev pub is_misfit_node : Node → Bool
-is_misfit_node (node.Cast p c) = is_misfit (cast p c)
-is_misfit_node (node.Valued q v) = is_misfit (valued q v)
-is_misfit_node (node.Qualified q v) = is_misfit (qualified q v)
+is_misfit_node (Node.Cast p c) = is_misfit (cast p c)
+is_misfit_node (Node.Valued q v) = is_misfit (valued q v)
+is_misfit_node (Node.Qualified q v) = is_misfit (qualified q v)
 is_misfit_node _ = false
 
 -- a number of a node's value, or an accessor's size, is out of range (E8)
 abbrev pub is_out_of_range_node : Node → Bool
-is_out_of_range_node (node.Valued q v) = is_out_of_range (valued q v)
-is_out_of_range_node (node.Qualified q v) = is_out_of_range (qualified q v)
-is_out_of_range_node (node.Load p s) = not (is_size s)
+is_out_of_range_node (Node.Valued q v) = is_out_of_range (valued q v)
+is_out_of_range_node (Node.Qualified q v) = is_out_of_range (qualified q v)
+is_out_of_range_node (Node.Load p s) = not (is_size s)
 is_out_of_range_node _ = false
 
 -- a node's network has bits set that its mask leaves out (E9)
 abbrev pub has_bits_past_mask_node : Node → Bool
-has_bits_past_mask_node (node.Valued q v) = has_bits_past_mask (valued q v)
-has_bits_past_mask_node (node.Qualified q v) = has_bits_past_mask (qualified q v)
+has_bits_past_mask_node (Node.Valued q v) = has_bits_past_mask (valued q v)
+has_bits_past_mask_node (Node.Qualified q v) = has_bits_past_mask (qualified q v)
 has_bits_past_mask_node _ = false

@@ -1,14 +1,9 @@
 -- What an expression means: plain trees of two sorts, truths and numbers.
 use Rattle.std.specs.Prelude.{ℕ, Option}
-use Rattle.flt_words.specs.declared.token.Protocol.{Protocol}
-use Rattle.flt_words.specs.declared.token.Operator.{Operator}
-use Rattle.flt_words.specs.declared.token.Comparison.{Comparison}
-use Rattle.flt_words.specs.declared.token.Join.{Join}
-use Rattle.flt_words.specs.declared.token.Cast.{Cast}
-use Rattle.flt_words.specs.declared.token.Size.{Size}
+use Rattle.flt_words.specs.declared.token.{Cast.Cast, Comparison.Comparison}
+use Rattle.flt_words.specs.declared.token.{Join.Join, Operator.Operator, Protocol.Protocol, Size.Size}
+use Rattle.flt_ast.specs.declared.qualifiers.{CompleteQualifiers.CompleteQualifiers, Qualifiers.Qualifiers}
 use Rattle.flt_ast.specs.declared.value.Value.{Value}
-use Rattle.flt_ast.specs.declared.qualifiers.Qualifiers.{Qualifiers}
-use Rattle.flt_ast.specs.declared.qualifiers.CompleteQualifiers.{CompleteQualifiers}
 
 -- an accessor, `load`, has its protocol, its size in bytes and its place
 pub data NumberTree : Type 0 where

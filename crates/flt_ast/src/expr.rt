@@ -2,10 +2,8 @@
 //! be made: `flt_lang::check` returns them, and the compiler takes them.
 
 ghost use Rattle.std.specs.Prelude.{◌≡◌, ◌≤◌, false};
-ghost use Rattle.flt_ast.specs.Nodes.{expr_nodes};
-ghost use Rattle.flt_ast.specs.Resolved.{IsResolved, some_primitive};
-ghost use Rattle.flt_ast.specs.Counts.{words_of, bound_of};
-ghost use Rattle.flt_ast.specs.Checks.{divides_by_zero};
+ghost use Rattle.flt_ast.specs.{Checks.divides_by_zero, Counts.words_of, Counts.bound_of};
+ghost use Rattle.flt_ast.specs.{Nodes.expr_nodes, Resolved.IsResolved, Resolved.some_primitive};
 
 use crate::node::Node;
 use std::alloc::Allocator;
@@ -19,13 +17,11 @@ pub struct Expr<A: Allocator> {
 }
 
 impl<A: Allocator> Model for Expr<A> {
-    ghost use Rattle.std.specs.Prelude.{List};
-    ghost use Rattle.std.specs.Coded.{code_by, coded_list};
-    ghost use Rattle.flt_ast.specs.declared.node.Node.{Node};
-    ghost use Rattle.flt_ast.specs.contracts.node.Node as stored;
-    ghost use Rattle.flt_ast.specs.Tree.{Expression};
+    ghost use Rattle.std.specs.{Coded.code_by, Coded.coded_list, Prelude.List};
     ghost use Rattle.flt_ast.specs.Nodes.{tree_of, expr_nodes};
+    ghost use Rattle.flt_ast.specs.{Tree.Expression, declared.node.Node.Node};
     ghost use Rattle.flt_ast.specs.inside.Nodes.{IsTree, tree_back};
+    ghost use Rattle.flt_ast.specs.contracts.node.Node as stored;
 
     ghost Value = { Expression };
 

@@ -2,10 +2,10 @@
 //! `node` asks this for each node with a value (faults E7 and E8).
 
 ghost use Rattle.std.specs.Prelude.{◌≡◌};
-ghost use Rattle.flt_ast.specs.Fits.{has_ip4_addresses, has_ip6_addresses};
-ghost use Rattle.flt_ast.specs.Fits.{has_port_numbers, has_protocol_numbers, has_mac_addresses};
-ghost use Rattle.flt_ast.specs.Fits.{is_net_mask, is_ip4_prefix_len};
-ghost use Rattle.flt_ast.specs.Fits.{is_ip6_prefix_len, fit_if, fit_of, is_cast_misfit};
+ghost use Rattle.flt_ast.specs.Fits.{has_ip4_addresses, has_ip6_addresses, has_port_numbers};
+ghost use Rattle.flt_ast.specs.Fits.{has_protocol_numbers, has_mac_addresses, is_net_mask};
+ghost use Rattle.flt_ast.specs.Fits.{is_ip4_prefix_len, is_ip6_prefix_len, fit_if, fit_of};
+ghost use Rattle.flt_ast.specs.Fits.{is_cast_misfit};
 
 use crate::value::{NetMask, Value};
 use flt_words::{Cast, Protocol, ValueType};

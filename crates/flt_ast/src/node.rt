@@ -44,11 +44,10 @@ pub enum Node {
 
 impl Node {
     ghost use Rattle.std.specs.Prelude.{◌≡◌, ◌≤◌, ◌<◌, ◌^◌};
-    ghost use Rattle.flt_ast.specs.Filled.{completed_node};
+    ghost use Rattle.flt_ast.specs.{Counts.node_tests, Counts.node_size, Filled.completed_node};
+    ghost use Rattle.flt_ast.specs.Heights.{height_after, peak_height};
     ghost use Rattle.flt_ast.specs.Resolved.{is_misfit_node, is_out_of_range_node};
     ghost use Rattle.flt_ast.specs.Resolved.{has_bits_past_mask_node};
-    ghost use Rattle.flt_ast.specs.Counts.{node_tests, node_size};
-    ghost use Rattle.flt_ast.specs.Heights.{height_after, peak_height};
 
     /// Whether what is written before a value, or before `broadcast`, does not go with it (E7).
     /// With `proto` no direction may be written, which `completed` makes `src or dst`. A bare value

@@ -8,8 +8,7 @@
 ghost use Rattle.std.specs.Prelude.{◌≡◌, ◌≤◌};
 ghost use Rattle.flt_ast.specs.Counts.{side_tests, proto_tests, check_tests, ether_tests};
 ghost use Rattle.flt_ast.specs.Counts.{cast_tests, ip4_tests, ip6_test_count, transport_tests};
-ghost use Rattle.flt_ast.specs.Counts.{port_tests, address_tests, value_tests};
-ghost use Rattle.flt_ast.specs.Counts.{accessor_test_count};
+ghost use Rattle.flt_ast.specs.Counts.{port_tests, address_tests, value_tests, accessor_test_count};
 
 use crate::qualifiers::{CompleteQualifiers, Direction};
 use crate::value::Value;

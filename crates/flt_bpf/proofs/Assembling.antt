@@ -1,19 +1,6 @@
 -- A listing is assembled from the bytes of its lines, and a front of it is written at each place.
-use Rattle.flt_bpf.proofs.Common.{◌≡◌, ℕ, ◌+◌, ◌-◌, ◌<◌, ◌≤◌, List, [], ◌∷◌, ◌++◌, length, take, drop, length-append, append_assoc, refl, sym, ap, ◌∙◌, arith, get_or, decimal, take_all, take_more, drop_more, take-append-drop, take-append-le, Insn, BLANK, LINE_FEED, insn_line, insn_lines, listing}
-use Rattle.std.proofs.lemmas.List.{length-drop}
-use Rattle.std.proofs.Math.Seq.{take-append-add}
-
--- the numbers of a line, put one before the other
-pub line_assembled : (i : Insn) (code jt jf k : ℕ) (a b c d : List ℕ) → code ≡ i.code → jt ≡ i.jt → jf ≡ i.jf → k ≡ i.k → a ≡ decimal code ++ BLANK ∷ b → b ≡ decimal jt ++ BLANK ∷ c → c ≡ decimal jf ++ BLANK ∷ d → d ≡ decimal k ++ LINE_FEED ∷ [] → a ≡ insn_line i ++ LINE_FEED ∷ []
-line_assembled i code jt jf k a b c d n1 n2 n3 n4 e1 e2 e3 e4 =
-    e1 ∙ ap (λ (x : List ℕ). decimal code ++ BLANK ∷ x) (e2 ∙ ap (λ (x : List ℕ). decimal jt ++ BLANK ∷ x) (e3 ∙ ap (λ (x : List ℕ). decimal jf ++ BLANK ∷ x) e4))
-    ∙ ap (λ n. decimal n ++ BLANK ∷ (decimal jt ++ BLANK ∷ (decimal jf ++ BLANK ∷ (decimal k ++ LINE_FEED ∷ [])))) n1
-    ∙ ap (λ n. decimal i.code ++ BLANK ∷ (decimal n ++ BLANK ∷ (decimal jf ++ BLANK ∷ (decimal k ++ LINE_FEED ∷ [])))) n2
-    ∙ ap (λ n. decimal i.code ++ BLANK ∷ (decimal i.jt ++ BLANK ∷ (decimal n ++ BLANK ∷ (decimal k ++ LINE_FEED ∷ [])))) n3
-    ∙ ap (λ n. decimal i.code ++ BLANK ∷ (decimal i.jt ++ BLANK ∷ (decimal i.jf ++ BLANK ∷ (decimal n ++ LINE_FEED ∷ [])))) n4
-    ∙ sym (append_assoc (decimal i.code) (BLANK ∷ (decimal i.jt ++ BLANK ∷ (decimal i.jf ++ BLANK ∷ decimal i.k))) (LINE_FEED ∷ [])
-    ∙ ap (λ (x : List ℕ). decimal i.code ++ BLANK ∷ x) (append_assoc (decimal i.jt) (BLANK ∷ (decimal i.jf ++ BLANK ∷ decimal i.k)) (LINE_FEED ∷ [])
-    ∙ ap (λ (x : List ℕ). decimal i.jt ++ BLANK ∷ x) (append_assoc (decimal i.jf) (BLANK ∷ decimal i.k) (LINE_FEED ∷ []))))
+use Rattle.flt_bpf.proofs.Common.{◌≡◌, ℕ, ◌+◌, ◌-◌, ◌<◌, ◌≤◌, List, [], ◌∷◌, ◌++◌, length, take, drop, length-append, append_assoc, refl, sym, ap, ◌∙◌, arith, get_or, decimal, take_all, take_more, drop_more, take-append-drop, take-append-le, Insn, LINE_FEED, insn_line, insn_lines, listing}
+use Rattle.std.proofs.{Math.Seq.take-append-add, lemmas.List.length-drop}
 
 -- the bytes of a line from where it starts
 pub line_bytes : (line : List ℕ) (start : ℕ) → length line ≡ 25 → take (25 - start) (drop start line) ≡ drop start line
@@ -22,8 +9,7 @@ line_bytes line start n = take_all (25 - start) (drop start line) (omega (arith,
 -- the lines of more instructions
 lines_joined : (is js : List Insn) → insn_lines (is ++ js) ≡ insn_lines is ++ insn_lines js
 lines_joined [] js = refl
-lines_joined (i ∷ is) js =
-    ap (λ (x : List ℕ). insn_line i ++ LINE_FEED ∷ x) (lines_joined is js) ∙ sym (append_assoc (insn_line i) (LINE_FEED ∷ insn_lines is) (insn_lines js))
+lines_joined (i ∷ is) js = simp (append_assoc, lines_joined is js)
 
 -- the front of a listing up to an instruction
 abbrev pub front_of : List Insn → ℕ → List ℕ
@@ -43,25 +29,25 @@ listing_split : (is : List Insn) (k : ℕ) → listing is ≡ front_of is k ++ i
 listing_split is k =
     ap (λ (js : List Insn). decimal (length is) ++ LINE_FEED ∷ insn_lines js) (sym (take-append-drop k is)) ∙ front_joined is (take k is) (drop k is)
 
-lines_first : (is : List Insn) (k : ℕ) (d : Insn) → k < length is → insn_lines (drop k is) ≡ (insn_line (get_or is k d) ++ LINE_FEED ∷ []) ++ insn_lines (drop (k + 1) is)
-lines_first is k d l =
-    ap insn_lines (drop_more is k d l) ∙ sym (append_assoc (insn_line (get_or is k d)) (LINE_FEED ∷ []) (insn_lines (drop (k + 1) is)))
+-- the same with the next line
+listing_at : (is : List Insn) (k : ℕ) (d : Insn) → k < length is → listing is ≡ front_of is k ++ ((insn_line (get_or is k d) ++ LINE_FEED ∷ []) ++ insn_lines (drop (k + 1) is))
+listing_at is k d l =
+    listing_split is k
+    ∙ ap (λ (x : List ℕ). front_of is k ++ x) (ap insn_lines (drop_more is k d l) ∙ sym (append_assoc (insn_line (get_or is k d)) (LINE_FEED ∷ []) (insn_lines (drop (k + 1) is))))
 
 -- a front, and then a front of a line, are a front of the listing
 pub stopped_at : (is : List Insn) (k : ℕ) (d : Insn) (s : ℕ) → k < length is → s < length (insn_line (get_or is k d) ++ LINE_FEED ∷ []) → front_of is k ++ take s (insn_line (get_or is k d) ++ LINE_FEED ∷ []) ≡ take (length (front_of is k) + s) (listing is)
 stopped_at is k d s l less =
     let line = insn_line (get_or is k d) ++ LINE_FEED ∷ [] in
     let rest = insn_lines (drop (k + 1) is) in
-    let split : listing is ≡ front_of is k ++ (line ++ rest) = listing_split is k ∙ ap (λ (x : List ℕ). front_of is k ++ x) (lines_first is k d l) in
-    sym (ap (take (length (front_of is k) + s)) split ∙ take-append-add (front_of is k) (line ++ rest) s ∙ ap (λ (x : List ℕ). front_of is k ++ x) (take-append-le s line rest (omega arith)))
+    sym (ap (take (length (front_of is k) + s)) (listing_at is k d l) ∙ take-append-add (front_of is k) (line ++ rest) s ∙ ap (λ (x : List ℕ). front_of is k ++ x) (take-append-le s line rest (omega arith)))
 
 -- a front and a line are no more than the listing
 pub front_within : (is : List Insn) (k : ℕ) (d : Insn) → k < length is → length (front_of is k) + length (insn_line (get_or is k d) ++ LINE_FEED ∷ []) ≤ length (listing is)
 front_within is k d l =
     let line = insn_line (get_or is k d) ++ LINE_FEED ∷ [] in
     let rest = insn_lines (drop (k + 1) is) in
-    let split : listing is ≡ front_of is k ++ (line ++ rest) = listing_split is k ∙ ap (λ (x : List ℕ). front_of is k ++ x) (lines_first is k d l) in
-    omega (arith, ap length split, length-append (front_of is k) (line ++ rest), length-append line rest)
+    omega (arith, ap length (listing_at is k d l), length-append (front_of is k) (line ++ rest), length-append line rest)
 
 -- where the output fails in a line, fewer bytes than the listing has are written
 pub stopped_front : (is : List Insn) (k : ℕ) (d : Insn) (written s : ℕ) (bytes : List ℕ) → k < length is → bytes ≡ insn_line (get_or is k d) ++ LINE_FEED ∷ [] → s < length bytes → written ≡ length (front_of is k) → written + s < length (listing is)

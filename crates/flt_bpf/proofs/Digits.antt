@@ -1,25 +1,16 @@
 -- What the reader takes for a number is one, and the numbers that are written are taken for
 -- themselves.
-use Rattle.flt_bpf.proofs.Common.{◌≡◌, ℕ, zero, suc, ◌^◌, ◌<◌, List, [], ◌∷◌, length, Bool, true, false, Some, None, refl, ap, arith, nat_lt, not, ◌==◌, ◌&&◌, if◌then◌else◌, All, decimal, nat_tests, decimal_is_IsNumeral, length-decimal-le, All-cons, All-nil, IsWrittenNumber, both, digits_from_test, digits_pass, numeral}
+use Rattle.flt_bpf.proofs.Common.{◌≡◌, ℕ, ◌^◌, ◌<◌, ◌≤◌, List, [], ◌∷◌, length, true, false, Some, ap, arith, nat_lt, ◌==◌, All, decimal, nat_tests, decimal_is_IsNumeral, length-decimal-le, All-cons, All-nil, IsWrittenNumber, digits_from_test, digits_pass, numeral}
 use Rattle.std.specs.Str.Parse.{AllDigits, digits_value}
 use Rattle.std.proofs.lemmas.Str.Parse.{digit_from_value}
 use Rattle.cap_octet.specs.Digits.{are_digits}
 
-some : (n : ℕ) → not (n == 0) ≡ true → 0 < n
-some zero e = absurd (cc)
-some (suc n) e = omega arith
-
 -- what is read as a number is one
+numeral_parts : (ds : List ℕ) (n : ℕ) → numeral ds ≡ Some n → (length ds ≤ 10) × (0 < length ds) × (are_digits 10 ds ≡ true) × (digits_value 10 ds ≡ n)
+numeral_parts ds n e = grind (arith, nat_tests)
+
 pub numeral_is : (ds : List ℕ) (n : ℕ) → numeral ds ≡ Some n → IsWrittenNumber ds n
-numeral_is ds n e = go (nat_lt 10 (length ds)) (not (length ds == 0) && are_digits 10 ds) refl refl e
-  where
-    go : (long digits : Bool) → nat_lt 10 (length ds) ≡ long → not (length ds == 0) && are_digits 10 ds ≡ digits
-        → (if long then None else if digits then Some (digits_value 10 ds) else None) ≡ Some n → IsWrittenNumber ds n
-    go true digits long test e = cc
-    go false false long test e = cc
-    go false true long test e =
-        let parts = both (not (length ds == 0)) (are_digits 10 ds) test in
-        record { numeral = (some (length ds) parts.0, digits_from_test 10 ds parts.1); short = grind (arith, nat_tests); value = cc }
+numeral_is ds n e = let r = numeral_parts ds n e in record { numeral = (r.1, digits_from_test 10 ds r.2); short = r.0; value = r.3 }
 
 -- a number is read as itself
 pub numeral_read : (ds : List ℕ) (n : ℕ) → IsWrittenNumber ds n → numeral ds ≡ Some n
@@ -46,3 +37,15 @@ pub decimal_number : (n : ℕ) → n < 2 ^ 32 → IsWrittenNumber (decimal n) n
 decimal_number n l =
     let d = decimal_is_IsNumeral n (omega arith) in
     record { numeral = d.0; short = length-decimal-le 10 n (omega arith) (omega arith) (omega arith); value = d.1 }
+
+-- how many digits the fields of an instruction have at most
+pub code_length : (n : ℕ) → n < 2 ^ 16 → length (decimal n) ≤ 5
+code_length n l = length-decimal-le 5 n (omega arith) (omega arith) (omega arith)
+
+pub offset_length : (n : ℕ) → n < 2 ^ 8 → length (decimal n) ≤ 3
+offset_length n l = length-decimal-le 3 n (omega arith) (omega arith) (omega arith)
+
+pub number_length : (n : ℕ) → n < 2 ^ 32 → length (decimal n) ≤ 10
+number_length n l = length-decimal-le 10 n (omega arith) (omega arith) (omega arith)
+
+pub ruleset field_lengths = (code_length, offset_length, number_length)

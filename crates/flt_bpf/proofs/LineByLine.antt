@@ -1,5 +1,7 @@
 -- A listing, read line by line.
-use Rattle.flt_bpf.proofs.Common.{◌≡◌, ℕ, suc, ◌+◌, ◌-◌, ◌<◌, List, [], ◌∷◌, ◌++◌, length, append_assoc, Some, None, Result, Ok, Err, refl, sym, ap, ◌∙◌, arith, ◌==◌, ◌⊎◌, Bool, true, false, cond, inl, inr, onto_first, slice_split, length-slice_split, Insn, LINE_FEED, lines_from, lines_of, line_numbers, insn_of, onto, read_insn, read_insns}
+use Rattle.flt_bpf.proofs.Common.{◌≡◌, ℕ, zero, suc, ◌+◌, ◌-◌, ◌<◌, ◌≤◌, List, [], ◌∷◌, ◌++◌, length, length-append, Some, None, refl, sym, ap, ◌∙◌, subst, arith, ◌==◌, ◌⊎◌, Bool, cond, inl, inr, onto_first, slice_get, slice_split, length-slice_split, AllZip, Insn, LINE_FEED, lines_from, lines_of, IsInsnLine, line_numbers, insn_of, AreInsns, HasInsn, WrongAfter}
+use Rattle.flt_bpf.proofs.Readings.{insn_is, insn_read}
+use Rattle.std.proofs.{Math.Seq.append_snoc, lemmas.List.append-nil}
 
 -- a line with others after it
 pub line_more : (text piece rest : List ℕ) → slice_split (λ b. b == LINE_FEED) text ≡ piece ∷ slice_split (λ b. b == LINE_FEED) rest → lines_of text ≡ piece ∷ lines_of rest
@@ -11,71 +13,69 @@ line_more text piece rest s =
     more w [] l = absurd (omega arith)
     more w (v ∷ ws) l = refl
 
--- what was read, and then the rest
-abbrev pub onto_all : List Insn → Result (List Insn) ℕ → Result (List Insn) ℕ
-onto_all is (Ok js) = Ok (is ++ js)
-onto_all is (Err line) = Err line
-
-onto_one : (is : List Insn) (i : Insn) (r : Result (List Insn) ℕ) → onto_all is (onto i r) ≡ onto_all (is ++ i ∷ []) r
-onto_one is i (Ok js) = ap Ok (sym (append_assoc is (i ∷ []) js))
-onto_one is i (Err line) = refl
-
--- lines of which the first is there
-record HasLine (lines : List (List ℕ)) : Type 0 where
-  line : List ℕ
-  others : List (List ℕ)
-  are : lines ≡ line ∷ others
-
-lines_from_some : (w : List ℕ) (ws : List (List ℕ)) → (0 < length w) ⊎ (0 < length ws) → HasLine (lines_from (w ∷ ws))
-lines_from_some [] [] (inl h) = absurd (omega arith)
-lines_from_some [] [] (inr h) = absurd (omega arith)
-lines_from_some (b ∷ bs) [] h = record { line = b ∷ bs; others = []; are = refl }
-lines_from_some w (v ∷ ws) h = record { line = w; others = lines_from (v ∷ ws); are = refl }
-
-split_some : (t : Bool) (b : ℕ) (ws : List (List ℕ)) → 0 < length ws → HasLine (lines_from (cond t ([] ∷ ws) (onto_first b ws)))
-split_some true b ws l = lines_from_some [] ws (inr l)
-split_some false b [] l = absurd (omega arith)
-split_some false b (w ∷ ws) l = lines_from_some (b ∷ w) ws (inl (omega arith))
-
-lines_some : (text : List ℕ) → 0 < length text → HasLine (lines_of text)
+lines_some : (text : List ℕ) → 0 < length text → 0 < length (lines_of text)
 lines_some [] l = absurd (omega arith)
-lines_some (b ∷ bs) l = split_some (b == LINE_FEED) b (slice_split (λ x. x == LINE_FEED) bs) (omega (arith, length-slice_split (λ x. x == LINE_FEED) bs))
+lines_some (b ∷ bs) l = split (b == LINE_FEED) (slice_split (λ x. x == LINE_FEED) bs) (omega (arith, length-slice_split (λ x. x == LINE_FEED) bs))
+  where
+    split : (t : Bool) (ws : List (List ℕ)) → 0 < length ws → 0 < length (lines_from (cond t ([] ∷ ws) (onto_first b ws)))
+    split t ws l = grind arith
+
+lines_none : (text : List ℕ) → length text ≡ 0 → lines_of text ≡ []
+lines_none [] e = refl
+lines_none (b ∷ bs) e = absurd (omega arith)
+
+-- lines that are read to their place: instructions in front of those of the others, and the wrong line after them
+pub record ReadTo (lines others : List (List ℕ)) (n at : ℕ) (is : List Insn) : Type 0 where
+  pub counted : length is ≡ at
+  pub insns : (js : List Insn) → AllZip IsInsnLine others js → AllZip IsInsnLine lines (is ++ js)
+  pub wrong : (k : ℕ) → WrongAfter (n - at) others k → WrongAfter n lines (at + k)
+
+pub read_none : (lines : List (List ℕ)) (n : ℕ) → ReadTo lines lines n 0 []
+read_none lines n = record { counted = refl; insns = λ js h. h; wrong = λ k h. let m : n - 0 ≡ n = omega arith in let z : k ≡ 0 + k = omega arith in subst (WrongAfter n lines) z (subst (λ x. WrongAfter x lines k) m h) }
 
 -- one more line
-pub read_more : (r : Result (List Insn) ℕ) (count at : ℕ) (lines others : List (List ℕ)) (line : List ℕ) (is : List Insn) (i : Insn) → r ≡ onto_all is (read_insns (count - at) lines (at + 2)) → at < count → lines ≡ line ∷ others → insn_of (line_numbers line) ≡ Some i → r ≡ onto_all (is ++ i ∷ []) (read_insns (count - (at + 1)) others (at + 1 + 2))
-read_more r count at lines others line is i so l e f =
-    let n : count - at ≡ suc (count - (at + 1)) = omega arith in
-    let m : at + 2 + 1 ≡ at + 1 + 2 = omega arith in
-    so
-    ∙ ap (λ k. onto_all is (read_insns k lines (at + 2))) n
-    ∙ ap (λ ls. onto_all is (read_insns (suc (count - (at + 1))) ls (at + 2))) e
-    ∙ ap (λ o. onto_all is (read_insn o (read_insns (count - (at + 1)) others (at + 2 + 1)) (at + 2))) f
-    ∙ ap (λ k. onto_all is (onto i (read_insns (count - (at + 1)) others k))) m
-    ∙ onto_one is i (read_insns (count - (at + 1)) others (at + 1 + 2))
+wrong_later : {n : ℕ} {lines : List (List ℕ)} {k : ℕ} (line : List ℕ) (i : Insn) → IsInsnLine line i → WrongAfter n lines k → WrongAfter (suc n) (line ∷ lines) (suc k)
+wrong_later {n} {lines} {k} line i h r = record { wrong = later r.wrong; upper_bound = omega (arith, r.upper_bound); insns = earlier }
+  where
+    later : ((k < n) × ((i : Insn) → ¬ HasInsn (slice_get lines k) i)) ⊎ ((n ≤ k) × (k < length lines)) → ((suc k < suc n) × ((i : Insn) → ¬ HasInsn (slice_get (line ∷ lines) (suc k)) i)) ⊎ ((suc n ≤ suc k) × (suc k < length (line ∷ lines)))
+    later h = grind arith
 
--- a line that is no instruction
-pub read_wrong : (r : Result (List Insn) ℕ) (count at : ℕ) (lines others : List (List ℕ)) (line : List ℕ) (is : List Insn) → r ≡ onto_all is (read_insns (count - at) lines (at + 2)) → at < count → lines ≡ line ∷ others → insn_of (line_numbers line) ≡ None → r ≡ Err (at + 2)
-read_wrong r count at lines others line is so l e f =
-    let n : count - at ≡ suc (count - (at + 1)) = omega arith in
-    so
-    ∙ ap (λ k. onto_all is (read_insns k lines (at + 2))) n
-    ∙ ap (λ ls. onto_all is (read_insns (suc (count - (at + 1))) ls (at + 2))) e
-    ∙ ap (λ o. onto_all is (read_insn o (read_insns (count - (at + 1)) others (at + 2 + 1)) (at + 2))) f
+    earlier : (j : ℕ) → j < suc k → (i : Insn) × HasInsn (slice_get (line ∷ lines) j) i
+    earlier zero less = (i, h)
+    earlier (suc j) less = r.insns j (omega arith)
 
--- a line that isn't there
-pub read_missing : (r : Result (List Insn) ℕ) (count at : ℕ) (rest : List ℕ) (is : List Insn) → r ≡ onto_all is (read_insns (count - at) (lines_of rest) (at + 2)) → at < count → length rest ≡ 0 → r ≡ Err (at + 2)
-read_missing r count at [] is so l e =
-    let n : count - at ≡ suc (count - (at + 1)) = omega arith in
-    so ∙ ap (λ k. onto_all is (read_insns k [] (at + 2))) n
-read_missing r count at (b ∷ bs) is so l e = absurd (omega arith)
+pub read_more : {lines others next : List (List ℕ)} {n at : ℕ} {is js : List Insn} {line : List ℕ} (i : Insn) → ReadTo lines others n at is → at < n → others ≡ line ∷ next → insn_of (line_numbers line) ≡ Some i → js ≡ is ++ i ∷ [] → ReadTo lines next n (at + 1) js
+read_more {lines} {others} {next} {n} {at} {is} {js} {line} i r l e f push = subst (ReadTo lines next n (at + 1)) (sym push) (record {
+  counted = omega (arith, r.counted, length-append is (i ∷ []));
+  insns = λ ks h. subst (AllZip IsInsnLine lines) (sym (append_snoc is i ks)) (r.insns (i ∷ ks) (subst (λ (ls : List (List ℕ)). AllZip IsInsnLine ls (i ∷ ks)) (sym e) (here, h)));
+  wrong = λ k h.
+      let m : suc (n - (at + 1)) ≡ n - at = omega arith in
+      let place : at + suc k ≡ at + 1 + k = omega arith in
+      subst (WrongAfter n lines) place (r.wrong (suc k) (subst (λ (ls : List (List ℕ)). WrongAfter (n - at) ls (suc k)) (sym e) (subst (λ x. WrongAfter x (line ∷ next) (suc k)) m (wrong_later line i here h))));
+})
+  where
+    here : IsInsnLine line i
+    here = insn_is line i f
 
--- a line too many
-pub read_beyond : (r : Result (List Insn) ℕ) (count at : ℕ) (rest : List ℕ) (is : List Insn) → r ≡ onto_all is (read_insns (count - at) (lines_of rest) (at + 2)) → count ≡ at → 0 < length rest → r ≡ Err (count + 2)
-read_beyond r count at rest is so l some =
-    let n : count - at ≡ 0 = omega arith in
-    let m : at + 2 ≡ count + 2 = omega arith in
-    let there = lines_some rest some in
-    so
-    ∙ ap (λ k. onto_all is (read_insns k (lines_of rest) (at + 2))) n
-    ∙ ap (λ ls. onto_all is (read_insns 0 ls (at + 2))) there.are
-    ∙ ap Err m
+-- all lines are read
+pub read_all : {lines : List (List ℕ)} (rest : List ℕ) {n at : ℕ} {is : List Insn} → ReadTo lines (lines_of rest) n at is → n ≡ at → length rest ≡ 0 → AreInsns n lines is
+read_all {lines} rest {n} {at} {is} r last e = record {
+  count = r.counted ∙ sym last;
+  each = subst (AllZip IsInsnLine lines) (append-nil is) (r.insns [] (subst (λ (ls : List (List ℕ)). AllZip IsInsnLine ls []) (sym (lines_none rest e)) tt));
+}
+
+-- the next line is no instruction, is missing, or is one too many
+no_insn : {lines others : List (List ℕ)} {n at : ℕ} {is : List Insn} → ReadTo lines others n at is → at < n → ((i : Insn) → ¬ HasInsn (slice_get others 0) i) → WrongAfter n lines (at + 0)
+no_insn r l h = r.wrong 0 (record { wrong = inl (omega arith, h); upper_bound = omega arith; insns = λ j less. absurd (omega arith) })
+
+pub read_wrong : {lines others next : List (List ℕ)} {n at : ℕ} {is : List Insn} {line : List ℕ} → ReadTo lines others n at is → at < n → others ≡ line ∷ next → insn_of (line_numbers line) ≡ None → WrongAfter n lines (at + 0)
+read_wrong {line} r l e f = no_insn r l (λ i h. not_there i (subst (λ (ls : List (List ℕ)). HasInsn (slice_get ls 0) i) e h))
+  where
+    not_there : (i : Insn) → IsInsnLine line i → ⊥
+    not_there i h = let t = insn_read line i h in cc
+
+pub read_missing : {lines : List (List ℕ)} (rest : List ℕ) {n at : ℕ} {is : List Insn} → ReadTo lines (lines_of rest) n at is → at < n → length rest ≡ 0 → WrongAfter n lines (at + 0)
+read_missing rest r l e = no_insn r l (λ i h. subst (λ (ls : List (List ℕ)). HasInsn (slice_get ls 0) i) (lines_none rest e) h)
+
+pub read_beyond : {lines : List (List ℕ)} (rest : List ℕ) {n at : ℕ} {is : List Insn} → ReadTo lines (lines_of rest) n at is → n ≡ at → 0 < length rest → WrongAfter n lines (at + 0)
+read_beyond rest r e l = r.wrong 0 (record { wrong = inr (omega arith, lines_some rest l); upper_bound = omega arith; insns = λ j less. absurd (omega arith) })

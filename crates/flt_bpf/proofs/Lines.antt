@@ -1,9 +1,33 @@
--- The numbers of a line, read one by one.
-use Rattle.flt_bpf.proofs.Common.{◌≡◌, ℕ, ◌<◌, List, [], ◌∷◌, length, Option, Some, None, refl, sym, ap, ◌∙◌, arith, ◌==◌, slice_split, length-slice_split, Insn, BLANK, numeral, after, later_numbers, numbers_of, line_numbers, insn_from, insn_of, only_of}
+-- A text that is cut at the first of some byte, and the numbers of a line, read one by one.
+use Rattle.flt_bpf.proofs.Common.{◌≡◌, ℕ, ◌<◌, List, [], ◌∷◌, length, Option, Some, None, refl, sym, ap, ◌∙◌, arith, ◌==◌, slice_split, length-slice_split, Insn, BLANK, numeral, after, later_numbers, numbers_of, line_numbers, insn_from, insn_of, only_of, zero, suc, ◌+◌, ◌-◌, get_or, take, drop, length-drop, true, false, nat_tests, slice_split-cons_yes, slice_split-cons_no, onto_first, take_all}
 
-numbers_more : (w : List ℕ) (ws : List (List ℕ)) → 0 < length ws → numbers_of (w ∷ ws) ≡ after (numeral w) (later_numbers ws)
-numbers_more w [] l = absurd (omega arith)
-numbers_more w (v ∷ ws) l = refl
+-- no byte below a place is the one
+pub cut_here : (c : ℕ) (bs : List ℕ) (at : ℕ) → ((k : ℕ) → k < at → get_or bs k 0 ≡ c → ⊥) → at < length bs → get_or bs at 0 ≡ c → slice_split (λ b. b == c) bs ≡ take at bs ∷ slice_split (λ b. b == c) (drop (suc at) bs)
+cut_here c [] at before l here = absurd (omega arith)
+cut_here c (b ∷ bs) zero before l here =
+    let t : (b == c) ≡ true = grind (arith, nat_tests) in
+    slice_split-cons_yes (λ x. x == c) b bs t ∙ refl
+cut_here c (b ∷ bs) (suc at) before l here =
+    let other : b ≡ c → ⊥ = before 0 (omega arith) in
+    let t : (b == c) ≡ false = grind (arith, nat_tests) in
+    slice_split-cons_no (λ x. x == c) b bs t ∙ ap (onto_first b) (cut_here c bs at (λ k less. before (suc k) (omega arith)) (omega arith) here)
+
+-- the same, with what follows as a range
+pub cut_range : (c : ℕ) (bs : List ℕ) (at : ℕ) → ((k : ℕ) → k < at → get_or bs k 0 ≡ c → ⊥) → at < length bs → get_or bs at 0 ≡ c → slice_split (λ b. b == c) bs ≡ take at bs ∷ slice_split (λ b. b == c) (take (length bs - (at + 1)) (drop (at + 1) bs))
+cut_range c bs at before l here =
+    let next : suc at ≡ at + 1 = omega arith in
+    let whole : take (length bs - (at + 1)) (drop (at + 1) bs) ≡ drop (at + 1) bs = take_all (length bs - (at + 1)) (drop (at + 1) bs) (omega (arith, length-drop (at + 1) bs)) in
+    cut_here c bs at before l here ∙ ap (λ n. take at bs ∷ slice_split (λ b. b == c) (drop n bs)) next ∙ ap (λ xs. take at bs ∷ slice_split (λ b. b == c) xs) (sym whole)
+
+pub cut_none : (c : ℕ) (bs : List ℕ) → ((k : ℕ) → k < length bs → get_or bs k 0 ≡ c → ⊥) → slice_split (λ b. b == c) bs ≡ bs ∷ []
+cut_none c [] h = refl
+cut_none c (b ∷ bs) h =
+    let other : b ≡ c → ⊥ = h 0 (omega arith) in
+    let t : (b == c) ≡ false = grind (arith, nat_tests) in
+    slice_split-cons_no (λ x. x == c) b bs t ∙ ap (onto_first b) (cut_none c bs (λ k less. h (suc k) (omega arith)))
+
+pub numbers_more : (w : List ℕ) (ws : List (List ℕ)) → 0 < length ws → numbers_of (w ∷ ws) ≡ after (numeral w) (later_numbers ws)
+numbers_more w ws l = grind arith
 
 -- a number with others after it
 pub number_first : (line piece rest next : List ℕ) (n : ℕ) → slice_split (λ b. b == BLANK) line ≡ piece ∷ slice_split (λ b. b == BLANK) rest → numeral piece ≡ Some n → later_numbers (slice_split (λ b. b == BLANK) rest) ≡ line_numbers next → line_numbers line ≡ after (Some n) (line_numbers next)
@@ -11,22 +35,17 @@ number_first line piece rest next n s e l =
     let some : 0 < length (slice_split (λ b. b == BLANK) rest) = omega (arith, length-slice_split (λ b. b == BLANK) rest) in
     ap numbers_of s ∙ numbers_more piece _ some ∙ ap (λ o. after o (later_numbers (slice_split (λ b. b == BLANK) rest))) e ∙ ap (after (Some n)) l
 
-after_not_empty : (o p : Option ℕ) (q : Option (List ℕ)) → after o q ≡ Some [] → ⊥
-after_not_empty None p q e = cc
-after_not_empty (Some n) p None e = cc
-after_not_empty (Some n) p (Some ns) e = cc
+after_not_empty : (o : Option ℕ) (q : Option (List ℕ)) → after o q ≡ Some [] → ⊥
+after_not_empty o q e = grind arith
 
 later_not_empty : (ws : List (List ℕ)) → later_numbers ws ≡ Some [] → ⊥
 later_not_empty [] e = cc
-later_not_empty (w ∷ []) e = after_not_empty (numeral w) None (Some []) e
+later_not_empty (w ∷ []) e = after_not_empty (numeral w) (Some []) e
 later_not_empty ([] ∷ v ∷ ws) e = later_not_empty (v ∷ ws) e
-later_not_empty ((b ∷ bs) ∷ v ∷ ws) e = after_not_empty (numeral (b ∷ bs)) None (later_numbers (v ∷ ws)) e
+later_not_empty ((b ∷ bs) ∷ v ∷ ws) e = after_not_empty (numeral (b ∷ bs)) (later_numbers (v ∷ ws)) e
 
 not_only : (o : Option ℕ) (q : Option (List ℕ)) → (q ≡ Some [] → ⊥) → only_of (after o q) ≡ None
-not_only None q h = refl
-not_only (Some n) None h = refl
-not_only (Some n) (Some []) h = absurd (h refl)
-not_only (Some n) (Some (m ∷ ns)) h = refl
+not_only o q h = grind arith
 
 -- a line with a blank isn't one number
 pub blank_not_only : (line piece rest : List ℕ) → slice_split (λ b. b == BLANK) line ≡ piece ∷ slice_split (λ b. b == BLANK) rest → only_of (line_numbers line) ≡ None
@@ -39,10 +58,7 @@ insn_last a b c None = None
 insn_last a b c (Some k) = insn_from a b c k
 
 last_of_four : (a b c : ℕ) (o : Option (List ℕ)) → insn_of (after (Some a) (after (Some b) (after (Some c) o))) ≡ insn_last a b c (only_of o)
-last_of_four a b c None = refl
-last_of_four a b c (Some []) = refl
-last_of_four a b c (Some (k ∷ [])) = refl
-last_of_four a b c (Some (k ∷ j ∷ ns)) = refl
+last_of_four a b c o = grind arith
 
 -- four numbers make an instruction
 pub four_numbers : (line l1 l2 l3 : List ℕ) (a b c : ℕ) (k : Option ℕ) → line_numbers line ≡ after (Some a) (line_numbers l1) → line_numbers l1 ≡ after (Some b) (line_numbers l2) → line_numbers l2 ≡ after (Some c) (line_numbers l3) → k ≡ only_of (line_numbers l3) → insn_of (line_numbers line) ≡ insn_last a b c k

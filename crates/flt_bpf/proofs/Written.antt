@@ -1,6 +1,6 @@
 -- The listing that is written of instructions is a listing of them.
-use Rattle.flt_bpf.proofs.Common.{◌≡◌, ℕ, suc, ◌*◌, ◌^◌, ◌<◌, ◌≤◌, List, [], ◌∷◌, ◌++◌, length, length-append, append_assoc, Bool, false, refl, sym, ap, ◌∙◌, subst, arith, ◌==◌, All, decimal, slice_split, AllZip, length-decimal-le, All-append, All-cons, slice_split_at, length-slice_split, Insn, BLANK, LINE_FEED, insn_line, insn_lines, listing, AreNumbers, HasFieldsInRange, IsInsnLine, lines_from, lines_of, AreListingLines, IsListing}
-use Rattle.flt_bpf.proofs.Digits.{decimal_number, number_lacks}
+use Rattle.flt_bpf.proofs.Common.{◌≡◌, ℕ, suc, ◌*◌, ◌^◌, ◌<◌, ◌≤◌, List, [], ◌∷◌, ◌++◌, length, length-append, append_assoc, false, refl, sym, ap, subst, arith, common_steps, ◌==◌, All, decimal, slice_split, AllZip, length-decimal-le, All-append, All-cons, slice_split_at, Insn, BLANK, LINE_FEED, insn_line, insn_lines, listing, AreNumbers, HasFieldsInRange, IsInsnLine, lines_of, AreListingLines, IsListing}
+use Rattle.flt_bpf.proofs.{Digits.decimal_number, Digits.field_lengths, Digits.number_lacks, LineByLine.line_more}
 
 -- a number, one blank, and a rest
 number_before : (n m : ℕ) (ns rest : List ℕ) → n < 2 ^ 32 → AreNumbers rest (m ∷ ns) → AreNumbers (decimal n ++ BLANK ∷ rest) (n ∷ m ∷ ns)
@@ -29,12 +29,7 @@ line_lacks i r =
 
 -- a line of an instruction has at most 24 bytes before its line feed
 pub line_short : (i : Insn) → HasFieldsInRange i → length (insn_line i) ≤ 24
-line_short i r =
-    let code = length-decimal-le 5 i.code (omega arith) (omega (arith, r.code)) (omega (arith, r.code)) in
-    let jt = length-decimal-le 3 i.jt (omega arith) (omega (arith, r.jt)) (omega (arith, r.jt)) in
-    let jf = length-decimal-le 3 i.jf (omega arith) (omega (arith, r.jf)) (omega (arith, r.jf)) in
-    let k = length-decimal-le 10 i.k (omega arith) (omega (arith, r.k)) (omega (arith, r.k)) in
-    omega (arith, code, jt, jf, k, length-append (decimal i.code) (BLANK ∷ (decimal i.jt ++ BLANK ∷ (decimal i.jf ++ BLANK ∷ decimal i.k))), length-append (decimal i.jt) (BLANK ∷ (decimal i.jf ++ BLANK ∷ decimal i.k)), length-append (decimal i.jf) (BLANK ∷ decimal i.k))
+line_short i r = grind (arith, common_steps, field_lengths)
 
 lines_short : (is : List Insn) → All HasFieldsInRange is → length (insn_lines is) ≤ 25 * length is
 lines_short [] r = omega arith
@@ -43,16 +38,9 @@ lines_short (i ∷ is) r =
     let rest = lines_short is (λ k d l. r (suc k) d (omega arith)) in
     omega (arith, here, rest, length-append (insn_line i) (LINE_FEED ∷ insn_lines is))
 
-lines_more : (w : List ℕ) (ws : List (List ℕ)) → 0 < length ws → lines_from (w ∷ ws) ≡ w ∷ lines_from ws
-lines_more w [] l = absurd (omega arith)
-lines_more w (v ∷ ws) l = refl
-
 -- one line, and the others
 line_off : (w rest : List ℕ) → All (λ b. (b == LINE_FEED) ≡ false) w → lines_of (w ++ LINE_FEED ∷ rest) ≡ w ∷ lines_of rest
-line_off w rest h =
-    let p : ℕ → Bool = λ b. b == LINE_FEED in
-    let some : 0 < length (slice_split p rest) = omega (arith, length-slice_split p rest) in
-    ap lines_from (slice_split_at p w LINE_FEED rest h refl) ∙ lines_more w (slice_split p rest) some
+line_off w rest h = line_more (w ++ LINE_FEED ∷ rest) w rest (slice_split_at (λ b. b == LINE_FEED) w LINE_FEED rest h refl)
 
 insns_written : (is : List Insn) → All HasFieldsInRange is → AllZip IsInsnLine (lines_of (insn_lines is)) is
 insns_written [] r = tt

@@ -1,9 +1,7 @@
 -- Where long jumps are in a program.
 use Rattle.std.specs.Prelude.{◌≡◌, ◌≢◌, ◌⊎◌, ℕ, ◌+◌, ◌<◌, ◌≤◌, Bool, true, false, List, length, Option, Some, slice_get, All}
-use Rattle.flt_bpf.specs.declared.insn.Insn.{Insn}
-use Rattle.flt_bpf.specs.declared.operation.Operation.{Operation}
-use Rattle.flt_bpf.specs.declared.operation.Operation.TheVariants.{JumpIf}
-use Rattle.flt_bpf.specs.Instructions.{operation_of}
+use Rattle.flt_bpf.specs.{Instructions.operation_of, declared.insn.Insn.Insn}
+use Rattle.flt_bpf.specs.declared.operation.Operation.{Operation, TheVariants.JumpIf}
 
 -- a conditional jump
 abbrev pub is_branch : Option Operation → Bool

@@ -1,10 +1,9 @@
 -- Listings of programs: how they are written, which texts are one, and which line of another text
 -- is the first wrong one.
-use Rattle.std.specs.Prelude.{◌≡◌, ℕ, zero, suc, ◌+◌, ◌^◌, ◌<◌, ◌≤◌, ◌⊎◌, ◌==◌, List, [], ◌∷◌, ◌++◌, length, replicate, slice_get, IsSomeAnd, decimal}
 use Rattle.std.specs.List.{slice_split, AllZip}
+use Rattle.std.specs.Prelude.{◌≡◌, ℕ, zero, suc, ◌+◌, ◌^◌, ◌<◌, ◌≤◌, ◌⊎◌, ◌==◌, List, [], ◌∷◌, ◌++◌, length, replicate, slice_get, IsSomeAnd, decimal}
 use Rattle.std.specs.Str.Parse.{IsNumeral, digits_value}
-use Rattle.flt_bpf.specs.declared.insn.Insn.{Insn}
-use Rattle.flt_bpf.specs.Valid.{MOST_INSTRUCTIONS}
+use Rattle.flt_bpf.specs.{Valid.MOST_INSTRUCTIONS, declared.insn.Insn.Insn}
 
 -- the byte between the numbers of a line
 abbrev pub BLANK : ℕ

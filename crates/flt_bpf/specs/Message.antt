@@ -3,7 +3,6 @@ use Rattle.std.specs.Prelude.{ℕ, Bool, true, false, if◌then◌else◌, List,
 use Rattle.flt_bpf.specs.declared.fault.CheckFault.{CheckFault}
 use Rattle.flt_bpf.specs.declared.fault.CheckFault.TheVariants.{Empty, TooLong, UnknownCode, JumpOut, NoSuchWord, DivisionByZero, ShiftTooFar, NoReturn}
 use Rattle.flt_bpf.specs.declared.fault.ListingFault.{ListingFault}
-use Rattle.flt_bpf.specs.declared.fault.ListingFault.TheVariants as listing
 
 -- the text of a broken rule
 abbrev pub check_text : CheckFault → List ℕ
@@ -30,13 +29,13 @@ check_message fault index =
 
 -- why a text was not read, without the line
 abbrev pub listing_text : ListingFault → List ℕ
-listing_text (listing.NotListing line) = codes "not a listing"
-listing_text listing.Memory = codes "no memory"
+listing_text (ListingFault.NotListing line) = codes "not a listing"
+listing_text ListingFault.Memory = codes "no memory"
 
 -- the number, from 1, of the line at which a text is refused, or none if memory ran out
 abbrev pub wrong_line : ListingFault → Option ℕ
-wrong_line (listing.NotListing line) = Some line
-wrong_line listing.Memory = None
+wrong_line (ListingFault.NotListing line) = Some line
+wrong_line ListingFault.Memory = None
 
 -- the part of a message on a line, by its number; empty without one
 abbrev pub at_line : Option ℕ → List ℕ

@@ -1,8 +1,7 @@
 -- Why a text is not read as a listing.
 use Rattle.std.specs.Prelude.{ℕ, List}
-use Rattle.flt_bpf.specs.declared.fault.ListingFault.{ListingFault}
-use Rattle.flt_bpf.specs.declared.fault.ListingFault.TheVariants.{NotListing, Memory}
 use Rattle.flt_bpf.specs.Listing.{IsRefusedAt}
+use Rattle.flt_bpf.specs.declared.fault.ListingFault.{ListingFault, TheVariants.NotListing, TheVariants.Memory}
 
 -- `NotListing line`: the text is refused at this line. `Memory` may be returned for every text.
 abbrev pub IsReasonFor : List ℕ → ListingFault → Type 0

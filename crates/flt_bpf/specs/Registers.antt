@@ -1,9 +1,8 @@
 -- Which registers an operation reads, and which it sets.
 use Rattle.std.specs.Prelude.{Bool, true, false}
-use Rattle.flt_bpf.specs.declared.operation.Operation.{Operation}
+use Rattle.flt_bpf.specs.declared.operation.{Operand.TheVariants.IndexRegister, Operation.Operation}
 use Rattle.flt_bpf.specs.declared.operation.Operation.TheVariants.{LoadAbsolute, LoadIndirect, Load, LoadHeaderLength, Store, Compute, Negate, JumpIf, ReturnAccumulator, CopyToIndex, CopyToAccumulator}
 use Rattle.flt_bpf.specs.declared.operation.Register.TheVariants.{Accumulator, Index}
-use Rattle.flt_bpf.specs.declared.operation.Operand.TheVariants.{IndexRegister}
 
 -- whether the result of an operation depends on A
 abbrev pub reads_accumulator : Operation → Bool

@@ -1,8 +1,8 @@
 //! Why instructions aren't a valid program, and why a text isn't a listing.
 
 ghost use Rattle.std.specs.Prelude.{◌≡◌, Some};
-ghost use Rattle.flt_bpf.specs.Message.{check_text, has_index, listing_text};
-ghost use Rattle.flt_bpf.specs.Message.{wrong_line, listing_message};
+ghost use Rattle.flt_bpf.specs.Message.{check_text, has_index, listing_text, wrong_line};
+ghost use Rattle.flt_bpf.specs.Message.{listing_message};
 
 use std::alloc::AllocFailed;
 use std::error::Error;

@@ -1,10 +1,8 @@
 //! The operations that instructions have by their codes. These are the codes of BPF:
 //! `BPF_LD | BPF_W | BPF_ABS` is 32. docs/inside/MACHINE.md has them in a table.
 
-ghost use Rattle.std.specs.Prelude.{◌≡◌, Some, true};
-ghost use Rattle.std.specs.Option.{is_some};
-ghost use Rattle.flt_bpf.specs.Instructions.{code_of, operation_of};
-ghost use Rattle.flt_bpf.specs.Machine.{load_size};
+ghost use Rattle.std.specs.{Option.is_some, Prelude.◌≡◌, Prelude.Some, Prelude.true};
+ghost use Rattle.flt_bpf.specs.{Instructions.code_of, Instructions.operation_of, Machine.load_size};
 
 /// A register of 32 bits.
 #[derive(Clone, Copy)]
@@ -118,61 +116,91 @@ pub enum Operation {
     CopyToAccumulator,
 }
 
-/// The table of codes: a match from a code to its operation. `$more` gets the operation of the last
-/// row too (`known_operation` says why), and any other number is `$none`.
-macro_rules! operation_at {
-    ($code:expr, $(also $more:literal,)? else $none:expr) => {
+use AluOperation::*;
+use Operand::{Constant, IndexRegister};
+use Operation::*;
+use Register::{Accumulator, Index};
+use Source::{Immediate, Length, Memory};
+use Test::{AnyBit, AtLeast, Equal, Greater};
+use Width::{Byte, HalfWord, Word};
+
+/// The table of codes, all but the last row, which `matched` adds: `matched` makes a match of it.
+macro_rules! with_codes {
+    ($($mode:tt)*) => {
+        matched! {
+            ($($mode)*)
+            32 LoadAbsolute(Word),
+            40 LoadAbsolute(HalfWord),
+            48 LoadAbsolute(Byte),
+            64 LoadIndirect(Word),
+            72 LoadIndirect(HalfWord),
+            80 LoadIndirect(Byte),
+            0 Load(Accumulator, Immediate),
+            96 Load(Accumulator, Memory),
+            128 Load(Accumulator, Length),
+            1 Load(Index, Immediate),
+            97 Load(Index, Memory),
+            129 Load(Index, Length),
+            177 LoadHeaderLength,
+            2 Store(Accumulator),
+            3 Store(Index),
+            4 Compute(Add, Constant),
+            20 Compute(Subtract, Constant),
+            36 Compute(Multiply, Constant),
+            52 Compute(Divide, Constant),
+            68 Compute(Or, Constant),
+            84 Compute(And, Constant),
+            100 Compute(ShiftLeft, Constant),
+            116 Compute(ShiftRight, Constant),
+            12 Compute(Add, IndexRegister),
+            28 Compute(Subtract, IndexRegister),
+            44 Compute(Multiply, IndexRegister),
+            60 Compute(Divide, IndexRegister),
+            76 Compute(Or, IndexRegister),
+            92 Compute(And, IndexRegister),
+            108 Compute(ShiftLeft, IndexRegister),
+            124 Compute(ShiftRight, IndexRegister),
+            148 Compute(Remainder, Constant),
+            156 Compute(Remainder, IndexRegister),
+            164 Compute(ExclusiveOr, Constant),
+            172 Compute(ExclusiveOr, IndexRegister),
+            132 Negate,
+            5 Jump,
+            21 JumpIf(Equal, Constant),
+            37 JumpIf(Greater, Constant),
+            53 JumpIf(AtLeast, Constant),
+            69 JumpIf(AnyBit, Constant),
+            29 JumpIf(Equal, IndexRegister),
+            45 JumpIf(Greater, IndexRegister),
+            61 JumpIf(AtLeast, IndexRegister),
+            77 JumpIf(AnyBit, IndexRegister),
+            6 ReturnConstant,
+            22 ReturnAccumulator,
+            7 CopyToIndex,
+        }
+    };
+}
+
+/// The match from a code to its operation, `$none` for any other number, or from an operation to
+/// its code. `$more` gets the operation of the last row too (`known_operation` says why).
+macro_rules! matched {
+    (
+        (operation of $code:expr, $(also $more:literal,)? else $none:expr)
+        $($number:literal $name:ident $(($($part:ident),*))?,)*
+    ) => {
         match $code {
-            32 => LoadAbsolute(Word),
-            40 => LoadAbsolute(HalfWord),
-            48 => LoadAbsolute(Byte),
-            64 => LoadIndirect(Word),
-            72 => LoadIndirect(HalfWord),
-            80 => LoadIndirect(Byte),
-            0 => Load(Accumulator, Immediate),
-            96 => Load(Accumulator, Memory),
-            128 => Load(Accumulator, Length),
-            1 => Load(Index, Immediate),
-            97 => Load(Index, Memory),
-            129 => Load(Index, Length),
-            177 => LoadHeaderLength,
-            2 => Store(Accumulator),
-            3 => Store(Index),
-            4 => Compute(Add, Constant),
-            20 => Compute(Subtract, Constant),
-            36 => Compute(Multiply, Constant),
-            52 => Compute(Divide, Constant),
-            68 => Compute(Or, Constant),
-            84 => Compute(And, Constant),
-            100 => Compute(ShiftLeft, Constant),
-            116 => Compute(ShiftRight, Constant),
-            12 => Compute(Add, IndexRegister),
-            28 => Compute(Subtract, IndexRegister),
-            44 => Compute(Multiply, IndexRegister),
-            60 => Compute(Divide, IndexRegister),
-            76 => Compute(Or, IndexRegister),
-            92 => Compute(And, IndexRegister),
-            108 => Compute(ShiftLeft, IndexRegister),
-            124 => Compute(ShiftRight, IndexRegister),
-            148 => Compute(Remainder, Constant),
-            156 => Compute(Remainder, IndexRegister),
-            164 => Compute(ExclusiveOr, Constant),
-            172 => Compute(ExclusiveOr, IndexRegister),
-            132 => Negate,
-            5 => Jump,
-            21 => JumpIf(Equal, Constant),
-            37 => JumpIf(Greater, Constant),
-            53 => JumpIf(AtLeast, Constant),
-            69 => JumpIf(AnyBit, Constant),
-            29 => JumpIf(Equal, IndexRegister),
-            45 => JumpIf(Greater, IndexRegister),
-            61 => JumpIf(AtLeast, IndexRegister),
-            77 => JumpIf(AnyBit, IndexRegister),
-            6 => ReturnConstant,
-            22 => ReturnAccumulator,
-            7 => CopyToIndex,
+            $($number => $name $(($($part),*))?,)*
             135 $(| $more)? => CopyToAccumulator,
             _ => $none,
+        }
+    };
+    (
+        (code of $operation:expr)
+        $($number:literal $name:ident $(($($part:ident),*))?,)*
+    ) => {
+        match $operation {
+            $($name $(($($part),*))? => $number,)*
+            CopyToAccumulator => 135,
         }
     };
 }
@@ -184,14 +212,7 @@ macro_rules! operation_at {
 pub fn decode(code: u16) -> Option<Operation>
     ensures { result ≡ operation_of code }
 {
-    use Operand::{Constant, IndexRegister};
-    use Operation::*;
-    use AluOperation::*;
-    use Register::{Accumulator, Index};
-    use Source::{Immediate, Length, Memory};
-    use Test::{AnyBit, AtLeast, Equal, Greater};
-    use Width::{Byte, HalfWord, Word};
-    Some(operation_at!(code, else return None))
+    Some(with_codes!(operation of code, else return None))
 }
 
 /// The operation with a code that some operation has: `decode` without the case of none.
@@ -204,14 +225,7 @@ pub(crate) fn known_operation(code: u16) -> Operation
     requires { is_some (operation_of code) ≡ true }
     ensures { operation_of code ≡ Some result }
 {
-    use Operand::{Constant, IndexRegister};
-    use Operation::*;
-    use AluOperation::*;
-    use Register::{Accumulator, Index};
-    use Source::{Immediate, Length, Memory};
-    use Test::{AnyBit, AtLeast, Equal, Greater};
-    use Width::{Byte, HalfWord, Word};
-    operation_at!(code as u8, also 255, else unreachable!())
+    with_codes!(operation of code as u8, also 255, else unreachable!())
 }
 
 impl Operation {
@@ -223,63 +237,6 @@ impl Operation {
         ensures code { result ≡ code_of self }
         ensures back { operation_of result ≡ Some self }
     {
-        use Operand::{Constant, IndexRegister};
-        use Operation::*;
-        use AluOperation::*;
-        use Register::{Accumulator, Index};
-        use Source::{Immediate, Length, Memory};
-        use Test::{AnyBit, AtLeast, Equal, Greater};
-        use Width::{Byte, HalfWord, Word};
-        match self {
-            LoadAbsolute(Word) => 32,
-            LoadAbsolute(HalfWord) => 40,
-            LoadAbsolute(Byte) => 48,
-            LoadIndirect(Word) => 64,
-            LoadIndirect(HalfWord) => 72,
-            LoadIndirect(Byte) => 80,
-            Load(Accumulator, Immediate) => 0,
-            Load(Accumulator, Memory) => 96,
-            Load(Accumulator, Length) => 128,
-            Load(Index, Immediate) => 1,
-            Load(Index, Memory) => 97,
-            Load(Index, Length) => 129,
-            LoadHeaderLength => 177,
-            Store(Accumulator) => 2,
-            Store(Index) => 3,
-            Compute(Add, Constant) => 4,
-            Compute(Subtract, Constant) => 20,
-            Compute(Multiply, Constant) => 36,
-            Compute(Divide, Constant) => 52,
-            Compute(Or, Constant) => 68,
-            Compute(And, Constant) => 84,
-            Compute(ShiftLeft, Constant) => 100,
-            Compute(ShiftRight, Constant) => 116,
-            Compute(Add, IndexRegister) => 12,
-            Compute(Subtract, IndexRegister) => 28,
-            Compute(Multiply, IndexRegister) => 44,
-            Compute(Divide, IndexRegister) => 60,
-            Compute(Or, IndexRegister) => 76,
-            Compute(And, IndexRegister) => 92,
-            Compute(ShiftLeft, IndexRegister) => 108,
-            Compute(ShiftRight, IndexRegister) => 124,
-            Compute(Remainder, Constant) => 148,
-            Compute(Remainder, IndexRegister) => 156,
-            Compute(ExclusiveOr, Constant) => 164,
-            Compute(ExclusiveOr, IndexRegister) => 172,
-            Negate => 132,
-            Jump => 5,
-            JumpIf(Equal, Constant) => 21,
-            JumpIf(Greater, Constant) => 37,
-            JumpIf(AtLeast, Constant) => 53,
-            JumpIf(AnyBit, Constant) => 69,
-            JumpIf(Equal, IndexRegister) => 29,
-            JumpIf(Greater, IndexRegister) => 45,
-            JumpIf(AtLeast, IndexRegister) => 61,
-            JumpIf(AnyBit, IndexRegister) => 77,
-            ReturnConstant => 6,
-            ReturnAccumulator => 22,
-            CopyToIndex => 7,
-            CopyToAccumulator => 135,
-        }
+        with_codes!(code of self)
     }
 }

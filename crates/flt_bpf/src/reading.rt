@@ -1,14 +1,13 @@
 //! Reads listings, as `tcpdump -ddd` writes them: the first line has the number of instructions,
 //! each line after it one instruction, as four numbers (code, jt, jf, k).
 
-ghost use Rattle.std.specs.Prelude.{◌≡◌, ℕ, ◌+◌, ◌<◌, ◌≤◌, ◌==◌, List, ◌∷◌, length, Option, Some};
-ghost use Rattle.std.specs.Prelude.{Ok, IfOk, IfErr, IfSome, IfNone as OnNone, MatchResult};
 ghost use Rattle.std.specs.List.{slice_split};
-ghost use Rattle.flt_bpf.specs.Listing.{lines_of, IsListing};
-ghost use Rattle.flt_bpf.specs.Refusal.{IsReasonFor};
+ghost use Rattle.std.specs.Prelude.{◌≡◌, ℕ, ◌+◌, ◌<◌, ◌≤◌, ◌==◌, List, ◌∷◌, length, Option, Some};
+ghost use Rattle.std.specs.Prelude.{IfOk, IfErr, IfSome, IfNone as OnNone};
+ghost use Rattle.flt_bpf.specs.{Listing.lines_of, Listing.IsListing, Refusal.IsReasonFor};
 ghost use Rattle.flt_bpf.specs.inside.Reading.{pieces_after, numeral, after, later_numbers};
 ghost use Rattle.flt_bpf.specs.inside.Reading.{line_numbers, only_of, HasAtMostOne, insn_from};
-ghost use Rattle.flt_bpf.specs.inside.Reading.{insn_of, read_insns, read, IsFaultOf};
+ghost use Rattle.flt_bpf.specs.inside.Reading.{insn_of, AreInsns, IsFaultAfter};
 
 use crate::fault::ListingFault;
 use crate::insn::Insn;
@@ -56,6 +55,7 @@ fn split_at_first(text: &[u8], stop: u8) -> Cut<'_>
 
 /// The value of 1 to 10 decimal digits, as many as a number of 32 bits may have; `None` for any
 /// other text.
+#[tactic(auto, using(cap_octet::proofs::Numerals::few_in_u64))]
 fn parse_number(digits: &[u8]) -> Option<u64>
     ensures { result ≡ numeral digits.now }
 {
@@ -63,13 +63,6 @@ fn parse_number(digits: &[u8]) -> Option<u64>
         return None;
     }
     decimal_value(digits)
-}
-
-/// The first number of a line, and what follows the blanks after it.
-#[derive(Clone, Copy)]
-struct FirstNumber<'a> {
-    number: u64,
-    rest: &'a [u8],
 }
 
 /// The text without the blanks at its start. Its numbers are the same, since several blanks between
@@ -87,15 +80,15 @@ fn after_blanks(text: &[u8]) -> &[u8]
 
 /// The number before the first blank of a line, and the line from the next number on. `None` if the
 /// line has no blank, or no number before it.
-fn first_number(line: &[u8]) -> Option<FirstNumber<'_>>
+fn first_number(line: &[u8]) -> Option<(u64, &[u8])>
     ensures first { IfSome result (λ first. line_numbers line.now
-        ≡ after (Some first.number) (line_numbers first.rest.now)) }
+        ≡ after (Some first.0) (line_numbers first.1.now)) }
     ensures last { OnNone result (HasAtMostOne (line_numbers line.now)) }
 {
     let cut = split_at_first(line, BLANK);
     let number = parse_number(cut.piece)?;
     let rest = after_blanks(cut.rest?);
-    Some(FirstNumber { number, rest })
+    Some((number, rest))
 }
 
 /// The value of a line that is one number; `None` for any other line.
@@ -130,36 +123,23 @@ fn insn_on_line(line: &[u8]) -> Option<Insn>
     ensures { result ≡ insn_of (line_numbers line.now) }
 {
     let code = first_number(line)?;
-    let jt = first_number(code.rest)?;
-    let jf = first_number(jt.rest)?;
-    match only_number(jf.rest) {
-        Some(k) => insn_with_fields(code.number, jt.number, jf.number, k),
+    let jt = first_number(code.1)?;
+    let jf = first_number(jt.1)?;
+    match only_number(jf.1) {
+        Some(k) => insn_with_fields(code.0, jt.0, jf.0, k),
         None => None,
     }
 }
 
-/// The first line of a text, without its line feed, and what follows it.
-#[derive(Clone, Copy)]
-struct FirstLine<'a> {
-    line: &'a [u8],
-    rest: &'a [u8],
-}
-
-/// Cuts a text, which must not be empty, after its first line.
-fn first_line(text: &[u8]) -> FirstLine<'_>
+/// The first line of a text, which must not be empty, without its line feed, and what follows it.
+fn first_line(text: &[u8]) -> (&[u8], &[u8])
     requires { 0 < length text.now }
-    ensures { lines_of text.now ≡ result.line.now ∷ lines_of result.rest.now }
+    ensures { lines_of text.now ≡ result.0.now ∷ lines_of result.1.now }
 {
     let cut = split_at_first(text, LINE_FEED);
     match cut.rest {
-        Some(rest) => FirstLine {
-            line: cut.piece,
-            rest,
-        },
-        None => FirstLine {
-            line: cut.piece,
-            rest: &text[text.len()..],
-        },
+        Some(rest) => (cut.piece, rest),
+        None => (cut.piece, &text[text.len()..]),
     }
 }
 
@@ -172,9 +152,8 @@ fn insns_on_lines<A: Allocator>(
     text: &[u8],
 ) -> Result<Vec<Insn, A>, ListingFault>
     requires { count ≤ 32768 }
-    ensures { MatchResult result
-        (λ insns. read_insns count (lines_of text.now) 2 ≡ Ok insns.items)
-        (λ fault. IsFaultOf fault (read_insns count (lines_of text.now) 2)) }
+    ensures insns { IfOk result (λ insns. AreInsns count (lines_of text.now) insns.items) }
+    ensures wrong { IfErr result (IsFaultAfter count (lines_of text.now)) }
 {
     let mut insns = Vec::new(alloc);
     let mut rest = text;
@@ -183,10 +162,10 @@ fn insns_on_lines<A: Allocator>(
             return Err(ListingFault::NotListing(at + 2));
         }
         let first = first_line(rest);
-        match insn_on_line(first.line) {
+        match insn_on_line(first.0) {
             None => return Err(ListingFault::NotListing(at + 2)),
             Some(insn) => match insns.push(insn) {
-                Ok(()) => rest = first.rest,
+                Ok(()) => rest = first.1,
                 Err(_) => return Err(ListingFault::Memory),
             },
         }
@@ -198,24 +177,6 @@ fn insns_on_lines<A: Allocator>(
     }
 }
 
-/// Reads the instructions of a listing, as `read_listing` returns them. The clause here cites
-/// `read`, a definition that computes them; the clauses of `read_listing` state what a listing is.
-fn insns_of_listing<A: Allocator>(alloc: A, text: &[u8]) -> Result<Vec<Insn, A>, ListingFault>
-    ensures { MatchResult result (λ insns. read text.now ≡ Ok insns.items)
-        (λ fault. IsFaultOf fault (read text.now)) }
-{
-    if text.len() > MOST_BYTES || text.is_empty() {
-        return Err(ListingFault::NotListing(1));
-    }
-    let first = first_line(text);
-    match only_number(first.line) {
-        Some(count) if count <= MOST_INSTRUCTIONS as u64 => {
-            insns_on_lines(alloc, count as usize, first.rest)
-        }
-        _ => Err(ListingFault::NotListing(1)),
-    }
-}
-
 /// Reads the instructions of a listing. Several blanks between numbers, leading zeros (at most 10
 /// digits per number) and a last line without a line feed are accepted too. Errors:
 /// `NotListing(n)`, n being the first wrong line (1 for a text over 1,048,576 bytes), or `Memory`
@@ -224,5 +185,14 @@ pub fn read_listing<A: Allocator>(alloc: A, text: &[u8]) -> Result<Vec<Insn, A>,
     ensures listing { IfOk result (λ insns. IsListing text.now insns.items) }
     ensures refused { IfErr result (IsReasonFor text.now) }
 {
-    insns_of_listing(alloc, text)
+    if text.len() > MOST_BYTES || text.is_empty() {
+        return Err(ListingFault::NotListing(1));
+    }
+    let first = first_line(text);
+    match only_number(first.0) {
+        Some(count) if count <= MOST_INSTRUCTIONS as u64 => {
+            insns_on_lines(alloc, count as usize, first.1)
+        }
+        _ => Err(ListingFault::NotListing(1)),
+    }
 }

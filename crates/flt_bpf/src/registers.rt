@@ -1,8 +1,8 @@
 //! The registers that an operation reads, and those that it sets.
 
 ghost use Rattle.std.specs.Prelude.{◌≡◌};
-ghost use Rattle.flt_bpf.specs.Registers.{reads_accumulator, reads_index};
-ghost use Rattle.flt_bpf.specs.Registers.{sets_accumulator, sets_index};
+ghost use Rattle.flt_bpf.specs.Registers.{reads_accumulator, reads_index, sets_accumulator};
+ghost use Rattle.flt_bpf.specs.Registers.{sets_index};
 
 use crate::operation::{Operand, Operation, Register};
 

@@ -1,7 +1,7 @@
 //! Writes listings in the form that `reading` reads; each line is built from its end.
 
-ghost use Rattle.std.specs.Prelude.{◌≡◌, ℕ, ◌+◌, ◌<◌, ◌≤◌, List, [], ◌∷◌, ◌++◌};
-ghost use Rattle.std.specs.Prelude.{length, drop, decimal, IsTrue, IfErr};
+ghost use Rattle.std.specs.Prelude.{◌≡◌, ℕ, ◌+◌, ◌<◌, ◌≤◌, List, [], ◌∷◌, ◌++◌, length, drop};
+ghost use Rattle.std.specs.Prelude.{decimal, IsTrue, IfErr};
 ghost use Rattle.cap_octet.specs.Device.{WritesAll, failures_of};
 ghost use Rattle.flt_bpf.specs.Listing.{insn_line, listing};
 
@@ -16,6 +16,7 @@ const MOST_LINE_BYTES: usize = 25;
 
 /// Writes the listing of a program, and takes no memory. An error is a failure of the output in
 /// this call, and reports how many bytes, fewer than all, were written before it.
+#[tactic(auto, using(crate::proofs::Checking::parts))]
 pub fn write_listing<A: Allocator, O: Output>(
     program: &Program<A>,
     output: &mut O,
@@ -57,6 +58,7 @@ fn write_insns<O: Output>(insns: &[Insn], output: &mut O) -> Result<(), Stopped>
 
 /// Puts the line of an instruction, with its line feed, at the end of `line`, and returns the index
 /// of its first digit: the last field is put first.
+#[tactic(auto, using(crate::proofs::Digits::field_lengths))]
 fn put_insn_line(line: &mut [u8; MOST_LINE_BYTES], insn: &Insn) -> usize
     ensures inside { result ≤ 25 }
     ensures written { drop result line.new ≡ insn_line insn.now ++ LINE_FEED ∷ [] }

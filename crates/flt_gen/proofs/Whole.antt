@@ -1,11 +1,10 @@
 -- The wide code of an expression decides it, within its bounds; and so does what replaces it.
 use Rattle.flt_gen.proofs.Common.{◌≡◌, ℕ, ◌+◌, ◌-◌, ◌*◌, ◌≤◌, List, [], ◌∷◌, length, drop, take, false, cond, Some, None, refl, sym, ap, ◌∙◌, subst, arith, fold, length-drop, ◌≢◌, ◌↔◌, reverse, All-cons, All-drop, All-nil, sum_by-take-drop, Insn, ReturnConstant, answer_of, IsFaultless, IsValidUnlessLong, is_branch, JUMP, HasNoJump, IsShort, start, valid_if_short, faultless_drop, ends_drop, answer_drop, machine_answers, Node, tests_of, nodes_of, words_of, bound_of, expr_nodes, is_unfilled, some_primitive, Expression, empty, truth, Link, MatchResult, Yes, plain, IsProgramOf, short_bound_of, holds, with_folded, folded_expression, no_group, grouped_formula, returns_code, expression_code, program_code, emit_nodes, start_walk, insns_of}
 use Rattle.flt_bpf.specs.Check.{fault_of}
-use Rattle.flt_bpf.specs.inside.Check.{first_check_fault}
 use Rattle.flt_bpf.specs.Instructions.{operation_of}
 use Rattle.flt_bpf.specs.Machine.{step}
 use Rattle.flt_bpf.specs.Valid.{IsValid}
-use Rattle.flt_bpf.proofs.Checking.{first_none, parts}
+use Rattle.flt_bpf.proofs.Checking.{parts}
 use Rattle.flt_short.specs.Threads.{Threads}
 use Rattle.flt_short.specs.Alike.{Shortens}
 use Rattle.flt_gen.specs.inside.Round.{IsRound}
@@ -130,14 +129,8 @@ shortened_code new old e link r h =
     let now = r.runs p n answer was.met was.answered in
     (met_of p n new (length new) 0 0 start answer now.count now.answered).answer)
 
-faultless_of : (c : List Insn) (at : ℕ) → first_check_fault c at ≡ None → IsFaultless c
-faultless_of [] at e = tt
-faultless_of (i ∷ is) at e =
-    let q = first_none (fault_of i (length is)) at (first_check_fault is (at + 1)) e in
-    (q.0, faultless_of is (at + 1) q.1)
-
 valid_unless_long : (c : List Insn) → IsValid c → IsValidUnlessLong c
-valid_unless_long c v = let q = parts c v in record { faultless = faultless_of c 0 q.faultless; ends = q.ends }
+valid_unless_long c v = let q = parts c v in record { faultless = q.faultless; ends = q.ends }
 
 -- code made of an expression's nodes, which are folded before
 pub record IsMadeOf (code : List Insn) (e : Expression) (link : Link) : Type 0 where

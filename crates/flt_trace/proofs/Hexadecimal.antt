@@ -1,20 +1,14 @@
 -- Digits in base 16, from the last to the first.
-use Rattle.flt_trace.proofs.Common.{◌≡◌, ℕ, zero, suc, ◌+◌, ◌-◌, ◌/◌, ◌%◌, ◌^◌, ◌<◌, ◌≤◌, List, ◌∷◌, false, true, sym, ap, ◌∙◌, arith, rules, tests, drop, length, ◌==◌, if◌then◌else◌, slice_set, drop-set, digit_glyph, digits_onto}
+use Rattle.flt_trace.proofs.Common.{◌≡◌, ℕ, zero, suc, ◌+◌, ◌-◌, ◌/◌, ◌%◌, ◌^◌, ◌<◌, ◌≤◌, List, ◌∷◌, false, sym, ap, ◌∙◌, arith, tests, drop, length, slice_set, drop-set, digit_glyph, digits_onto}
 use Rattle.std.proofs.lemmas.Grind.{pow_more}
 
 -- one more digit of a number that has others
 pub digits_more : (k n : ℕ) (acc : List ℕ) → 16 ≤ n → digits_onto (suc k) 16 false n acc ≡ digits_onto k 16 false (n / 16) (digit_glyph false (n % 16) ∷ acc)
-digits_more k n acc more =
-    let test : (n / 16 == 0) ≡ false = search (rules, tests) in
-    ap (λ b. if b then digit_glyph false (n % 16) ∷ acc else digits_onto k 16 false (n / 16) (digit_glyph false (n % 16) ∷ acc)) test
+digits_more k n acc more = grind (arith, tests)
 
 -- the first digit
 pub digits_last : (k n : ℕ) (acc : List ℕ) → n < 16 → digits_onto (suc k) 16 false n acc ≡ digit_glyph false n ∷ acc
-digits_last k n acc last =
-    let test : (n / 16 == 0) ≡ true = search (rules, tests) in
-    let same : n % 16 ≡ n = omega arith in
-    ap (λ b. if b then digit_glyph false (n % 16) ∷ acc else digits_onto k 16 false (n / 16) (digit_glyph false (n % 16) ∷ acc)) test
-    ∙ ap (λ m. digit_glyph false m ∷ acc) same
+digits_last k n acc last = grind (arith, tests)
 
 -- a number of a given number of digits has one fewer without its last
 pub fewer : (k n : ℕ) → n < 16 ^ (k + 1) → n / 16 < 16 ^ k

@@ -1,18 +1,12 @@
 -- A run is where the trace says, and what is written of it stays.
-use Rattle.flt_trace.proofs.Common.{◌≡◌, ◌≢◌, ℕ, zero, suc, ◌+◌, ◌-◌, ◌<◌, ◌≤◌, List, [], ◌∷◌, length, Some, refl, sym, ap, ◌∙◌, subst, arith, length-set, below_more, slice_get, slice_set, IsSomeAnd, Insn, State, Next, Goes, Ends, Lost, Stands, step, step_if_there, progress_after, run_from, start, machine, IsValid, parts, goes_inside, run_ends, run_goes}
-use Rattle.flt_trace.specs.declared.walk.Step.{Step}
-use Rattle.flt_trace.specs.Trace.{IsAfter, Traces}
-use Rattle.flt_trace.specs.inside.Trace.{step_at}
+use Rattle.flt_trace.proofs.Common.{◌≡◌, ◌≢◌, ℕ, zero, suc, ◌+◌, ◌-◌, ◌<◌, ◌≤◌, List, length, Some, refl, sym, ap, ◌∙◌, subst, arith, length-set, below_more, slice_get, slice_set, IsSomeAnd, Insn, State, Next, Goes, Ends, Lost, Stands, step, step_if_there, progress_after, run_from, start, machine, IsValid, parts, goes_inside, run_ends, run_goes}
+use Rattle.std.proofs.lemmas.{Grind.common_steps, Option.gets}
+use Rattle.flt_trace.specs.{Trace.IsAfter, Trace.Traces, declared.walk.Step.Step, inside.Trace.step_at}
 
 -- an instruction that a run is before, and the next one
 pub run_more : (prog : List Insn) (p : List ℕ) (n t place count : ℕ) (s : State) (at : ℕ) (s' : State) (i : Insn) (k : ℕ) (s'' : State) → run_from prog p n t place s count ≡ Stands at s' → slice_get prog at ≡ Some i → step i p n s' ≡ Goes k s'' → run_from prog p n (suc t) place s count ≡ Stands (at + 1 + k) s''
 run_more prog p n zero place count s at s' i k s'' here there leads =
-    let same : place ≡ at = cc in
-    let state : s ≡ s' = cc in
-    ap (λ o. progress_after (run_from prog p n zero) place count (step_if_there o p n s)) (ap (slice_get prog) same ∙ there)
-    ∙ ap (λ z. progress_after (run_from prog p n zero) place count (step i p n z)) state
-    ∙ ap (progress_after (run_from prog p n zero) place count) leads
-    ∙ ap (λ m. Stands (m + 1 + k) s'') same
+    let same : place ≡ at = cc in let state : s ≡ s' = cc in rw (same, state, there, leads)
 run_more prog p n (suc t) place count s at s' i k s'' here there leads =
     led (λ j s1 e. run_more prog p n t (place + 1 + j) (count + 1) s1 at s' i k s'' e there leads) (step_if_there (slice_get prog place) p n s) here
   where
@@ -26,16 +20,10 @@ run_more prog p n (suc t) place count s at s' i k s'' here there leads =
 
 -- what a write at a place changes
 pub get_set_same : {X : Type 0} → (xs : List X) (i : ℕ) (x : X) → i < length xs → slice_get (slice_set xs i x) i ≡ Some x
-get_set_same [] i x inside = let none : ⊥ = omega (arith, inside) in absurd none
-get_set_same (y ∷ ys) zero x inside = refl
-get_set_same (y ∷ ys) (suc i) x inside = get_set_same ys i x (omega (arith, inside))
+get_set_same xs i x inside = grind (arith, common_steps, gets)
 
 pub get_set_other : {X : Type 0} → (xs : List X) (i j : ℕ) (x : X) → i ≢ j → slice_get (slice_set xs i x) j ≡ slice_get xs j
-get_set_other [] i j x other = refl
-get_set_other (y ∷ ys) zero zero x other = absurd (other refl)
-get_set_other (y ∷ ys) zero (suc j) x other = refl
-get_set_other (y ∷ ys) (suc i) zero x other = refl
-get_set_other (y ∷ ys) (suc i) (suc j) x other = get_set_other ys i j x (λ e. other (ap suc e))
+get_set_other xs i j x other = grind (arith, common_steps, gets)
 
 -- the steps before a count are written, and nothing else
 pub record Written (prog : List Insn) (p : List ℕ) (n : ℕ) (old now : List Step) (count : ℕ) : Type 0 where
@@ -97,7 +85,7 @@ standing_next prog p n place s s' count k i valid at there leads =
       counted = omega (arith, at.counted);
       inside = omega (arith, inside, on);
       here = ap (λ t. machine prog p n t) more ∙ run_more prog p n count 0 0 start place s i k s' at.here there leads ∙ ap (λ m. Stands m s') on;
-      same = at.same ∙ run_goes prog p n place count s s' i k below there leads ∙ ap (λ m. run_from prog p n (length prog - (count + 1)) m s' (count + 1)) on;
+      same = at.same ∙ run_goes prog p n (length prog) place count s s' i k below there leads ∙ ap (λ m. run_from prog p n (length prog - (count + 1)) m s' (count + 1)) on;
     }
 
 -- the last step
@@ -105,7 +93,7 @@ pub standing_last : (prog : List Insn) (p : List ℕ) (n : ℕ) (old now : List 
 standing_last prog p n old now place s count a i at written there leads =
     let below : count < length prog = omega (arith, at.counted, at.inside) in
     record {
-      answers = at.same ∙ run_ends prog p n place count s i a below there leads;
+      answers = at.same ∙ run_ends prog p n (length prog) place count s i a below there leads;
       each = written.each;
       others = written.others;
     }

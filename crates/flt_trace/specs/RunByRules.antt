@@ -1,13 +1,10 @@
 -- A run of instructions that passed no check: each is asked, when it is met, whether it breaks a
 -- rule.
 use Rattle.std.specs.Prelude.{◌≡◌, ℕ, zero, suc, ◌+◌, ◌-◌, List, length, Option, Some, None, slice_get, IsSomeAnd}
-use Rattle.flt_bpf.specs.declared.insn.Insn.{Insn}
-use Rattle.flt_bpf.specs.declared.machine.State.{State}
-use Rattle.flt_bpf.specs.declared.fault.CheckFault.{CheckFault}
-use Rattle.flt_bpf.specs.Check.{fault_of}
-use Rattle.flt_bpf.specs.Instructions.{operation_of}
+use Rattle.flt_bpf.specs.{Check.fault_of, Instructions.operation_of}
 use Rattle.flt_bpf.specs.Machine.{Next, Lost, Progress, Stands, Answered, Stuck, step, progress_after, start, machine}
 use Rattle.flt_bpf.specs.Valid.{OperationBreaks}
+use Rattle.flt_bpf.specs.declared.{fault.CheckFault.CheckFault, insn.Insn.Insn, machine.State.State}
 
 -- what an instruction leads to: where something is wrong with it, the machine is lost
 abbrev pub step_unless : Option CheckFault → Insn → List ℕ → ℕ → State → Next

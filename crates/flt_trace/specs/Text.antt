@@ -1,19 +1,17 @@
 -- Instructions as `tcpdump -d` prints them, by libpcap's bpf_image.
-use Rattle.std.specs.Prelude.{false, ℕ, ◌+◌, ◌-◌, ◌^◌, nat_lt, if◌then◌else◌, List, [], ◌∷◌, ◌++◌, length, replicate, codes, decimal, Option, Some, None}
 use Rattle.std.specs.Fmt.{digits}
-use Rattle.flt_bpf.specs.declared.insn.Insn.{Insn}
+use Rattle.std.specs.Prelude.{false, ℕ, ◌+◌, ◌-◌, ◌^◌, nat_lt, if◌then◌else◌, List, [], ◌∷◌, ◌++◌, length, replicate, codes, decimal, Option, Some, None}
+use Rattle.flt_bpf.specs.Instructions.{operation_of}
+use Rattle.flt_bpf.specs.declared.{insn.Insn.Insn, operation.AluOperation.AluOperation}
+use Rattle.flt_bpf.specs.declared.operation.AluOperation.TheVariants.{Add, Subtract, Multiply, Divide, Or, And, ShiftLeft, ShiftRight, Remainder, ExclusiveOr}
+use Rattle.flt_bpf.specs.declared.operation.Operand.TheVariants.{Constant, IndexRegister}
 use Rattle.flt_bpf.specs.declared.operation.Operation.{Operation}
 use Rattle.flt_bpf.specs.declared.operation.Operation.TheVariants.{LoadAbsolute, LoadIndirect, Load, LoadHeaderLength, Store, Compute, Negate, Jump, JumpIf, ReturnConstant, ReturnAccumulator, CopyToIndex, CopyToAccumulator}
 use Rattle.flt_bpf.specs.declared.operation.Register.TheVariants.{Accumulator, Index}
-use Rattle.flt_bpf.specs.declared.operation.Width.{Width}
-use Rattle.flt_bpf.specs.declared.operation.Width.TheVariants.{Word, HalfWord, Byte}
 use Rattle.flt_bpf.specs.declared.operation.Source.TheVariants.{Immediate, Memory, Length}
-use Rattle.flt_bpf.specs.declared.operation.AluOperation.{AluOperation}
-use Rattle.flt_bpf.specs.declared.operation.AluOperation.TheVariants.{Add, Subtract, Multiply, Divide, Or, And, ShiftLeft, ShiftRight, Remainder, ExclusiveOr}
 use Rattle.flt_bpf.specs.declared.operation.Test.{Test}
 use Rattle.flt_bpf.specs.declared.operation.Test.TheVariants.{Equal, Greater, AtLeast, AnyBit}
-use Rattle.flt_bpf.specs.declared.operation.Operand.TheVariants.{Constant, IndexRegister}
-use Rattle.flt_bpf.specs.Instructions.{operation_of}
+use Rattle.flt_bpf.specs.declared.operation.Width.{Width, TheVariants.Word, TheVariants.HalfWord, TheVariants.Byte}
 
 -- a number of 32 bits as C's %d prints it: from 2^31 on it is the number less 2^32, with a minus
 -- sign (45)

@@ -1,9 +1,8 @@
 -- The steps of a run, as a caller sees them. Here `p` is the captured bytes of a packet, and `n`
 -- its original length.
 use Rattle.std.specs.Prelude.{◌≡◌, ℕ, ◌<◌, ◌≤◌, List, length, slice_get, IsSomeAnd}
-use Rattle.flt_bpf.specs.declared.insn.Insn.{Insn}
-use Rattle.flt_bpf.specs.declared.machine.State.{State}
 use Rattle.flt_bpf.specs.Machine.{Stands, Answered, machine}
+use Rattle.flt_bpf.specs.declared.{insn.Insn.Insn, machine.State.State}
 use Rattle.flt_trace.specs.declared.walk.Step.{Step}
 
 -- the machine's state that a step shows: its registers and memory

@@ -1,9 +1,8 @@
 //! A buffer for one line of text, in place, so that no memory is taken. What is appended has to
 //! fit: the clauses ask for the room, of 80 bytes in all.
 
-ghost use Rattle.std.specs.Prelude.{◌≡◌, ◌≤◌, ◌<◌, drop};
 ghost use Rattle.std.specs.Fmt.{digit_glyph};
-ghost use Rattle.std.specs.Prelude.{false};
+ghost use Rattle.std.specs.Prelude.{◌≡◌, ◌≤◌, ◌<◌, drop, false};
 ghost use Rattle.flt_trace.specs.Text.{hex};
 
 use itoa::Buffer;

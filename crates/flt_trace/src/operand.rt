@@ -1,9 +1,8 @@
 //! The name of an instruction, and what it works on, as libpcap's `bpf_image` writes them. The room
 //! that the clauses ask for in the line's 80 bytes is the length of the longest such text.
 
-ghost use Rattle.std.specs.Prelude.{◌≡◌, ◌+◌, ◌≤◌, ◌++◌, length};
+ghost use Rattle.std.specs.Prelude.{◌≡◌, ◌+◌, ◌≤◌, ◌++◌, length, codes};
 ghost use Rattle.flt_trace.specs.Text.{arithmetic_name, constant_text, load_name, operation_name};
-ghost use Rattle.std.specs.Prelude.{codes};
 ghost use Rattle.flt_trace.specs.Text.{hex, operand_text, signed_number, test_name};
 
 use crate::line::Line;

@@ -4,13 +4,10 @@
 //! Each step is the machine's own (`execute`, `advance` of `flt_bpf`). The jobs have no use for
 //! this crate, so the only runner that they can name counts.
 
-ghost use Rattle.std.specs.Prelude.{◌≡◌, ℕ, ◌≤◌, ◌<◌, ◌^◌, length, slice_set, IsSome};
 ghost use Rattle.std.specs.Option.{IfSome};
-ghost use Rattle.flt_bpf.specs.Machine.{machine, Answered};
-ghost use Rattle.flt_bpf.specs.Valid.{IsValid};
-ghost use Rattle.flt_trace.specs.RunByRules.{run_by_rules};
-ghost use Rattle.flt_trace.specs.Trace.{Traces};
-ghost use Rattle.flt_trace.specs.inside.Trace.{step_at};
+ghost use Rattle.std.specs.Prelude.{◌≡◌, ℕ, ◌≤◌, ◌<◌, ◌^◌, length, slice_set, IsSome};
+ghost use Rattle.flt_bpf.specs.{Machine.machine, Machine.Answered, Valid.IsValid};
+ghost use Rattle.flt_trace.specs.{RunByRules.run_by_rules, Trace.Traces, inside.Trace.step_at};
 
 use flt_bpf::{Flow, Insn, Position, State, WORDS, advance, execute, insn_fault};
 
@@ -47,6 +44,7 @@ fn put_step(steps: &mut [Step], at: usize, place: usize, state: &State)
 /// is before each instruction that it meets, from the first one on, as far as there is room.
 /// Returns what the program returns, and how many instructions the run met, which may be more than
 /// there is room for.
+#[tactic(auto, using(flt_bpf::proofs::Checking::parts))]
 pub fn trace(insns: &[Insn], packet: &[u8], len: u32, steps: &mut [Step]) -> (u32, usize)
     requires { IsValid insns.now }
     ensures { Traces insns.now packet.now len steps.old steps.new result.0 result.1 }
@@ -69,6 +67,7 @@ pub fn trace(insns: &[Insn], packet: &[u8], len: u32, steps: &mut [Step]) -> (u3
 /// count of those that the run met, the last one included. Takes no memory. No reach is kept of
 /// instructions that aren't a `Program`, so each load is tested.
 #[inline(always)]
+#[tactic(auto, using(flt_bpf::proofs::Checking::parts))]
 pub fn run_insns(insns: &[Insn], packet: &[u8], len: u32) -> (u32, u32)
     requires { IsValid insns.now }
     ensures answer { machine insns.now packet.now len (length insns.now)

@@ -1,17 +1,15 @@
 -- The check for divisions by 0, over a tree's nodes.
 use Rattle.std.specs.Prelude.{Bool, false, ◌&&◌, ◌||◌, ◌==◌, List, [], ◌∷◌}
-use Rattle.flt_ast.specs.declared.node.Node.{Node}
-use Rattle.flt_ast.specs.declared.node.Node.TheVariants as node
-use Rattle.flt_ast.specs.Checks.{is_division}
+use Rattle.flt_ast.specs.{Checks.is_division, declared.node.Node.Node}
 
 -- the node is the number 0, as it is written
 abbrev pub is_zero_node : Node → Bool
-is_zero_node (node.Literal n) = n == 0
+is_zero_node (Node.Literal n) = n == 0
 is_zero_node _ = false
 
 -- the node divides, or takes a remainder
 abbrev pub is_division_node : Node → Bool
-is_division_node (node.Apply o) = is_division o
+is_division_node (Node.Apply o) = is_division o
 is_division_node _ = false
 
 -- some division is right after the number 0, its divisor; `before` says whether the node before

@@ -1,17 +1,15 @@
 -- What is filled in, over a tree's nodes.
 use Rattle.std.specs.Prelude.{List, [], ◌∷◌}
-use Rattle.flt_ast.specs.declared.qualifiers.Qualifiers.{Qualifiers}
-use Rattle.flt_ast.specs.declared.node.Node.{Node}
-use Rattle.flt_ast.specs.declared.node.Node.TheVariants as node
+use Rattle.flt_ast.specs.declared.{node.Node.Node, qualifiers.Qualifiers.Qualifiers}
 
 -- the latest qualifiers that are written, after one more node; q were the latest before it
 abbrev pub next_latest : Qualifiers → Node → Qualifiers
-next_latest q (node.Valued p v) = p
+next_latest q (Node.Valued p v) = p
 next_latest q _ = q
 
 -- a node, which takes these qualifiers if it is a bare value
 abbrev pub inherited_node : Qualifiers → Node → Node
-inherited_node q (node.Bare v) = node.Valued q v
+inherited_node q (Node.Bare v) = Node.Valued q v
 inherited_node q n = n
 
 -- nodes whose bare values have the latest qualifiers before them, or q

@@ -1,13 +1,10 @@
--- What the reader of listings computes, line by line.
-use Rattle.std.specs.Prelude.{◌≡◌, ℕ, zero, suc, ◌+◌, ◌^◌, ◌≤◌, nat_lt, ◌==◌, ◌&&◌, if◌then◌else◌, List, [], ◌∷◌, length, Option, Some, None, Result, Ok, Err}
-use Rattle.std.specs.List.{slice_split}
-use Rattle.std.specs.Borrow.{Bor}
+-- What the reader of listings computes of a line, and what it finds on the lines after the first.
+use Rattle.std.specs.{Borrow.Bor, List.slice_split, List.AllZip}
+use Rattle.std.specs.Prelude.{◌≡◌, ℕ, ◌+◌, ◌^◌, ◌<◌, ◌≤◌, ◌⊎◌, nat_lt, ◌==◌, ◌&&◌, if◌then◌else◌, List, [], ◌∷◌, length, slice_get, Option, Some, None, IsSomeAnd}
 use Rattle.cap_octet.specs.Digits.{decimal_value}
+use Rattle.flt_bpf.specs.Listing.{BLANK, IsInsnLine}
+use Rattle.flt_bpf.specs.declared.fault.ListingFault.{ListingFault, TheVariants.NotListing, TheVariants.Memory}
 use Rattle.flt_bpf.specs.declared.insn.Insn.{Insn}
-use Rattle.flt_bpf.specs.declared.fault.ListingFault.{ListingFault}
-use Rattle.flt_bpf.specs.declared.fault.ListingFault.TheVariants.{NotListing, Memory}
-use Rattle.flt_bpf.specs.Listing.{BLANK, MOST_BYTES, lines_of}
-use Rattle.flt_bpf.specs.Valid.{MOST_INSTRUCTIONS}
 
 -- the pieces of a text after the first, by what is left after that and `stop`; none if the first
 -- one is the whole text
@@ -66,43 +63,25 @@ abbrev pub insn_of : Option (List ℕ) → Option Insn
 insn_of (Some (code ∷ jt ∷ jf ∷ k ∷ [])) = insn_from code jt jf k
 insn_of _ = None
 
--- an instruction before others, or the number of the wrong line among theirs
-abbrev pub onto : Insn → Result (List Insn) ℕ → Result (List Insn) ℕ
-onto i (Ok is) = Ok (i ∷ is)
-onto i (Err line) = Err line
+-- each of n lines has the instruction of its place
+pub record AreInsns (n : ℕ) (lines : List (List ℕ)) (is : List Insn) : Type 0 where
+  pub count : length is ≡ n
+  pub each : AllZip IsInsnLine lines is
 
--- the instruction of a line before those of later lines; if the line has none, it is the first
--- wrong one
-abbrev pub read_insn : Option Insn → Result (List Insn) ℕ → ℕ → Result (List Insn) ℕ
-read_insn None others at = Err at
-read_insn (Some i) others at = onto i others
+-- an instruction stands on a line, which is present
+abbrev pub HasInsn : Option (List ℕ) → Insn → Type 0
+HasInsn o i = IsSomeAnd o (λ line. IsInsnLine line i)
 
--- n instructions from as many lines, the first of which has the number `at`; or the number of the
--- first line that is wrong, missing, or one too many
-abbrev pub read_insns : ℕ → List (List ℕ) → ℕ → Result (List Insn) ℕ
-read_insns zero [] at = Ok []
-read_insns zero (line ∷ lines) at = Err at
-read_insns (suc n) [] at = Err at
-read_insns (suc n) (line ∷ lines) at =
-    read_insn (insn_of (line_numbers line)) (read_insns n lines (at + 1)) at
+-- of lines that should be n instructions, the one after k others is the first that is none, is
+-- missing, or is one too many
+pub record WrongAfter (n : ℕ) (lines : List (List ℕ)) (k : ℕ) : Type 0 where
+  pub wrong : ((k < n) × ((i : Insn) → ¬ HasInsn (slice_get lines k) i))
+      ⊎ ((n ≤ k) × (k < length lines))
+  pub upper_bound : k ≤ n
+  pub insns : (j : ℕ) → j < k → (i : Insn) × HasInsn (slice_get lines j) i
 
--- the instructions of the other lines, by the numbers of the first line, which are only their
--- count; or the number of the first wrong line
-abbrev pub read_from : Option (List ℕ) → List (List ℕ) → Result (List Insn) ℕ
-read_from (Some (n ∷ [])) lines = if nat_lt MOST_INSTRUCTIONS n then Err 1 else read_insns n lines 2
-read_from _ lines = Err 1
-
--- the instructions of a listing's lines, or the number of the first wrong one
-abbrev pub read_lines : List (List ℕ) → Result (List Insn) ℕ
-read_lines [] = Err 1
-read_lines (first ∷ lines) = read_from (line_numbers first) lines
-
--- the instructions of a listing, or the number of the line at which a text is refused
-abbrev pub read : List ℕ → Result (List Insn) ℕ
-read text = if nat_lt MOST_BYTES (length text) then Err 1 else read_lines (lines_of text)
-
--- a fault of a reading with this result: the line is the one that the result has; memory may be
--- refused whatever the text is
-abbrev pub IsFaultOf : ListingFault → Result (List Insn) ℕ → Type 0
-IsFaultOf (NotListing line) r = r ≡ Err line
-IsFaultOf Memory r = Unit {0}
+-- a fault of these lines, the first of which has the number 2: its line is the first wrong one;
+-- memory may be refused whatever the lines are
+abbrev pub IsFaultAfter : ℕ → List (List ℕ) → ListingFault → Type 0
+IsFaultAfter n lines (NotListing line) = (k : ℕ) × WrongAfter n lines k × (line ≡ k + 2)
+IsFaultAfter n lines Memory = Unit {0}

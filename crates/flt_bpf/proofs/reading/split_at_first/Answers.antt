@@ -1,6 +1,6 @@
 -- A text is cut at the first such byte, or is one piece.
 use Rattle.std.proofs.Common.{arith}
-use Rattle.flt_bpf.proofs.Cuts.{cut_range, cut_none}
+use Rattle.flt_bpf.proofs.Lines.{cut_range, cut_none}
 use Rattle.flt_bpf.proofs.reading.split_at_first.Goals as goal
 
 pub returns-clause-pieces : goal.returns-clause-pieces

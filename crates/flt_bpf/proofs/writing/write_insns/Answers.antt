@@ -1,6 +1,6 @@
 -- Line by line the listing is written, and where the output fails a front of it was.
-use Rattle.flt_bpf.proofs.Common.{length, ◌∙◌, arith, rules, common_steps, length-decimal-le}
 use Rattle.flt_bpf.proofs.Assembling.{line_bytes, stopped_front, stopped_told, more_told, more_size}
+use Rattle.flt_bpf.proofs.Common.{length, ◌∙◌, arith, rules, length-decimal-le}
 use Rattle.flt_bpf.proofs.writing.write_insns.Goals as goal
 
 pub put_number-start-requires-clause-room : goal.put_number-start-requires-clause-room
@@ -26,15 +26,3 @@ loop-insn-preserved g c =
       room = search rules;
       exact = λ tells. more_told _ _ _ c.args.insns.now c.loop-insn.insn-index _ _ c.loop-insn-test.true bytes (c.loop-insn.invariant.exact tells) (c.in_default.ensures.exact tells);
     }
-
-pub returns-in_err-write_all-clause-front : goal.returns-in_err-write_all-clause-front
-returns-in_err-write_all-clause-front g c = grind (arith, common_steps)
-
-pub returns-in_err-write_all-clause-exact : goal.returns-in_err-write_all-clause-exact
-returns-in_err-write_all-clause-exact g c = grind (arith, common_steps)
-
-pub loop-insn-init : goal.loop-insn-init
-loop-insn-init g c = grind (arith, common_steps)
-
-pub returns-clause-exact : goal.returns-clause-exact
-returns-clause-exact g c = grind (arith, common_steps)

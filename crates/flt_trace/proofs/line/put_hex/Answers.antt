@@ -1,7 +1,7 @@
 -- Each round puts the last digit of what is left before the others.
 use Rattle.std.proofs.Common.{◌+◌, ◌-◌, ◌≡◌, ◌∙◌, false, ap, arith, rules, length-set}
-use Rattle.std.specs.Fmt.{digits, digits_onto}
 use Rattle.std.proofs.lemmas.List.{drop_all}
+use Rattle.std.specs.Fmt.{digits, digits_onto}
 use Rattle.flt_trace.proofs.Hexadecimal.{fewer, has_room, put_last, put_more}
 use Rattle.flt_trace.proofs.line.put_hex.Goals as goal
 

@@ -1,6 +1,7 @@
 -- Each round writes the step that the run is before, and goes on to the next one.
-use Rattle.flt_trace.proofs.Common.{◌+◌, ◌∙◌, ap, arith, rules, subst, sym, slice_get-get_or, reach_next, parts, goes_inside, sound_at}
+use Rattle.flt_trace.proofs.Common.{◌+◌, ◌<◌, length, ◌∙◌, ap, rules, subst, sym, slice_get-get_or, reach_next, parts, goes_inside, sound_at}
 use Rattle.flt_trace.proofs.Tracing.{Standing, standing_first, standing_last, standing_next, written_more, written_none}
+use Rattle.flt_trace.proofs.walk.trace.Goals.{In-Further}
 use Rattle.flt_trace.proofs.walk.trace.Goals as goal
 
 pub places-init : goal.places-init
@@ -8,11 +9,6 @@ places-init c = record {
   standing = subst (λ s. Standing c.args.insns.now c.args.packet.now c.args.len 0 s 0) (sym c.new-state.ensures) (standing_first _ _ _ c.requires);
   written = written_none _ _ _ _;
 }
-
-pub put_step-requires : goal.put_step-requires
-put_step-requires c =
-    let few = (parts c.args.insns.now c.requires).short in
-    omega (arith, c.places.invariant.standing.inside)
 
 pub execute-requires-clause-sound : goal.execute-requires-clause-sound
 execute-requires-clause-sound c =
@@ -25,21 +21,16 @@ returns-in-End c =
     let there = slice_get-get_or c.args.insns.now c.places.place _ at.inside in
     standing_last _ _ _ _ _ c.places.place c.places.state c.places.count c.in-End.answer _ at written there (c.execute.ensures ∙ ap (λ t. reach_next t c.execute.new.state) c.in-End.is)
 
+inside : (c : In-Further) → c.places.place + 1 + c.in-Further.further < length c.args.insns.now
+inside c =
+    goes_inside c.args.insns.now c.places.place _ c.args.packet.now c.args.len c.places.state c.execute.new.state c.in-Further.further c.requires (slice_get-get_or c.args.insns.now c.places.place _ c.places.invariant.standing.inside) (c.execute.ensures ∙ ap (λ t. reach_next t c.execute.new.state) c.in-Further.is)
+
 pub overflow_add-place : goal.overflow_add-place
-overflow_add-place c =
-    let at = c.places.invariant.standing in
-    let there = slice_get-get_or c.args.insns.now c.places.place _ at.inside in
-    let inside = goes_inside c.args.insns.now c.places.place _ c.args.packet.now c.args.len c.places.state c.execute.new.state c.in-Further.further c.requires there (c.execute.ensures ∙ ap (λ t. reach_next t c.execute.new.state) c.in-Further.is) in
-    let few = (parts c.args.insns.now c.requires).short in
-    search rules
+overflow_add-place c = let few = (parts c.args.insns.now c.requires).short in let on = inside (goal.at.overflow_add-place c).In-Further in search rules
 
 pub overflow_add-place-in-Further : goal.overflow_add-place-in-Further
 overflow_add-place-in-Further c =
-    let at = c.places.invariant.standing in
-    let there = slice_get-get_or c.args.insns.now c.places.place _ at.inside in
-    let inside = goes_inside c.args.insns.now c.places.place _ c.args.packet.now c.args.len c.places.state c.execute.new.state c.in-Further.further c.requires there (c.execute.ensures ∙ ap (λ t. reach_next t c.execute.new.state) c.in-Further.is) in
-    let few = (parts c.args.insns.now c.requires).short in
-    search rules
+    let few = (parts c.args.insns.now c.requires).short in let on = inside (goal.at.overflow_add-place-in-Further c).In-Further in search rules
 
 pub places-preserved : goal.places-preserved
 places-preserved c =
