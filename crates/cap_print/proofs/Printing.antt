@@ -1,15 +1,11 @@
 -- What is printed of a packet, part by part.
 use Rattle.std.proofs.Common.{◌≡◌, ℕ, ◌+◌, ◌<◌, true, false, List, [], ◌++◌, length, take, Result, Ok, Err, refl, ap, sym, ◌∙◌, arith, length-append, append-nil}
-use Rattle.std.proofs.Math.Seq.{take-append-add}
-use Rattle.std.proofs.lemmas.List.{append_assoc}
+use Rattle.std.proofs.{Math.Seq.take-append-add, lemmas.List.append_assoc}
 use Rattle.cap_octet.specs.Device.{AppendsOrStops, Stops, WritesAll}
-use Rattle.cap_octet.specs.Packet.{Captured}
-use Rattle.cap_octet.specs.declared.device.Stopped.{Stopped}
+use Rattle.cap_octet.specs.{Packet.Captured, declared.device.Stopped.Stopped}
 use Rattle.cap_octet.proofs.Writing.{stops-part}
 use Rattle.cap_print.specs.Dump.{link_payload, rows}
-use Rattle.cap_print.specs.Line.{line}
-use Rattle.cap_print.specs.Rendering.{printed_text}
-use Rattle.cap_print.specs.declared.print.Options.{Options}
+use Rattle.cap_print.specs.{Line.line, Rendering.printed_text, declared.print.Options.Options}
 
 pub printed-alone : (options : Options) (p : Captured) → options.bytes ≡ false → printed_text options p ≡ line options.link p
 unfolding printed_text

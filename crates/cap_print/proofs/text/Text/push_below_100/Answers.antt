@@ -1,5 +1,4 @@
-use Rattle.std.proofs.Common.{refl, arith}
-use Rattle.std.proofs.lemmas.Fmt.{decimal_digit}
+use Rattle.std.proofs.{Common.refl, Common.arith, lemmas.Fmt.decimal_digit}
 use Rattle.cap_print.proofs.Decimals.{decimal_two}
 use Rattle.cap_print.proofs.text.Text.push_below_100.Goals as goal
 
