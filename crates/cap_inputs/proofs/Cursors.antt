@@ -1,26 +1,38 @@
 -- One input among others.
-use Rattle.cap_inputs.proofs.Common.{◌≡◌, ℕ, zero, suc, ◌+◌, ◌<◌, List, [], ◌∷◌, ◌++◌, length, max, Option, Some, refl, sym, ◌∙◌, ap, ap₂, subst, arith, get_or, Bool, true, false, Result, Ok, Err, append-nil, length-append, Placed, slice_set, Fault, Advances, SectionFits, TakesIfAtHand, SkipsUnits, Phase, Reading, Ended, Failed, SourceView, Steps, end_offset, phase_after, Schedule, Turn, Merge, ordering_of, schedule_after, schedule_after_decided, DeviceLimits, device_limits, limits_of, InputView, InputsView, InputPast, AreInputsAfter, KnowGreatest, IsInput, ReadsInput, ReadSteps, greatest_of, input_after, input_after_decided, packet_time, with_cursor}
+use Rattle.cap_inputs.proofs.Common.{◌≡◌, ℕ, zero, suc, ◌+◌, ◌<◌, List, [], ◌∷◌, ◌++◌, length, max, Option, Some, refl, sym, ◌∙◌, ap, ap₂, subst, arith, get_or, Bool, true, false, Result, Ok, Err, append-nil, length-append, Placed, slice_set, Fault, Advances, slice_get, PacketOrder, SectionFits, TakesIfAtHand, SkipsUnits, Phase, Reading, Ended, Failed, SourceView, Steps, end_offset, phase_after, Schedule, Turn, Merge, ordering_of, schedule_after, schedule_after_decided, DeviceLimits, device_limits, limits_of, InputView, InputsView, InputPast, AreInputsAfter, KnowGreatest, IsInput, ReadsInput, ReadSteps, greatest_of, input_after, input_after_decided, packet_time, with_cursor}
+use Rattle.std.proofs.lemmas.Option.{slice_get_read}
 use Rattle.std.proofs.Math.Nat.{max_comm}
 use Rattle.cap_octet.specs.Packet.{Captured}
 use Rattle.cap_io.specs.Position.{given_in_all}
 
-pub get-among : (cursors : List InputView) (i : ℕ) (h d : InputView) → i < length cursors → h ≡ get_or cursors i d → IsInput cursors i h
-get-among [] i h d within is = absurd (omega (arith, within))
-get-among (x ∷ xs) zero h d within is = record { front = []; back = xs; place = refl; splits = ap (λ (y : InputView). y ∷ xs) (sym is) }
-get-among (x ∷ xs) (suc i) h d within is =
-    let a = get-among xs i h d (omega (arith, within)) is in
-    record { front = x ∷ a.front; back = a.back; place = ap suc a.place; splits = ap (λ (l : List InputView). x ∷ l) a.splits }
+-- in front of others
+pub later-input : (x : InputView) (xs : List InputView) (i : ℕ) (h : InputView) → IsInput xs i h → IsInput (x ∷ xs) (suc i) h
+later-input x xs i h a = record { front = x ∷ a.front; back = a.back; place = ap suc a.place; splits = ap (λ (l : List InputView). x ∷ l) a.splits }
 
-pub some-among : (cursors : List InputView) (i : ℕ) → i < length cursors → (h : InputView) × IsInput cursors i h
-some-among [] i within = absurd (omega (arith, within))
-some-among (x ∷ xs) zero within = (x, record { front = []; back = xs; place = refl; splits = refl })
-some-among (x ∷ xs) (suc i) within =
-    let a = some-among xs i (omega (arith, within)) in
-    (a.0, record { front = x ∷ a.1.front; back = a.1.back; place = ap suc a.1.place; splits = ap (λ (l : List InputView). x ∷ l) a.1.splits })
+pub input-at : (cursors : List InputView) (i : ℕ) (h : InputView) → slice_get cursors i ≡ Some h → IsInput cursors i h
+input-at [] i h is = (cc)
+input-at (x ∷ xs) zero h is = let same : x ≡ h = cc in record { front = []; back = xs; place = refl; splits = ap (λ (y : InputView). y ∷ xs) same }
+input-at (x ∷ xs) (suc i) h is = later-input x xs i h (input-at xs i h is)
+
+pub get-among : (cursors : List InputView) (i : ℕ) (h : InputView) → i < length cursors → h ≡ get_or cursors i h → IsInput cursors i h
+get-among cursors i h within is = input-at cursors i h (slice_get_read cursors (length cursors) i h refl within is)
+
+pub get-here : (xs ys : List InputView) (h : InputView) → slice_get (xs ++ h ∷ ys) (length xs) ≡ Some h
+get-here [] ys h = refl
+get-here (x ∷ xs) ys h = get-here xs ys h
+
+pub get-input : (cursors : List InputView) (i : ℕ) (h : InputView) → IsInput cursors i h → slice_get cursors i ≡ Some h
+get-input cursors i h a = rw (a.splits, ← a.place) (get-here a.front a.back h)
+
+pub same-input : (cursors : List InputView) (i : ℕ) (h h' : InputView) → IsInput cursors i h → IsInput cursors i h' → h ≡ h'
+same-input cursors i h h' a b = let both : Some h ≡ Some h' = sym (get-input cursors i h a) ∙ get-input cursors i h' b in cc
 
 pub set-here : (front back : List InputView) (h w : InputView) (i : ℕ) → length front ≡ i → slice_set (front ++ h ∷ back) i w ≡ front ++ w ∷ back
 set-here [] back h w i place = rw (← place) refl
 set-here (x ∷ xs) back h w i place = rw (← place) (ap (λ (l : List InputView). x ∷ l) (set-here xs back h w (length xs) refl))
+
+pub set-among : (cursors : List InputView) (i : ℕ) (h h' : InputView) (a : IsInput cursors i h) → slice_set cursors i h' ≡ a.front ++ h' ∷ a.back
+set-among cursors i h h' a = ap (λ (l : List InputView). slice_set l i h') a.splits ∙ set-here a.front a.back h h' i a.place
 
 -- the order of the packets stays
 pub schedule-order : (schedule : Schedule) (i : ℕ) (r : Result Bool Fault) → ordering_of (schedule_after schedule i r) ≡ ordering_of schedule
@@ -38,29 +50,29 @@ following-order (Merge next last) i = refl
 pub taken-of : (tells r : Bool) (old new : SourceView) → r ≡ true → TakesIfAtHand tells old r new → TakesIfAtHand tells old true new
 taken-of tells r old new is takes = subst (λ b. TakesIfAtHand tells old b new) is takes
 
-pub fetches-by : (inputs : InputsView) (i : ℕ) (r : Result Bool Fault) (old new : InputView) → i < length inputs.cursors → old ≡ get_or inputs.cursors i old
+pub fetches-by : (inputs : InputsView) (i : ℕ) (r : Result Bool Fault) (old new : InputView) (order : PacketOrder) → order ≡ inputs.order → i < length inputs.cursors → old ≡ get_or inputs.cursors i old
     → Advances old.source.phase old.source r new.source → Steps old.source.phase old.source r new.source → new ≡ input_after old r new.source
-    → ReadsInput inputs i r (with_cursor inputs i new)
-fetches-by inputs i r old new within value advances steps is = record {
+    → ReadsInput inputs i r (record { order = order; cursors = slice_set inputs.cursors i new })
+fetches-by inputs i r old new order same within value advances steps is = record {
   cursor = old;
-  among = get-among inputs.cursors i old old within value;
+  among = get-among inputs.cursors i old within value;
   source = new.source;
   advances = advances;
   steps = steps;
-  is = ap (with_cursor inputs i) is;
+  is = rw same (ap (with_cursor inputs i) is);
 }
 
-pub read_input-steps-by : (inputs : InputsView) (i : ℕ) (r : Result Bool Fault) (old new : InputView) → i < length inputs.cursors → old ≡ get_or inputs.cursors i old
+pub read_input-steps-by : (inputs : InputsView) (i : ℕ) (r : Result Bool Fault) (old new : InputView) (order : PacketOrder) → order ≡ inputs.order → i < length inputs.cursors → old ≡ get_or inputs.cursors i old
     → Steps old.source.phase old.source r new.source → new.source.phase ≡ phase_after r → SectionFits new.source.declared → new ≡ input_after old r new.source
-    → ReadSteps inputs i r (with_cursor inputs i new)
-read_input-steps-by inputs i r old new within value steps phase upper_bound is = record {
+    → ReadSteps inputs i r (record { order = order; cursors = slice_set inputs.cursors i new })
+read_input-steps-by inputs i r old new order same within value steps phase upper_bound is = record {
   cursor = old;
-  among = get-among inputs.cursors i old old within value;
+  among = get-among inputs.cursors i old within value;
   source = new.source;
   steps = steps;
   phase = phase;
   upper_bound = upper_bound;
-  is = ap (with_cursor inputs i) is;
+  is = rw same (ap (with_cursor inputs i) is);
 }
 
 -- ---- what no step changes of a device

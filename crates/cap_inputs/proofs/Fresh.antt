@@ -5,7 +5,7 @@ map-map : {X : Type 0} (f : X → FreshInput) (xs : List X) → map (λ x. fresh
 map-map f [] = refl
 map-map f (x ∷ xs) = ap (λ (l : List InputView). fresh_view (f x) ∷ l) (map-map f xs)
 
-first-ordering : (order : PacketOrder) (count : ℕ) → ordering_of (first_schedule order count) ≡ order
+pub first-ordering : (order : PacketOrder) (count : ℕ) → ordering_of (first_schedule order count) ≡ order
 first-ordering InTurn count = refl
 first-ordering ByTime count = refl
 
