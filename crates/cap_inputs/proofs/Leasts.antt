@@ -1,10 +1,10 @@
 -- The queue of a merge gives the packet with the least key.
-use Rattle.std.specs.List.{sum_by, AllByRecursion}
+use Rattle.std.specs.List.{sum_by}
 use Rattle.std.proofs.Common.{length-append}
 use Rattle.std.proofs.lemmas.Bool.{and_parts, eqb-true}
 use Rattle.std.proofs.lemmas.List.{Elements.All-cons, Elements.All-nil, Elements.All-tail, Sums.sum_by-cons, Sorted.sum_by-IsPermutation}
 use Rattle.cap_inputs.specs.Queue.{Queue}
-use Rattle.cap_inputs.proofs.Common.{◌≡◌, ◌≢◌, ℕ, zero, suc, ◌+◌, ◌<◌, ◌≤◌, ◌⊎◌, inl, inr, ◌&&◌, ◌||◌, Bool, true, false, IsTrue, if◌then◌else◌, List, [], ◌∷◌, ◌++◌, length, Option, None, Some, Result, Ok, Err, refl, sym, ◌∙◌, ap, map, arith, ◌==◌, nat_lt, add-zero, All, slice_set, IsPermutation, nat_tests, Waiting, Schedule, Turn, Merge, NotAfter, Precedes, IsFirstWaiting, is_entered, Fault, EntersQueue, HasPlaceFor, HoldsQueue, IsQueued, Leaves, TakesFirst, is_merge, ordering_of, sum_waiting, InputView, IsInput, is_packet_found, key_of, NoneWaits, IsLeast, KeysFrom, IsNextIn, Next, order_of}
+use Rattle.cap_inputs.proofs.Common.{◌≡◌, ◌≢◌, ℕ, zero, suc, ◌+◌, ◌<◌, ◌≤◌, inl, inr, ◌&&◌, ◌||◌, Bool, true, false, IsTrue, if◌then◌else◌, List, [], ◌∷◌, ◌++◌, length, Option, None, Some, Result, Ok, Err, refl, sym, ◌∙◌, ap, map, arith, ◌==◌, nat_lt, add-zero, All, slice_set, nat_tests, Waiting, Schedule, Turn, Merge, NotAfter, Precedes, IsFirstWaiting, is_entered, Fault, EntersQueue, HasPlaceFor, HoldsQueue, IsQueued, Leaves, TakesFirst, is_merge, ordering_of, sum_waiting, InputView, IsInput, is_packet_found, key_of, NoneWaits, IsLeast, KeysFrom, IsNextIn, Next, order_of}
 use Rattle.cap_inputs.proofs.Cursors.{set-among}
 
 -- ---- sums

@@ -1,7 +1,7 @@
 -- What is next of the inputs, as it is found out.
 use Rattle.std.proofs.{Math.Bool.or-true, lemmas.List.Elements.All-from_recursion, lemmas.List.Folds.list_all-append, lemmas.List.Folds.list_any-append, lemmas.List.Folds.list_any_none}
-use Rattle.cap_inputs.proofs.Common.{IsAtTurn, add-zero, append-nil, ◌≡◌, inl, inr, ◌&&◌, ◌||◌, if◌then◌else◌, ℕ, suc, ◌+◌, ◌<◌, ◌≤◌, Bool, true, false, not, cond, nat_le, List, [], ◌∷◌, ◌++◌, length, None, Some, refl, sym, ◌∙◌, ap, arith, list_all, list_any, position_or_len, slice_get, AllByRecursion, nat_tests, Phase, Reading, Ended, Failed, PacketOrder, InTurn, ByTime, Next, InputView, InputsView, IsInput, ended_count, has_least_key, is_open, is_unready, key_of, next_at, next_of, place_next, AllEnded, AllReady, IsNext, IsNextIn, IsOpen, IsReady, KeysFrom, NoneWaits}
-use Rattle.cap_inputs.proofs.Cursors.{get-here, get-input}
+use Rattle.cap_inputs.proofs.Common.{IsAtTurn, add-zero, append-nil, ◌≡◌, inl, inr, ◌&&◌, ◌||◌, if◌then◌else◌, ℕ, suc, ◌+◌, ◌<◌, ◌≤◌, Bool, true, false, not, cond, nat_le, List, [], ◌∷◌, ◌++◌, length, None, refl, sym, ◌∙◌, ap, arith, list_all, list_any, position_or_len, slice_get, AllByRecursion, nat_tests, Phase, Reading, Ended, Failed, PacketOrder, InTurn, ByTime, Next, InputView, InputsView, IsInput, ended_count, has_least_key, is_open, is_unready, key_of, next_at, next_of, place_next, AllEnded, AllReady, IsNext, IsNextIn, IsOpen, IsReady, KeysFrom}
+use Rattle.cap_inputs.proofs.Cursors.{get-input}
 
 -- ---- the first input of which a test holds
 

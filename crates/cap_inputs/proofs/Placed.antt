@@ -1,7 +1,6 @@
 -- What the cursor says of the inputs, and how it goes on.
-use Rattle.std.proofs.Common.{rules}
-use Rattle.std.proofs.lemmas.{Bool.cases_order, List.append_assoc, Option.slice_get_within}
-use Rattle.cap_inputs.proofs.Common.{◌≡◌, ◌≢◌, ◌⊎◌, inl, inr, ℕ, zero, suc, ◌+◌, ◌<◌, ◌≤◌, Bool, true, false, List, [], ◌∷◌, ◌++◌, length, map, Some, Result, Ok, Err, refl, sym, ◌∙◌, ap, arith, slice_get, slice_set, AllByRecursion, Fault, Phase, Reading, Ended, Failed, phase_after, Schedule, Turn, Merge, Next, ordering_of, EntersQueue, HoldsQueue, is_merge, ◌&&◌, key_of, EachAt, IsOfTurn, IsOfMerge, IsNextAt, IsScheduled, first_schedule, schedule_after, schedule_after_decided, waits_at, PacketOrder, InTurn, ByTime, InputView, IsInput, input_after_decided, is_packet_found, AllEnded, AllReady, IsAtTurn, IsNextIn, IsOpen, IsReady, NoneEnded, NoneWaits}
+use Rattle.std.proofs.lemmas.{Bool.cases_order, Option.slice_get_within}
+use Rattle.cap_inputs.proofs.Common.{◌≡◌, ◌≢◌, ◌⊎◌, inl, inr, ℕ, zero, suc, ◌+◌, ◌<◌, ◌≤◌, Bool, true, false, List, [], ◌∷◌, ◌++◌, length, map, Some, Result, Ok, Err, refl, sym, ◌∙◌, ap, arith, slice_get, slice_set, AllByRecursion, Fault, Phase, Reading, Ended, Failed, phase_after, Schedule, Turn, Merge, Next, ordering_of, EntersQueue, HoldsQueue, is_merge, ◌&&◌, key_of, EachAt, IsOfTurn, IsOfMerge, IsNextAt, IsScheduled, first_schedule, schedule_after, schedule_after_decided, waits_at, PacketOrder, InTurn, ByTime, InputView, IsInput, input_after_decided, is_packet_found, AllEnded, AllReady, IsAtTurn, IsNextIn, IsOpen, IsReady, NoneWaits}
 use Rattle.cap_inputs.proofs.Cursors.{get-input, input-at, same-input, schedule-order, set-among}
 use Rattle.cap_inputs.proofs.Leasts.{queue-read}
 use Rattle.cap_inputs.specs.Queue.{Queue}
@@ -161,8 +160,10 @@ placed-read (Merge n u) cursors i h' r tells waits phase placed = by_result r wa
 
     on : IsReady h' → EachAt (IsOfMerge (i + 1) u) (slice_set cursors i h')
     on ready = each-set _ (IsOfMerge (i + 1) u) cursors i h h' tells.among placed ((λ le less. absurd (omega (arith, le))), λ out. ready)
-        (λ j k other is was. ((λ le less. was.0 (omega (arith, le, from)) less),
-        λ out. elim out [ inl less ↦ front-at cursors i h tells.among _ j k tells.front (omega (arith, less, other)) is | inr le ↦ was.1 (inr le) ]))
+        (λ j k other is was. (
+          (λ le less. was.0 (omega (arith, le, from)) less),
+          λ out. elim out [ inl less ↦ front-at cursors i h tells.among _ j k tells.front (omega (arith, less, other)) is | inr le ↦ was.1 (inr le) ],
+        ))
 
     by_result : (r : Result Bool Fault) → h'.waiting ≡ is_packet_found r → h'.source.phase ≡ phase_after r → IsScheduled (schedule_after (Merge n u) i r) (slice_set cursors i h')
     by_result (Ok true) waits phase = on (inl waits)

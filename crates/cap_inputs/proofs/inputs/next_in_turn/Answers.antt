@@ -1,6 +1,6 @@
 use Rattle.std.proofs.{Common.refl, Common.sym, Common.ap, Common.◌∙◌, lemmas.Option.slice_get_read}
 use Rattle.std.specs.Option.{option_map}
-use Rattle.cap_inputs.proofs.Common.{InputView, slice_get, length, Some}
+use Rattle.cap_inputs.proofs.Common.{InputView, length, Some}
 use Rattle.cap_inputs.proofs.inputs.next_in_turn.Goals as goal
 
 pub returns-then-cursor : goal.returns-then-cursor

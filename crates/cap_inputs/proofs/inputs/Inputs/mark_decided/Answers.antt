@@ -1,4 +1,4 @@
-use Rattle.cap_inputs.proofs.Common.{◌∙◌, refl, ap, slice_set, ordering_of, PacketOrder, InputsView, InputView, with_cursor}
+use Rattle.cap_inputs.proofs.Common.{◌∙◌, refl, ap, slice_set, ordering_of, PacketOrder, InputsView, with_cursor}
 use Rattle.cap_inputs.proofs.Cursors.{following-order, get-among}
 use Rattle.cap_inputs.proofs.{Leasts.queue-decided, Placed.decided-waits, Placed.placed-decided}
 use Rattle.cap_inputs.proofs.inputs.Inputs.mark_decided.Goals as goal
