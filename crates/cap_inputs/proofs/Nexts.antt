@@ -1,7 +1,7 @@
 -- What is next of the inputs, as it is found out.
 use Rattle.std.proofs.{Math.Bool.or-true, lemmas.List.Elements.All-from_recursion, lemmas.List.Folds.list_all-append, lemmas.List.Folds.list_any-append, lemmas.List.Folds.list_any_none}
-use Rattle.cap_inputs.proofs.Common.{IsAtTurn, add-zero, append-nil, ◌≡◌, inl, inr, ◌&&◌, ◌||◌, if◌then◌else◌, ℕ, suc, ◌+◌, ◌<◌, ◌≤◌, Bool, true, false, not, cond, nat_le, List, [], ◌∷◌, ◌++◌, length, None, refl, sym, ◌∙◌, ap, arith, list_all, list_any, position_or_len, slice_get, AllByRecursion, nat_tests, Phase, Reading, Ended, Failed, PacketOrder, InTurn, ByTime, Next, InputView, InputsView, IsInput, ended_count, has_least_key, is_open, is_unready, key_of, next_at, next_of, place_next, AllEnded, AllReady, IsNext, IsNextIn, IsOpen, IsReady, KeysFrom}
-use Rattle.cap_inputs.proofs.Cursors.{get-input}
+use Rattle.cap_inputs.proofs.Common.{IsAtTurn, add-zero, append-nil, ◌≡◌, inl, inr, ◌&&◌, ◌||◌, if◌then◌else◌, ℕ, suc, ◌+◌, ◌<◌, ◌≤◌, Bool, true, false, not, cond, nat_le, List, [], ◌∷◌, ◌++◌, length, None, refl, sym, ◌∙◌, ap, ap₂, arith, list_all, list_any, position_or_len, slice_get, AllByRecursion, nat_tests, Phase, Reading, Ended, Failed, PacketOrder, InTurn, ByTime, Next, InputView, InputsView, IsInput, ended_count, has_least_key, is_open, is_unready, key_of, next_at, next_of, place_next, AllEnded, AllReady, IsNext, IsNextIn, IsOpen, IsReady, KeysFrom}
+use Rattle.cap_inputs.proofs.Cursors.{get-input, weaker}
 
 -- ---- the first input of which a test holds
 
@@ -64,10 +64,6 @@ not-unready h (inr ended) = ap (λ (p : Phase). is_open p && not h.waiting) ende
 
 -- ---- tests of all
 
-weaker : (P Q : InputView → Type 0) → ((h : InputView) → P h → Q h) → (hs : List InputView) → AllByRecursion P hs → AllByRecursion Q hs
-weaker P Q each [] all = tt
-weaker P Q each (h ∷ hs) all = (each h all.0, weaker P Q each hs all.1)
-
 none-unready : (hs : List InputView) → AllReady hs → AllFail is_unready hs
 none-unready hs ready = weaker IsReady _ not-unready hs ready
 
@@ -96,22 +92,20 @@ none-lower key [] from = refl
 none-lower key (h ∷ hs) from = ap (λ (b : Bool). b && list_all (not_lower key) hs) (not-lower-where key h from.0) ∙ none-lower key hs from.1
 
 none-lower-around : (key : ℕ) (xs ys : List InputView) (h : InputView) → KeysFrom (key + 1) xs → key ≡ key_of h → KeysFrom key ys → list_all (not_lower key) (xs ++ h ∷ ys) ≡ true
-none-lower-around key [] ys h over is from = none-lower key (h ∷ ys) (λ waits. omega (arith, is), from)
-none-lower-around key (x ∷ xs) ys h over is from =
-    ap (λ (b : Bool). b && list_all (not_lower key) (xs ++ h ∷ ys)) (not-lower-where key x (λ waits. let less = over.0 waits in omega (arith, less)))
-    ∙ none-lower-around key xs ys h over.1 is from
+none-lower-around key xs ys h over is from =
+    list_all-append (not_lower key) xs (h ∷ ys)
+    ∙ ap₂ (λ (a b : Bool). a && b) (none-lower key xs (weaker _ _ (λ x f w. let less = f w in omega (arith, less)) xs over)) (none-lower key (h ∷ ys) ((λ waits. omega (arith, is)), from))
 
 waits-not : (cursors : List InputView) (x : InputView) → x.waiting ≡ false → has_least_key cursors x ≡ false
 waits-not cursors x waits = ap (λ (b : Bool). b && list_all (not_lower (key_of x)) cursors) waits
 
 -- the inputs before the one with the least key have greater ones
 greater-before : (xs ys zs : List InputView) (h : InputView) → h.waiting ≡ true → KeysFrom (key_of h + 1) zs → AllFail (has_least_key (xs ++ h ∷ ys)) zs
-greater-before xs ys [] h waits over = tt
-greater-before xs ys (z ∷ zs) h waits over = (by_waits z.waiting refl, greater-before xs ys zs h waits over.1)
+greater-before xs ys zs h waits over = weaker _ _ (λ z less. by_waits z less z.waiting refl) zs over
   where
-    by_waits : (b : Bool) → z.waiting ≡ b → has_least_key (xs ++ h ∷ ys) z ≡ false
-    by_waits true is = and-false z.waiting (list_all (not_lower (key_of z)) (xs ++ h ∷ ys)) (all-fails (not_lower (key_of z)) xs ys h (lower-where (key_of z) h waits (let less = over.0 is in omega (arith, less))))
-    by_waits false is = waits-not (xs ++ h ∷ ys) z is
+    by_waits : (z : InputView) → (z.waiting ≡ true → key_of h + 1 ≤ key_of z) → (b : Bool) → z.waiting ≡ b → has_least_key (xs ++ h ∷ ys) z ≡ false
+    by_waits z over true is = and-false z.waiting (list_all (not_lower (key_of z)) (xs ++ h ∷ ys)) (all-fails (not_lower (key_of z)) xs ys h (lower-where (key_of z) h waits (let less = over is in omega (arith, less))))
+    by_waits z over false is = waits-not (xs ++ h ∷ ys) z is
 
 least-here : (xs ys : List InputView) (h : InputView) → h.waiting ≡ true → KeysFrom (key_of h + 1) xs → KeysFrom (key_of h) ys → has_least_key (xs ++ h ∷ ys) h ≡ true
 least-here xs ys h waits over from = ap (λ (b : Bool). b && list_all (not_lower (key_of h)) (xs ++ h ∷ ys)) waits ∙ none-lower-around (key_of h) xs ys h over refl from
