@@ -1,7 +1,6 @@
 -- One input among others.
-use Rattle.cap_inputs.proofs.Common.{◌≡◌, ℕ, zero, suc, ◌+◌, ◌<◌, List, [], ◌∷◌, ◌++◌, length, max, Option, Some, refl, sym, ◌∙◌, ap, ap₂, subst, arith, get_or, Bool, true, false, Result, Ok, Err, append-nil, length-append, Placed, slice_set, Fault, Advances, slice_get, nat_lt, nat_tests, AllByRecursion, PacketOrder, SectionFits, TakesIfAtHand, SkipsUnits, Phase, Reading, Ended, Failed, SourceView, Steps, end_offset, phase_after, Schedule, Turn, Merge, ordering_of, schedule_after, schedule_after_decided, DeviceLimits, device_limits, limits_of, InputView, InputsView, InputPast, AreInputsAfter, KnowGreatest, IsInput, ReadsInput, ReadSteps, greatest_of, input_after, input_after_decided, packet_time, with_cursor}
+use Rattle.cap_inputs.proofs.Common.{◌≡◌, ℕ, zero, suc, ◌+◌, ◌<◌, List, [], ◌∷◌, ◌++◌, length, max, Option, Some, refl, sym, ◌∙◌, ap, ap₂, subst, arith, get_or, Bool, true, false, Result, Ok, Err, append-nil, length-append, Placed, slice_set, Fault, Advances, slice_get, nat_lt, nat_tests, AllByRecursion, PacketOrder, SectionFits, TakesIfAtHand, SkipsUnits, Phase, Reading, Ended, Failed, SourceView, Steps, end_offset, phase_after, Schedule, Turn, Merge, ordering_of, schedule_after, schedule_after_decided, DeviceLimits, device_limits, limits_of, InputView, InputsView, InputPast, AreInputsAfter, KnowGreatest, IsInput, ReadsInput, ReadSteps, greatest_of, input_after, input_after_decided, packet_time, with_cursor, map, InTurn, ByTime, order_of, first_schedule, FreshInput, fresh_view, fresh_inputs}
 use Rattle.std.proofs.lemmas.Option.{slice_get_read}
-use Rattle.std.proofs.Math.Nat.{max_comm}
 use Rattle.cap_octet.specs.Packet.{Captured}
 use Rattle.cap_io.specs.Position.{given_in_all}
 
@@ -117,12 +116,9 @@ limits-kept old new found steps advances = limits-by old.phase old new found ste
 
 -- ---- the greatest time
 
-max-assoc : (a b c : ℕ) → max a (max b c) ≡ max (max a b) c
-max-assoc a b c = omega (arith)
-
 greatest-more : (ps : List Placed) (x : Placed) → greatest_of (ps ++ x ∷ []) ≡ max (greatest_of ps) x.packet.time
-greatest-more [] x = max_comm x.packet.time 0
-greatest-more (p ∷ ps) x = ap (max p.packet.time) (greatest-more ps x) ∙ max-assoc p.packet.time (greatest_of ps) x.packet.time
+greatest-more [] x = omega arith
+greatest-more (p ∷ ps) x = omega (arith, greatest-more ps x)
 
 -- one more packet is done
 pub greatest-decided : (h : InputView) (p : Captured) (offset : ℕ) (ps : List Placed) → h.source.packet ≡ Some p → h.greatest ≡ greatest_of ps → (input_after_decided h).greatest ≡ greatest_of (ps ++ record { offset = offset; packet = p } ∷ [])
@@ -141,3 +137,20 @@ greatest-here [] vs s s' [] ys h h' following knows goes = (goes knows.0, knows.
 greatest-here [] vs s s' (x ∷ xs) ys h h' following knows goes = absurd following
 greatest-here (u ∷ us) vs s s' [] ys h h' following knows goes = absurd following
 greatest-here (u ∷ us) vs s s' (x ∷ xs) ys h h' following knows goes = (knows.0, greatest-here us vs s s' xs ys h h' following.1 knows.1 goes)
+
+-- ---- inputs as they are handed over
+
+map-map : {X : Type 0} (f : X → FreshInput) (xs : List X) → map (λ x. fresh_view (f x)) xs ≡ map fresh_view (map f xs)
+map-map f [] = refl
+map-map f (x ∷ xs) = ap (λ (l : List InputView). fresh_view (f x) ∷ l) (map-map f xs)
+
+pub first-ordering : (order : PacketOrder) (count : ℕ) → ordering_of (first_schedule order count) ≡ order
+first-ordering InTurn count = refl
+first-ordering ByTime count = refl
+
+-- the inputs as they are handed over
+pub first-inputs : {X : Type 0} (f : X → FreshInput) (xs : List X) (cursors : List InputView) (schedule : Schedule) (merges : Bool) → cursors ≡ map (λ x. fresh_view (f x)) xs → schedule ≡ first_schedule (order_of merges) (length cursors)
+    → record { order = ordering_of schedule; cursors = cursors } ≡ fresh_inputs (order_of merges) (map f xs)
+first-inputs f xs cursors schedule merges is at =
+    ap (λ (o : PacketOrder). record { order = o; cursors = cursors }) (ap ordering_of at ∙ first-ordering (order_of merges) (length cursors))
+    ∙ ap (λ (l : List InputView). record { order = order_of merges; cursors = l }) (is ∙ map-map f xs)

@@ -1,5 +1,5 @@
 use Rattle.cap_inputs.proofs.Common.{List, length, ap, ◌∙◌, refl, arith, InputView, first_schedule, fresh_view, order_of, fresh_input}
-use Rattle.cap_inputs.proofs.{Fresh.first-inputs, Fresh.first-ordering, Leasts.queued-first, Placed.placed-first}
+use Rattle.cap_inputs.proofs.{Cursors.first-inputs, Cursors.first-ordering, Leasts.queued-first, Placed.placed-first}
 use Rattle.cap_inputs.proofs.inputs.Inputs.new.Goals as goal
 
 pub returns : goal.returns
