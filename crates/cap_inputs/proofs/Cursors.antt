@@ -1,26 +1,48 @@
 -- One input among others.
-use Rattle.cap_inputs.proofs.Common.{◌≡◌, ℕ, zero, suc, ◌+◌, ◌<◌, List, [], ◌∷◌, ◌++◌, length, max, Option, Some, refl, sym, ◌∙◌, ap, ap₂, subst, arith, get_or, Bool, true, false, Result, Ok, Err, append-nil, length-append, Placed, slice_set, Fault, Advances, SectionFits, TakesIfAtHand, SkipsUnits, Phase, Reading, Ended, Failed, SourceView, Steps, end_offset, phase_after, Schedule, Turn, Merge, ordering_of, schedule_after, schedule_after_decided, DeviceLimits, device_limits, limits_of, InputView, InputsView, InputPast, AreInputsAfter, KnowGreatest, IsInput, ReadsInput, ReadSteps, greatest_of, input_after, input_after_decided, packet_time, with_cursor}
-use Rattle.std.proofs.Math.Nat.{max_comm}
+use Rattle.cap_inputs.proofs.Common.{◌≡◌, ℕ, zero, suc, ◌+◌, ◌<◌, List, [], ◌∷◌, ◌++◌, length, max, Option, Some, refl, sym, ◌∙◌, ap, ap₂, subst, arith, get_or, Bool, true, false, Result, Ok, Err, append-nil, length-append, Placed, slice_set, Fault, Advances, slice_get, nat_lt, nat_tests, AllByRecursion, PacketOrder, SectionFits, TakesIfAtHand, SkipsUnits, Phase, Reading, Ended, Failed, SourceView, Steps, end_offset, phase_after, Schedule, Turn, Merge, ordering_of, schedule_after, schedule_after_decided, DeviceLimits, device_limits, limits_of, InputView, InputsView, InputPast, AreInputsAfter, KnowGreatest, IsInput, ReadsInput, ReadSteps, greatest_of, input_after, input_after_decided, packet_time, with_cursor, map, InTurn, ByTime, order_of, first_schedule, FreshInput, fresh_view, fresh_inputs}
+use Rattle.std.proofs.lemmas.Option.{slice_get_read}
 use Rattle.cap_octet.specs.Packet.{Captured}
 use Rattle.cap_io.specs.Position.{given_in_all}
 
-pub get-among : (cursors : List InputView) (i : ℕ) (h d : InputView) → i < length cursors → h ≡ get_or cursors i d → IsInput cursors i h
-get-among [] i h d within is = absurd (omega (arith, within))
-get-among (x ∷ xs) zero h d within is = record { front = []; back = xs; place = refl; splits = ap (λ (y : InputView). y ∷ xs) (sym is) }
-get-among (x ∷ xs) (suc i) h d within is =
-    let a = get-among xs i h d (omega (arith, within)) is in
-    record { front = x ∷ a.front; back = a.back; place = ap suc a.place; splits = ap (λ (l : List InputView). x ∷ l) a.splits }
+-- ---- each of some
 
-pub some-among : (cursors : List InputView) (i : ℕ) → i < length cursors → (h : InputView) × IsInput cursors i h
-some-among [] i within = absurd (omega (arith, within))
-some-among (x ∷ xs) zero within = (x, record { front = []; back = xs; place = refl; splits = refl })
-some-among (x ∷ xs) (suc i) within =
-    let a = some-among xs i (omega (arith, within)) in
-    (a.0, record { front = x ∷ a.1.front; back = a.1.back; place = ap suc a.1.place; splits = ap (λ (l : List InputView). x ∷ l) a.1.splits })
+pub weaker : {X : Type 0} (P Q : X → Type 0) → ((x : X) → P x → Q x) → (xs : List X) → AllByRecursion P xs → AllByRecursion Q xs
+weaker P Q each [] all = tt
+weaker P Q each (x ∷ xs) all = (each x all.0, weaker P Q each xs all.1)
+
+-- ---- one input
+
+-- in front of others
+pub later-input : (x : InputView) (xs : List InputView) (i : ℕ) (h : InputView) → IsInput xs i h → IsInput (x ∷ xs) (suc i) h
+later-input x xs i h a = record { front = x ∷ a.front; back = a.back; place = ap suc a.place; splits = ap (λ (l : List InputView). x ∷ l) a.splits }
+
+pub input-at : (cursors : List InputView) (i : ℕ) (h : InputView) → slice_get cursors i ≡ Some h → IsInput cursors i h
+input-at [] i h is = (cc)
+input-at (x ∷ xs) zero h is = let same : x ≡ h = cc in record { front = []; back = xs; place = refl; splits = ap (λ (y : InputView). y ∷ xs) same }
+input-at (x ∷ xs) (suc i) h is = later-input x xs i h (input-at xs i h is)
+
+pub get-among : (cursors : List InputView) (i : ℕ) (h : InputView) → i < length cursors → h ≡ get_or cursors i h → IsInput cursors i h
+get-among cursors i h within is = input-at cursors i h (slice_get_read cursors (length cursors) i h refl within is)
+
+pub looked-up : (cursors : List InputView) (i : ℕ) (h : InputView) → true ≡ nat_lt i (length cursors) → h ≡ get_or cursors i h → slice_get cursors i ≡ Some h
+looked-up cursors i h test is = let within : i < length cursors = grind (arith, nat_tests) in slice_get_read cursors (length cursors) i h refl within is
+
+pub get-here : (xs ys : List InputView) (h : InputView) → slice_get (xs ++ h ∷ ys) (length xs) ≡ Some h
+get-here [] ys h = refl
+get-here (x ∷ xs) ys h = get-here xs ys h
+
+pub get-input : (cursors : List InputView) (i : ℕ) (h : InputView) → IsInput cursors i h → slice_get cursors i ≡ Some h
+get-input cursors i h a = rw (a.splits, ← a.place) (get-here a.front a.back h)
+
+pub same-input : (cursors : List InputView) (i : ℕ) (h h' : InputView) → IsInput cursors i h → IsInput cursors i h' → h ≡ h'
+same-input cursors i h h' a b = let both : Some h ≡ Some h' = sym (get-input cursors i h a) ∙ get-input cursors i h' b in cc
 
 pub set-here : (front back : List InputView) (h w : InputView) (i : ℕ) → length front ≡ i → slice_set (front ++ h ∷ back) i w ≡ front ++ w ∷ back
 set-here [] back h w i place = rw (← place) refl
 set-here (x ∷ xs) back h w i place = rw (← place) (ap (λ (l : List InputView). x ∷ l) (set-here xs back h w (length xs) refl))
+
+pub set-among : (cursors : List InputView) (i : ℕ) (h h' : InputView) (a : IsInput cursors i h) → slice_set cursors i h' ≡ a.front ++ h' ∷ a.back
+set-among cursors i h h' a = ap (λ (l : List InputView). slice_set l i h') a.splits ∙ set-here a.front a.back h h' i a.place
 
 -- the order of the packets stays
 pub schedule-order : (schedule : Schedule) (i : ℕ) (r : Result Bool Fault) → ordering_of (schedule_after schedule i r) ≡ ordering_of schedule
@@ -38,29 +60,29 @@ following-order (Merge next last) i = refl
 pub taken-of : (tells r : Bool) (old new : SourceView) → r ≡ true → TakesIfAtHand tells old r new → TakesIfAtHand tells old true new
 taken-of tells r old new is takes = subst (λ b. TakesIfAtHand tells old b new) is takes
 
-pub fetches-by : (inputs : InputsView) (i : ℕ) (r : Result Bool Fault) (old new : InputView) → i < length inputs.cursors → old ≡ get_or inputs.cursors i old
+pub fetches-by : (inputs : InputsView) (i : ℕ) (r : Result Bool Fault) (old new : InputView) (order : PacketOrder) → order ≡ inputs.order → i < length inputs.cursors → old ≡ get_or inputs.cursors i old
     → Advances old.source.phase old.source r new.source → Steps old.source.phase old.source r new.source → new ≡ input_after old r new.source
-    → ReadsInput inputs i r (with_cursor inputs i new)
-fetches-by inputs i r old new within value advances steps is = record {
+    → ReadsInput inputs i r (record { order = order; cursors = slice_set inputs.cursors i new })
+fetches-by inputs i r old new order same within value advances steps is = record {
   cursor = old;
-  among = get-among inputs.cursors i old old within value;
+  among = get-among inputs.cursors i old within value;
   source = new.source;
   advances = advances;
   steps = steps;
-  is = ap (with_cursor inputs i) is;
+  is = rw same (ap (with_cursor inputs i) is);
 }
 
-pub read_input-steps-by : (inputs : InputsView) (i : ℕ) (r : Result Bool Fault) (old new : InputView) → i < length inputs.cursors → old ≡ get_or inputs.cursors i old
+pub read_input-steps-by : (inputs : InputsView) (i : ℕ) (r : Result Bool Fault) (old new : InputView) (order : PacketOrder) → order ≡ inputs.order → i < length inputs.cursors → old ≡ get_or inputs.cursors i old
     → Steps old.source.phase old.source r new.source → new.source.phase ≡ phase_after r → SectionFits new.source.declared → new ≡ input_after old r new.source
-    → ReadSteps inputs i r (with_cursor inputs i new)
-read_input-steps-by inputs i r old new within value steps phase upper_bound is = record {
+    → ReadSteps inputs i r (record { order = order; cursors = slice_set inputs.cursors i new })
+read_input-steps-by inputs i r old new order same within value steps phase upper_bound is = record {
   cursor = old;
-  among = get-among inputs.cursors i old old within value;
+  among = get-among inputs.cursors i old within value;
   source = new.source;
   steps = steps;
   phase = phase;
   upper_bound = upper_bound;
-  is = ap (with_cursor inputs i) is;
+  is = rw same (ap (with_cursor inputs i) is);
 }
 
 -- ---- what no step changes of a device
@@ -94,12 +116,9 @@ limits-kept old new found steps advances = limits-by old.phase old new found ste
 
 -- ---- the greatest time
 
-max-assoc : (a b c : ℕ) → max a (max b c) ≡ max (max a b) c
-max-assoc a b c = omega (arith)
-
 greatest-more : (ps : List Placed) (x : Placed) → greatest_of (ps ++ x ∷ []) ≡ max (greatest_of ps) x.packet.time
-greatest-more [] x = max_comm x.packet.time 0
-greatest-more (p ∷ ps) x = ap (max p.packet.time) (greatest-more ps x) ∙ max-assoc p.packet.time (greatest_of ps) x.packet.time
+greatest-more [] x = omega arith
+greatest-more (p ∷ ps) x = omega (arith, greatest-more ps x)
 
 -- one more packet is done
 pub greatest-decided : (h : InputView) (p : Captured) (offset : ℕ) (ps : List Placed) → h.source.packet ≡ Some p → h.greatest ≡ greatest_of ps → (input_after_decided h).greatest ≡ greatest_of (ps ++ record { offset = offset; packet = p } ∷ [])
@@ -118,3 +137,20 @@ greatest-here [] vs s s' [] ys h h' following knows goes = (goes knows.0, knows.
 greatest-here [] vs s s' (x ∷ xs) ys h h' following knows goes = absurd following
 greatest-here (u ∷ us) vs s s' [] ys h h' following knows goes = absurd following
 greatest-here (u ∷ us) vs s s' (x ∷ xs) ys h h' following knows goes = (knows.0, greatest-here us vs s s' xs ys h h' following.1 knows.1 goes)
+
+-- ---- inputs as they are handed over
+
+map-map : {X : Type 0} (f : X → FreshInput) (xs : List X) → map (λ x. fresh_view (f x)) xs ≡ map fresh_view (map f xs)
+map-map f [] = refl
+map-map f (x ∷ xs) = ap (λ (l : List InputView). fresh_view (f x) ∷ l) (map-map f xs)
+
+pub first-ordering : (order : PacketOrder) (count : ℕ) → ordering_of (first_schedule order count) ≡ order
+first-ordering InTurn count = refl
+first-ordering ByTime count = refl
+
+-- the inputs as they are handed over
+pub first-inputs : {X : Type 0} (f : X → FreshInput) (xs : List X) (cursors : List InputView) (schedule : Schedule) (merges : Bool) → cursors ≡ map (λ x. fresh_view (f x)) xs → schedule ≡ first_schedule (order_of merges) (length cursors)
+    → record { order = ordering_of schedule; cursors = cursors } ≡ fresh_inputs (order_of merges) (map f xs)
+first-inputs f xs cursors schedule merges is at =
+    ap (λ (o : PacketOrder). record { order = o; cursors = cursors }) (ap ordering_of at ∙ first-ordering (order_of merges) (length cursors))
+    ∙ ap (λ (l : List InputView). record { order = order_of merges; cursors = l }) (is ∙ map-map f xs)

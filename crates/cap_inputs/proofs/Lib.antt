@@ -1,6 +1,5 @@
 pub mod Common
 pub mod Cursors
-pub mod Fresh
 pub mod Leasts
 pub mod Nexts
 pub mod Order

@@ -1,64 +1,51 @@
 -- What is next of the inputs, as it is found out.
-use Rattle.cap_inputs.proofs.Common.{IsAtTurn, ◌≡◌, inl, inr, ◌&&◌, ◌||◌, if◌then◌else◌, ℕ, suc, ◌+◌, ◌<◌, ◌≤◌, Bool, true, false, not, cond, nat_le, List, [], ◌∷◌, ◌++◌, length, None, Some, refl, sym, ◌∙◌, ap, arith, list_all, list_any, position_or_len, slice_get, nat_tests, Phase, Reading, Ended, Failed, PacketOrder, InTurn, ByTime, Next, InputView, InputsView, IsInput, ended_count, has_least_key, is_open, is_unready, key_of, next_at, next_of, place_next, AllEnded, AllReady, IsNext, IsNextIn, IsOpen, IsReady, KeysFrom, NoneWaits}
-use Rattle.cap_inputs.specs.declared.inputs.Next.TheVariants as next
+use Rattle.std.proofs.{Math.Bool.or-true, lemmas.List.Elements.All-from_recursion, lemmas.List.Folds.list_all-append, lemmas.List.Folds.list_any-append, lemmas.List.Folds.list_any_none}
+use Rattle.cap_inputs.proofs.Common.{IsAtTurn, add-zero, append-nil, ◌≡◌, inl, inr, ◌&&◌, ◌||◌, if◌then◌else◌, ℕ, suc, ◌+◌, ◌<◌, ◌≤◌, Bool, true, false, not, cond, nat_le, List, [], ◌∷◌, ◌++◌, length, None, refl, sym, ◌∙◌, ap, ap₂, arith, list_all, list_any, position_or_len, slice_get, AllByRecursion, nat_tests, Phase, Reading, Ended, Failed, PacketOrder, InTurn, ByTime, Next, InputView, InputsView, IsInput, ended_count, has_least_key, is_open, is_unready, key_of, next_at, next_of, place_next, AllEnded, AllReady, IsNext, IsNextIn, IsOpen, IsReady, KeysFrom}
+use Rattle.cap_inputs.proofs.Cursors.{get-input, weaker}
 
 -- ---- the first input of which a test holds
 
 abbrev pub AllFail : (InputView → Bool) → List InputView → Type 0
-AllFail p [] = Unit {0}
-AllFail p (x ∷ xs) = (p x ≡ false) × AllFail p xs
+AllFail p xs = AllByRecursion (λ x. p x ≡ false) xs
+
+skipped : (p : InputView → Bool) (xs zs : List InputView) → AllFail p xs → position_or_len p (xs ++ zs) ≡ length xs + position_or_len p zs
+skipped p [] zs fail = omega arith
+skipped p (x ∷ xs) zs fail =
+    let more = skipped p xs zs fail.1 in
+    let one : 1 + position_or_len p (xs ++ zs) ≡ suc (length xs) + position_or_len p zs = omega (arith, more) in
+    ap (λ (b : Bool). cond (not b) (1 + position_or_len p (xs ++ zs)) 0) fail.0 ∙ one
 
 first-here : (p : InputView → Bool) (xs ys : List InputView) (h : InputView) → AllFail p xs → p h ≡ true → position_or_len p (xs ++ h ∷ ys) ≡ length xs
-first-here p [] ys h fail here = ap (λ (b : Bool). cond (not b) (1 + position_or_len p ys) 0) here
-first-here p (x ∷ xs) ys h fail here =
-    let more = first-here p xs ys h fail.1 here in
-    let one : 1 + position_or_len p (xs ++ h ∷ ys) ≡ suc (length xs) = omega (arith, more) in
-    ap (λ (b : Bool). cond (not b) (1 + position_or_len p (xs ++ h ∷ ys)) 0) fail.0 ∙ one
+first-here p xs ys h fail here =
+    let none : position_or_len p (h ∷ ys) ≡ 0 = ap (λ (b : Bool). cond (not b) (1 + position_or_len p ys) 0) here in
+    omega (arith, none, skipped p xs (h ∷ ys) fail)
 
 first-none : (p : InputView → Bool) (xs : List InputView) → AllFail p xs → position_or_len p xs ≡ length xs
-first-none p [] fail = refl
-first-none p (x ∷ xs) fail =
-    let more = first-none p xs fail.1 in
-    let one : 1 + position_or_len p xs ≡ suc (length xs) = omega (arith, more) in
-    ap (λ (b : Bool). cond (not b) (1 + position_or_len p xs) 0) fail.0 ∙ one
-
-or-true : (b c : Bool) → c ≡ true → (b || c) ≡ true
-or-true true c is = refl
-or-true false c is = is
+first-none p xs fail = ap (position_or_len p) (sym (append-nil xs)) ∙ skipped p xs [] fail ∙ add-zero (length xs)
 
 any-here : (p : InputView → Bool) (xs ys : List InputView) (h : InputView) → p h ≡ true → list_any p (xs ++ h ∷ ys) ≡ true
-any-here p [] ys h here = ap (λ (b : Bool). b || list_any p ys) here
-any-here p (x ∷ xs) ys h here = or-true (p x) (list_any p (xs ++ h ∷ ys)) (any-here p xs ys h here)
+any-here p xs ys h here = list_any-append p xs (h ∷ ys) ∙ ap (λ (b : Bool). list_any p xs || (b || list_any p ys)) here ∙ or-true (list_any p xs)
 
 any-none : (p : InputView → Bool) (xs : List InputView) → AllFail p xs → list_any p xs ≡ false
-any-none p [] fail = refl
-any-none p (x ∷ xs) fail = ap (λ (b : Bool). b || list_any p xs) fail.0 ∙ any-none p xs fail.1
+any-none p xs fail = list_any_none p xs (All-from_recursion (λ x. p x ≡ false) xs fail)
 
 and-false : (b c : Bool) → c ≡ false → (b && c) ≡ false
 and-false true c is = is
 and-false false c is = refl
 
 all-fails : (p : InputView → Bool) (xs ys : List InputView) (h : InputView) → p h ≡ false → list_all p (xs ++ h ∷ ys) ≡ false
-all-fails p [] ys h here = ap (λ (b : Bool). b && list_all p ys) here
-all-fails p (x ∷ xs) ys h here = and-false (p x) (list_all p (xs ++ h ∷ ys)) (all-fails p xs ys h here)
+all-fails p xs ys h here = list_all-append p xs (h ∷ ys) ∙ ap (λ (b : Bool). list_all p xs && (b && list_all p ys)) here ∙ and-false (list_all p xs) false refl
 
 -- ---- the input in a place
-
-get-here : (xs ys : List InputView) (h : InputView) → slice_get (xs ++ h ∷ ys) (length xs) ≡ Some h
-get-here [] ys h = refl
-get-here (x ∷ xs) ys h = get-here xs ys h
 
 get-past : (xs : List InputView) → slice_get xs (length xs) ≡ None
 get-past [] = refl
 get-past (x ∷ xs) = get-past xs
 
-get-input : (cursors : List InputView) (i : ℕ) (h : InputView) → IsInput cursors i h → slice_get cursors i ≡ Some h
-get-input cursors i h a = ap (λ (l : List InputView). slice_get l i) a.splits ∙ ap (slice_get (a.front ++ h ∷ a.back)) (sym a.place) ∙ get-here a.front a.back h
-
-at-here : (cursors : List InputView) (n i : ℕ) (h : InputView) → (a : IsInput cursors i h) → n ≡ length a.front → next_at n (slice_get cursors n) ≡ (if h.waiting then next.Decide i else next.Read i)
+at-here : (cursors : List InputView) (n i : ℕ) (h : InputView) → (a : IsInput cursors i h) → n ≡ length a.front → next_at n (slice_get cursors n) ≡ (if h.waiting then Next.Decide i else Next.Read i)
 at-here cursors n i h a is = ap (λ (m : ℕ). next_at m (slice_get cursors m)) (is ∙ a.place) ∙ ap (next_at i) (get-input cursors i h a)
 
-at-past : (cursors : List InputView) (n : ℕ) → n ≡ length cursors → next_at n (slice_get cursors n) ≡ next.Finish
+at-past : (cursors : List InputView) (n : ℕ) → n ≡ length cursors → next_at n (slice_get cursors n) ≡ Next.Finish
 at-past cursors n is = ap (λ (m : ℕ). next_at m (slice_get cursors m)) is ∙ ap (next_at (length cursors)) (get-past cursors)
 
 -- ---- tests of one input
@@ -78,19 +65,13 @@ not-unready h (inr ended) = ap (λ (p : Phase). is_open p && not h.waiting) ende
 -- ---- tests of all
 
 none-unready : (hs : List InputView) → AllReady hs → AllFail is_unready hs
-none-unready [] ready = tt
-none-unready (h ∷ hs) ready = (not-unready h ready.0, none-unready hs ready.1)
+none-unready hs ready = weaker IsReady _ not-unready hs ready
 
 abbrev pub test_open : InputView → Bool
 test_open h = is_open h.source.phase
 
 none-open : (hs : List InputView) → AllEnded hs → AllFail test_open hs
-none-open [] ended = tt
-none-open (h ∷ hs) ended = (ap is_open ended.0, none-open hs ended.1)
-
-ready-ended : (hs : List InputView) → AllEnded hs → AllReady hs
-ready-ended [] ended = tt
-ready-ended (h ∷ hs) ended = (inr ended.0, ready-ended hs ended.1)
+none-open hs ended = weaker _ _ (λ h e. ap is_open e) hs ended
 
 -- whether another input's key isn't lower than this one, where its packet waits
 abbrev pub not_lower : ℕ → InputView → Bool
@@ -111,26 +92,20 @@ none-lower key [] from = refl
 none-lower key (h ∷ hs) from = ap (λ (b : Bool). b && list_all (not_lower key) hs) (not-lower-where key h from.0) ∙ none-lower key hs from.1
 
 none-lower-around : (key : ℕ) (xs ys : List InputView) (h : InputView) → KeysFrom (key + 1) xs → key ≡ key_of h → KeysFrom key ys → list_all (not_lower key) (xs ++ h ∷ ys) ≡ true
-none-lower-around key [] ys h over is from = none-lower key (h ∷ ys) (λ waits. omega (arith, is), from)
-none-lower-around key (x ∷ xs) ys h over is from =
-    ap (λ (b : Bool). b && list_all (not_lower key) (xs ++ h ∷ ys)) (not-lower-where key x (λ waits. let less = over.0 waits in omega (arith, less)))
-    ∙ none-lower-around key xs ys h over.1 is from
+none-lower-around key xs ys h over is from =
+    list_all-append (not_lower key) xs (h ∷ ys)
+    ∙ ap₂ (λ (a b : Bool). a && b) (none-lower key xs (weaker _ _ (λ x f w. let less = f w in omega (arith, less)) xs over)) (none-lower key (h ∷ ys) ((λ waits. omega (arith, is)), from))
 
 waits-not : (cursors : List InputView) (x : InputView) → x.waiting ≡ false → has_least_key cursors x ≡ false
 waits-not cursors x waits = ap (λ (b : Bool). b && list_all (not_lower (key_of x)) cursors) waits
 
-none-least : (cursors hs : List InputView) → NoneWaits hs → AllFail (has_least_key cursors) hs
-none-least cursors [] none = tt
-none-least cursors (h ∷ hs) none = (waits-not cursors h none.0, none-least cursors hs none.1)
-
 -- the inputs before the one with the least key have greater ones
 greater-before : (xs ys zs : List InputView) (h : InputView) → h.waiting ≡ true → KeysFrom (key_of h + 1) zs → AllFail (has_least_key (xs ++ h ∷ ys)) zs
-greater-before xs ys [] h waits over = tt
-greater-before xs ys (z ∷ zs) h waits over = (by_waits z.waiting refl, greater-before xs ys zs h waits over.1)
+greater-before xs ys zs h waits over = weaker _ _ (λ z less. by_waits z less z.waiting refl) zs over
   where
-    by_waits : (b : Bool) → z.waiting ≡ b → has_least_key (xs ++ h ∷ ys) z ≡ false
-    by_waits true is = and-false z.waiting (list_all (not_lower (key_of z)) (xs ++ h ∷ ys)) (all-fails (not_lower (key_of z)) xs ys h (lower-where (key_of z) h waits (let less = over.0 is in omega (arith, less))))
-    by_waits false is = waits-not (xs ++ h ∷ ys) z is
+    by_waits : (z : InputView) → (z.waiting ≡ true → key_of h + 1 ≤ key_of z) → (b : Bool) → z.waiting ≡ b → has_least_key (xs ++ h ∷ ys) z ≡ false
+    by_waits z over true is = and-false z.waiting (list_all (not_lower (key_of z)) (xs ++ h ∷ ys)) (all-fails (not_lower (key_of z)) xs ys h (lower-where (key_of z) h waits (let less = over is in omega (arith, less))))
+    by_waits z over false is = waits-not (xs ++ h ∷ ys) z is
 
 least-here : (xs ys : List InputView) (h : InputView) → h.waiting ≡ true → KeysFrom (key_of h + 1) xs → KeysFrom (key_of h) ys → has_least_key (xs ++ h ∷ ys) h ≡ true
 least-here xs ys h waits over from = ap (λ (b : Bool). b && list_all (not_lower (key_of h)) (xs ++ h ∷ ys)) waits ∙ none-lower-around (key_of h) xs ys h over refl from
@@ -143,41 +118,36 @@ count-open xs ys h ended on = first-here test_open xs ys h (none-open xs ended) 
 pub count-all : (hs : List InputView) → AllEnded hs → ended_count hs ≡ length hs
 count-all hs ended = first-none test_open hs (none-open hs ended)
 
-at-turn : (cursors : List InputView) (i : ℕ) (waiting : Bool) → IsAtTurn cursors i waiting → next_of (record { order = InTurn; cursors = cursors }) ≡ (if waiting then next.Decide i else next.Read i)
+at-turn : (cursors : List InputView) (i : ℕ) (waiting : Bool) → IsAtTurn cursors i waiting → next_of (record { order = InTurn; cursors = cursors }) ≡ (if waiting then Next.Decide i else Next.Read i)
 at-turn cursors i waiting at =
     let a = at.among in
     let count : ended_count cursors ≡ length a.front = ap ended_count a.splits ∙ count-open a.front a.back at.cursor at.front at.unended in
-    at-here cursors (ended_count cursors) i at.cursor a count ∙ ap (λ (b : Bool). if b then next.Decide i else next.Read i) at.waits
+    at-here cursors (ended_count cursors) i at.cursor a count ∙ ap (λ (b : Bool). if b then Next.Decide i else Next.Read i) at.waits
 
 by-turn : (cursors : List InputView) (r : Next) → IsNextIn InTurn cursors r → next_of (record { order = InTurn; cursors = cursors }) ≡ r
-by-turn cursors (next.Read i) tells = at-turn cursors i false tells
-by-turn cursors (next.Decide i) tells = at-turn cursors i true tells
-by-turn cursors next.Finish tells = at-past cursors (ended_count cursors) (count-all cursors tells)
-
--- where an input is to be read on, or none is
-place-unready : (cursors : List InputView) → list_any is_unready cursors ≡ true → place_next ByTime cursors ≡ position_or_len is_unready cursors
-place-unready cursors any = ap (λ (b : Bool). if b then position_or_len is_unready cursors else position_or_len (has_least_key cursors) cursors) any
-
-place-least : (cursors : List InputView) → list_any is_unready cursors ≡ false → place_next ByTime cursors ≡ position_or_len (has_least_key cursors) cursors
-place-least cursors any = ap (λ (b : Bool). if b then position_or_len is_unready cursors else position_or_len (has_least_key cursors) cursors) any
+by-turn cursors (Next.Read i) tells = at-turn cursors i false tells
+by-turn cursors (Next.Decide i) tells = at-turn cursors i true tells
+by-turn cursors Next.Finish tells = at-past cursors (ended_count cursors) (count-all cursors tells)
 
 by-time : (cursors : List InputView) (r : Next) → IsNextIn ByTime cursors r → next_of (record { order = ByTime; cursors = cursors }) ≡ r
-by-time cursors (next.Read i) tells =
+by-time cursors (Next.Read i) tells =
     let a = tells.among in
     let here = is-unready tells.cursor tells.waits tells.unended in
     let any : list_any is_unready cursors ≡ true = ap (list_any is_unready) a.splits ∙ any-here is_unready a.front a.back tells.cursor here in
-    let place : place_next ByTime cursors ≡ length a.front = place-unready cursors any ∙ ap (position_or_len is_unready) a.splits ∙ first-here is_unready a.front a.back tells.cursor (none-unready a.front tells.front) here in
-    at-here cursors (place_next ByTime cursors) i tells.cursor a place ∙ ap (λ (b : Bool). if b then next.Decide i else next.Read i) tells.waits
-by-time cursors (next.Decide i) tells =
+    let place : place_next ByTime cursors ≡ length a.front = rw any (ap (position_or_len is_unready) a.splits ∙ first-here is_unready a.front a.back tells.cursor (none-unready a.front tells.front) here) in
+    at-here cursors (place_next ByTime cursors) i tells.cursor a place ∙ ap (λ (b : Bool). if b then Next.Decide i else Next.Read i) tells.waits
+by-time cursors (Next.Decide i) tells =
     let least = tells.1 in
     let a = least.among in
     let front = greater-before a.front a.back a.front least.cursor least.waits least.over in
     let here = least-here a.front a.back least.cursor least.waits least.over least.from in
-    let place : place_next ByTime cursors ≡ length a.front = place-least cursors (any-none is_unready cursors (none-unready cursors tells.0)) ∙ ap (λ (l : List InputView). position_or_len (has_least_key l) l) a.splits ∙ first-here (has_least_key (a.front ++ least.cursor ∷ a.back)) a.front a.back least.cursor front here in
-    at-here cursors (place_next ByTime cursors) i least.cursor a place ∙ ap (λ (b : Bool). if b then next.Decide i else next.Read i) least.waits
-by-time cursors next.Finish tells =
-    let place = place-least cursors (any-none is_unready cursors (none-unready cursors (ready-ended cursors tells.1))) in
-    at-past cursors (place_next ByTime cursors) (place ∙ first-none (has_least_key cursors) cursors (none-least cursors cursors tells.0))
+    let place : place_next ByTime cursors ≡ length a.front = rw (any-none is_unready cursors (none-unready cursors tells.0)) (ap (λ (l : List InputView). position_or_len (has_least_key l) l) a.splits ∙ first-here (has_least_key (a.front ++ least.cursor ∷ a.back)) a.front a.back least.cursor front here) in
+    at-here cursors (place_next ByTime cursors) i least.cursor a place ∙ ap (λ (b : Bool). if b then Next.Decide i else Next.Read i) least.waits
+by-time cursors Next.Finish tells =
+    let ready = weaker _ IsReady (λ h e. inr e) cursors tells.1 in
+    let place : place_next ByTime cursors ≡ length cursors =
+    rw (any-none is_unready cursors (none-unready cursors ready)) (first-none (has_least_key cursors) cursors (weaker _ _ (waits-not cursors) cursors tells.0)) in
+    at-past cursors (place_next ByTime cursors) place
 
 -- what is next by its parts is what is found out
 pub next-is-of : (inputs : InputsView) (r : Next) → IsNext inputs r → next_of inputs ≡ r

@@ -1,5 +1,6 @@
 -- A merge from the current packets gives the order of the whole.
-use Rattle.cap_inputs.proofs.Common.{◌≡◌, ℕ, suc, ◌+◌, ◌<◌, ◌≤◌, true, false, if◌then◌else◌, max, List, [], ◌∷◌, ◌++◌, length, refl, sym, ◌∙◌, ap, arith, add-zero, subst, append_assoc, nat_tests, Fault, Placed, Items, Ending, Packet, SequenceEnd, Complete, FaultIn, with_front, InputItems, Entry, end_after, entries_of, all_entries, comes_before, insert_entry, sort_entries, sequence_of_entries, first_end, fault_without_packets, unless_fault, sequence_by_time}
+use Rattle.cap_inputs.proofs.Common.{AllByRecursion, ◌≡◌, ℕ, suc, ◌+◌, ◌<◌, ◌≤◌, true, false, if◌then◌else◌, max, List, [], ◌∷◌, ◌++◌, length, refl, sym, ◌∙◌, ap, arith, add-zero, subst, append_assoc, nat_tests, Fault, Placed, Items, Ending, Packet, SequenceEnd, Complete, FaultIn, with_front, InputItems, Entry, end_after, entries_of, all_entries, comes_before, insert_entry, sort_entries, sequence_of_entries, first_end, fault_without_packets, unless_fault, sequence_by_time}
+use Rattle.cap_inputs.proofs.Cursors.{weaker}
 
 -- what all entries and the fault of inputs without packets have of one input
 abbrev input_entries : ℕ → InputItems → List Entry
@@ -8,34 +9,25 @@ input_entries input r = entries_of input r.items.ending r.greatest r.items.packe
 abbrev pub end_at : ℕ → InputItems → SequenceEnd
 end_at input r = end_after input r.items.ending r.items.packets
 
--- a fact of each
-abbrev pub Each : (Entry → Type 0) → List Entry → Type 0
-Each P [] = Unit {0}
-Each P (x ∷ xs) = P x × Each P xs
-
-Each-append : (P : Entry → Type 0) (xs ys : List Entry) → Each P xs → Each P ys → Each P (xs ++ ys)
+Each-append : (P : Entry → Type 0) (xs ys : List Entry) → AllByRecursion P xs → AllByRecursion P ys → AllByRecursion P (xs ++ ys)
 Each-append P [] ys a b = b
 Each-append P (x ∷ xs) ys a b = (a.0, Each-append P xs ys a.1 b)
 
-Each-weaker : (P Q : Entry → Type 0) → ((x : Entry) → P x → Q x) → (xs : List Entry) → Each P xs → Each Q xs
-Each-weaker P Q f [] h = tt
-Each-weaker P Q f (x ∷ xs) h = (f x h.0, Each-weaker P Q f xs h.1)
-
-put_in-Each : (P : Entry → Type 0) (e : Entry) (xs : List Entry) → P e → Each P xs → Each P (insert_entry e xs)
+put_in-Each : (P : Entry → Type 0) (e : Entry) (xs : List Entry) → P e → AllByRecursion P xs → AllByRecursion P (insert_entry e xs)
 put_in-Each P e [] p h = (p, tt)
 put_in-Each P e (x ∷ xs) p h =
-    elim (comes_before x e) as (λ b. Each P (if b then x ∷ insert_entry e xs else e ∷ x ∷ xs)) [ true ↦ (h.0, put_in-Each P e xs p h.1) | false ↦ (p, h) ]
+    elim (comes_before x e) as (λ b. AllByRecursion P (if b then x ∷ insert_entry e xs else e ∷ x ∷ xs)) [ true ↦ (h.0, put_in-Each P e xs p h.1) | false ↦ (p, h) ]
 
-sorted-Each : (P : Entry → Type 0) (xs : List Entry) → Each P xs → Each P (sort_entries xs)
+sorted-Each : (P : Entry → Type 0) (xs : List Entry) → AllByRecursion P xs → AllByRecursion P (sort_entries xs)
 sorted-Each P [] h = tt
 sorted-Each P (x ∷ xs) h = put_in-Each P x (sort_entries xs) h.0 (sorted-Each P xs h.1)
 
-put_in-first : (e : Entry) (xs : List Entry) → Each (λ x. comes_before x e ≡ false) xs → insert_entry e xs ≡ e ∷ xs
+put_in-first : (e : Entry) (xs : List Entry) → AllByRecursion (λ x. comes_before x e ≡ false) xs → insert_entry e xs ≡ e ∷ xs
 put_in-first e [] h = refl
 put_in-first e (x ∷ xs) h = rw h.0 refl
 
 -- what comes before all others is first in the order
-pub sorted-first : (e : Entry) (xs ys : List Entry) → Each (λ x. comes_before e x ≡ true) xs → Each (λ y. comes_before y e ≡ false) ys → sort_entries (xs ++ e ∷ ys) ≡ e ∷ sort_entries (xs ++ ys)
+pub sorted-first : (e : Entry) (xs ys : List Entry) → AllByRecursion (λ x. comes_before e x ≡ true) xs → AllByRecursion (λ y. comes_before y e ≡ false) ys → sort_entries (xs ++ e ∷ ys) ≡ e ∷ sort_entries (xs ++ ys)
 sorted-first e [] ys a b = put_in-first e (sort_entries ys) (sorted-Each (λ y. comes_before y e ≡ false) ys b)
 sorted-first e (x ∷ xs) ys a b = ap (insert_entry x) (sorted-first e xs ys a.1 b) ∙ rw a.0 refl
 
@@ -43,23 +35,19 @@ sorted-first e (x ∷ xs) ys a b = ap (insert_entry x) (sorted-first e xs ys a.1
 abbrev FollowsIn : ℕ → ℕ → Entry → Type 0
 FollowsIn input greatest x = (x.input ≡ input) × (greatest ≤ x.key)
 
-follow-weaker : (input g g' : ℕ) → g ≤ g' → (xs : List Entry) → Each (FollowsIn input g') xs → Each (FollowsIn input g) xs
-follow-weaker input g g' lg [] h = tt
-follow-weaker input g g' lg (x ∷ xs) h = ((h.0.0, omega (arith, lg, h.0.1)), follow-weaker input g g' lg xs h.1)
-
-entries-follow : (input : ℕ) (ending : Ending) (greatest : ℕ) (ps : List Placed) → Each (FollowsIn input greatest) (entries_of input ending greatest ps)
+entries-follow : (input : ℕ) (ending : Ending) (greatest : ℕ) (ps : List Placed) → AllByRecursion (FollowsIn input greatest) (entries_of input ending greatest ps)
 entries-follow input ending greatest [] = tt
 entries-follow input ending greatest (p ∷ ps) =
-    ((refl, omega arith), follow-weaker input greatest (max greatest p.packet.time) (omega arith) (entries_of input ending (max greatest p.packet.time) ps) (entries-follow input ending (max greatest p.packet.time) ps))
-
-later-own : (e x : Entry) → FollowsIn e.input e.key x → comes_before x e ≡ false
-later-own e x h = grind (arith, nat_tests, h.0, h.1)
+    ((refl, omega arith), weaker (FollowsIn input (max greatest p.packet.time)) (FollowsIn input greatest) (λ x f. (f.0, omega (arith, f.1))) (entries_of input ending (max greatest p.packet.time) ps) (entries-follow input ending (max greatest p.packet.time) ps))
 
 ahead : (e x : Entry) → e.key < x.key → comes_before e x ≡ true
 ahead e x h = grind (arith, nat_tests, h)
 
-not-after : (e x : Entry) → e.key ≤ x.key → e.input < x.input → comes_before x e ≡ false
-not-after e x h l = grind (arith, nat_tests, h, l)
+later : (e x : Entry) → e.key ≤ x.key → e.input + 1 ≤ x.input → comes_before x e ≡ false
+later e x h l = grind (arith, nat_tests, h, l)
+
+later-own : (e x : Entry) → FollowsIn e.input e.key x → comes_before x e ≡ false
+later-own e x h = grind (arith, nat_tests, h.0, h.1)
 
 -- the least key of what is left of an input is at least the key
 abbrev pub IsFrom : ℕ → ℕ → List Placed → Type 0
@@ -70,29 +58,19 @@ abbrev pub AllFrom : ℕ → List InputItems → Type 0
 AllFrom k [] = Unit {0}
 AllFrom k (r ∷ rs) = IsFrom k r.greatest r.items.packets × AllFrom k rs
 
-entries-over : (e : Entry) (input : ℕ) (ending : Ending) (greatest : ℕ) (ps : List Placed) → IsFrom (e.key + 1) greatest ps → Each (λ x. comes_before e x ≡ true) (entries_of input ending greatest ps)
-entries-over e input ending greatest [] h = tt
-entries-over e input ending greatest (p ∷ ps) h = (
-  ahead e (record { key = max greatest p.packet.time; input = input; p = p; end = end_after input ending ps }) (omega (arith, h)),
-  Each-weaker (FollowsIn input (max greatest p.packet.time)) (λ x. comes_before e x ≡ true) (λ x f. ahead e x (omega (arith, h, f.1))) (entries_of input ending (max greatest p.packet.time) ps)
+entries-each : (Q : Entry → Type 0) (k input : ℕ) (ending : Ending) (greatest : ℕ) (ps : List Placed) → IsFrom k greatest ps → ((x : Entry) → k ≤ x.key → x.input ≡ input → Q x) → AllByRecursion Q (entries_of input ending greatest ps)
+entries-each Q k input ending greatest [] from each = tt
+entries-each Q k input ending greatest (p ∷ ps) from each = (
+  each (record { key = max greatest p.packet.time; input = input; p = p; end = end_after input ending ps }) from refl,
+  weaker (FollowsIn input (max greatest p.packet.time)) Q (λ x f. each x (omega (arith, from, f.1)) f.0) (entries_of input ending (max greatest p.packet.time) ps)
       (entries-follow input ending (max greatest p.packet.time) ps),
 )
 
-entries-from : (e : Entry) (input : ℕ) (ending : Ending) (greatest : ℕ) (ps : List Placed) → e.input < input → IsFrom e.key greatest ps → Each (λ x. comes_before x e ≡ false) (entries_of input ending greatest ps)
-entries-from e input ending greatest [] l h = tt
-entries-from e input ending greatest (p ∷ ps) l h = (
-  not-after e (record { key = max greatest p.packet.time; input = input; p = p; end = end_after input ending ps }) h l,
-  Each-weaker (FollowsIn input (max greatest p.packet.time)) (λ x. comes_before x e ≡ false) (λ x f. not-after e x (omega (arith, h, f.1)) (omega (arith, l, f.0))) (entries_of input ending (max greatest p.packet.time) ps)
-      (entries-follow input ending (max greatest p.packet.time) ps),
-)
-
-all-over : (e : Entry) (input : ℕ) (rs : List InputItems) → AllFrom (e.key + 1) rs → Each (λ x. comes_before e x ≡ true) (all_entries input rs)
-all-over e input [] h = tt
-all-over e input (r ∷ rs) h = Each-append (λ x. comes_before e x ≡ true) (input_entries input r) (all_entries (input + 1) rs) (entries-over e input r.items.ending r.greatest r.items.packets h.0) (all-over e (input + 1) rs h.1)
-
-all-from : (e : Entry) (input : ℕ) (rs : List InputItems) → e.input < input → AllFrom e.key rs → Each (λ x. comes_before x e ≡ false) (all_entries input rs)
-all-from e input [] l h = tt
-all-from e input (r ∷ rs) l h = Each-append (λ x. comes_before x e ≡ false) (input_entries input r) (all_entries (input + 1) rs) (entries-from e input r.items.ending r.greatest r.items.packets l h.0) (all-from e (input + 1) rs (omega (arith, l)) h.1)
+all-each : (Q : Entry → Type 0) (k input : ℕ) (rs : List InputItems) → AllFrom k rs → ((x : Entry) → k ≤ x.key → input ≤ x.input → Q x) → AllByRecursion Q (all_entries input rs)
+all-each Q k input [] from each = tt
+all-each Q k input (r ∷ rs) from each =
+    Each-append Q (input_entries input r) (all_entries (input + 1) rs) (entries-each Q k input r.items.ending r.greatest r.items.packets from.0 (λ x le is. each x le (omega (arith, is))))
+    (all-each Q k (input + 1) rs from.1 (λ x le l. each x le (omega (arith, l))))
 
 all_entries-append : (input : ℕ) (xs ys : List InputItems) → all_entries input (xs ++ ys) ≡ all_entries input xs ++ all_entries (input + length xs) ys
 all_entries-append input [] ys = rw add-zero refl
@@ -139,12 +117,12 @@ merged-next xs ys g p items ps size is whole over from =
     let after_e : List Entry = input_entries n r' ++ all_entries (n + 1) ys in
     let old : all_entries 0 (xs ++ r ∷ ys) ≡ all_entries 0 xs ++ e ∷ after_e = all_entries-append 0 xs (r ∷ ys) ∙ ap (λ (m : ℕ). all_entries 0 xs ++ all_entries m (r ∷ ys)) zero in
     let new : all_entries 0 (xs ++ r' ∷ ys) ≡ all_entries 0 xs ++ after_e = all_entries-append 0 xs (r' ∷ ys) ∙ ap (λ (m : ℕ). all_entries 0 xs ++ all_entries m (r' ∷ ys)) zero in
-    let follows : Each (λ x. comes_before x e ≡ false) after_e =
+    let follows : AllByRecursion (λ x. comes_before x e ≡ false) after_e =
     Each-append (λ x. comes_before x e ≡ false) (input_entries n r') (all_entries (n + 1) ys)
-    (Each-weaker (FollowsIn n k) (λ x. comes_before x e ≡ false) (λ x h. later-own e x h) (input_entries n r') (entries-follow n items.ending k ps))
-    (all-from e (n + 1) ys (omega arith) from) in
+    (weaker (FollowsIn n k) (λ x. comes_before x e ≡ false) (λ x h. later-own e x h) (input_entries n r') (entries-follow n items.ending k ps))
+    (all-each (λ x. comes_before x e ≡ false) k (n + 1) ys from (λ x le l. later e x le l)) in
     let first : sort_entries (all_entries 0 (xs ++ r ∷ ys)) ≡ e ∷ sort_entries (all_entries 0 (xs ++ r' ∷ ys)) =
-    ap sort_entries old ∙ sorted-first e (all_entries 0 xs) after_e (all-over e 0 xs over) follows ∙ ap (λ (l : List Entry). e ∷ sort_entries l) (sym new) in
+    ap sort_entries old ∙ sorted-first e (all_entries 0 xs) after_e (all-each (λ x. comes_before e x ≡ true) (k + 1) 0 xs over (λ x le l. ahead e x (omega (arith, le)))) follows ∙ ap (λ (l : List Entry). e ∷ sort_entries l) (sym new) in
     let left_broken : fault_without_packets 0 (xs ++ r' ∷ ys) ≡ end_after n items.ending ps =
     broken-append 0 xs (r' ∷ ys)
     ∙ ap (λ (c : SequenceEnd). first_end c (fault_without_packets (0 + n) (r' ∷ ys))) apart.0

@@ -1,252 +1,210 @@
 -- What the cursor says of the inputs, and how it goes on.
-use Rattle.cap_inputs.proofs.Common.{◌≡◌, ◌⊎◌, inl, inr, ℕ, zero, suc, ◌+◌, ◌<◌, ◌≤◌, Bool, true, false, List, [], ◌∷◌, ◌++◌, length, map, Result, Ok, Err, refl, sym, ◌∙◌, ap, arith, subst, slice_set, Fault, Phase, Reading, Ended, Failed, phase_after, Schedule, Turn, Merge, Next, ordering_of, AreToRead, IsNextAt, IsScheduled, IsTurnOf, first_schedule, schedule_after, schedule_after_decided, PacketOrder, InTurn, ByTime, InputView, IsInput, input_after_decided, is_packet_found, AllEnded, AllReady, IsNextIn, IsOpen, IsReady, NoneEnded, NoneWaits}
-use Rattle.cap_inputs.specs.declared.inputs.Next.TheVariants as next
-use Rattle.cap_inputs.proofs.Cursors.{set-here}
+use Rattle.std.proofs.lemmas.{Bool.cases_order, Option.slice_get_within}
+use Rattle.cap_inputs.proofs.Common.{◌≡◌, ◌≢◌, ◌⊎◌, inl, inr, ℕ, zero, suc, ◌+◌, ◌<◌, ◌≤◌, Bool, true, false, List, [], ◌∷◌, ◌++◌, length, map, Some, Result, Ok, Err, refl, sym, ◌∙◌, ap, arith, slice_get, slice_set, AllByRecursion, Fault, Phase, Reading, Ended, Failed, phase_after, Schedule, Turn, Merge, Next, ordering_of, EntersQueue, HoldsQueue, is_merge, ◌&&◌, key_of, EachAt, IsOfTurn, IsOfMerge, IsNextAt, IsScheduled, first_schedule, schedule_after, schedule_after_decided, waits_at, PacketOrder, InTurn, ByTime, InputView, IsInput, input_after_decided, is_packet_found, AllEnded, AllReady, IsAtTurn, IsNextIn, IsOpen, IsReady, NoneWaits}
+use Rattle.cap_inputs.proofs.Cursors.{get-input, input-at, same-input, schedule-order, set-among}
+use Rattle.cap_inputs.proofs.Leasts.{queue-read}
+use Rattle.cap_inputs.specs.Queue.{Queue}
 
--- ---- in turn
+-- ---- of each, and of each by its index
 
-turn-split : (xs ys : List InputView) (h : InputView) (turn : ℕ) → length xs ≡ turn → IsTurnOf turn (xs ++ h ∷ ys) → AllEnded xs × NoneEnded (h ∷ ys)
-turn-split [] ys h zero is placed = (tt, placed)
-turn-split [] ys h (suc turn) is placed = absurd (omega (arith, is))
-turn-split (x ∷ xs) ys h zero is placed = absurd (omega (arith, is))
-turn-split (x ∷ xs) ys h (suc turn) is placed =
-    let more = turn-split xs ys h turn (omega (arith, is)) placed.1 in
-    ((placed.0, more.0), more.1)
+all-of : (Q : InputView → Type 0) (hs : List InputView) → ((i : ℕ) (h : InputView) → slice_get hs i ≡ Some h → Q h) → AllByRecursion Q hs
+all-of Q [] each = tt
+all-of Q (h ∷ hs) each = (each 0 h refl, all-of Q hs (λ i k is. each (suc i) k is))
 
-turn-join : (xs zs : List InputView) (turn : ℕ) → length xs ≡ turn → AllEnded xs → NoneEnded zs → IsTurnOf turn (xs ++ zs)
-turn-join [] [] turn is ended unended = tt
-turn-join [] (z ∷ zs) zero is ended unended = unended
-turn-join [] (z ∷ zs) (suc turn) is ended unended = absurd (omega (arith, is))
-turn-join (x ∷ xs) zs zero is ended unended = absurd (omega (arith, is))
-turn-join (x ∷ xs) zs (suc turn) is ended unended = (ended.0, turn-join xs zs turn (omega (arith, is)) ended.1 unended)
+all-at : (Q : InputView → Type 0) (hs : List InputView) (i : ℕ) (h : InputView) → AllByRecursion Q hs → slice_get hs i ≡ Some h → Q h
+all-at Q [] i h all is = absurd (cc)
+all-at Q (x ∷ xs) zero h all is = let same : x ≡ h = cc in rw same at all.0
+all-at Q (x ∷ xs) (suc i) h all is = all-at Q xs i h all.1 is
 
-turn-next : (xs ys : List InputView) (h : InputView) (turn : ℕ) → length xs ≡ turn → AllEnded xs → h.source.phase ≡ Ended → NoneEnded ys → IsTurnOf (turn + 1) (xs ++ h ∷ ys)
-turn-next [] ys h turn is ended end unended =
-    let one : turn + 1 ≡ 1 = omega (arith, is) in
-    rw one (end, turn-join [] ys 0 refl tt unended)
-turn-next (x ∷ xs) ys h turn is ended end unended =
-    let one : turn + 1 ≡ suc (length xs + 1) = omega (arith, is) in
-    rw one (ended.0, turn-next xs ys h (length xs) refl ended.1 end unended)
+get-front : (xs zs : List InputView) (i : ℕ) → i < length xs → slice_get (xs ++ zs) i ≡ slice_get xs i
+get-front [] zs i within = absurd (omega arith)
+get-front (x ∷ xs) zs zero within = refl
+get-front (x ∷ xs) zs (suc i) within = get-front xs zs i (omega (arith, within))
 
-turn-all : (turn : ℕ) (hs : List InputView) → length hs ≤ turn → IsTurnOf turn hs → AllEnded hs
-turn-all turn [] upper_bound placed = tt
-turn-all zero (h ∷ hs) upper_bound placed = absurd (omega (arith, upper_bound))
-turn-all (suc turn) (h ∷ hs) upper_bound placed = (placed.0, turn-all turn hs (omega (arith, upper_bound)) placed.1)
+get-back : (xs ys : List InputView) (h : InputView) (i : ℕ) → slice_get (xs ++ h ∷ ys) (length xs + suc i) ≡ slice_get ys i
+get-back [] ys h i = let one : 0 + suc i ≡ suc i = omega arith in rw one refl
+get-back (x ∷ xs) ys h i = let one : suc (length xs) + suc i ≡ suc (length xs + suc i) = omega arith in rw one (get-back xs ys h i)
 
-turn-is : (xs ys : List InputView) (h : InputView) (turn : ℕ) → IsTurnOf turn (xs ++ h ∷ ys) → AllEnded xs → IsOpen h → length xs ≡ turn
-turn-is [] ys h zero placed ended unended = refl
-turn-is [] ys h (suc turn) placed ended unended = absurd (unended placed.0)
-turn-is (x ∷ xs) ys h zero placed ended unended = absurd (placed.0 ended.0)
-turn-is (x ∷ xs) ys h (suc turn) placed ended unended = ap suc (turn-is xs ys h turn placed.1 ended.1 unended)
+-- those in front of an input, and those after it
+module _ (cursors : List InputView) (i : ℕ) (h : InputView) (a : IsInput cursors i h) where
+  front-of : (Q : InputView → Type 0) → ((j : ℕ) (k : InputView) → j < i → slice_get cursors j ≡ Some k → Q k) → AllByRecursion Q a.front
+  front-of Q each = all-of Q a.front (λ j k is. (
+      let within = slice_get_within a.front j k is in
+      each j k (omega (arith, within, a.place)) (ap (λ (l : List InputView). slice_get l j) a.splits ∙ get-front a.front (h ∷ a.back) j within ∙ is)))
 
--- ---- by time
+  front-at : (Q : InputView → Type 0) (j : ℕ) (k : InputView) → AllByRecursion Q a.front → j < i → slice_get cursors j ≡ Some k → Q k
+  front-at Q j k all less is = all-at Q a.front j k all (sym (ap (λ (l : List InputView). slice_get l j) a.splits ∙ get-front a.front (h ∷ a.back) j (omega (arith, less, a.place))) ∙ is)
 
-not-ready : (h : InputView) → h.waiting ≡ false → IsOpen h → IsReady h → ⊥
-not-ready h waits unended ready = elim ready [ inl w ↦ (cc (w, waits)) | inr e ↦ unended e ]
+  back-of : (Q : InputView → Type 0) → ((j : ℕ) (k : InputView) → i < j → slice_get cursors j ≡ Some k → Q k) → AllByRecursion Q a.back
+  back-of Q each = all-of Q a.back (λ j k is. each (length a.front + suc j) k (omega (arith, a.place))
+      (ap (λ (l : List InputView). slice_get l (length a.front + suc j)) a.splits ∙ get-back a.front a.back h j ∙ is))
 
-ready-at : (xs ys : List InputView) (h : InputView) → AllReady (xs ++ h ∷ ys) → IsReady h
-ready-at [] ys h ready = ready.0
-ready-at (x ∷ xs) ys h ready = ready-at xs ys h ready.1
+-- another cursor of an input, where the others stay
+each-set : (P P' : ℕ → InputView → Type 0) (cursors : List InputView) (i : ℕ) (h h' : InputView) → IsInput cursors i h → EachAt P cursors → P' i h'
+    → ((j : ℕ) (k : InputView) → j ≢ i → slice_get cursors j ≡ Some k → P j k → P' j k) → EachAt P' (slice_set cursors i h')
+each-set P P' cursors i h h' a each here others j k is =
+    elim (parts a.front a.back j (rw (set-among cursors i h h' a) at is)) [
+      | inl (place, same) ↦ (let at : j ≡ i = place ∙ a.place in rw (at, ← same) here)
+      | inr (other, stays) ↦ (let was : slice_get cursors j ≡ Some k = rw a.splits stays in others j k (λ e. other (e ∙ sym a.place)) was (each j k was))
+    ]
+  where
+    parts : (xs ys : List InputView) (j : ℕ) → slice_get (xs ++ h' ∷ ys) j ≡ Some k → ((j ≡ length xs) × (h' ≡ k)) ⊎ ((j ≡ length xs → ⊥) × (slice_get (xs ++ h ∷ ys) j ≡ Some k))
+    parts [] ys zero is = inl (refl, (cc))
+    parts [] ys (suc j) is = inr ((λ e. omega (arith, e)), is)
+    parts (x ∷ xs) ys zero is = inr ((λ e. omega (arith, e)), is)
+    parts (x ∷ xs) ys (suc j) is = elim (parts xs ys j is) [ inl (at, same) ↦ inl (ap suc at, same) | inr (other, stays) ↦ inr ((λ e. other (omega (arith, e))), stays) ]
 
-ready-front : (xs ys : List InputView) (h : InputView) → AllReady (xs ++ h ∷ ys) → AllReady xs × AllReady ys
-ready-front [] ys h ready = (tt, ready.1)
-ready-front (x ∷ xs) ys h ready = let more = ready-front xs ys h ready.1 in ((ready.0, more.0), more.1)
+-- ---- what is next
 
--- the input that is to be read on
-record ToReadAt (xs ys : List InputView) (h : InputView) (next last : ℕ) : Type 0 where
-  pub ready : AllReady xs
-  pub waits : h.waiting ≡ false
-  pub unended : IsOpen h
-  pub on : (h' : InputView) → IsReady h' → AreToRead (next + 1) last (xs ++ h' ∷ ys)
-  pub again : (h' : InputView) → h'.waiting ≡ false → IsOpen h' → AreToRead next last (xs ++ h' ∷ ys)
+some-at : (cursors : List InputView) (i : ℕ) → i < length cursors → (h : InputView) × slice_get cursors i ≡ Some h
+some-at [] i within = absurd (omega arith)
+some-at (x ∷ xs) zero within = (x, refl)
+some-at (x ∷ xs) (suc i) within = some-at xs i (omega (arith, within))
 
-to-read-at : (xs ys : List InputView) (h : InputView) (n u : ℕ) → length xs ≡ n → n < u → AreToRead n u (xs ++ h ∷ ys) → ToReadAt xs ys h n u
-to-read-at xs ys h n zero is less placed = absurd (omega (arith, less))
-to-read-at [] ys h zero (suc u) is less placed = record { ready = tt; waits = placed.0; unended = placed.1; on = λ h' r. (r, placed.2); again = λ h' w o. (w, o, placed.2) }
-to-read-at [] ys h (suc n) (suc u) is less placed = absurd (omega (arith, is))
-to-read-at (x ∷ xs) ys h zero (suc u) is less placed = absurd (omega (arith, is))
-to-read-at (x ∷ xs) ys h (suc n) (suc u) is less placed =
-    let more = to-read-at xs ys h n u (omega (arith, is)) (omega (arith, less)) placed.1 in
-    let one : suc n + 1 ≡ suc (n + 1) = omega arith in
-    record { ready = (placed.0, more.ready); waits = more.waits; unended = more.unended; on = λ h' r. rw one (placed.0, more.on h' r); again = λ h' w o. (placed.0, more.again h' w o) }
+waits-is : (cursors : List InputView) (i : ℕ) (waiting : Bool) → waits_at cursors i ≡ Some waiting → (h : InputView) × slice_get cursors i ≡ Some h × h.waiting ≡ waiting
+waits-is [] i waiting is = absurd (cc)
+waits-is (x ∷ xs) zero waiting is = (x, refl, (cc))
+waits-is (x ∷ xs) (suc i) waiting is = waits-is xs i waiting is
 
-all-ready : (n u : ℕ) (hs : List InputView) → (u ≤ n ⊎ length hs ≤ n) → AreToRead n u hs → AllReady hs
-all-ready n u [] done placed = tt
-all-ready zero zero (h ∷ hs) done placed = placed
-all-ready zero (suc u) (h ∷ hs) done placed = absurd (elim done [ inl l ↦ omega (arith, l) | inr l ↦ omega (arith, l) ])
-all-ready (suc n) zero (h ∷ hs) done placed = placed
-all-ready (suc n) (suc u) (h ∷ hs) done placed = (placed.0, all-ready n u hs (elim done [ inl l ↦ inl (omega (arith, l)) | inr l ↦ inr (omega (arith, l)) ]) placed.1)
+at-turn : (turn : ℕ) (cursors : List InputView) (i : ℕ) (waiting : Bool) → EachAt (IsOfTurn turn) cursors → i ≡ turn → waits_at cursors turn ≡ Some waiting → IsAtTurn cursors i waiting
+at-turn turn cursors i waiting placed here waits =
+    let found = waits-is cursors i waiting (rw here waits) in
+    let a = input-at cursors i found.0 found.1 in
+    record {
+      cursor = found.0;
+      among = a;
+      waits = found.2;
+      unended = (placed i found.0 found.1).1 (omega (arith, here));
+      front = front-of cursors i found.0 a _ (λ j k less is. (placed j k is).0 (omega (arith, less, here)));
+      back = back-of cursors i found.0 a _ (λ j k more is. (placed j k is).1 (omega (arith, more, here)));
+    }
 
-none-to-read : (n u : ℕ) (hs : List InputView) → AreToRead n u hs → AllReady hs → u ≤ n ⊎ length hs ≤ n
-none-to-read n u [] placed ready = inr (omega arith)
-none-to-read zero zero (h ∷ hs) placed ready = inl (omega arith)
-none-to-read zero (suc u) (h ∷ hs) placed ready = absurd (not-ready h placed.0 placed.1 ready.0)
-none-to-read (suc n) zero (h ∷ hs) placed ready = inl (omega arith)
-none-to-read (suc n) (suc u) (h ∷ hs) placed ready = elim (none-to-read n u hs placed.1 ready.1) [ inl l ↦ inl (omega (arith, l)) | inr l ↦ inr (omega (arith, l)) ]
-
-read-is : (xs ys : List InputView) (h : InputView) (n u : ℕ) → AreToRead n u (xs ++ h ∷ ys) → AllReady xs → h.waiting ≡ false → IsOpen h → (length xs ≡ n) × (n < u)
-read-is [] ys h zero zero placed ready waits unended = absurd (not-ready h waits unended placed.0)
-read-is [] ys h zero (suc u) placed ready waits unended = (refl, omega arith)
-read-is [] ys h (suc n) zero placed ready waits unended = absurd (not-ready h waits unended placed.0)
-read-is [] ys h (suc n) (suc u) placed ready waits unended = absurd (not-ready h waits unended placed.0)
-read-is (x ∷ xs) ys h zero zero placed ready waits unended = absurd (not-ready h waits unended (ready-at xs ys h placed.1))
-read-is (x ∷ xs) ys h zero (suc u) placed ready waits unended = absurd (not-ready x placed.0 placed.1 ready.0)
-read-is (x ∷ xs) ys h (suc n) zero placed ready waits unended = absurd (not-ready h waits unended (ready-at xs ys h placed.1))
-read-is (x ∷ xs) ys h (suc n) (suc u) placed ready waits unended =
-    let more = read-is xs ys h n u placed.1 ready.1 waits unended in
-    let same = more.0 in
-    let less = more.1 in
-    (omega (arith, same), omega (arith, less))
+all-ready : (n u : ℕ) (cursors : List InputView) → EachAt (IsOfMerge n u) cursors → (u ≤ n ⊎ length cursors ≤ n) → AllReady cursors
+all-ready n u cursors placed done = all-of IsReady cursors (λ j k is. (placed j k is).1 (let within = slice_get_within cursors j k is in
+    elim (cases_order j n) [
+      | inl same ↦ elim done [ inl le ↦ inr (omega (arith, le, same)) | inr le ↦ absurd (omega (arith, le, same, within)) ]
+      | inr (inl less) ↦ inl less
+      | inr (inr more) ↦ elim done [ inl le ↦ inr (omega (arith, le, more)) | inr le ↦ absurd (omega (arith, le, more, within)) ]
+    ]))
 
 all-ended : (hs : List InputView) → NoneWaits hs → AllReady hs → AllEnded hs
 all-ended [] none ready = tt
 all-ended (h ∷ hs) none ready = (elim ready.0 [ inl w ↦ absurd (let e = none.0 in cc (w, e)) | inr e ↦ e ], all-ended hs none.1 ready.1)
 
-to-read-none : (hs : List InputView) → AllReady hs → AreToRead 0 0 hs
-to-read-none [] ready = tt
-to-read-none (h ∷ hs) ready = ready
-
-read-again : (xs ys : List InputView) (h : InputView) (i : ℕ) → length xs ≡ i → AllReady xs → AllReady ys → h.waiting ≡ false → IsOpen h → AreToRead i (i + 1) (xs ++ h ∷ ys)
-read-again [] ys h i is front back waits unended = rw (← is) (waits, unended, to-read-none ys back)
-read-again (x ∷ xs) ys h i is front back waits unended =
-    let one : suc (length xs) + 1 ≡ suc (length xs + 1) = omega arith in
-    rw (← is, one) (front.0, read-again xs ys h (length xs) refl front.1 back waits unended)
-
--- ---- what is next
-
 -- what is next at the cursor is next of the inputs
 pub next-is : (schedule : Schedule) (cursors : List InputView) (r : Next) → IsScheduled schedule cursors → IsNextAt schedule cursors r → IsNextIn (ordering_of schedule) cursors r
-next-is (Turn turn) cursors (next.Read i) placed tells =
-    let a = tells.1.among in
-    let P : List InputView → Type 0 = λ l. IsTurnOf turn l in
-    let at = turn-split a.front a.back tells.1.cursor turn (a.place ∙ tells.0) (subst P a.splits placed) in
-    record { cursor = tells.1.cursor; among = a; waits = tells.1.waits; unended = at.1.0; front = at.0; back = at.1.1 }
-next-is (Turn turn) cursors (next.Decide i) placed tells =
-    let a = tells.1.among in
-    let P : List InputView → Type 0 = λ l. IsTurnOf turn l in
-    let at = turn-split a.front a.back tells.1.cursor turn (a.place ∙ tells.0) (subst P a.splits placed) in
-    record { cursor = tells.1.cursor; among = a; waits = tells.1.waits; unended = at.1.0; front = at.0; back = at.1.1 }
-next-is (Turn turn) cursors next.Finish placed tells = turn-all turn cursors tells placed
-next-is (Merge n u) cursors (next.Read i) placed tells =
-    let a = tells.among in
-    let P : List InputView → Type 0 = λ l. AreToRead n u l in
-    let at = to-read-at a.front a.back tells.cursor n u (a.place ∙ tells.is) tells.before (subst P a.splits placed) in
-    record { cursor = tells.cursor; among = a; waits = at.waits; unended = at.unended; front = at.ready }
-next-is (Merge n u) cursors (next.Decide i) placed tells = (all-ready n u cursors tells.0 placed, tells.1)
-next-is (Merge n u) cursors next.Finish placed tells = (tells.1, all-ended cursors tells.1 (all-ready n u cursors tells.0 placed))
+next-is (Turn turn) cursors (Next.Read i) placed tells = at-turn turn cursors i false placed tells.0 tells.1
+next-is (Turn turn) cursors (Next.Decide i) placed tells = at-turn turn cursors i true placed tells.0 tells.1
+next-is (Turn turn) cursors Next.Finish placed tells = all-of _ cursors (λ j k is. (placed j k is).0 (omega (arith, tells, slice_get_within cursors j k is)))
+next-is (Merge n u) cursors (Next.Read i) placed tells =
+    let same = tells.0 in
+    let found = some-at cursors i (rw same tells.2) in
+    let a = input-at cursors i found.0 found.1 in
+    let here = (placed i found.0 found.1).0 (omega (arith, same)) (rw same tells.1) in
+    record { cursor = found.0; among = a; waits = here.0; unended = here.1; front = front-of cursors i found.0 a _ (λ j k less is. (placed j k is).1 (inl (rw same at less))) }
+next-is (Merge n u) cursors (Next.Decide i) placed tells = (all-ready n u cursors placed tells.0, tells.1)
+next-is (Merge n u) cursors Next.Finish placed tells = (tells.1, all-ended cursors tells.1 (all-ready n u cursors placed tells.0))
 
--- and the other way round, of an input
-pub read-at : (schedule : Schedule) (cursors : List InputView) (i : ℕ) → IsScheduled schedule cursors → IsNextIn (ordering_of schedule) cursors (next.Read i) → IsNextAt schedule cursors (next.Read i)
-read-at (Turn turn) cursors i placed tells =
-    let P : List InputView → Type 0 = λ l. IsTurnOf turn l in (
-      sym tells.among.place ∙ turn-is tells.among.front tells.among.back tells.cursor turn (subst P tells.among.splits placed) tells.front tells.unended,
-      record { cursor = tells.cursor; among = tells.among; waits = tells.waits },
-    )
-read-at (Merge n u) cursors i placed tells =
-    let P : List InputView → Type 0 = λ l. AreToRead n u l in
-    let at = read-is tells.among.front tells.among.back tells.cursor n u (subst P tells.among.splits placed) tells.front tells.waits tells.unended in
-    record { is = sym tells.among.place ∙ at.0; before = at.1; cursor = tells.cursor; among = tells.among }
+-- whether the packet of the next input waits
+pub read-idle : (order : PacketOrder) (cursors : List InputView) (i : ℕ) (h : InputView) → IsInput cursors i h → IsNextIn order cursors (Next.Read i) → h.waiting ≡ false
+read-idle InTurn cursors i h a tells = ap (λ (v : InputView). v.waiting) (same-input cursors i h tells.cursor a tells.among) ∙ tells.waits
+read-idle ByTime cursors i h a tells = ap (λ (v : InputView). v.waiting) (same-input cursors i h tells.cursor a tells.among) ∙ tells.waits
 
-pub decide-at : (schedule : Schedule) (cursors : List InputView) (i : ℕ) → IsScheduled schedule cursors → IsNextIn (ordering_of schedule) cursors (next.Decide i) → IsNextAt schedule cursors (next.Decide i)
-decide-at (Turn turn) cursors i placed tells =
-    let P : List InputView → Type 0 = λ l. IsTurnOf turn l in (
-      sym tells.among.place ∙ turn-is tells.among.front tells.among.back tells.cursor turn (subst P tells.among.splits placed) tells.front tells.unended,
-      record { cursor = tells.cursor; among = tells.among; waits = tells.waits },
-    )
-decide-at (Merge n u) cursors i placed tells = (none-to-read n u cursors placed tells.0, tells.1)
-
-among-same : (xs ys xs' ys' : List InputView) (h h' : InputView) → length xs ≡ length xs' → xs ++ h ∷ ys ≡ xs' ++ h' ∷ ys' → h ≡ h'
-among-same [] ys [] ys' h h' count is = (cc)
-among-same [] ys (x ∷ xs') ys' h h' count is = absurd (omega (arith, count))
-among-same (x ∷ xs) ys [] ys' h h' count is = absurd (omega (arith, count))
-among-same (x ∷ xs) ys (x' ∷ xs') ys' h h' count is = among-same xs ys xs' ys' h h' (omega (arith, count)) (cc)
-
-same-input : (cursors : List InputView) (i : ℕ) (h h' : InputView) → IsInput cursors i h → IsInput cursors i h' → h ≡ h'
-same-input cursors i h h' a b = among-same a.front a.back b.front b.back h h' (a.place ∙ sym b.place) (sym a.splits ∙ b.splits)
-
--- the packet of an input that is to be decided waits
-pub decided-waits : (schedule : Schedule) (cursors : List InputView) (i : ℕ) (h : InputView) → IsInput cursors i h → IsNextAt schedule cursors (next.Decide i) → h.waiting ≡ true
-decided-waits (Turn turn) cursors i h a tells = ap (λ (v : InputView). v.waiting) (same-input cursors i h tells.1.cursor a tells.1.among) ∙ tells.1.waits
-decided-waits (Merge next last) cursors i h a tells = ap (λ (v : InputView). v.waiting) (same-input cursors i h tells.1.cursor a tells.1.among) ∙ tells.1.waits
+pub decided-waits : (order : PacketOrder) (cursors : List InputView) (i : ℕ) (h : InputView) → IsInput cursors i h → IsNextIn order cursors (Next.Decide i) → h.waiting ≡ true
+decided-waits InTurn cursors i h a tells = ap (λ (v : InputView). v.waiting) (same-input cursors i h tells.cursor a tells.among) ∙ tells.waits
+decided-waits ByTime cursors i h a tells = ap (λ (v : InputView). v.waiting) (same-input cursors i h tells.1.cursor a tells.1.among) ∙ tells.1.waits
 
 -- ---- the cursor goes on
 
 phase-unended : (h : InputView) (p : Phase) → h.source.phase ≡ p → (p ≡ Ended → ⊥) → IsOpen h
 phase-unended h p is other = λ e. other (sym is ∙ e)
 
+not-ready : (h : InputView) → h.waiting ≡ false → IsOpen h → IsReady h → ⊥
+not-ready h waits unended ready = elim ready [ inl w ↦ (cc (w, waits)) | inr e ↦ unended e ]
+
 -- an input is read on
-pub placed-read : (schedule : Schedule) (cursors : List InputView) (i : ℕ) (h h' : InputView) (r : Result Bool Fault) → IsInput cursors i h → IsNextAt schedule cursors (next.Read i)
+pub placed-read : (schedule : Schedule) (cursors : List InputView) (i : ℕ) (h' : InputView) (r : Result Bool Fault) → IsNextIn (ordering_of schedule) cursors (Next.Read i)
     → h'.waiting ≡ is_packet_found r → h'.source.phase ≡ phase_after r → IsScheduled schedule cursors → IsScheduled (schedule_after schedule i r) (slice_set cursors i h')
-placed-read schedule cursors i h h' r a tells waits phase placed =
-    let S : List InputView → Type 0 = λ l. IsScheduled (schedule_after schedule i r) l in
-    let set : slice_set cursors i h' ≡ a.front ++ h' ∷ a.back = ap (λ (l : List InputView). slice_set l i h') a.splits ∙ set-here a.front a.back h h' i a.place in
-    let Q : List InputView → Type 0 = λ l. IsScheduled schedule l in
-    subst S (sym set) (by_schedule schedule r tells waits phase (subst Q a.splits placed))
+placed-read (Turn turn) cursors i h' r tells waits phase placed = by_result r phase
   where
-    by_schedule : (schedule : Schedule) (r : Result Bool Fault) → IsNextAt schedule cursors (next.Read i) → h'.waiting ≡ is_packet_found r → h'.source.phase ≡ phase_after r
-        → IsScheduled schedule (a.front ++ h ∷ a.back) → IsScheduled (schedule_after schedule i r) (a.front ++ h' ∷ a.back)
-    by_schedule (Turn turn) (Ok true) tells waits phase placed =
-        let at = turn-split a.front a.back h turn (a.place ∙ tells.0) placed in
-        turn-join a.front (h' ∷ a.back) turn (a.place ∙ tells.0) at.0 (phase-unended h' Reading phase (λ e. (cc)), at.1.1)
-    by_schedule (Turn turn) (Ok false) tells waits phase placed =
-        let at = turn-split a.front a.back h turn (a.place ∙ tells.0) placed in
-        turn-next a.front a.back h' i a.place at.0 phase at.1.1
-    by_schedule (Turn turn) (Err fault) tells waits phase placed =
-        let at = turn-split a.front a.back h turn (a.place ∙ tells.0) placed in
-        turn-join a.front (h' ∷ a.back) turn (a.place ∙ tells.0) at.0 (phase-unended h' (Failed fault) phase (λ e. (cc)), at.1.1)
-    by_schedule (Merge n u) (Ok true) tells waits phase placed =
-        let at = to-read-at a.front a.back h n u (a.place ∙ tells.is) tells.before placed in
-        let N : ℕ → Type 0 = λ m. AreToRead (m + 1) u (a.front ++ h' ∷ a.back) in
-        subst N (sym tells.is) (at.on h' (inl waits))
-    by_schedule (Merge n u) (Ok false) tells waits phase placed =
-        let at = to-read-at a.front a.back h n u (a.place ∙ tells.is) tells.before placed in
-        let N : ℕ → Type 0 = λ m. AreToRead (m + 1) u (a.front ++ h' ∷ a.back) in
-        subst N (sym tells.is) (at.on h' (inr phase))
-    by_schedule (Merge n u) (Err fault) tells waits phase placed =
-        let at = to-read-at a.front a.back h n u (a.place ∙ tells.is) tells.before placed in
-        at.again h' waits (phase-unended h' (Failed fault) phase (λ e. (cc)))
+    h : InputView
+    h = tells.cursor
+
+    own : IsOfTurn turn i h
+    own = placed i h (get-input cursors i h tells.among)
+
+    from : turn ≤ i
+    from = let not : i < turn → ⊥ = λ less. tells.unended (own.0 less) in omega (arith, not)
+
+    still : IsOpen h' → EachAt (IsOfTurn turn) (slice_set cursors i h')
+    still unended = each-set _ _ cursors i h h' tells.among placed ((λ less. absurd (tells.unended (own.0 less))), λ le. unended) (λ j k other is was. was)
+
+    by_result : (r : Result Bool Fault) → h'.source.phase ≡ phase_after r → IsScheduled (schedule_after (Turn turn) i r) (slice_set cursors i h')
+    by_result (Ok true) phase = still (phase-unended h' Reading phase (λ e. (cc)))
+    by_result (Ok false) phase = each-set _ (IsOfTurn (i + 1)) cursors i h h' tells.among placed ((λ less. phase), λ le. absurd (omega (arith, le)))
+        (λ j k other is was. ((λ less. front-at cursors i h tells.among _ j k tells.front (omega (arith, less, other)) is), λ le. was.1 (omega (arith, le, from))))
+    by_result (Err fault) phase = still (phase-unended h' (Failed fault) phase (λ e. (cc)))
+placed-read (Merge n u) cursors i h' r tells waits phase placed = by_result r waits phase
+  where
+    h : InputView
+    h = tells.cursor
+
+    own : IsOfMerge n u i h
+    own = placed i h (get-input cursors i h tells.among)
+
+    not : i < n ⊎ u ≤ i → ⊥
+    not out = not-ready h tells.waits tells.unended (own.1 out)
+
+    from : n ≤ i
+    from = let less : i < n → ⊥ = λ l. not (inl l) in omega (arith, less)
+
+    on : IsReady h' → EachAt (IsOfMerge (i + 1) u) (slice_set cursors i h')
+    on ready = each-set _ (IsOfMerge (i + 1) u) cursors i h h' tells.among placed ((λ le less. absurd (omega (arith, le))), λ out. ready)
+        (λ j k other is was. (
+          (λ le less. was.0 (omega (arith, le, from)) less),
+          λ out. elim out [ inl less ↦ front-at cursors i h tells.among _ j k tells.front (omega (arith, less, other)) is | inr le ↦ was.1 (inr le) ],
+        ))
+
+    by_result : (r : Result Bool Fault) → h'.waiting ≡ is_packet_found r → h'.source.phase ≡ phase_after r → IsScheduled (schedule_after (Merge n u) i r) (slice_set cursors i h')
+    by_result (Ok true) waits phase = on (inl waits)
+    by_result (Ok false) waits phase = on (inr phase)
+    by_result (Err fault) waits phase =
+        each-set _ _ cursors i h h' tells.among placed ((λ le less. (waits, phase-unended h' (Failed fault) phase (λ e. (cc)))), λ out. absurd (not out)) (λ j k other is was. was)
+
+-- an input is read on, and with it the queue
+pub goes-on : (schedule schedule' : Schedule) (cursors : List InputView) (i : ℕ) (h h' : InputView) (r : Result Bool Fault) (q q' : Queue) → IsInput cursors i h → IsNextIn (ordering_of schedule) cursors (Next.Read i)
+    → h'.waiting ≡ is_packet_found r → h'.source.phase ≡ phase_after r → schedule' ≡ schedule_after schedule i r
+    → EntersQueue (is_packet_found r && is_merge schedule) (record { time = key_of h'; input = i }) q q' → HoldsQueue (ordering_of schedule) cursors q × IsScheduled schedule cursors
+    → HoldsQueue (ordering_of schedule') (slice_set cursors i h') q' × IsScheduled schedule' (slice_set cursors i h')
+goes-on schedule schedule' cursors i h h' r q q' a tells waits phase is enters was =
+    rw (is, schedule-order) (queue-read schedule cursors i h h' r q q' a (read-idle (ordering_of schedule) cursors i h a tells) waits enters was.0, placed-read schedule cursors i h' r tells waits phase was.1)
 
 -- the current packet of an input is decided
-pub placed-decided : (schedule : Schedule) (cursors : List InputView) (i : ℕ) (h : InputView) → IsInput cursors i h → IsNextAt schedule cursors (next.Decide i)
+pub placed-decided : (schedule : Schedule) (cursors : List InputView) (i : ℕ) (h : InputView) → IsInput cursors i h → IsNextIn (ordering_of schedule) cursors (Next.Decide i)
     → h.source.phase ≡ Reading → IsScheduled schedule cursors → IsScheduled (schedule_after_decided schedule i) (slice_set cursors i (input_after_decided h))
-placed-decided schedule cursors i h a tells phase placed =
-    let S : List InputView → Type 0 = λ l. IsScheduled (schedule_after_decided schedule i) l in
-    let set : slice_set cursors i (input_after_decided h) ≡ a.front ++ input_after_decided h ∷ a.back = ap (λ (l : List InputView). slice_set l i (input_after_decided h)) a.splits ∙ set-here a.front a.back h (input_after_decided h) i a.place in
-    subst S (sym set) (by_schedule schedule tells placed)
-  where
-    unended : IsOpen (input_after_decided h)
-    unended = phase-unended (input_after_decided h) Reading phase (λ e. (cc))
-
-    by_schedule : (schedule : Schedule) → IsNextAt schedule cursors (next.Decide i) → IsScheduled schedule cursors → IsScheduled (schedule_after_decided schedule i) (a.front ++ input_after_decided h ∷ a.back)
-    by_schedule (Turn turn) tells placed =
-        let P : List InputView → Type 0 = λ l. IsTurnOf turn l in
-        let at = turn-split a.front a.back h turn (a.place ∙ tells.0) (subst P a.splits placed) in
-        turn-join a.front (input_after_decided h ∷ a.back) turn (a.place ∙ tells.0) at.0 (unended, at.1.1)
-    by_schedule (Merge n u) tells placed =
-        let R : List InputView → Type 0 = λ l. AllReady l in
-        let ready = ready-front a.front a.back h (subst R a.splits (all-ready n u cursors tells.0 placed)) in
-        read-again a.front a.back (input_after_decided h) i a.place ready.0 ready.1 refl unended
+placed-decided (Turn turn) cursors i h a tells phase placed =
+    each-set _ _ cursors i h (input_after_decided h) a placed (placed i h (get-input cursors i h a)) (λ j k other is was. was)
+placed-decided (Merge n u) cursors i h a tells phase placed =
+    each-set _ (IsOfMerge i (i + 1)) cursors i h (input_after_decided h) a placed
+    ((λ le less. (refl, phase-unended h Reading phase (λ e. (cc)))), λ out. absurd (elim out [ inl less ↦ omega (arith, less) | inr le ↦ omega (arith, le) ]))
+    (λ j k other is was. ((λ le less. absurd (omega (arith, le, less, other))), λ out. all-at IsReady cursors j k tells.0 is))
 
 -- ---- new inputs
 
-fresh-unended : {X : Type 0} (f : X → InputView) (xs : List X) → ((x : X) → IsOpen (f x)) → NoneEnded (map f xs)
-fresh-unended f [] unended = tt
-fresh-unended f (x ∷ xs) unended = (unended x, fresh-unended f xs unended)
+fresh-all : {X : Type 0} (f : X → InputView) (Q : InputView → Type 0) (xs : List X) → ((x : X) → Q (f x)) → AllByRecursion Q (map f xs)
+fresh-all f Q [] each = tt
+fresh-all f Q (x ∷ xs) each = (each x, fresh-all f Q xs each)
 
-fresh-to-read : {X : Type 0} (f : X → InputView) (xs : List X) → ((x : X) → (f x).waiting ≡ false) → ((x : X) → IsOpen (f x)) → AreToRead 0 (length (map f xs)) (map f xs)
-fresh-to-read f [] idle unended = tt
-fresh-to-read f (x ∷ xs) idle unended = (idle x, unended x, fresh-to-read f xs idle unended)
-
-pub placed-first : {X : Type 0} (f : X → InputView) (xs : List X) (cursors : List InputView) (order : PacketOrder) (schedule : Schedule) → ((x : X) → (f x).waiting ≡ false) → ((x : X) → (f x).source.phase ≡ Reading) → cursors ≡ map f xs
-    → schedule ≡ first_schedule order (length cursors) → IsScheduled schedule cursors
-placed-first {X = X} f xs cursors order schedule idle phase is at =
-    let S : Schedule → Type 0 = λ p. IsScheduled p cursors in
-    let C : List InputView → Type 0 = λ l. IsScheduled (first_schedule order (length l)) l in
-    subst S (sym at) (subst C (sym is) (by_order order))
+pub placed-first : {X : Type 0} (f : X → InputView) (xs : List X) (order : PacketOrder) → ((x : X) → (f x).waiting ≡ false) → ((x : X) → (f x).source.phase ≡ Reading)
+    → IsScheduled (first_schedule order (length (map f xs))) (map f xs)
+placed-first {X = X} f xs order idle phase = by_order order
   where
     unended : (x : X) → IsOpen (f x)
     unended x = phase-unended (f x) Reading (phase x) (λ e. (cc))
 
     by_order : (order : PacketOrder) → IsScheduled (first_schedule order (length (map f xs))) (map f xs)
-    by_order InTurn = turn-join [] (map f xs) 0 refl tt (fresh-unended f xs unended)
-    by_order ByTime = fresh-to-read f xs idle unended
+    by_order InTurn = λ j k is. ((λ less. absurd (omega (arith, less))), λ le. all-at IsOpen (map f xs) j k (fresh-all f IsOpen xs unended) is)
+    by_order ByTime = λ j k is. (
+      (λ le less. all-at (λ h. (h.waiting ≡ false) × IsOpen h) (map f xs) j k (fresh-all f _ xs (λ x. (idle x, unended x))) is),
+      λ out. absurd (elim out [ inl less ↦ omega (arith, less) | inr le ↦ omega (arith, le, slice_get_within (map f xs) j k is) ]),
+    )

@@ -1,9 +1,8 @@
 -- What comes out of the heap comes before what stays.
 use Rattle.cap_inputs.proofs.Common.{◌≡◌, ◌≢◌, ℕ, zero, suc, ◌<◌, inl, inr, false, IsTrue, length, get_or, nat_eq, List, [], ◌∷◌, map, sym, ap, ◌∙◌, arith, All, AllByRecursion, IsPermutation, IsUpperBound, lt_by_cmp, Reverse, IsPermutation-map, nat_tests, cases_order, Waiting, Precedes, NotAfter, inputs_of, IsOnceEach, IsFirstWaiting, is_entered}
 use Rattle.std.specs.List.{IsDistinct}
-use Rattle.std.specs.declared.cmp.Ordering.{Ordering}
+use Rattle.std.specs.{Ordering.is_lt, Ordering.nat_cmp, Ordering.ordering_then, declared.cmp.Ordering.Ordering}
 use Rattle.std.proofs.lemmas.Map.Keys.{IsDistinct-IsPermutation, IsDistinct-cons}
-use Rattle.std.specs.Ordering.{is_lt, nat_cmp, ordering_then}
 
 -- the order of time, then number
 abbrev pub time_then_input : Waiting → Waiting → Ordering

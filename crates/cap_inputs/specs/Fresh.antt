@@ -1,8 +1,7 @@
 -- Inputs as they are handed over.
 use Rattle.std.specs.Prelude.{false, List, [], map}
 use Rattle.cap_octet.specs.Views.{FreshInput}
-use Rattle.cap_io.specs.Source.{source_at}
-use Rattle.cap_io.specs.Sequence.{PacketOrder}
+use Rattle.cap_io.specs.{Sequence.PacketOrder, Source.source_at}
 use Rattle.cap_inputs.specs.Inputs.{InputView, InputsView, InputPast}
 
 -- an input that was handed over: nothing is read, no packet waits, none is decided

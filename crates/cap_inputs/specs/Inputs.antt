@@ -1,15 +1,13 @@
 -- The view of a job's inputs, with their positions in their captures.
-use Rattle.std.specs.Prelude.{◌≡◌, ◌&&◌, ◌||◌, if◌then◌else◌, ℕ, ◌+◌, ◌*◌, ◌-◌, ◌^◌, Bool, true, false, max, nat_le, not, List, [], ◌∷◌, ◌++◌, length, drop, map, Option, None, Some, Result, Ok, Err, unwrap_or}
-use Rattle.std.specs.Option.{option_map, option_map_or, option_to_list}
 use Rattle.std.specs.List.{list_all, list_any, position_or_len, slice_get, slice_set}
-use Rattle.cap_octet.specs.Packet.{Captured}
-use Rattle.cap_octet.specs.declared.fault.Fault.{Fault}
+use Rattle.std.specs.Option.{option_map, option_map_or, option_to_list}
+use Rattle.std.specs.Prelude.{◌≡◌, ◌&&◌, ◌||◌, if◌then◌else◌, ℕ, ◌+◌, ◌*◌, ◌-◌, ◌^◌, Bool, true, false, max, nat_le, not, List, [], ◌∷◌, ◌++◌, length, drop, map, Option, None, Some, Result, Ok, Err, unwrap_or}
+use Rattle.cap_octet.specs.{Packet.Captured, declared.fault.Fault.Fault}
 use Rattle.cap_io.specs.Capture.{Placed, placed_at, Items, End, after_packets}
-use Rattle.cap_io.specs.Source.{SourceView, Phase, Ended, Advances, SectionFits, Steps, phase_after}
 use Rattle.cap_io.specs.Position.{IsAt, given_in_all}
-use Rattle.cap_inputs.specs.declared.inputs.Next.{Next}
-use Rattle.cap_inputs.specs.declared.inputs.Next.TheVariants as next
 use Rattle.cap_io.specs.Sequence.{InputItems, Event, Sequence, PacketOrder, InTurn, ByTime, sequence_of, sequence_in_turn, sequence_by_time, with_front}
+use Rattle.cap_io.specs.Source.{SourceView, Phase, Ended, Advances, SectionFits, Steps, phase_after}
+use Rattle.cap_inputs.specs.declared.inputs.Next.{Next}
 
 -- the view of an input
 pub record InputView : Type 0 where
@@ -217,8 +215,8 @@ place_next ByTime cursors =
 -- the input that is next is read on, or its packet that waits is decided; if there is none, all
 -- are at their clean ends
 abbrev pub next_at : ℕ → Option InputView → Next
-next_at place None = next.Finish
-next_at place (Some h) = if h.waiting then next.Decide place else next.Read place
+next_at place None = Next.Finish
+next_at place (Some h) = if h.waiting then Next.Decide place else Next.Read place
 
 -- the next action on the inputs
 abbrev pub next_of : InputsView → Next

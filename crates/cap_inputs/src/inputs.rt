@@ -1,17 +1,12 @@
 //! The inputs of a job, and which of them is next.
-ghost use Rattle.std.specs.Prelude.{◌≡◌, ◌&&◌, [], true, ◌<◌, ◌≤◌, ◌-◌, ◌^◌, IsTrue, Ok, false, length};
-ghost use Rattle.std.specs.Prelude.{map};
 ghost use Rattle.std.specs.Option.{IfSome};
-ghost use Rattle.cap_inputs.specs.inside.Cursor.{EntersQueue, HasPlaceFor, IsAtCursor};
-ghost use Rattle.cap_inputs.specs.inside.Cursor.{IsNextOfMerge, IsQueued, Leaves};
-ghost use Rattle.cap_inputs.specs.inside.Cursor.{first_schedule, is_merge};
-ghost use Rattle.cap_inputs.specs.inside.Cursor.{schedule_after, schedule_after_decided};
+ghost use Rattle.std.specs.Prelude.{◌≡◌, ◌&&◌, [], true, ◌<◌, ◌≤◌, ◌-◌, ◌^◌, IsTrue, Ok, false, length, map};
 ghost use Rattle.cap_inputs.specs.Fresh.{fresh_view};
+ghost use Rattle.cap_inputs.specs.Inputs.{is_packet_found, key_of, packet_time};
+ghost use Rattle.cap_inputs.specs.inside.Cursor.{EntersQueue, HasPlaceFor, IsAtCursor, IsNextOfMerge, IsQueued, Leaves, first_schedule, is_merge, schedule_after, schedule_after_decided};
+ghost use Rattle.cap_inputs.specs.inside.Inputs.{first_declared_link};
 ghost use Rattle.cap_io.specs.Sequence.{order_of};
 ghost use Rattle.cap_octet.specs.Views.{fresh_input};
-ghost use Rattle.cap_inputs.specs.Inputs.{is_packet_found, key_of};
-ghost use Rattle.cap_inputs.specs.inside.Inputs.{first_declared_link};
-ghost use Rattle.cap_inputs.specs.Inputs.{packet_time};
 
 use crate::queue::{Queue, Waiting};
 use cap_io::{Kind, Source};
@@ -75,17 +70,12 @@ fn current_time<I: Input, A: Allocator>(source: &Source<I, A>) -> u64
 }
 
 impl<I: Input, A: Allocator> InputCursor<I, A> {
-    ghost use Rattle.cap_inputs.specs.Inputs.{InputView, input_after, is_packet_found};
-    ghost use Rattle.std.specs.Prelude.{IsTrue, false, true};
-    ghost use Rattle.cap_inputs.specs.Inputs.{input_after_decided};
-    ghost use Rattle.cap_io.specs.Source.{SourceView, Advances, SectionFits, Reading, Steps};
-    ghost use Rattle.cap_io.specs.Source.{TakesIfAtHand, phase_after};
-    ghost use Rattle.std.specs.Option.{option_map};
+    ghost use Rattle.cap_inputs.specs.Inputs.{InputView, input_after, is_packet_found, input_after_decided};
+    ghost use Rattle.std.specs.Option.{option_map, IfSome};
+    ghost use Rattle.std.specs.Prelude.{IsTrue, false, true, ◌≤◌, IsSome, length};
+    ghost use Rattle.cap_io.specs.{Capture.first_link_of, Capture.kind_of, Reading.most_in_unit};
+    ghost use Rattle.cap_io.specs.Source.{SourceView, Advances, SectionFits, Reading, Steps, TakesIfAtHand, phase_after};
     ghost use Rattle.cap_octet.specs.Packet.{captured};
-    ghost use Rattle.cap_io.specs.Capture.{first_link_of, kind_of};
-    ghost use Rattle.cap_io.specs.Reading.{most_in_unit};
-    ghost use Rattle.std.specs.Prelude.{◌≤◌, IsSome, length};
-    ghost use Rattle.std.specs.Option.{IfSome};
 
     /// An input over a source of which nothing was read: no packet of it waits or is decided.
     fn new(source: Source<I, A>) -> Self
@@ -216,27 +206,22 @@ pub struct Inputs<I: Input, A: Allocator> {
 }
 
 impl<I: Input, A: Allocator> Model for Inputs<I, A> {
-    ghost use Rattle.cap_inputs.specs.Cursor.{ordering_of};
+    ghost use Rattle.cap_inputs.specs.{Cursor.ordering_of, Inputs.InputsView};
     ghost use Rattle.cap_inputs.specs.inside.Cursor.{HoldsQueue, IsScheduled};
-    ghost use Rattle.cap_inputs.specs.Inputs.{InputsView};
 
     ghost Value = { InputsView };
 
     ghost view = { λ f. record { order = ordering_of f.schedule; cursors = f.cursors.items } };
 
-    ghost invariant = { λ f. HoldsQueue f.schedule f.cursors.items f.queue
+    ghost invariant = { λ f. HoldsQueue (ordering_of f.schedule) f.cursors.items f.queue
         × IsScheduled f.schedule f.cursors.items };
 }
 
 impl<I: Input, A: Allocator> Inputs<I, A> {
     ghost use Rattle.cap_inputs.specs.Fresh.{fresh_inputs};
+    ghost use Rattle.cap_inputs.specs.Inputs.{offset_at, InputsView, IsInput, MarksDecided, ReadSteps, ReadsInput};
+    ghost use Rattle.cap_inputs.specs.inside.Inputs.{IsNext, first_declared_link, is_in_turn};
     ghost use Rattle.std.specs.List.{slice_get};
-    ghost use Rattle.cap_inputs.specs.Inputs.{offset_at};
-    ghost use Rattle.cap_inputs.specs.Inputs.{InputsView, IsInput, MarksDecided};
-    ghost use Rattle.cap_inputs.specs.inside.Inputs.{IsNext};
-    ghost use Rattle.cap_inputs.specs.Inputs.{ReadSteps, ReadsInput};
-    ghost use Rattle.cap_inputs.specs.inside.Inputs.{first_declared_link};
-    ghost use Rattle.cap_inputs.specs.inside.Inputs.{is_in_turn};
 
     /// The inputs of a job, of which nothing is read: merged by time, or one after another. `None`
     /// if there is no memory.
@@ -492,7 +477,7 @@ fn next_by_time<I: Input, A: Allocator>(
     next: usize,
     last: usize,
 ) -> Next
-    requires { IsQueued cursors.now next last queue.now }
+    requires { IsQueued cursors.now queue.now }
     ensures { IsNextOfMerge cursors.now next last result }
 {
     if next < last && next < cursors.len() {

@@ -23,10 +23,9 @@ pub struct Queue<A: Allocator> {
 }
 
 impl<A: Allocator> Model for Queue<A> {
-    ghost use Rattle.std.specs.Prelude.{◌≤◌, map, length};
     ghost use Rattle.std.specs.BinaryHeap.{heap_items, heap_len, heap_capacity, IsHeap};
-    ghost use Rattle.cap_inputs.specs.Queue.{Queue as View, queue};
-    ghost use Rattle.cap_inputs.specs.inside.Queue.{IsOnceEach};
+    ghost use Rattle.std.specs.Prelude.{◌≤◌, map, length};
+    ghost use Rattle.cap_inputs.specs.{Queue.Queue as View, Queue.queue, inside.Queue.IsOnceEach};
 
     ghost Value = { View };
 
@@ -37,9 +36,8 @@ impl<A: Allocator> Model for Queue<A> {
 }
 
 impl<A: Allocator> Queue<A> {
+    ghost use Rattle.std.specs.List.{All, Sorted.IsPermutation};
     ghost use Rattle.std.specs.Prelude.{◌≡◌, ◌≢◌, ◌<◌, ◌≤◌, [], ◌∷◌, length, IfOk, MatchOption};
-    ghost use Rattle.std.specs.List.{All};
-    ghost use Rattle.std.specs.List.Sorted.{IsPermutation};
     ghost use Rattle.cap_inputs.specs.Queue.{queue};
     ghost use Rattle.cap_inputs.specs.inside.Queue.{IsFirstWaiting, Precedes};
 

@@ -1,6 +1,6 @@
 -- Units that hold packets and end cleanly read back as them.
 use Rattle.cap_io.proofs.Common.{◌≡◌, ℕ, ◌+◌, List, [], ◌∷◌, ◌++◌, length, map, None, refl, sym, ap, ap₂, ◌∙◌, append_assoc, append-nil, map-append, AllByRecursion, Captured, Declared, Nothing, IsUnit, Placed, placed_at, AreUnits, no_unit, unit_then, NoUnit, front_of, Items, End, items, after_packets, ReadsBack}
-use Rattle.cap_io.proofs.Items.{items_from-units, items_from-stops}
+use Rattle.cap_io.proofs.Cuts.{items_from-units, items_from-stops}
 
 -- what is declared, from a place on
 pub record Holds (declared : Declared) (at : ℕ) (text : List ℕ) (ps : List Captured) : Type 0 where

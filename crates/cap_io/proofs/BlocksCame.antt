@@ -1,7 +1,7 @@
 -- What came of a block, from read to read.
 use Rattle.cap_io.proofs.Common.{◌≡◌, ℕ, true, ◌+◌, ◌<◌, ◌≤◌, ◌⊎◌, inl, inr, List, [], ◌∷◌, ◌++◌, length, take, drop, Option, Some, None, Result, Ok, Err, refl, sym, ap, ap₂, ◌∙◌, subst, arith, unwrap_or, option_to_list, append_assoc, length-append, length-take-le, drop_at, drop-drop, take-append-drop, checked, first_failing, Captured, Fault, NoMemory, ReadFailed, Order, checked_ok, checked_err, Parts, SectionParts, InterfaceParts, EnhancedParts, SimpleParts, SkippedParts, block_checks, parts_in, frame_checks, frame_fault, frame_in, most_block, Described, IsBlock, Section, block_size, checks_among, frame_after, interfaces_before, order_before, packet_by, packets_in, parts_after, section_after, section_by, unit_fault, passes, frame_checks-append, frame_in-append, unit_fault-frame, unit_fault-short, unit_fault-block, unit_fault-among, parts_in-append, block_checks-append, Frame, Enters, PacketIfAny, held_packet, section_of, AddsInterface, IsEntryFault, most_in_unit, block_length, RestMissing, span_bytes, is_interface, PacketSpans}
 use Rattle.cap_io.proofs.Fronts.{decisive_block_length, length_by_header-whole}
-use Rattle.cap_io.proofs.OwnFaults.{entry-not_failed, frame-not_failed, frame-not_memory}
+use Rattle.cap_io.proofs.OwnFaults.{entry-not_failed, own-frame, own-not_failed, own-not_memory}
 
 -- ---- what came
 
@@ -89,7 +89,7 @@ frame_refused before section front unread answer fault is upper_bound exact err 
     block_missing before front unread unread fault 0 upper_bound
     (inl (unit_fault-frame before (front ++ unread) fault (omega (arith, length-append front unread)) whole))
     (λ none. omega (arith, (passes before (front ++ unread) none).least))
-    (λ failed. absurd (frame-not_failed section front fault fails failed)) (omega arith) (omega arith) refl
+    (λ failed. absurd (own-not_failed fault (own-frame section front fault fails) failed)) (omega arith) (omega arith) refl
 
 pub no_room_for_block : (before : Option Section) (front unread : List ℕ) → length front ≡ 12 → BlockMissing before (front ++ unread) unread NoMemory
 no_room_for_block before front unread upper_bound =
@@ -113,7 +113,7 @@ block-exceeds before section front unread frame room is upper_bound said less =
 
 pub frame-has_memory : (section : Option Order) (front : List ℕ) (answer : Result Frame Fault) (fault : Fault) → answer ≡ checked (frame_fault section front) (frame_in section front) → answer ≡ Err fault
     → fault ≡ NoMemory → ⊥
-frame-has_memory section front answer fault is err = frame-not_memory section front fault (checked_err (frame_fault section front) (frame_in section front) fault (sym is ∙ err))
+frame-has_memory section front answer fault is err = own-not_memory fault (own-frame section front fault (checked_err (frame_fault section front) (frame_in section front) fault (sym is ∙ err)))
 
 pub rest_of_block : (before : Option Section) (section : Option Order) (front unread unread' : List ℕ) (frame : Frame) (fault : Fault) → order_before before ≡ section → length front ≡ 12
     → FrontSays section front frame → frame.length ≤ most_block → RestMissing (length front) frame.length unread unread' fault

@@ -1,10 +1,9 @@
 -- What came of a unit, from read to read.
 use Rattle.cap_io.proofs.Common.{◌≡◌, ℕ, Bool, IsTrue, IfOk, IfErr, ◌+◌, ◌<◌, ◌≤◌, inl, inr, List, [], ◌++◌, length, take, drop, Option, Some, None, is_some, unwrap_or, true, false, Result, Ok, Err, refl, sym, subst, ap, ap₂, ◌∙◌, arith, take_all, length-append, take-append-drop, drop_at, drop-drop, append_assoc, append-nil, TakesFull, checked, first_failing, Fault, NotACaptureFile, Truncated, ReadFailed, NoMemory, checked_ok, checked_err, Head, RecordHead, form_in, header_fault, header_in, captured_len, field_checks, record_header_in, record_size, record_packet, form_in-append, header_fault-append, header_fault-no_magic, header_fault-short, field_checks-append, record_header_in-append, captured_len-append, record_fault-fields, record_fault-short, IsRecord-came, is_section, Declared, Nothing, PcapFile, Front, a_pcap_record, front_of, is_pcapng, most_in_unit, most_taken, stated_length, decisive_length, IsTaken, TakesMemory, NoUnitCame, RestMissing, HeaderCame, PacketCame}
-use Rattle.std.proofs.Common.{length-drop}
-use Rattle.std.proofs.Math.ListN.{drop_of_length-le}
-use Rattle.cap_pcapng.proofs.Units as block
 use Rattle.cap_io.proofs.Fronts.{front_of-no_header, front_of-no_record, front_of-pcapng, is_section-append, is_pcapng-append, most_taken-block, most_taken-header, most_taken-record, most_taken-front, length_by_header-whole, decisive_length-header}
-use Rattle.cap_io.proofs.OwnFaults.{fields-not_failed, fields-not_memory, header-not_failed, header-not_memory}
+use Rattle.cap_io.proofs.OwnFaults.{own-fields, own-header, own-not_failed, own-not_memory}
+use Rattle.std.proofs.{Common.length-drop, Math.ListN.drop_of_length-le}
+use Rattle.cap_pcapng.proofs.Units as block
 
 -- bytes that came, and some more after them
 pub Taken-following : (declared : Declared) (unread unread1 unread2 front : List ℕ) (fault : Fault) (count : ℕ) → unread ≡ front ++ unread1 → count ≤ length unread1 → unread2 ≡ drop count unread1
@@ -97,7 +96,7 @@ header_wrong unread unread2 bytes fault splits size other is =
     record {
       why = inl (front_of-no_header unread fault kind whole);
       taken = Taken-following Nothing unread unread2 unread2 bytes fault 0 splits (omega arith) refl (most_taken-header unread (length bytes + 0) kind (omega arith))
-          (λ failed. absurd (header-not_failed bytes fault fails failed));
+          (λ failed. absurd (own-not_failed fault (own-header bytes fault fails) failed));
     }
 
 -- the first four bytes are those that were read first
@@ -138,7 +137,7 @@ fields_refused head unread unread1 front answer fault splits size is err =
     record {
       why = inl (front_of-no_record head unread fault (omega arith) (record_fault-fields head unread fault (omega arith) whole));
       taken = Taken-following (PcapFile head) unread unread1 unread1 front fault 0 splits (omega arith) refl (most_taken-front head unread (length front + 0) (omega arith))
-          (λ failed. absurd (fields-not_failed head front fault fails failed));
+          (λ failed. absurd (own-not_failed fault (own-fields head front fault fails) failed));
     }
 
 pub error_is : {X : Type 0} {fault other : Fault} → (let r : Result X Fault = Err fault in r ≡ Err other) → fault ≡ other
@@ -148,12 +147,12 @@ error_is e = (cc)
 pub fields-has_memory : (head : Head) (front : List ℕ) (answer : Result RecordHead Fault) (fault : Fault) → answer ≡ checked (first_failing (field_checks head front)) (record_header_in head front) → answer ≡ Err fault
     → fault ≡ NoMemory → ⊥
 fields-has_memory head front answer fault is err =
-    fields-not_memory head front fault (checked_err (first_failing (field_checks head front)) (record_header_in head front) fault (sym is ∙ err))
+    own-not_memory fault (own-fields head front fault (checked_err (first_failing (field_checks head front)) (record_header_in head front) fault (sym is ∙ err)))
 
 -- nor does one of a file header
 pub header-has_memory : (bytes : List ℕ) (answer : Result Head Fault) → answer ≡ checked (header_fault bytes) (header_in bytes) → IfErr answer (λ fault. fault ≡ NoMemory → ⊥)
 header-has_memory bytes (Ok head) is = tt
-header-has_memory bytes (Err fault) is = header-not_memory bytes fault (checked_err (header_fault bytes) (header_in bytes) fault (sym is))
+header-has_memory bytes (Err fault) is = own-not_memory fault (own-header bytes fault (checked_err (header_fault bytes) (header_in bytes) fault (sym is)))
 
 -- a record whose header passes takes memory where the block has less room
 pub record-takes : (head : Head) (unread unread1 front : List ℕ) (found : RecordHead) (size room : ℕ) → size ≡ 16 + found.captured → unread ≡ front ++ unread1 → length front ≡ 16 → FieldsCame head front found

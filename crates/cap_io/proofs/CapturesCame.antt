@@ -1,15 +1,14 @@
 -- Units of a capture of any kind, as they came.
-use Rattle.cap_io.proofs.Common.{◌≡◌, ℕ, ◌+◌, ◌<◌, ◌≤◌, ◌^◌, IsTrue, Result, Ok, Err, inl, inr, Bool, true, false, List, [], ◌∷◌, ◌++◌, length, take, Option, Some, None, is_some, refl, sym, ap, ◌∙◌, subst, arith, unwrap_or, if◌then◌else◌, nat_le, nat_lt, ltb-false, ltb-true, slice_get, option_map, option_or, option_to_list, length-append, length-take-le, All-nil, Captured, Fault, Truncated, Order, Little, u32_in, Head, Parts, SectionParts, InterfaceParts, EnhancedParts, SimpleParts, SkippedParts, body_in, parts_in, parts_in_body, frame_in, is_section, magic_order, order_in, type_in, type_of_block, Described, FitSection, IsBlock, Section, frame_after, interfaces_before, order_before, packet_by, packets_in, parts_after, section_after, section_by, unit_fault, passes, unit_fault-few, Frame, PacketSpans, FileState, Enters, KnowsIfAny, held_packet, section_of, Declared, Nothing, PcapFile, PcapngFile, Front, IsUnit, a_pcap_header, a_first_block, a_block, file_after, first_link_after, front_of, is_pcapng, TakesMemory, declared_by, read_failures, most_taken, packet_in_unit, decisive_length, block_length, BeginsBlock, FrontMissing, HasInterface, HeaderCame, IsSized, IsConsistent, PacketCame, ReadsUnit, NoUnitCame, RestMissing, UnitCame, UnitPassed, known_first_link, known_order, section_before, unit_size, span_bytes, is_interface}
-use Rattle.cap_pcapng.specs.declared.frames.BlockType.TheVariants as type
-use Rattle.cap_octet.specs.declared.device.Input.{Ghosts}
-use Rattle.cap_io.specs.declared.file_state.NextUnit.{NextUnit}
-use Rattle.cap_io.specs.declared.file_state.NextUnit.TheVariants as next_unit
-use Rattle.cap_io.specs.declared.next_unit.UnitReader.{UnitReader}
-use Rattle.cap_io.specs.declared.file_state.FileState.TheVariants as state
 use Rattle.cap_io.proofs.BlocksCame.{BlockCame, BlockMissing, Describes}
-use Rattle.cap_io.proofs.Came.{Taken-following, most_taken-file}
+use Rattle.cap_io.proofs.Came.{Taken-following, error_is, most_taken-file}
+use Rattle.cap_io.proofs.Common.{◌≡◌, ℕ, ◌+◌, ◌<◌, ◌≤◌, ◌^◌, IsTrue, Result, Ok, Err, inl, inr, Bool, true, false, List, [], ◌∷◌, ◌++◌, length, take, Option, Some, None, is_some, refl, sym, ap, ◌∙◌, subst, arith, unwrap_or, if◌then◌else◌, nat_le, nat_lt, ltb-false, ltb-true, slice_get, option_map, option_or, option_to_list, length-append, length-take-le, All-nil, Captured, Fault, Truncated, Order, Little, u32_in, Head, Parts, SectionParts, InterfaceParts, EnhancedParts, SimpleParts, SkippedParts, body_in, parts_in, parts_in_body, frame_in, is_section, magic_order, order_in, type_in, type_of_block, Described, FitSection, IsBlock, Section, frame_after, interfaces_before, order_before, packet_by, packets_in, parts_after, section_after, section_by, unit_fault, passes, unit_fault-few, Frame, PacketSpans, FileState, Enters, KnowsIfAny, held_packet, section_of, Declared, Nothing, PcapFile, PcapngFile, Front, IsUnit, a_pcap_header, a_first_block, a_block, file_after, first_link_after, front_of, is_pcapng, TakesMemory, declared_by, NoMemory, most_in_unit, read_failures, most_taken, packet_in_unit, decisive_length, block_length, BeginsBlock, FrontMissing, HasInterface, HeaderCame, IsSized, IsConsistent, PacketCame, ReadsUnit, NoUnitCame, RestMissing, UnitCame, UnitPassed, known_first_link, known_order, section_before, unit_size, span_bytes, is_interface}
 use Rattle.cap_io.proofs.Fronts.{block_unless, front_of-following, front_of-pcapng, front_of_block-none, is_pcapng-append, most_taken-block, decisive_length-pcapng, decisive_block_length, decisive_block_length-few, is_section-append}
 use Rattle.cap_io.proofs.Units.{and_second, first-section}
+use Rattle.cap_pcapng.specs.declared.frames.BlockType.{BlockType}
+use Rattle.cap_octet.specs.declared.device.Input.{Ghosts}
+use Rattle.cap_io.specs.inside.Reading.{Moves}
+use Rattle.cap_io.specs.declared.{file_state.NextUnit.NextUnit, next_unit.UnitReader.UnitReader}
+use Rattle.cap_io.specs.declared.file_state.FileState.TheVariants as state
 
 -- ---- no block
 
@@ -56,8 +55,8 @@ refused-block file interfaces front unread unread' fault upper_bound begins m =
 -- a section header holds no packet
 section-parts : (before : Option Section) (block : List ℕ) → is_section block ≡ true → parts_after before block ≡ SectionParts
 section-parts before block is =
-    let kind : type_in (order_before before) block ≡ type.Section =
-    ap (λ (b : Bool). if b then type.Section else type_of_block (u32_in (order_in (order_before before) block) block 0)) is in
+    let kind : type_in (order_before before) block ≡ BlockType.Section =
+    ap (λ (b : Bool). if b then BlockType.Section else type_of_block (u32_in (order_in (order_before before) block) block 0)) is in
     ap (λ k. parts_in_body k (frame_after before block).order (body_in (frame_after before block) block)) kind
 
 -- where a block would stand, it takes memory if it is longer, or describes an interface
@@ -252,8 +251,8 @@ interfaces-kept frame interfaces interfaces' block spans enters =
 pub has-section : (file : FileState) (front block : List ℕ) (frame : Frame) (interfaces interfaces' : List Described) (spans : PacketSpans) → BeginsBlock file front
     → frame_in (known_order file) front ≡ frame → Enters frame interfaces block (Some spans) interfaces' → KnowsIfAny interfaces' (Some spans) → HasInterface (declared_by file interfaces') spans
 has-section state.Unknown front block frame interfaces interfaces' spans begins is enters knows =
-    let kind : frame.block_type ≡ type.Section =
-    ap (λ (f : Frame). f.block_type) (sym is) ∙ ap (λ (b : Bool). if b then type.Section else type_of_block (u32_in (order_in None front) front 0)) begins in
+    let kind : frame.block_type ≡ BlockType.Section =
+    ap (λ (f : Frame). f.block_type) (sym is) ∙ ap (λ (b : Bool). if b then BlockType.Section else type_of_block (u32_in (order_in None front) front 0)) begins in
     let none : parts_in frame block ≡ SectionParts = ap (λ k. parts_in_body k frame.order (body_in frame block)) kind in
     let no_packet : None ≡ Some enters.packet.packet = sym (ap (packet_by interfaces) none) ∙ enters.packet.stands in absurd (cc)
 has-section (state.Pcap head) front block frame interfaces interfaces' spans begins is enters knows = absurd begins
@@ -294,6 +293,14 @@ begun-front state.Unknown interfaces unread unread' fault begun m = absurd (cc)
 begun-front (state.Pcap head) interfaces unread unread' fault begun m = absurd (cc)
 begun-front (state.Pcapng order first) interfaces unread unread' fault begun m = block_front first (section_of order interfaces) unread unread' fault m
 
+-- no unit was read
+pub reads-no_unit : {I A : Type 0} (device : Ghosts I) (old : UnitReader I A) (front : List ℕ) (fault : Fault) (new : UnitReader I A) → Moves device old.input new.input (length front) (unit_size new.spans) most_in_unit (Err fault)
+    → (IsTrue device.tells → NoUnitCame (declared_by old.file old.table) (front ++ device.unread old.input) (device.unread new.input) fault)
+    → (new.file ≡ old.file) × (new.table ≡ old.table) → length old.buffer.items ≤ length new.buffer.items → (length old.buffer.items ≤ most_in_unit → length new.buffer.items ≤ most_in_unit)
+    → (fault ≡ NoMemory → IsTrue device.tells → TakesMemory (length new.buffer.items) (declared_by old.file old.table) (front ++ device.unread old.input)) → ReadsUnit device old front (Err fault) new
+reads-no_unit device old front fault new moves err kept grown bounded memory =
+    record { moves = moves; sized = tt; consistent = tt; known = tt; ok = tt; err = err; kept = kept; grown = grown; bounded = bounded; fits = tt; memory = λ e. memory (error_is e) }
+
 -- what reading after the first bytes of a unit did is what reading it all did
 pub ReadsUnit-following : {I A : Type 0} (device : Ghosts I) (old : UnitReader I A) (mid : I) (front : List ℕ) (r : Result NextUnit Fault) (new : UnitReader I A)
     → device.given mid ≡ device.given old.input + length front → device.failures mid ≡ device.failures old.input → device.sure mid ≡ device.sure old.input
@@ -328,9 +335,9 @@ ReadsUnit-following device old mid front (Ok c) new given failed sure told small
     }
   where
     is_small : (c : NextUnit) → IsSized new.spans c new.buffer.items (device.given new.input) → 0 < unit_size new.spans c → device.given new.input < 2 ^ 63
-    is_small (next_unit.Other size) sized some = sized.1
-    is_small next_unit.Packet sized some = sized.1
-    is_small next_unit.End sized some = absurd (omega arith)
+    is_small (NextUnit.Other size) sized some = sized.1
+    is_small NextUnit.Packet sized some = sized.1
+    is_small NextUnit.End sized some = absurd (omega arith)
 ReadsUnit-following device old mid front (Err fault) new given failed sure told small splits reads =
     let m = reads.moves in
     let P : List ℕ → Type 0 = λ t. NoUnitCame (declared_by old.file old.table) t (device.unread new.input) fault in

@@ -1,7 +1,9 @@
 -- The different interfaces of packets, in the order of first use.
-use Rattle.cap_io.proofs.Common.{◌≡◌, ◌≤◌, ◌&&◌, true, List, [], ◌∷◌, ◌++◌, length, nat_eq, sym, arith, fold, fold-append, and_parts, eqb-true, Captured, Format, Pcapng, Interface, interface_of, is_same, new_among, interfaces_after_packet, kept_interfaces}
-use Rattle.std.proofs.Common.{length-append}
+use Rattle.cap_io.proofs.Common.{◌≡◌, ◌≤◌, ◌&&◌, ◌||◌, ◌+◌, suc, Bool, true, false, not, cond, if◌then◌else◌, Some, number_among, is_among, refl, ap, List, [], ◌∷◌, ◌++◌, length, nat_eq, sym, arith, fold, fold-append, and_parts, eqb-true, Captured, Format, Pcapng, Interface, interface_of, is_same, new_among, interfaces_after_packet, kept_interfaces, ℕ, map, nat_le, ◌∙◌, ◌<◌, list_any, position_or_len, append-nil, map-append, length-append, le-leb, lt-leb, most_output_interfaces, interface_in, zero, All-append, All-nil, All-push, All, HasNumber, IsFirst, FitFile, InterfaceNumber}
+use Rattle.std.proofs.{Common.length-append, Common.slice_get, Math.Bool.or-true}
+use Rattle.std.proofs.lemmas.Cmp.{nat_eq_equiv, nat_list_eq_equiv}
 use Rattle.std.specs.Cmp.Lexicographic.{pointwise, same_text}
+use Rattle.cap_io.specs.declared.numbering.InterfaceKey.{InterfaceKey}
 
 -- ---- the same
 
@@ -26,3 +28,112 @@ kept-grows interfaces (p ∷ ps) =
     let more = kept-grows (interfaces ++ new_among interfaces (interface_of p)) ps in
     let size = length-append interfaces (new_among interfaces (interface_of p)) in
     omega (arith, more, size)
+
+-- ---- an interface has its number
+
+found-by : (b : Bool) (x i : Interface) (xs : List Interface) → is_same i x ≡ b
+    → slice_get (xs ++ new_among xs i) (number_among xs i) ≡ Some i
+    → slice_get ((x ∷ xs) ++ (if (b || is_among xs i) then [] else i ∷ [])) (cond (not b) (1 + number_among xs i) 0) ≡ Some i
+found-by true x i xs same later = ap Some (sym (same_interface i x same))
+found-by false x i xs same later = let e : 1 + number_among xs i ≡ suc (number_among xs i) = omega arith in rw e later
+
+-- it is found at its number, also where it is new
+pub found : (interfaces : List Interface) (i : Interface) → slice_get (interfaces ++ new_among interfaces i) (number_among interfaces i) ≡ Some i
+found [] i = refl
+found (x ∷ xs) i = found-by (is_same i x) x i xs refl (found xs i)
+
+-- when two keys are equal
+abbrev pub same_key : InterfaceKey → InterfaceKey → Bool
+same_key k l = is_same (interface_in k) (interface_in l)
+
+pub among-keys : (keys : List InterfaceKey) (k : InterfaceKey) → list_any (same_key k) keys ≡ is_among (map interface_in keys) (interface_in k)
+among-keys [] k = refl
+among-keys (x ∷ keys) k = ap (λ (b : Bool). same_key k x || b) (among-keys keys k)
+
+pub number-keys : (keys : List InterfaceKey) (k : InterfaceKey) → position_or_len (same_key k) keys ≡ number_among (map interface_in keys) (interface_in k)
+number-keys [] k = refl
+number-keys (x ∷ keys) k = ap (λ (n : ℕ). cond (not (same_key k x)) (1 + n) 0) (number-keys keys k)
+
+push-key : (b : Bool) (keys : List InterfaceKey) (k : InterfaceKey) → map interface_in (if b then keys else keys ++ k ∷ []) ≡ map interface_in keys ++ (if b then [] else interface_in k ∷ [])
+push-key true keys k = sym (append-nil (map interface_in keys))
+push-key false keys k = map-append interface_in keys (k ∷ [])
+
+pub insert-keys : (keys : List InterfaceKey) (k : InterfaceKey)
+    → map interface_in (if list_any (same_key k) keys then keys else keys ++ k ∷ []) ≡ map interface_in keys ++ new_among (map interface_in keys) (interface_in k)
+insert-keys keys k = push-key (list_any (same_key k) keys) keys k ∙ ap (λ (b : Bool). map interface_in keys ++ (if b then [] else interface_in k ∷ [])) (among-keys keys k)
+
+-- ---- room
+
+fewer : (b : Bool) (n : ℕ) (keys : List Interface) (i : Interface) → length keys < n → length (keys ++ (if b then [] else i ∷ [])) ≤ n
+fewer true n keys i upper_bound = simp append-nil (omega arith)
+fewer false n keys i upper_bound = simp length-append (omega arith)
+
+-- one more may be had where there are fewer
+pub room-below : (keys : List Interface) (i : Interface) → length keys < most_output_interfaces → nat_le (length (keys ++ new_among keys i)) most_output_interfaces ≡ true
+room-below keys i upper_bound = le-leb (length (keys ++ new_among keys i)) most_output_interfaces (fewer (is_among keys i) most_output_interfaces keys i upper_bound)
+
+full-by : (b : Bool) (n : ℕ) (keys : List Interface) (i : Interface) → length keys ≡ n → nat_le (length (keys ++ (if b then [] else i ∷ []))) n ≡ b
+full-by true n keys i full = le-leb (length (keys ++ [])) n (simp append-nil (omega arith))
+full-by false n keys i full = lt-leb (length (keys ++ i ∷ [])) n (simp length-append (omega arith))
+
+-- where there are as many as there may be, only one of them has room
+pub room-full : (keys : List Interface) (i : Interface) → length keys ≡ most_output_interfaces → nat_le (length (keys ++ new_among keys i)) most_output_interfaces ≡ is_among keys i
+room-full keys i full = full-by (is_among keys i) most_output_interfaces keys i full
+
+some_is : (i j : Interface) → Some i ≡ Some j → i ≡ j
+some_is i j same = (cc)
+
+same-self : (i : Interface) → is_same i i ≡ true
+same-self i = rw (nat_eq_equiv.refl i.link, nat_eq_equiv.refl i.snap) (nat_list_eq_equiv.refl i.name)
+
+-- ---- its number stays
+
+number-by : (b : Bool) (i : Interface) (xs : List Interface) → number_among (xs ++ new_among xs i) i ≡ number_among xs i
+    → cond (not b) (1 + number_among (xs ++ (if b || is_among xs i then [] else i ∷ [])) i) 0 ≡ cond (not b) (1 + number_among xs i) 0
+number-by true i xs stays = refl
+number-by false i xs stays = ap (λ (n : ℕ). 1 + n) stays
+
+number-stays : (old : List Interface) (i : Interface) → number_among (old ++ new_among old i) i ≡ number_among old i
+number-stays [] i = ap (λ (b : Bool). cond (not b) 1 0) (same-self i)
+number-stays (x ∷ xs) i = number-by (is_same i x) i xs (number-stays xs i)
+
+pub first-following : (old new : List Interface) (i : Interface) (place : InterfaceNumber) → HasNumber old i place new → IsFirst place.number new
+first-following old new i place has j there =
+    let at : slice_get new place.number ≡ Some i = rw (has.interfaces, has.number) (found old i) in
+    let same : j ≡ i = some_is j i (sym there ∙ at) in
+    rw (same, has.interfaces, has.number) (number-stays old i)
+
+-- ---- the bounds after one more
+
+IsShort : Interface → Type 0
+IsShort i = length i.name ≤ 255
+
+new-short : (b : Bool) (i : Interface) → length i.name ≤ 255 → All IsShort (if b then [] else i ∷ [])
+unfolding IsShort
+new-short true i short = All-nil IsShort
+new-short false i short = All-push IsShort [] i (All-nil IsShort) short
+
+pub few-following : (old new : List Interface) (i : Interface) (place : InterfaceNumber) → FitFile old → length (old ++ new_among old i) ≤ most_output_interfaces → length i.name ≤ 255
+    → HasNumber old i place new → FitFile new
+unfolding IsShort
+few-following old new i place upper_bound room short has =
+    let names : All IsShort (old ++ new_among old i) = All-append IsShort old (new_among old i) upper_bound.names (new-short (is_among old i) i short) in
+    rw has.interfaces (record { count = room; names = names })
+
+-- ---- the place of what has a number
+
+among-at : (interfaces : List Interface) (n : ℕ) (i : Interface) → slice_get interfaces n ≡ Some i → is_among interfaces i ≡ true
+among-at [] n i there = (cc)
+among-at (x ∷ xs) zero i there =
+    ap (λ (b : Bool). b || is_among xs i) (ap (is_same i) (some_is x i there) ∙ same-self i)
+among-at (x ∷ xs) (suc n) i there = ap (λ (b : Bool). is_same i x || b) (among-at xs n i there) ∙ or-true (is_same i x)
+
+pub place-of-last : (interfaces : List Interface) (last : ℕ) (i : Interface) → IsFirst last interfaces → slice_get interfaces last ≡ Some i
+    → HasNumber interfaces i (record { number = last; is_new = false }) interfaces
+place-of-last interfaces last i first there =
+    let among : is_among interfaces i ≡ true = among-at interfaces last i there in
+    record {
+      number = sym (first i there);
+      is_new = ap not (sym among);
+      interfaces = sym (append-nil interfaces) ∙ ap (λ (b : Bool). interfaces ++ (if b then [] else i ∷ [])) (sym among);
+    }

@@ -1,5 +1,4 @@
 pub mod Common
-pub mod Fitting
 pub mod Fronts
 pub mod Came
 pub mod OwnFaults
@@ -7,11 +6,8 @@ pub mod BlocksCame
 pub mod Passing
 pub mod Hands
 pub mod Units
-pub mod Items
 pub mod Standing
 pub mod Interfaces
-pub mod Keys
-pub mod Places
 pub mod Texts
 pub mod Parts
 pub mod Cuts

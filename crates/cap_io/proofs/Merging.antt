@@ -3,8 +3,8 @@
 use Rattle.cap_io.proofs.Common.{◌≡◌, inl, inr, ℕ, ◌+◌, ◌<◌, ◌≤◌, ◌&&◌, ◌||◌, Bool, true, false, if◌then◌else◌, max, List, [], ◌∷◌, ◌++◌, refl, sym, ◌∙◌, ap, arith, subst, nat_lt, nat_eq, IsPermutation, Placed, Ending}
 use Rattle.std.proofs.lemmas.Bool.Decides.{nat_tests}
 use Rattle.std.proofs.lemmas.List.Sorted.{IsPermutation-refl, IsPermutation-trans, IsPermutation-cons, IsPermutation-middle}
-use Rattle.cap_io.specs.Sequence.{Entry, Event, Packet, SequenceEnd, Complete, FaultIn, Sequence, InputItems, all_entries, comes_before, end_after, entries_of, fault_without_packets, insert_entry, sequence_of_entries, sort_entries, unless_fault, with_front}
 use Rattle.cap_io.specs.Merging.{AreSorted, IsNoLater, IsNoLaterThan, MergesSort, events_of, of_input}
+use Rattle.cap_io.specs.Sequence.{Entry, Event, Packet, SequenceEnd, Complete, FaultIn, Sequence, InputItems, all_entries, comes_before, end_after, entries_of, fault_without_packets, insert_entry, sequence_of_entries, sort_entries, unless_fault, with_front}
 
 -- ---- before and after
 

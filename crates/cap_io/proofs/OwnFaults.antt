@@ -1,7 +1,6 @@
 -- Which faults checks tell: none of them that the device failed, or that memory ran out.
 use Rattle.cap_io.proofs.Common.{◌≡◌, ℕ, inl, inr, Bool, true, false, List, Option, Some, Err, refl, arith, first_failing, Fault, NoMemory, ReadFailed, Order, Parts, SectionParts, InterfaceParts, EnhancedParts, SimpleParts, SkippedParts, block_checks, body_checks, body_in, parts_in, Head, header_checks, header_fault, field_checks, frame_checks, Described, checks_among, Frame, IsBlockFault, AddsInterface, IsEntryFault, read_failures}
 use Rattle.cap_pcapng.specs.declared.frames.BlockType.{BlockType}
-use Rattle.cap_pcapng.specs.declared.frames.BlockType.TheVariants as type
 use Rattle.cap_pcapng.proofs.Faults.{AreAll, all_failing, all_of_options}
 
 -- ---- no check tells that the device failed, or that memory ran out
@@ -33,12 +32,12 @@ own_among interfaces (SimpleParts orig rest) = (refl, (refl, tt))
 own_among interfaces SkippedParts = tt
 
 own_body : (kind : BlockType) (order : Order) (body : List ℕ) → AreOwn (body_checks kind order body)
-own_body type.Section order body = (refl, (refl, tt))
-own_body type.Interface order body = (refl, tt)
-own_body type.ObsoletePacket order body = (refl, tt)
-own_body type.SimplePacket order body = (refl, tt)
-own_body type.EnhancedPacket order body = (refl, tt)
-own_body type.Other order body = tt
+own_body BlockType.Section order body = (refl, (refl, tt))
+own_body BlockType.Interface order body = (refl, tt)
+own_body BlockType.ObsoletePacket order body = (refl, tt)
+own_body BlockType.SimplePacket order body = (refl, tt)
+own_body BlockType.EnhancedPacket order body = (refl, tt)
+own_body BlockType.Other order body = tt
 
 own-block : (frame : Frame) (block : List ℕ) (fault : Fault) → first_failing (block_checks frame block) ≡ Some fault → IsOwn fault
 own-block frame block fault fails = all_failing IsOwn (block_checks frame block) fault (refl, own_body frame.block_type frame.order (body_in frame block)) fails
@@ -60,10 +59,10 @@ entry-own frame interfaces block fault is =
       | inr memory ↦ rw memory.0 refl
     ]
 
-own-not_failed : (fault : Fault) → IsOwn fault → fault ≡ ReadFailed → ⊥
+pub own-not_failed : (fault : Fault) → IsOwn fault → fault ≡ ReadFailed → ⊥
 own-not_failed fault own failed = let exact : IsOwn ReadFailed = rw failed at own in (cc)
 
-own-not_memory : (fault : Fault) → IsOwn fault → fault ≡ NoMemory → ⊥
+pub own-not_memory : (fault : Fault) → IsOwn fault → fault ≡ NoMemory → ⊥
 own-not_memory fault own memory = let exact : IsOwn NoMemory = rw memory at own in (cc)
 
 -- memory runs out for an interface alone
@@ -74,23 +73,14 @@ entry-adds frame interfaces block fault is memory =
       | inr adds ↦ adds.1
     ]
 
-pub fields-not_memory : (head : Head) (text : List ℕ) (fault : Fault) → first_failing (field_checks head text) ≡ Some fault → fault ≡ NoMemory → ⊥
-fields-not_memory head text fault fails = own-not_memory fault (all_failing IsOwn (field_checks head text) fault (refl, (refl, tt)) fails)
+pub own-fields : (head : Head) (text : List ℕ) (fault : Fault) → first_failing (field_checks head text) ≡ Some fault → IsOwn fault
+own-fields head text fault fails = all_failing IsOwn (field_checks head text) fault (refl, (refl, tt)) fails
 
-pub frame-not_memory : (section : Option Order) (text : List ℕ) (fault : Fault) → first_failing (frame_checks section text) ≡ Some fault → fault ≡ NoMemory → ⊥
-frame-not_memory section text fault fails = own-not_memory fault (all_failing IsOwn (frame_checks section text) fault (refl, (refl, (refl, (refl, tt)))) fails)
+pub own-frame : (section : Option Order) (text : List ℕ) (fault : Fault) → first_failing (frame_checks section text) ≡ Some fault → IsOwn fault
+own-frame section text fault fails = all_failing IsOwn (frame_checks section text) fault (refl, (refl, (refl, (refl, tt)))) fails
 
-pub header-not_memory : (text : List ℕ) (fault : Fault) → header_fault text ≡ Some fault → fault ≡ NoMemory → ⊥
-header-not_memory text fault fails = own-not_memory fault (all_failing IsOwn (header_checks text) fault (refl, (refl, (refl, (refl, tt)))) fails)
-
-pub header-not_failed : (text : List ℕ) (fault : Fault) → header_fault text ≡ Some fault → fault ≡ ReadFailed → ⊥
-header-not_failed text fault fails = own-not_failed fault (all_failing IsOwn (header_checks text) fault (refl, (refl, (refl, (refl, tt)))) fails)
-
-pub fields-not_failed : (head : Head) (text : List ℕ) (fault : Fault) → first_failing (field_checks head text) ≡ Some fault → fault ≡ ReadFailed → ⊥
-fields-not_failed head text fault fails = own-not_failed fault (all_failing IsOwn (field_checks head text) fault (refl, (refl, tt)) fails)
-
-pub frame-not_failed : (section : Option Order) (text : List ℕ) (fault : Fault) → first_failing (frame_checks section text) ≡ Some fault → fault ≡ ReadFailed → ⊥
-frame-not_failed section text fault fails = own-not_failed fault (all_failing IsOwn (frame_checks section text) fault (refl, (refl, (refl, (refl, tt)))) fails)
+pub own-header : (text : List ℕ) (fault : Fault) → header_fault text ≡ Some fault → IsOwn fault
+own-header text fault fails = all_failing IsOwn (header_checks text) fault (refl, (refl, (refl, (refl, tt)))) fails
 
 pub entry-not_failed : (frame : Frame) (interfaces : List Described) (block : List ℕ) (fault : Fault) → IsEntryFault frame interfaces block fault → fault ≡ ReadFailed → ⊥
 entry-not_failed frame interfaces block fault is failed = let own : read_failures {X = ℕ} (Err ReadFailed) ≡ 0 = rw failed at (entry-own frame interfaces block fault is) in omega (arith, own)

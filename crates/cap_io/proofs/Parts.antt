@@ -1,11 +1,8 @@
 -- Parts that are written one after another, and what a sink adds by them.
 use Rattle.cap_io.proofs.Common.{◌≡◌, ◌⊎◌, inl, inr, ℕ, ◌+◌, ◌<◌, Bool, true, false, not, if◌then◌else◌, List, [], ◌∷◌, ◌++◌, length, take, Option, Some, None, Result, is_ok, Ok, Err, refl, sym, ap, ap₂, subst, ◌∙◌, arith, flat_map, append_assoc, append-nil, take-append-le, checked, AppendsOrStops, Stops, Captured, Fault, WriteFailed, Format, Pcap, NsecPcap, Pcapng, InterfaceNumber, SinkState, HasNumber, WritesPacket, file_start_in, appended_packet, Interface, interface_of, is_among, number_among, file_start, record_text, Appends, packet_block_text, description_text}
-use Rattle.std.proofs.Common.{length-append}
-use Rattle.std.proofs.Math.Seq.{take-append-add}
+use Rattle.std.proofs.{Common.length-append, Math.Seq.take-append-add}
 use Rattle.cap_octet.specs.Writer.{WritesExactly}
-use Rattle.cap_octet.specs.declared.device.DeviceFault.{DeviceFault}
-use Rattle.cap_octet.specs.declared.device.Output.{Ghosts}
-use Rattle.cap_octet.specs.declared.device.Stopped.{Stopped}
+use Rattle.cap_octet.specs.declared.device.{DeviceFault.DeviceFault, Output.Ghosts, Stopped.Stopped}
 use Rattle.cap_pcap.specs.Encoding.{IsPcap, file_header as pcap_header, resolution_of}
 use Rattle.cap_pcapng.specs.Encoding.{interface_text, packet_block as pcapng_packet}
 

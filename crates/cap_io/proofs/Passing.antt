@@ -1,12 +1,9 @@
 -- From one place in a file to a later one.
 use Rattle.cap_io.proofs.Common.{◌≡◌, ℕ, ◌+◌, ◌-◌, ◌≤◌, List, [], ◌++◌, length, take, drop, Option, Some, None, is_some, true, refl, sym, ap, ap₂, ◌∙◌, subst, arith, slice_get, option_map, append_assoc, drop-take, take-take, length-append, length-take-le, Order, Head, Described, packet_of, Fault, NoMemory, PacketSpans, Declared, Nothing, PcapFile, PcapngFile, AreUnits, no_unit, TakesMemory, held_length, no_unit_fits, packet_in_unit, EndCame, HasInterface, PacketCame, NoUnitCame, UnitPassed, span_bytes, SourceView, Reading, Ended, Failed, SkipsUnits, IsBroken, FindsPacket, FindsEnd, FindsFault, block_at, end_offset, phase_at, IsBetween, HoldsIfAny}
-use Rattle.cap_pcapng.specs.Comment.{comment_in}
+use Rattle.cap_io.proofs.Cuts.{AreUnits-append}
+use Rattle.cap_io.proofs.Units.{FitUnits-append, FitUnits-wider, one_unit_fits, one_unit}
+use Rattle.cap_pcapng.specs.{Comment.comment_in, declared.effect.Span.Span}
 use Rattle.cap_io.specs.declared.source.Stage.{Stage}
-use Rattle.cap_io.specs.declared.source.Stage.TheVariants as stage
-use Rattle.cap_pcapng.specs.declared.effect.Span.{Span}
-use Rattle.cap_io.proofs.Items.{AreUnits-append}
-use Rattle.cap_io.proofs.Fitting.{FitUnits-append, FitUnits-wider, one_unit_fits}
-use Rattle.cap_io.proofs.Units.{one_unit}
 
 -- ---- no unit is gone over
 
@@ -182,11 +179,11 @@ time-held (PcapngFile first section) spans block known = by_interface (slice_get
 
 -- ---- nothing is in hand
 
-pub stage_between : (now : Stage) (spans : PacketSpans) (buffer : List ℕ) → phase_at now ≡ Reading → block_at now spans buffer ≡ [] → HoldsIfAny now spans buffer → now ≡ stage.Between
-stage_between stage.Between spans buffer phase none holds = refl
-stage_between stage.Current spans buffer phase none holds =
+pub stage_between : (now : Stage) (spans : PacketSpans) (buffer : List ℕ) → phase_at now ≡ Reading → block_at now spans buffer ≡ [] → HoldsIfAny now spans buffer → now ≡ Stage.Between
+stage_between Stage.Between spans buffer phase none holds = refl
+stage_between Stage.Current spans buffer phase none holds =
     absurd (omega (arith, holds.some, holds.there, sym (length-take-le spans.size buffer holds.there) ∙ ap length none))
-stage_between stage.Lent spans buffer phase none holds =
+stage_between Stage.Lent spans buffer phase none holds =
     absurd (omega (arith, holds.some, holds.there, sym (length-take-le spans.size buffer holds.there) ∙ ap length none))
-stage_between stage.Ended spans buffer phase none holds = (cc)
-stage_between (stage.Failed fault) spans buffer phase none holds = (cc)
+stage_between Stage.Ended spans buffer phase none holds = (cc)
+stage_between (Stage.Failed fault) spans buffer phase none holds = (cc)

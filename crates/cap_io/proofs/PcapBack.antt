@@ -1,11 +1,11 @@
 -- What is written in a pcap form reads back.
+use Rattle.cap_io.proofs.Backs.{Holds, each-following, holds-none, holds-unit, reads-back}
 use Rattle.cap_io.proofs.Common.{◌≡◌, ℕ, ◌+◌, ◌*◌, ◌/◌, ◌%◌, ◌^◌, ◌<◌, ◌≤◌, Bool, List, [], ◌∷◌, ◌++◌, length, drop, nat_lt, None, refl, sym, ap, subst, ◌∙◌, arith, leb-true, lt-ltb, AllByRecursion, flat_map, eqb-true, ltb-true, first_failing, u32_in, Captured, Fault, LinkTypesDiffer, Pcap, NsecPcap, Little, all_met, none_failing, IsHeader, header_checks, IsRecord, field_checks, most_captured, nanoseconds_of_part, record_packet, parts_of_second, Head, Resolution, Microseconds, Nanoseconds, record_fault-whole, PcapFile, a_pcap_header, a_pcap_record, Back, InRange, IsPlain, ReadsBack, has_link, record_text, state_after}
+use Rattle.cap_io.proofs.Texts.{bare_text, text-start}
 use Rattle.std.proofs.Common.{le-leb}
 use Rattle.cap_octet.specs.Number.{number_in}
 use Rattle.cap_pcap.specs.Encoding as pcap
 use Rattle.cap_pcapng.proofs.Numerals.{number_at}
-use Rattle.cap_io.proofs.Texts.{bare_text, text-start}
-use Rattle.cap_io.proofs.Backs.{Holds, each-following, holds-none, holds-unit, reads-back}
 
 -- ---- a record
 

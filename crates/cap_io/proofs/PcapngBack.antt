@@ -1,25 +1,12 @@
 -- What is written in pcapng reads back.
+use Rattle.cap_io.proofs.Backs.{Holds, each-following, holds-none, holds-unit, reads-back}
 use Rattle.cap_io.proofs.Common.{◌≡◌, ℕ, ◌+◌, suc, ◌||◌, ◌<◌, ◌≤◌, Bool, true, false, List, [], ◌∷◌, ◌++◌, length, map, not, cond, if◌then◌else◌, Option, None, Some, refl, sym, ap, subst, ◌∙◌, arith, AllByRecursion, flat_map, fold, slice_get, option_map, fold-append, append_assoc, append-nil, length-map, map-append, slice_get-map, slice_get_within, first_failing, Captured, Pcapng, all_met, none_failing, Described, most_interfaces, Section, packets_in, Nothing, PcapngFile, IsUnit, a_first_block, a_block, first_link_after, Back, InRange, IsCarried, ReadsBack, Interface, checks_in, interface_of, interfaces_after_packet, is_among, is_same, kept_interfaces, new_among, number_among, state_after}
+use Rattle.cap_io.proofs.Interfaces.{found, kept-grows, kept-push}
+use Rattle.cap_io.proofs.Texts.{bare_text, text-start}
 use Rattle.std.proofs.Common.{length-append}
 use Rattle.cap_pcapng.specs.Laws.{ReadsAs, written_interface, written_section}
 use Rattle.cap_pcapng.specs.Encoding as pcapng
 use Rattle.cap_pcapng.proofs.WrittenBack.{section_back, interface_back, packet_back}
-use Rattle.cap_io.proofs.Backs.{Holds, each-following, holds-none, holds-unit, reads-back}
-use Rattle.cap_io.proofs.Interfaces.{kept-grows, kept-push, same_interface}
-use Rattle.cap_io.proofs.Texts.{bare_text, text-start}
-
--- ---- an interface has its number
-
-found-by : (b : Bool) (x i : Interface) (xs : List Interface) → is_same i x ≡ b
-    → slice_get (xs ++ new_among xs i) (number_among xs i) ≡ Some i
-    → slice_get ((x ∷ xs) ++ (if (b || is_among xs i) then [] else i ∷ [])) (cond (not b) (1 + number_among xs i) 0) ≡ Some i
-found-by true x i xs same later = ap Some (sym (same_interface i x same))
-found-by false x i xs same later = let e : 1 + number_among xs i ≡ suc (number_among xs i) = omega arith in rw e later
-
--- it is found at its number, also where it is new
-pub found : (interfaces : List Interface) (i : Interface) → slice_get (interfaces ++ new_among interfaces i) (number_among interfaces i) ≡ Some i
-found [] i = refl
-found (x ∷ xs) i = found-by (is_same i x) x i xs refl (found xs i)
 
 -- ---- units
 

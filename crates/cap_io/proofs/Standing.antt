@@ -1,10 +1,9 @@
 -- Where a source stands in its text, from one call to the next.
 use Rattle.cap_io.proofs.Common.{◌≡◌, ℕ, ◌+◌, ◌-◌, ◌<◌, ◌⊎◌, inl, inr, Bool, true, false, List, [], ◌∷◌, ◌++◌, length, Option, Some, refl, sym, ◌∙◌, ap, arith, add-zero, zero-add, Result, Ok, append_assoc, append-nil, length-append, length-drop, Fault, ReadFailed, NoMemory, Declared, Nothing, Placed, placed_at, AreUnits, no_unit, items, after_packets, ending_by, FaultAt, front_of, NoUnit, SourceView, Phase, Reading, Ended, Failed, source_at, SkipsUnits, FindsPacket, FindsEnd, FindsFault, Advances, Finds, FitUnits, no_unit_fits, decisive_length}
+use Rattle.cap_io.proofs.Cuts.{AreUnits-append, items_from-units, items_from-stops}
+use Rattle.cap_io.proofs.Units.{FitUnits-append, FitUnits-wider, held_length-le, one_unit_fits, one_unit}
 use Rattle.cap_io.specs.Capture.{items_from}
 use Rattle.cap_io.specs.Position.{IsAt, IsCutShort, MemoryEndsAt, given_in_all}
-use Rattle.cap_io.proofs.Fitting.{FitUnits-append, FitUnits-wider, held_length-le, one_unit_fits}
-use Rattle.cap_io.proofs.Items.{AreUnits-append, items_from-units, items_from-stops}
-use Rattle.cap_io.proofs.Units.{one_unit}
 
 ended_twice : Reading ≡ Ended → ⊥
 ended_twice e = (cc)

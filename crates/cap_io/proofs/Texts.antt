@@ -1,8 +1,8 @@
 -- What a sink wrote is the text of the packets that were put to it.
 use Rattle.cap_io.proofs.Common.{◌≡◌, ◌⊎◌, inl, inr, ℕ, ◌+◌, ◌/◌, ◌^◌, nat_le, nat_lt, length, Bool, true, false, List, [], ◌∷◌, ◌++◌, Option, None, Some, Result, Ok, Err, refl, sym, ◌∙◌, ap, ap₂, subst, append_assoc, append-nil, first_failing, AppendsOrStops, Captured, Fault, WriteFailed, NoMemory, LinkTypesDiffer, TooLong, TimeOutOfRange, TooManyOutputInterfaces, Format, Pcap, NsecPcap, Pcapng, most_captured, most_block, SinkState, Empty, Started, Broken, Interface, added_text, appended_packet, checks_in, file_start, file_start_in, has_link, has_room, interfaces_after_packet, kept_interfaces, packets_text, refusal_of, state_after, state_after_packet, takes_memory, takes_memory_in, text, SinkView, sink_at, HasPut, HasPackets, AddsPacket, PutsNext, WritesPacket, PutsPacket, PutWrites, IsPutAnswer, Finishes, FinishWrites, FinishesEmpty, link_or_ethernet, refusal_in, added_in, EachPutGoesByPackets, PutExtendsText}
+use Rattle.cap_io.proofs.Interfaces.{kept-push}
 use Rattle.cap_pcapng.specs.Padding.{padded_length}
 use Rattle.cap_pcapng.specs.Encoding as pcapng
-use Rattle.cap_io.proofs.Interfaces.{kept-push}
 
 -- ---- faults that refuse no packet
 

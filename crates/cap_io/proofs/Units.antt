@@ -1,10 +1,10 @@
 -- A unit and what a text begins with.
-use Rattle.cap_io.proofs.Common.{◌≡◌, ℕ, Bool, true, false, ◌||◌, ◌&&◌, cond, is_some, ◌⊎◌, inl, inr, ◌<◌, ◌≤◌, List, [], ◌∷◌, ◌++◌, length, take, drop, Option, None, Some, refl, sym, ◌∙◌, ap, arith, append-nil, length-append, length-take-le, take-append-drop, take_at, Captured, Fault, Head, Resolution, Microseconds, Nanoseconds, form_in, header_checks, header_fault, header_in, magic, IsHeader, record_fault, record_size, record_packet, IsRecord, header_fault-append, header_fault-none, header_in-append, IsRecord-front, IsRecord-take, ◌==◌, nat_le, le-leb, u32_in, Little, Big, all_met, frame_checks, is_section, section_type, IsBlock, Section, block_size, packets_in, unit_fault, Declared, Nothing, PcapFile, PcapngFile, IsUnit, a_pcap_header, a_pcap_record, a_first_block, a_block, file_after, is_pcapng, placed_at, AreUnits, no_unit, unit_then, Whole, front_of}
+use Rattle.cap_io.proofs.Common.{◌≡◌, ℕ, Bool, true, false, ◌||◌, ◌&&◌, cond, is_some, ◌⊎◌, inl, inr, ◌<◌, ◌≤◌, List, [], ◌∷◌, ◌++◌, length, take, drop, Option, None, Some, refl, sym, ◌∙◌, ap, arith, append-nil, length-append, length-take-le, take-append-drop, take_at, Captured, Fault, Head, Resolution, Microseconds, Nanoseconds, form_in, header_checks, header_fault, header_in, magic, IsHeader, record_fault, record_size, record_packet, IsRecord, header_fault-append, header_fault-none, header_in-append, IsRecord-front, IsRecord-take, ◌==◌, nat_le, le-leb, u32_in, Little, Big, all_met, frame_checks, is_section, section_type, IsBlock, Section, block_size, packets_in, unit_fault, Declared, Nothing, PcapFile, PcapngFile, IsUnit, a_pcap_header, a_pcap_record, a_first_block, a_block, file_after, is_pcapng, placed_at, AreUnits, no_unit, unit_then, Whole, front_of, subst, append_assoc, FitUnits, no_unit_fits, unit_fits, held_length}
+use Rattle.cap_io.proofs.Fronts.{block_unless, front_of_file, header_unless, record_unless, front_of-header, front_of-record, front_of-pcapng, front_of-following, front_of_block-whole}
 use Rattle.std.proofs.Common.{eqb-true}
 use Rattle.cap_pcap.proofs.Records.{passes}
 use Rattle.cap_octet.specs.Number.{number_in}
 use Rattle.cap_pcapng.proofs.Units as block
-use Rattle.cap_io.proofs.Fronts.{block_unless, front_of_file, header_unless, record_unless, front_of-header, front_of-record, front_of-pcapng, front_of-following, front_of_block-whole}
 
 -- ---- which kind of file
 
@@ -155,3 +155,25 @@ pub one_unit : {b c : Declared} {at : ℕ} {u : List ℕ} {qs : List Captured} �
 one_unit {b} {c} {at} {u} {qs} one =
     let whole : AreUnits b at (u ++ []) (placed_at at qs ++ []) c = unit_then one no_unit in
     rw (append-nil u, append-nil (placed_at at qs)) at whole
+
+-- a longer block has room for them too
+pub FitUnits-wider : {room more : ℕ} {b d : Declared} {u : List ℕ} → room ≤ more → FitUnits room b u d → FitUnits more b u d
+FitUnits-wider wider no_unit_fits = no_unit_fits
+FitUnits-wider wider (unit_fits unit fits others) = unit_fits unit (omega (arith, fits, wider)) (FitUnits-wider wider others)
+
+pub FitUnits-append : {room : ℕ} {b c d : Declared} {u v : List ℕ} → FitUnits room b u c → FitUnits room c v d → FitUnits room b (u ++ v) d
+FitUnits-append no_unit_fits others = others
+FitUnits-append {room} {b} {c} {d} {u} {v} (unit_fits {u = first} {more = more} unit fits rest) others =
+    subst (λ (text : List ℕ). FitUnits room b text d) (sym (append_assoc first more v)) (unit_fits unit fits (FitUnits-append rest others))
+
+pub one_unit_fits : {room size : ℕ} {b d : Declared} {u : List ℕ} {qs : List Captured} → IsUnit b u qs d → held_length b d (length u) ≡ size → size ≤ room → FitUnits room b u d
+one_unit_fits {room} {size} {b} {d} {u} unit whole fits =
+    subst (λ (text : List ℕ). FitUnits room b text d) (append-nil u) (unit_fits unit (omega (arith, whole, fits)) no_unit_fits)
+
+-- no more of a unit is held than it has
+pub held_length-le : (b c : Declared) (size : ℕ) → held_length b c size ≤ size
+held_length-le Nothing Nothing size = omega arith
+held_length-le Nothing (PcapFile head) size = omega arith
+held_length-le Nothing (PcapngFile first section) size = omega arith
+held_length-le (PcapFile head) c size = omega arith
+held_length-le (PcapngFile first section) c size = omega arith

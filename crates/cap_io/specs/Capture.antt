@@ -1,20 +1,15 @@
 -- A capture file: the units that it is made of, how a text is cut into them, and the packets that
 -- they hold.
+use Rattle.std.specs.{List.slice_get, Option.option_map, Option.option_or}
 use Rattle.std.specs.Prelude.{◌≡◌, ℕ, zero, suc, ◌+◌, Bool, List, [], ◌∷◌, ◌++◌, length, map, take, drop, nat_le, ◌&&◌, if◌then◌else◌, Option, None, Some}
-use Rattle.std.specs.List.{slice_get}
-use Rattle.std.specs.Option.{option_map, option_or}
-use Rattle.cap_octet.specs.Packet.{Captured}
-use Rattle.cap_octet.specs.declared.fault.Fault.{Fault}
+use Rattle.cap_octet.specs.{Packet.Captured, declared.fault.Fault.Fault}
 use Rattle.cap_pcap.specs.Header.{IsHeader, header_fault, header_in}
 use Rattle.cap_pcap.specs.Record.{IsRecord, record_fault, record_size, record_packet}
-use Rattle.cap_pcap.specs.declared.header.Head.{Head}
-use Rattle.cap_pcap.specs.declared.header.Resolution.{Resolution}
+use Rattle.cap_pcap.specs.declared.header.{Head.Head, Resolution.Resolution}
 use Rattle.cap_pcap.specs.declared.header.Resolution.TheVariants.{Microseconds, Nanoseconds}
-use Rattle.cap_pcapng.specs.Frame.{is_section}
-use Rattle.cap_pcapng.specs.Interface.{Described}
+use Rattle.cap_pcapng.specs.{Frame.is_section, Interface.Described}
 use Rattle.cap_pcapng.specs.Unit.{IsBlock, Section, block_size, packets_in, section_after, unit_fault}
-use Rattle.cap_io.specs.declared.source.Kind.{Kind}
-use Rattle.cap_io.specs.declared.source.Kind.TheVariants.{Pcap, NsecPcap, Pcapng}
+use Rattle.cap_io.specs.declared.source.Kind.{Kind, TheVariants.Pcap, TheVariants.NsecPcap, TheVariants.Pcapng}
 
 -- ---- units
 

@@ -1,11 +1,10 @@
 -- Laws of the definitions: each text is cut in one way, which shows its items; and what a sink does
 -- with one more packet, by what it keeps, is what all packets so far decide.
 use Rattle.std.specs.Prelude.{◌≡◌, ℕ, List, [], ◌∷◌, ◌++◌, length, Ok, Option}
-use Rattle.cap_octet.specs.Packet.{Captured}
-use Rattle.cap_octet.specs.declared.fault.Fault.{Fault}
+use Rattle.cap_octet.specs.{Packet.Captured, declared.fault.Fault.Fault}
 use Rattle.cap_io.specs.Capture.{Declared, Placed, IsCut, NoUnit, front_of, items, ending_by}
-use Rattle.cap_io.specs.Text.{added_text, refusal_of, interfaces_after_packet, kept_interfaces, state_after, state_after_packet, takes_memory, takes_memory_in}
 use Rattle.cap_io.specs.Sink.{SinkView, HasPackets, HasPut, PutsPacket, PutWrites, added_in, refusal_in}
+use Rattle.cap_io.specs.Text.{added_text, refusal_of, interfaces_after_packet, kept_interfaces, state_after, state_after_packet, takes_memory, takes_memory_in}
 
 -- some cut of a text
 pub record Cut (text : List ℕ) : Type 0 where

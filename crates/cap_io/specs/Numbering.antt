@@ -1,6 +1,5 @@
 -- Interfaces that are numbered by first use.
-use Rattle.cap_io.specs.declared.numbering.InterfaceKey.{InterfaceKey}
-use Rattle.cap_io.specs.Text.{Interface}
+use Rattle.cap_io.specs.{Text.Interface, declared.numbering.InterfaceKey.InterfaceKey}
 
 -- the interface whose key it is
 abbrev pub interface_in : InterfaceKey → Interface

@@ -1,8 +1,6 @@
 -- The place where a source is in the text that its device gives.
 use Rattle.std.specs.Prelude.{◌≡◌, ℕ, ◌+◌, ◌<◌, ◌≤◌, Bool, true, false, List, [], ◌∷◌, ◌++◌, length, None, Some}
-use Rattle.cap_octet.specs.Device.{HasGiven}
-use Rattle.cap_octet.specs.Packet.{Captured}
-use Rattle.cap_octet.specs.declared.fault.Fault.{Fault}
+use Rattle.cap_octet.specs.{Device.HasGiven, Packet.Captured, declared.fault.Fault.Fault}
 use Rattle.cap_io.specs.Capture.{Declared, Nothing, IsUnit, Placed, AreUnits, Items, FaultAt, NoUnit, front_of}
 use Rattle.cap_io.specs.Reading.{FitUnits, TakesMemory, decisive_length}
 use Rattle.cap_io.specs.Source.{SourceView, Reading, Ended, Failed}

@@ -1,22 +1,15 @@
 -- The bytes and the counts of a device when one unit is read from it.
+use Rattle.std.specs.{List.slice_get, Option.option_map}
 use Rattle.std.specs.Prelude.{◌≡◌, ℕ, ◌<◌, ◌≤◌, ◌⊎◌, true, List, [], ◌++◌, Bool, length, drop, Option, None, Some, Result, Err, is_some, is_none, unwrap_or, nat_le, ◌&&◌, if◌then◌else◌}
-use Rattle.std.specs.List.{slice_get}
-use Rattle.std.specs.Option.{option_map}
-use Rattle.cap_octet.specs.Packet.{Captured}
-use Rattle.cap_octet.specs.declared.fault.Fault.{Fault}
-use Rattle.cap_octet.specs.declared.fault.Fault.TheVariants.{NoMemory, ReadFailed}
-use Rattle.cap_octet.specs.Checks.{first_failing}
-use Rattle.cap_pcap.specs.Header.{form_in}
-use Rattle.cap_pcap.specs.Record.{field_checks, record_size}
-use Rattle.cap_pcapng.specs.Comment.{comment_in}
-use Rattle.cap_pcapng.specs.Frame.{frame_checks, most_block}
-use Rattle.cap_pcapng.specs.Interface.{Described}
+use Rattle.cap_octet.specs.{Checks.first_failing, Packet.Captured}
+use Rattle.cap_octet.specs.declared.fault.Fault.{Fault, TheVariants.NoMemory, TheVariants.ReadFailed}
+use Rattle.cap_pcap.specs.{Header.form_in, Record.field_checks, Record.record_size}
+use Rattle.cap_pcapng.specs.{Comment.comment_in, Effect.is_interface, Effect.span_bytes}
+use Rattle.cap_pcapng.specs.{Frame.frame_checks, Frame.most_block, Interface.Described}
 use Rattle.cap_pcapng.specs.Unit.{Section, block_size, order_before, packet_of, parts_after, unit_fault}
-use Rattle.cap_pcapng.specs.Effect.{is_interface, span_bytes}
 use Rattle.cap_pcapng.specs.declared.effect.PacketSpans.{PacketSpans}
-use Rattle.cap_io.specs.declared.file_state.FileState.{FileState}
-use Rattle.cap_io.specs.declared.file_state.FileState.TheVariants as state
 use Rattle.cap_io.specs.Capture.{Declared, Nothing, PcapFile, PcapngFile, IsUnit, Front, Whole, NoUnit, front_of, is_pcapng}
+use Rattle.cap_io.specs.declared.file_state.FileState.{FileState}
 
 -- the most bytes that a unit may have
 abbrev pub most_in_unit : ℕ
@@ -107,9 +100,9 @@ IsReason declared unread fault =
 
 -- the declarations, by the state of a reader's file and the interfaces of its table
 abbrev pub declared_by : FileState → List Described → Declared
-declared_by state.Unknown interfaces = Nothing
-declared_by (state.Pcap head) interfaces = PcapFile head
-declared_by (state.Pcapng order first) interfaces =
+declared_by FileState.Unknown interfaces = Nothing
+declared_by (FileState.Pcap head) interfaces = PcapFile head
+declared_by (FileState.Pcapng order first) interfaces =
     PcapngFile first (record { order = order; interfaces = interfaces })
 
 -- the packet that lies at these spans of a unit; None if its interface isn't declared

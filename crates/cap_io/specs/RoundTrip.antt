@@ -1,12 +1,10 @@
 -- The packets that a format carries: their text reads back as these packets.
 use Rattle.std.specs.Prelude.{◌≡◌, ℕ, ◌%◌, ◌^◌, ◌<◌, ◌≤◌, List, [], ◌∷◌, ◌++◌, length, map, None}
-use Rattle.cap_octet.specs.Packet.{Captured}
-use Rattle.cap_octet.specs.declared.format.Format.{Format}
+use Rattle.cap_octet.specs.{Packet.Captured, declared.format.Format.Format}
 use Rattle.cap_octet.specs.declared.format.Format.TheVariants.{Pcap, NsecPcap, Pcapng}
 use Rattle.cap_pcap.specs.Record.{most_captured}
 use Rattle.cap_pcapng.specs.Interface.{most_interfaces}
-use Rattle.cap_io.specs.Capture.{Placed, End, items}
-use Rattle.cap_io.specs.Text.{kept_interfaces, refusal_of, text}
+use Rattle.cap_io.specs.{Capture.Placed, Capture.End, Capture.items, Text.kept_interfaces, Text.refusal_of, Text.text}
 
 -- each field of a packet but its bytes, whose number `refusal_of` checks, is in its range
 pub record InRange (p : Captured) : Type 0 where

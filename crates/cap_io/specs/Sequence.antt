@@ -1,8 +1,8 @@
 -- The packets of a job in the job's order, from what its inputs hold, and the end of the order.
 use Rattle.std.specs.Prelude.{ℕ, ◌+◌, ◌&&◌, ◌||◌, Bool, true, false, if◌then◌else◌, nat_lt, nat_eq, max, List, [], ◌∷◌, ◌++◌, length, map, Option}
 use Rattle.cap_octet.specs.declared.fault.Fault.{Fault}
-use Rattle.cap_io.specs.declared.source.Kind.{Kind}
 use Rattle.cap_io.specs.Capture.{Placed, Items, Ending, End, FaultAt, kind_of, items}
+use Rattle.cap_io.specs.declared.source.Kind.{Kind}
 
 -- ---- events
 

@@ -1,15 +1,11 @@
 -- The view of a sink, and the results of its calls.
 use Rattle.std.specs.Prelude.{◌≡◌, ◌⊎◌, ℕ, Bool, true, ◌+◌, ◌≤◌, List, [], ◌++◌, length, Option, None, Some, Result, Ok, Err, IfErr, OnOk, unwrap_or}
 use Rattle.cap_octet.specs.Assigned.{LINKTYPE_ETHERNET}
-use Rattle.cap_octet.specs.Device.{AppendsOrStops, Stops}
-use Rattle.cap_octet.specs.Packet.{Captured}
-use Rattle.cap_octet.specs.declared.fault.Fault.{Fault}
-use Rattle.cap_octet.specs.declared.fault.Fault.TheVariants.{NoMemory, WriteFailed}
+use Rattle.cap_octet.specs.{Checks.first_failing, Device.AppendsOrStops, Device.Stops, Packet.Captured}
+use Rattle.cap_octet.specs.declared.fault.Fault.{Fault, TheVariants.NoMemory, TheVariants.WriteFailed}
 use Rattle.cap_octet.specs.declared.format.Format.{Format}
-use Rattle.cap_octet.specs.Checks.{first_failing}
-use Rattle.cap_io.specs.declared.sink.SinkState.{SinkState}
-use Rattle.cap_io.specs.declared.sink.SinkState.TheVariants.{Empty, Started, Broken}
 use Rattle.cap_io.specs.Text.{Interface, appended_packet, checks_in, file_start, file_start_in, interfaces_after_packet, kept_interfaces, state_after, state_after_packet, takes_memory_in, text}
+use Rattle.cap_io.specs.declared.sink.SinkState.{SinkState, TheVariants.Empty, TheVariants.Started, TheVariants.Broken}
 
 -- the view of a sink
 pub record SinkView : Type 0 where

@@ -1,18 +1,11 @@
 -- The view of a source, and the results of its calls.
 use Rattle.std.specs.Prelude.{◌≡◌, ℕ, ◌+◌, ◌^◌, ◌<◌, ◌≤◌, Bool, true, false, IsTrue, List, [], ◌∷◌, ◌++◌, length, take, drop, Option, None, Some, Result, Ok, Err, OnOk, OnErr, is_some}
-use Rattle.cap_octet.specs.Device.{HasGiven}
-use Rattle.cap_octet.specs.declared.device.Input.{Ghosts}
-use Rattle.cap_octet.specs.Packet.{Captured}
-use Rattle.cap_octet.specs.declared.fault.Fault.{Fault}
-use Rattle.cap_octet.specs.declared.fault.Fault.TheVariants.{NoMemory}
-use Rattle.cap_pcapng.specs.Interface.{FitSection}
-use Rattle.cap_io.specs.declared.source.Stage.{Stage}
-use Rattle.cap_io.specs.declared.source.Stage.TheVariants as stage
-use Rattle.cap_pcapng.specs.declared.effect.PacketSpans.{PacketSpans}
-use Rattle.cap_io.specs.declared.lending.Lending.{Lending}
-use Rattle.cap_io.specs.declared.next_unit.UnitReader.{UnitReader}
+use Rattle.cap_octet.specs.{Device.HasGiven, Packet.Captured, declared.device.Input.Ghosts}
+use Rattle.cap_octet.specs.declared.fault.Fault.{Fault, TheVariants.NoMemory}
+use Rattle.cap_pcapng.specs.{Interface.FitSection, declared.effect.PacketSpans.PacketSpans}
 use Rattle.cap_io.specs.Capture.{Declared, Nothing, PcapngFile, IsUnit, AreUnits, NoUnit, front_of}
 use Rattle.cap_io.specs.Reading.{most_in_unit, read_failures, IsReason, IsTaken, FitUnits, TakesMemory, declared_by, packet_in_unit}
+use Rattle.cap_io.specs.declared.{lending.Lending.Lending, next_unit.UnitReader.UnitReader, source.Stage.Stage}
 
 -- the phase of a source: it reads on, or it met the clean end or a fault
 pub data Phase : Type 0 where
@@ -56,27 +49,27 @@ source_at unread given failures sure = record {
 
 -- the phase of a source in this stage
 abbrev pub phase_at : Stage → Phase
-phase_at stage.Ended = Ended
-phase_at (stage.Failed fault) = Failed fault
+phase_at Stage.Ended = Ended
+phase_at (Stage.Failed fault) = Failed fault
 phase_at other = Reading
 
 -- the bytes at whose start the current unit is: those of the buffer; or, if it is lent, those that
 -- the device has at hand
 abbrev pub unit_at : {I A : Type 0} → (device : Ghosts I) → Stage → UnitReader (Lending I device) A → List ℕ
-unit_at device stage.Lent r = device.held r.input.input
+unit_at device Stage.Lent r = device.held r.input.input
 unit_at device other r = r.buffer.items
 
 -- the bytes of the current unit, at the start of these; none if no packet is current
 abbrev pub block_at : Stage → PacketSpans → List ℕ → List ℕ
-block_at stage.Current spans bytes = take spans.size bytes
-block_at stage.Lent spans bytes = take spans.size bytes
+block_at Stage.Current spans bytes = take spans.size bytes
+block_at Stage.Lent spans bytes = take spans.size bytes
 block_at other spans bytes = []
 
 -- the current packet; None if none is current
 abbrev pub packet_at : Stage → PacketSpans → Declared → List ℕ → Option Captured
-packet_at stage.Current spans declared bytes =
+packet_at Stage.Current spans declared bytes =
     packet_in_unit declared spans (take spans.size bytes)
-packet_at stage.Lent spans declared bytes =
+packet_at Stage.Lent spans declared bytes =
     packet_in_unit declared spans (take spans.size bytes)
 packet_at other spans declared bytes = None
 

@@ -1,19 +1,13 @@
 -- The text of a capture file that is written, and which packets are refused.
+use Rattle.std.specs.{Cmp.Lexicographic.pointwise, List.flat_map, List.fold, List.list_any, List.position_or_len}
 use Rattle.std.specs.Prelude.{◌==◌, ◌&&◌, ◌≤◌, if◌then◌else◌, All, ℕ, Bool, true, false, not, List, [], ◌∷◌, ◌++◌, Option, length, nat_eq, nat_le}
-use Rattle.std.specs.Cmp.Lexicographic.{pointwise}
-use Rattle.std.specs.List.{flat_map, fold, list_any, position_or_len}
-use Rattle.cap_octet.specs.Checks.{first_failing}
-use Rattle.cap_octet.specs.Packet.{Captured}
-use Rattle.cap_octet.specs.declared.fault.Fault.{Fault}
+use Rattle.cap_octet.specs.{Checks.first_failing, Packet.Captured, declared.fault.Fault.Fault}
 use Rattle.cap_octet.specs.declared.fault.Fault.TheVariants.{LinkTypesDiffer, TooManyOutputInterfaces}
-use Rattle.cap_octet.specs.declared.format.Format.{Format}
-use Rattle.cap_octet.specs.declared.format.Format.TheVariants.{Pcap, NsecPcap, Pcapng}
+use Rattle.cap_octet.specs.declared.format.Format.{Format, TheVariants.Pcap, TheVariants.NsecPcap, TheVariants.Pcapng}
 use Rattle.cap_pcap.specs.Encoding as pcap
-use Rattle.cap_pcap.specs.declared.header.Resolution.{Resolution}
-use Rattle.cap_pcap.specs.declared.header.Resolution.TheVariants.{Microseconds, Nanoseconds}
+use Rattle.cap_pcap.specs.declared.header.Resolution.{Resolution, TheVariants.Microseconds, TheVariants.Nanoseconds}
 use Rattle.cap_pcapng.specs.Encoding as pcapng
-use Rattle.cap_io.specs.declared.sink.SinkState.{SinkState}
-use Rattle.cap_io.specs.declared.sink.SinkState.TheVariants.{Empty, Started}
+use Rattle.cap_io.specs.declared.sink.SinkState.{SinkState, TheVariants.Empty, TheVariants.Started}
 
 -- ---- the interfaces of a pcapng file
 

@@ -1,10 +1,9 @@
 //! What is known of a file and of its current unit.
-ghost use Rattle.std.specs.Prelude.{◌≡◌, ◌+◌, ◌≤◌, length, take};
 ghost use Rattle.std.specs.Option.{IfSome, option_map};
+ghost use Rattle.std.specs.Prelude.{◌≡◌, ◌+◌, ◌≤◌, length, take};
 ghost use Rattle.cap_octet.specs.Packet.{captured};
-ghost use Rattle.cap_io.specs.Reading.{declared_by};
+ghost use Rattle.cap_io.specs.Reading.{declared_by, most_in_unit, packet_in_unit};
 ghost use Rattle.cap_io.specs.inside.Reading.{FitsBuffer, known_first_link, known_order};
-ghost use Rattle.cap_io.specs.Reading.{most_in_unit, packet_in_unit};
 
 use cap_octet::{Order, Packet};
 use cap_pcap::Head;

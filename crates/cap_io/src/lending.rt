@@ -1,7 +1,7 @@
 //! An input whose bytes are lent before it passes them.
+ghost use Rattle.std.specs.Io.{StartsWith};
 ghost use Rattle.std.specs.Prelude.{◌≡◌, ◌+◌, ◌^◌, ◌<◌, ◌≤◌, IsTrue, drop, false, length, true};
 ghost use Rattle.std.proofs.Common.{rules};
-ghost use Rattle.std.specs.Io.{StartsWith};
 ghost use Rattle.cap_io.specs.inside.Lending.{Lends};
 
 use cap_octet::{DeviceFault, Input};

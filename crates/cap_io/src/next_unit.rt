@@ -1,9 +1,7 @@
 //! The next unit of a file of either format.
 ghost use Rattle.std.specs.Prelude.{◌≡◌, ◌++◌, IsTrue, IfOk, IfErr, [], false, length, true};
-ghost use Rattle.cap_io.specs.Capture.{Nothing};
-ghost use Rattle.cap_io.specs.Reading.{declared_by};
-ghost use Rattle.cap_io.specs.inside.Reading.{IsConsistent, Moves, ReadsUnit, NoUnitCame};
-ghost use Rattle.cap_io.specs.inside.Reading.{UnitLent};
+ghost use Rattle.cap_io.specs.{Capture.Nothing, Reading.declared_by};
+ghost use Rattle.cap_io.specs.inside.Reading.{IsConsistent, Moves, ReadsUnit, NoUnitCame, UnitLent};
 ghost use Rattle.cap_io.specs.declared.file_state.FileState.TheVariants as state;
 
 use crate::file_state::{FileState, NextUnit};

@@ -1,10 +1,8 @@
 //! The units of a pcap file, read from a device.
-ghost use Rattle.std.specs.Prelude.{◌≡◌, ℕ, ◌+◌, ◌^◌, ◌<◌, ◌≤◌, ◌++◌, false, true, IsTrue, IfOk, IfErr};
-ghost use Rattle.std.specs.Prelude.{List, [], length, IfSome, IsNone};
+ghost use Rattle.std.specs.Prelude.{◌≡◌, ℕ, ◌+◌, ◌^◌, ◌<◌, ◌≤◌, ◌++◌, false, true, IsTrue, IfOk, IfErr, List, [], length, IfSome, IsNone};
 ghost use Rattle.cap_pcapng.specs.Frame.{is_section};
 ghost use Rattle.cap_io.specs.Capture.{Nothing, PcapFile};
-ghost use Rattle.cap_io.specs.inside.Reading.{HeaderCame, Moves, ReadsUnit};
-ghost use Rattle.cap_io.specs.inside.Reading.{NoUnitCame, UnitLent, record_spans};
+ghost use Rattle.cap_io.specs.inside.Reading.{HeaderCame, Moves, ReadsUnit, NoUnitCame, UnitLent, record_spans};
 ghost use Rattle.cap_pcap.specs.Record.{most_captured};
 ghost use Rattle.cap_io.specs.declared.file_state.FileState.TheVariants as state;
 

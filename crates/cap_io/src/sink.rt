@@ -31,8 +31,7 @@ pub struct Sink<O: Output, A: Allocator> {
 }
 
 impl<O: Output, A: Allocator> Model for Sink<O, A> {
-    ghost use Rattle.cap_io.specs.Sink.{SinkView};
-    ghost use Rattle.cap_io.specs.Text.{FitFile};
+    ghost use Rattle.cap_io.specs.{Sink.SinkView, Text.FitFile};
 
     ghost Value = { SinkView };
 
@@ -66,9 +65,8 @@ impl<O: Output, A: Allocator + Copy> Sink<O, A> {
 
 impl<O: Output, A: Allocator> Sink<O, A> {
     ghost use Rattle.cap_octet.specs.Packet.{captured};
+    ghost use Rattle.cap_io.specs.Sink.{AddsPacket, PutsPacket, PutWrites, WritesPacket, Finishes, FinishWrites, added_in, refusal_in};
     ghost use Rattle.cap_io.specs.Text.{FitFile};
-    ghost use Rattle.cap_io.specs.Sink.{AddsPacket, PutsPacket, PutWrites, WritesPacket, Finishes};
-    ghost use Rattle.cap_io.specs.Sink.{FinishWrites, added_in, refusal_in};
 
     /// Appends a packet, after the file header or section header if it is the first, and in
     /// pcapng after the description of its interface if that is new.

@@ -49,8 +49,7 @@ pub struct Source<I: Input, A: Allocator> {
 }
 
 impl<I: Input, A: Allocator> Model for Source<I, A> {
-    ghost use Rattle.cap_io.specs.Source.{SourceView, view_of};
-    ghost use Rattle.cap_io.specs.inside.Source.{IsSound};
+    ghost use Rattle.cap_io.specs.{Source.SourceView, Source.view_of, inside.Source.IsSound};
 
     ghost Value = { SourceView };
 
@@ -60,18 +59,12 @@ impl<I: Input, A: Allocator> Model for Source<I, A> {
 }
 
 impl<I: Input, A: Allocator> Source<I, A> {
-    ghost use Rattle.std.specs.Prelude.{◌≡◌, ◌+◌, ◌≤◌, IsTrue, OnOk, OnErr, IfErr, [], false};
-    ghost use Rattle.std.specs.Prelude.{length, true};
     ghost use Rattle.std.specs.Option.{IfSome, option_map};
+    ghost use Rattle.std.specs.Prelude.{◌≡◌, ◌+◌, ◌≤◌, IsTrue, OnOk, OnErr, IfErr, [], false, length, true};
     ghost use Rattle.cap_octet.specs.Packet.{captured};
-    ghost use Rattle.cap_io.specs.Capture.{kind_of, first_link_of};
-    ghost use Rattle.cap_io.specs.Reading.{most_in_unit};
-    ghost use Rattle.cap_io.specs.Source.{Reading, Advances};
-    ghost use Rattle.cap_io.specs.inside.Source.{Continues, FindsNext, IsBetween};
-    ghost use Rattle.cap_io.specs.Source.{KeepsBounds, SectionFits, Steps};
-    ghost use Rattle.cap_io.specs.inside.Source.{NextBounds, past_unit};
-    ghost use Rattle.cap_io.specs.Source.{TakesIfAtHand, phase_after, source_at};
-    ghost use Rattle.cap_io.specs.inside.Source.{TakesNext};
+    ghost use Rattle.cap_io.specs.{Capture.kind_of, Capture.first_link_of, Reading.most_in_unit};
+    ghost use Rattle.cap_io.specs.Source.{Reading, Advances, KeepsBounds, SectionFits, Steps, TakesIfAtHand, phase_after, source_at};
+    ghost use Rattle.cap_io.specs.inside.Source.{Continues, FindsNext, IsBetween, NextBounds, past_unit, TakesNext};
 
     /// A source of which nothing is read yet. It takes no memory.
     pub fn new(alloc: A, input: I) -> Self

@@ -1,11 +1,9 @@
 //! Writes packets, file headers and section headers to a device, in each format.
 ghost use Rattle.std.specs.Prelude.{◌≡◌, ◌++◌, None};
-ghost use Rattle.cap_octet.specs.Checks.{checked, first_failing};
-ghost use Rattle.cap_octet.specs.Packet.{captured};
+ghost use Rattle.cap_octet.specs.{Checks.checked, Checks.first_failing, Packet.captured};
 ghost use Rattle.cap_pcap.specs.Encoding.{IsPcap, record_fit_checks, resolution_of};
 ghost use Rattle.cap_pcapng.specs.Encoding.{block_fit_checks};
-ghost use Rattle.cap_io.specs.Text.{record_text};
-ghost use Rattle.cap_io.specs.Text.{checks_in, file_start_in};
+ghost use Rattle.cap_io.specs.Text.{record_text, checks_in, file_start_in};
 ghost use Rattle.cap_io.specs.inside.Sink.{Appends, packet_block_text};
 ghost use Rattle.cap_io.specs.declared.sink.SinkState.TheVariants as state;
 

@@ -1,5 +1,2 @@
-mod Decimals
-mod Groups
 mod Printing
-mod Rows
-mod Zeros
+mod Digits

@@ -1,15 +1,11 @@
--- What is printed of a packet, part by part.
-use Rattle.std.proofs.Common.{◌≡◌, ℕ, ◌+◌, ◌<◌, true, false, List, [], ◌++◌, length, take, Result, Ok, Err, refl, ap, sym, ◌∙◌, arith, length-append, append-nil}
-use Rattle.std.proofs.Math.Seq.{take-append-add}
-use Rattle.std.proofs.lemmas.List.{append_assoc}
+-- What is printed of a packet: the line, the rows of a dump, and what is written where the device fails.
+use Rattle.std.proofs.Common.{◌≡◌, ℕ, ◌+◌, ◌<◌, true, false, List, [], ◌++◌, length, take, Result, Ok, Err, refl, ap, sym, ◌∙◌, arith, length-append, append-nil, zero, suc, ◌-◌, append_assoc}
+use Rattle.std.proofs.{Math.Seq.take-append-add, lemmas.List.append_assoc}
 use Rattle.cap_octet.specs.Device.{AppendsOrStops, Stops, WritesAll}
-use Rattle.cap_octet.specs.Packet.{Captured}
-use Rattle.cap_octet.specs.declared.device.Stopped.{Stopped}
+use Rattle.cap_octet.specs.{Packet.Captured, declared.device.Stopped.Stopped}
 use Rattle.cap_octet.proofs.Writing.{stops-part}
-use Rattle.cap_print.specs.Dump.{link_payload, rows}
-use Rattle.cap_print.specs.Line.{line}
-use Rattle.cap_print.specs.Rendering.{printed_text}
-use Rattle.cap_print.specs.declared.print.Options.{Options}
+use Rattle.cap_print.specs.Dump.{link_payload, rows, first_rows, row}
+use Rattle.cap_print.specs.{Line.line, Rendering.printed_text, declared.print.Options.Options}
 
 pub printed-alone : (options : Options) (p : Captured) → options.bytes ≡ false → printed_text options p ≡ line options.link p
 unfolding printed_text
@@ -40,3 +36,33 @@ appends-following (Err fault) old done part mid new first stops =
           ∙ append_assoc old done (take stops.0 part)
           ∙ ap (λ (x : List ℕ). old ++ x) (sym (take-append-add done part stops.0)),
     )
+
+-- the rows from the one after k others, that many
+abbrev pub rows_from : List ℕ → ℕ → ℕ → List ℕ
+rows_from bytes k zero = []
+rows_from bytes k (suc n) = rows_from bytes k n ++ row bytes (k + n)
+
+rows-split : (bytes : List ℕ) (k n : ℕ) → first_rows bytes (k + n) ≡ first_rows bytes k ++ rows_from bytes k n
+rows-split bytes k zero = let e : k + 0 ≡ k = omega arith in rw (e, append-nil (first_rows bytes k)) refl
+rows-split bytes k (suc n) =
+    let e : k + suc n ≡ suc (k + n) = omega arith in
+    ap (first_rows bytes) e
+    ∙ ap (λ (x : List ℕ). x ++ row bytes (k + n)) (rows-split bytes k n)
+    ∙ append_assoc (first_rows bytes k) (rows_from bytes k n) (row bytes (k + n))
+
+-- a first row and those after it
+rows_from-first : (bytes : List ℕ) (k n : ℕ) → rows_from bytes k (suc n) ≡ row bytes k ++ rows_from bytes (k + 1) n
+rows_from-first bytes k zero = let e : k + 0 ≡ k = omega arith in rw (e, append-nil (row bytes k)) refl
+rows_from-first bytes k (suc n) =
+    let e : k + suc n ≡ k + 1 + n = omega arith in
+    ap (λ (x : List ℕ). x ++ row bytes (k + suc n)) (rows_from-first bytes k n)
+    ∙ append_assoc (row bytes k) (rows_from bytes (k + 1) n) (row bytes (k + suc n))
+    ∙ ap (λ m. row bytes k ++ (rows_from bytes (k + 1) n ++ row bytes m)) e
+
+-- the rows before one of them, that row, and those after it
+pub rows-among : (bytes : List ℕ) (k n : ℕ) → k < n → first_rows bytes n ≡ first_rows bytes k ++ (row bytes k ++ rows_from bytes (k + 1) (n - k - 1))
+rows-among bytes k n below =
+    let e : n ≡ k + suc (n - k - 1) = omega arith in
+    ap (first_rows bytes) e
+    ∙ rows-split bytes k (suc (n - k - 1))
+    ∙ ap (λ (x : List ℕ). first_rows bytes k ++ x) (rows_from-first bytes k (n - k - 1))

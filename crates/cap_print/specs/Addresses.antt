@@ -1,7 +1,6 @@
 -- Addresses and ports, as they are printed of the bytes p of a packet.
 use Rattle.std.specs.Prelude.{ℕ, ◌+◌, List, [], ◌∷◌, ◌++◌, slice_index, decimal, Option, Some, None}
-use Rattle.cap_octet.specs.Number.{u16_in}
-use Rattle.cap_octet.specs.declared.number.Order.TheVariants.{Big}
+use Rattle.cap_octet.specs.{Number.u16_in, declared.number.Order.TheVariants.Big}
 use Rattle.cap_print.specs.Hexadecimal.{hex_two, hex_group}
 
 -- the number in the two bytes from a place, the high byte first

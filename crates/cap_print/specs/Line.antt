@@ -1,14 +1,9 @@
 -- The line of a packet.
-use Rattle.std.specs.Prelude.{ℕ, Bool, if◌then◌else◌, nat_lt, List, [], ◌∷◌, ◌++◌, length, decimal, codes, Option, None, Some}
 use Rattle.std.specs.Option.{option_map_or}
-use Rattle.cap_octet.specs.Date.{date_text}
-use Rattle.cap_octet.specs.Link.{link_name, link_of, network_offset, type_offset}
-use Rattle.cap_octet.specs.declared.link.Link.{Link}
-use Rattle.cap_octet.specs.declared.link.Link.TheVariants.{Ether}
-use Rattle.cap_octet.specs.Packet.{Captured}
-use Rattle.cap_print.specs.Addresses.{network_u16, mac_text}
-use Rattle.cap_print.specs.Hexadecimal.{hex_four}
-use Rattle.cap_print.specs.Network.{network_part}
+use Rattle.std.specs.Prelude.{ℕ, Bool, if◌then◌else◌, nat_lt, List, [], ◌∷◌, ◌++◌, length, decimal, codes, Option, None, Some}
+use Rattle.cap_octet.specs.{Date.date_text, Link.link_name, Link.link_of, Link.network_offset, Link.type_offset}
+use Rattle.cap_octet.specs.{Packet.Captured, declared.link.Link.Link, declared.link.Link.TheVariants.Ether}
+use Rattle.cap_print.specs.{Addresses.network_u16, Addresses.mac_text, Hexadecimal.hex_four, Network.network_part}
 
 -- an EtherType, as `, type 0x0800, `
 unfoldable pub ethertype_text : ℕ → List ℕ

@@ -1,7 +1,7 @@
 -- What a line says of a packet's network header. p are the captured bytes, in which the header
 -- begins at place l.
-use Rattle.std.specs.Prelude.{ℕ, ◌+◌, ◌*◌, ◌%◌, nat_lt, nat_le, ◌==◌, ◌&&◌, ◌||◌, not, Bool, false, if◌then◌else◌, List, ◌++◌, ◌∷◌, length, slice_index, decimal, Option, Some, None, codes}
 use Rattle.std.specs.Option.{option_map}
+use Rattle.std.specs.Prelude.{ℕ, ◌+◌, ◌*◌, ◌%◌, nat_lt, nat_le, ◌==◌, ◌&&◌, ◌||◌, not, Bool, false, if◌then◌else◌, List, ◌++◌, ◌∷◌, length, slice_index, decimal, Option, Some, None, codes}
 use Rattle.cap_octet.specs.Assigned.{IPPROTO_ICMP, IPPROTO_TCP, IPPROTO_UDP, IPPROTO_ICMPV6}
 use Rattle.cap_octet.specs.NetworkHeader.{link_header_length, network_header}
 use Rattle.cap_octet.specs.declared.network.NetworkHeader.{NetworkHeader}
@@ -9,9 +9,7 @@ use Rattle.cap_octet.specs.declared.network.NetworkHeader.TheVariants.{Known, Ot
 use Rattle.cap_octet.specs.declared.network.NetworkKind.TheVariants.{Ipv4, Ipv6, Arp, Rarp}
 use Rattle.cap_print.specs.Addresses.{network_u16, ipv4_text, ipv6_text, port_text}
 use Rattle.cap_print.specs.Hexadecimal.{hex_four}
-use Rattle.cap_print.specs.declared.network.Ip.{Ip}
-use Rattle.cap_print.specs.declared.network.Ip.TheVariants.{V4, V6}
-use Rattle.cap_print.specs.declared.network.IpLayout.{IpLayout}
+use Rattle.cap_print.specs.declared.network.{Ip.Ip, Ip.TheVariants.V4, Ip.TheVariants.V6, IpLayout.IpLayout}
 
 -- the places in an IP header of its protocol and its two addresses, and how long they are (RFC 791,
 -- section 3.1; RFC 8200, section 3)

@@ -1,9 +1,7 @@
 -- What is printed of a packet.
 use Rattle.std.specs.Prelude.{if◌then◌else◌, ℕ, List, [], ◌++◌}
 use Rattle.cap_octet.specs.Packet.{Captured}
-use Rattle.cap_print.specs.declared.print.Options.{Options}
-use Rattle.cap_print.specs.Dump.{link_payload, rows}
-use Rattle.cap_print.specs.Line.{line}
+use Rattle.cap_print.specs.{Dump.link_payload, Dump.rows, Line.line, declared.print.Options.Options}
 
 -- a packet's line, and after it the rows of its bytes, without those of its link header, if they
 -- are asked for

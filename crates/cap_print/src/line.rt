@@ -4,8 +4,7 @@
 //! may be appended, and may have some to spare: an Ethernet address has 17, the name of a link at
 //! most 8, a number at most ten digits.
 ghost use Rattle.std.specs.Prelude.{◌≡◌, ◌+◌, ◌≤◌, ◌<◌, ◌++◌, IfSome, length};
-ghost use Rattle.cap_octet.specs.Link.{network_offset};
-ghost use Rattle.cap_octet.specs.Packet.{captured};
+ghost use Rattle.cap_octet.specs.{Link.network_offset, Packet.captured};
 ghost use Rattle.cap_print.specs.Line.{link_header, line, link_part, link_text, ethertype_text};
 
 use crate::address::{network_u16, push_mac};

@@ -1,9 +1,7 @@
 //! What is printed of a packet: its line, and the rows of its bytes.
 ghost use Rattle.std.specs.Prelude.{◌≡◌, ◌+◌, IsTrue};
-ghost use Rattle.cap_octet.specs.Device.{AppendsOrStops, failures_of};
-ghost use Rattle.cap_octet.specs.Packet.{captured};
-ghost use Rattle.cap_print.specs.Dump.{rows};
-ghost use Rattle.cap_print.specs.Rendering.{printed_text};
+ghost use Rattle.cap_octet.specs.{Device.AppendsOrStops, Device.failures_of, Packet.captured};
+ghost use Rattle.cap_print.specs.{Dump.rows, Rendering.printed_text};
 
 use crate::dump::{link_payload, row_count, write_row};
 use crate::line::write_line;

@@ -1,19 +1,14 @@
 -- Which input is read on, waits or has the next packet, by the schedule.
-use Rattle.std.specs.Prelude.{◌≡◌, ◌≢◌, ◌⊎◌, ◌&&◌, ◌==◌, ℕ, zero, suc, ◌+◌, ◌<◌, ◌≤◌, Bool, true, false, List, [], ◌∷◌, length, Option, None, Some, Result, Ok, Err}
-use Rattle.std.specs.List.{All}
-use Rattle.std.specs.List.Sorted.{IsPermutation}
+use Rattle.std.specs.List.{All, slice_get, sum_by, Sorted.IsPermutation}
+use Rattle.std.specs.Option.{option_map}
+use Rattle.std.specs.Prelude.{◌≡◌, ◌≢◌, ◌⊎◌, if◌then◌else◌, ℕ, ◌+◌, ◌<◌, ◌≤◌, Bool, true, false, List, [], ◌∷◌, length, Option, None, Some, Result, Ok, Err}
 use Rattle.cap_octet.specs.declared.fault.Fault.{Fault}
-use Rattle.cap_io.specs.Source.{Ended}
+use Rattle.cap_io.specs.{Sequence.PacketOrder, Sequence.InTurn, Sequence.ByTime, Source.Ended}
+use Rattle.cap_inputs.specs.{Inputs.InputView, Inputs.key_of, Queue.Queue, declared.inputs.Next.Next}
+use Rattle.cap_inputs.specs.declared.inputs.Schedule.{Schedule, TheVariants.Turn, TheVariants.Merge}
 use Rattle.cap_inputs.specs.declared.queue.Waiting.{Waiting}
-use Rattle.cap_inputs.specs.Queue.{Queue}
-use Rattle.cap_inputs.specs.inside.Queue.{Precedes, is_entered}
-use Rattle.cap_inputs.specs.declared.inputs.Schedule.{Schedule}
-use Rattle.cap_inputs.specs.declared.inputs.Schedule.TheVariants.{Turn, Merge}
-use Rattle.cap_inputs.specs.declared.inputs.Next.{Next}
-use Rattle.cap_inputs.specs.declared.inputs.Next.TheVariants as next
-use Rattle.cap_io.specs.Sequence.{PacketOrder, InTurn, ByTime}
-use Rattle.cap_inputs.specs.Inputs.{InputView, IsInput, key_of}
-use Rattle.cap_inputs.specs.inside.Inputs.{IsLeast, IsOpen, IsReady, NoneEnded, NoneWaits, AllReady, waiting_count}
+use Rattle.cap_inputs.specs.inside.Inputs.{IsLeast, IsOpen, IsReady, NoneWaits}
+use Rattle.cap_inputs.specs.inside.Queue.{Precedes}
 
 -- the schedule before anything is read: in turn it is the first input's turn; in a merge all must
 -- be read
@@ -35,48 +30,41 @@ abbrev pub schedule_after_decided : Schedule → ℕ → Schedule
 schedule_after_decided (Turn turn) i = Turn turn
 schedule_after_decided (Merge next last) i = Merge i (i + 1)
 
--- the first `turn` inputs, or all of fewer, are at their clean ends, and the others aren't
-abbrev pub IsTurnOf : ℕ → List InputView → Type 0
-IsTurnOf turn [] = Unit {0}
-IsTurnOf zero (h ∷ hs) = NoneEnded (h ∷ hs)
-IsTurnOf (suc turn) (h ∷ hs) = (h.source.phase ≡ Ended) × IsTurnOf turn hs
+-- this holds of each input, by its index
+abbrev pub EachAt : (ℕ → InputView → Type 0) → List InputView → Type 0
+EachAt P cursors = (i : ℕ) (h : InputView) → slice_get cursors i ≡ Some h → P i h
 
--- from `next` on and before `last` the inputs must be read on; each other is ready
-abbrev pub AreToRead : ℕ → ℕ → List InputView → Type 0
-AreToRead next last [] = Unit {0}
-AreToRead zero zero (h ∷ hs) = AllReady (h ∷ hs)
-AreToRead zero (suc last) (h ∷ hs) = (h.waiting ≡ false) × IsOpen h × AreToRead zero last hs
-AreToRead (suc next) zero (h ∷ hs) = AllReady (h ∷ hs)
-AreToRead (suc next) (suc last) (h ∷ hs) = IsReady h × AreToRead next last hs
+-- in turn: before this input each is at its clean end; from it on none is
+abbrev pub IsOfTurn : ℕ → ℕ → InputView → Type 0
+IsOfTurn turn i h = (i < turn → h.source.phase ≡ Ended) × (turn ≤ i → IsOpen h)
+
+-- by time: from `next` on and before `last` the inputs must be read on; each other is ready
+abbrev pub IsOfMerge : ℕ → ℕ → ℕ → InputView → Type 0
+IsOfMerge next last i h =
+    (next ≤ i → i < last → (h.waiting ≡ false) × IsOpen h) × (i < next ⊎ last ≤ i → IsReady h)
 
 -- the inputs are as far as the schedule has it
 abbrev pub IsScheduled : Schedule → List InputView → Type 0
-IsScheduled (Turn turn) cursors = IsTurnOf turn cursors
-IsScheduled (Merge next last) cursors = AreToRead next last cursors
+IsScheduled (Turn turn) cursors = EachAt (IsOfTurn turn) cursors
+IsScheduled (Merge next last) cursors = EachAt (IsOfMerge next last) cursors
 
--- whether an input's packet waits, with this key
-abbrev pub waits_with : List InputView → ℕ → ℕ → Bool
-waits_with [] key input = false
-waits_with (h ∷ hs) key zero = h.waiting && (key_of h == key)
-waits_with (h ∷ hs) key (suc input) = waits_with hs key input
+-- the sum of a function over the entries of the inputs whose packets wait, numbered on from `input`
+abbrev pub sum_waiting : (Waiting → ℕ) → ℕ → List InputView → ℕ
+sum_waiting f input [] = 0
+sum_waiting f input (h ∷ hs) =
+    (if h.waiting then f (record { time = key_of h; input = input }) else 0)
+    + sum_waiting f (input + 1) hs
 
--- how many packets wait
-abbrev pub waiting_total : List InputView → ℕ
-waiting_total [] = 0
-waiting_total (h ∷ hs) = waiting_count h.waiting + waiting_total hs
-
--- the queue of a merge has just the inputs whose packets wait, with their keys; the inputs that
--- must be read on don't wait
-pub record IsQueued (cursors : List InputView) (next last : ℕ) (q : Queue) : Type 0 where
-  pub entered : (key input : ℕ) → is_entered q.waiting key input ≡ waits_with cursors key input
-  pub counted : length q.waiting ≡ waiting_total cursors
+-- the queue of a merge has just the entries of the inputs whose packets wait: each function has the
+-- same sum over both
+pub record IsQueued (cursors : List InputView) (q : Queue) : Type 0 where
+  pub entered : (f : Waiting → ℕ) → sum_by f q.waiting ≡ sum_waiting f 0 cursors
   pub room : length cursors ≤ q.room
-  pub unread : (key input : ℕ) → next ≤ input → input < last → waits_with cursors key input ≡ false
 
 -- a job that takes its inputs in turn has no use for the queue
-abbrev pub HoldsQueue : Schedule → List InputView → Queue → Type 0
-HoldsQueue (Turn turn) cursors q = Unit {0}
-HoldsQueue (Merge next last) cursors q = IsQueued cursors next last q
+abbrev pub HoldsQueue : PacketOrder → List InputView → Queue → Type 0
+HoldsQueue InTurn cursors q = Unit {0}
+HoldsQueue ByTime cursors q = IsQueued cursors q
 
 -- whether packets come by time
 abbrev pub is_merge : Schedule → Bool
@@ -104,32 +92,24 @@ abbrev pub Leaves : Bool → Queue → Queue → Type 0
 Leaves true old new = (taken : Option Waiting) × TakesFirst taken old new × (old.room ≤ new.room)
 Leaves false old new = new ≡ old
 
--- the input with this number is one of these, and its packet waits or not
-pub record IsAmong (cursors : List InputView) (i : ℕ) (waiting : Bool) : Type 0 where
-  pub cursor : InputView
-  pub among : IsInput cursors i cursor
-  pub waits : cursor.waiting ≡ waiting
+-- whether the packet of the input with this index waits
+abbrev pub waits_at : List InputView → ℕ → Option Bool
+waits_at cursors i = option_map (λ (h : InputView). h.waiting) (slice_get cursors i)
 
 -- what is next if it is an input's turn; if all had theirs, nothing
 abbrev pub IsAtCursor : List InputView → ℕ → Next → Type 0
-IsAtCursor cursors turn (next.Read i) = (i ≡ turn) × IsAmong cursors i false
-IsAtCursor cursors turn (next.Decide i) = (i ≡ turn) × IsAmong cursors i true
-IsAtCursor cursors turn next.Finish = length cursors ≤ turn
-
--- this input is the next of those that must be read on
-pub record IsReadOn (cursors : List InputView) (next last i : ℕ) : Type 0 where
-  pub is : i ≡ next
-  pub before : next < last
-  pub cursor : InputView
-  pub among : IsInput cursors i cursor
+IsAtCursor cursors turn (Next.Read i) = (i ≡ turn) × (waits_at cursors turn ≡ Some false)
+IsAtCursor cursors turn (Next.Decide i) = (i ≡ turn) × (waits_at cursors turn ≡ Some true)
+IsAtCursor cursors turn Next.Finish = length cursors ≤ turn
 
 -- what is next of a merge: an input is read on, where some must be; else the packet with the
 -- least key is decided, if one waits; else nothing is
 abbrev pub IsNextOfMerge : List InputView → ℕ → ℕ → Next → Type 0
-IsNextOfMerge cursors first last (next.Read i) = IsReadOn cursors first last i
-IsNextOfMerge cursors first last (next.Decide i) =
+IsNextOfMerge cursors first last (Next.Read i) =
+    (i ≡ first) × (first < last) × (first < length cursors)
+IsNextOfMerge cursors first last (Next.Decide i) =
     (last ≤ first ⊎ length cursors ≤ first) × IsLeast cursors i
-IsNextOfMerge cursors first last next.Finish =
+IsNextOfMerge cursors first last Next.Finish =
     (last ≤ first ⊎ length cursors ≤ first) × NoneWaits cursors
 
 -- what is next by the schedule

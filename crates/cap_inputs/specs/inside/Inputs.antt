@@ -1,12 +1,10 @@
 -- Helpers on the inputs of a job: what is left of them, and which is next.
+use Rattle.std.specs.{List.AllByRecursion, Option.option_map, Option.option_or}
 use Rattle.std.specs.Prelude.{◌≡◌, ◌⊎◌, ◌≤◌, ℕ, ◌+◌, ◌^◌, Bool, true, false, List, [], ◌∷◌, length, Option, None, unwrap_or}
-use Rattle.std.specs.Option.{option_map, option_or}
 use Rattle.cap_io.specs.Capture.{items_from, first_link_of}
-use Rattle.cap_io.specs.Source.{SourceView, Ended}
-use Rattle.cap_io.specs.Sequence.{PacketOrder, InTurn, ByTime}
-use Rattle.cap_inputs.specs.declared.inputs.Next.{Next}
-use Rattle.cap_inputs.specs.declared.inputs.Next.TheVariants as next
+use Rattle.cap_io.specs.{Sequence.PacketOrder, Sequence.InTurn, Sequence.ByTime, Source.SourceView, Source.Ended}
 use Rattle.cap_inputs.specs.Inputs.{InputView, InputsView, Future, IsInput, key_of, steps_left_in, steps_owed}
+use Rattle.cap_inputs.specs.declared.inputs.Next.{Next}
 
 -- whether the inputs come one after another
 abbrev pub is_in_turn : PacketOrder → Bool
@@ -19,11 +17,6 @@ actual_future s = record {
   items = items_from s.declared (s.offset + length s.block) s.unread;
   size = s.offset + length s.block + length s.unread;
 }
-
--- the number of packets of one input that wait
-abbrev pub waiting_count : Bool → ℕ
-waiting_count true = 1
-waiting_count false = 0
 
 -- the most steps of a job
 abbrev pub most_steps : ℕ
@@ -38,13 +31,11 @@ first_declared_link (h ∷ hs) = option_or (first_link_of h.source.declared) (fi
 
 -- if a packet waits, its key is at least this
 abbrev pub KeysFrom : ℕ → List InputView → Type 0
-KeysFrom k [] = Unit {0}
-KeysFrom k (h ∷ hs) = (h.waiting ≡ true → k ≤ key_of h) × KeysFrom k hs
+KeysFrom k hs = AllByRecursion (λ (h : InputView). h.waiting ≡ true → k ≤ key_of h) hs
 
 -- the current packets are all decided
 abbrev pub NoneWaits : List InputView → Type 0
-NoneWaits [] = Unit {0}
-NoneWaits (h ∷ hs) = (h.waiting ≡ false) × NoneWaits hs
+NoneWaits hs = AllByRecursion (λ (h : InputView). h.waiting ≡ false) hs
 
 -- of the packets that wait that of input i has the least key, and of equal keys the lowest index
 pub record IsLeast (cursors : List InputView) (i : ℕ) : Type 0 where
@@ -60,13 +51,11 @@ IsOpen h = h.source.phase ≡ Ended → ⊥
 
 -- all inputs are at their clean ends
 abbrev pub AllEnded : List InputView → Type 0
-AllEnded [] = Unit {0}
-AllEnded (h ∷ hs) = (h.source.phase ≡ Ended) × AllEnded hs
+AllEnded hs = AllByRecursion (λ (h : InputView). h.source.phase ≡ Ended) hs
 
 -- no input is at its clean end
 abbrev pub NoneEnded : List InputView → Type 0
-NoneEnded [] = Unit {0}
-NoneEnded (h ∷ hs) = IsOpen h × NoneEnded hs
+NoneEnded hs = AllByRecursion IsOpen hs
 
 -- an input is ready: its current packet waits, or it is at its clean end
 abbrev pub IsReady : InputView → Type 0
@@ -74,8 +63,7 @@ IsReady h = (h.waiting ≡ true) ⊎ (h.source.phase ≡ Ended)
 
 -- each input is ready
 abbrev pub AllReady : List InputView → Type 0
-AllReady [] = Unit {0}
-AllReady (h ∷ hs) = IsReady h × AllReady hs
+AllReady hs = AllByRecursion IsReady hs
 
 -- It is this input's turn: those before it are at their clean ends, it and those after it aren't.
 pub record IsAtTurn (cursors : List InputView) (i : ℕ) (waiting : Bool) : Type 0 where
@@ -88,9 +76,9 @@ pub record IsAtTurn (cursors : List InputView) (i : ℕ) (waiting : Bool) : Type
 
 -- what is next of inputs in turn
 abbrev pub IsNextInTurn : List InputView → Next → Type 0
-IsNextInTurn cursors (next.Read i) = IsAtTurn cursors i false
-IsNextInTurn cursors (next.Decide i) = IsAtTurn cursors i true
-IsNextInTurn cursors next.Finish = AllEnded cursors
+IsNextInTurn cursors (Next.Read i) = IsAtTurn cursors i false
+IsNextInTurn cursors (Next.Decide i) = IsAtTurn cursors i true
+IsNextInTurn cursors Next.Finish = AllEnded cursors
 
 -- the input with index i is the first that is neither at its clean end nor has a packet that waits
 pub record IsFirstUnready (cursors : List InputView) (i : ℕ) : Type 0 where
@@ -103,9 +91,9 @@ pub record IsFirstUnready (cursors : List InputView) (i : ℕ) : Type 0 where
 -- by time, every input is read on to its next packet or its clean end first; then the packet with
 -- the least key is decided
 abbrev pub IsNextByTime : List InputView → Next → Type 0
-IsNextByTime cursors (next.Read i) = IsFirstUnready cursors i
-IsNextByTime cursors (next.Decide i) = AllReady cursors × IsLeast cursors i
-IsNextByTime cursors next.Finish = NoneWaits cursors × AllEnded cursors
+IsNextByTime cursors (Next.Read i) = IsFirstUnready cursors i
+IsNextByTime cursors (Next.Decide i) = AllReady cursors × IsLeast cursors i
+IsNextByTime cursors Next.Finish = NoneWaits cursors × AllEnded cursors
 
 -- what is next in either order
 abbrev pub IsNextIn : PacketOrder → List InputView → Next → Type 0

@@ -1,6 +1,6 @@
 -- The heap of waiting inputs: its order, and what enters it.
-use Rattle.std.specs.Prelude.{◌≡◌, ℕ, ◌<◌, ◌≤◌, ◌⊎◌, ◌==◌, ◌&&◌, Bool, IsTrue, List, map}
 use Rattle.std.specs.List.{All, IsDistinct, list_any}
+use Rattle.std.specs.Prelude.{◌≡◌, ℕ, ◌<◌, ◌≤◌, ◌⊎◌, ◌==◌, ◌&&◌, Bool, IsTrue, List, map}
 use Rattle.cap_inputs.specs.declared.queue.Waiting.{Waiting}
 
 -- a comes before b: its time is less, or it is the same and its input has the lower number

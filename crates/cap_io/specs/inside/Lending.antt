@@ -1,8 +1,7 @@
 -- What a device lends before it passes it.
-use Rattle.std.specs.Prelude.{◌≡◌, ℕ, ◌+◌, ◌^◌, ◌<◌, ◌≤◌, drop, length}
 use Rattle.std.specs.Io.{StartsWith}
-use Rattle.cap_octet.specs.Device.{HasGiven}
-use Rattle.cap_octet.specs.declared.device.Input.{Ghosts}
+use Rattle.std.specs.Prelude.{◌≡◌, ℕ, ◌+◌, ◌^◌, ◌<◌, ◌≤◌, drop, length}
+use Rattle.cap_octet.specs.{Device.HasGiven, declared.device.Input.Ghosts}
 
 -- The device had lent `lent` bytes, and passes them; then it lends the first `count` bytes that it has
 -- at hand.

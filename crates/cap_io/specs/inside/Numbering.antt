@@ -1,9 +1,8 @@
 -- The set that gives each interface its number.
 use Rattle.std.specs.Prelude.{◌≡◌, ℕ, false, not, List, ◌++◌, Result, Ok, Err, Some, slice_get}
-use Rattle.cap_octet.specs.declared.fault.Fault.{Fault}
-use Rattle.cap_octet.specs.declared.fault.Fault.TheVariants.{NoMemory}
-use Rattle.cap_io.specs.declared.numbering.InterfaceNumber.{InterfaceNumber}
+use Rattle.cap_octet.specs.declared.fault.Fault.{Fault, TheVariants.NoMemory}
 use Rattle.cap_io.specs.Text.{Interface, is_among, new_among, number_among}
+use Rattle.cap_io.specs.declared.numbering.InterfaceNumber.{InterfaceNumber}
 
 -- the number of an interface among those that were numbered, and whether it is new there
 pub record HasNumber (old : List Interface) (i : Interface) (given : InterfaceNumber)

@@ -1,29 +1,18 @@
 -- The effect of a call that reads one unit (a file header, a record or a block): on the device, the
 -- buffer and the state of the file. A clause after `IsTrue device.tells` applies only if contracts
 -- know the bytes of the device.
-use Rattle.std.specs.Prelude.{◌≡◌, ℕ, ◌+◌, ◌^◌, ◌<◌, ◌≤◌, ◌⊎◌, Bool, true, false, List, [], ◌∷◌, ◌++◌, length, take, drop, Option, None, Some, Result, Err, IfOk, IfErr, is_some, IsTrue, OnOk, OnErr}
 use Rattle.std.specs.List.{slice_get}
-use Rattle.cap_octet.specs.Packet.{Captured}
-use Rattle.cap_octet.specs.declared.fault.Fault.{Fault}
+use Rattle.std.specs.Prelude.{◌≡◌, ℕ, ◌+◌, ◌^◌, ◌<◌, ◌≤◌, ◌⊎◌, Bool, true, false, List, [], ◌∷◌, ◌++◌, length, take, drop, Option, None, Some, Result, Err, IfOk, IfErr, is_some, IsTrue, OnOk, OnErr}
+use Rattle.cap_octet.specs.{Device.HasGiven, Packet.Captured, declared.device.Input.Ghosts, declared.fault.Fault.Fault}
 use Rattle.cap_octet.specs.declared.fault.Fault.TheVariants.{NoMemory, ReadFailed, Truncated}
 use Rattle.cap_octet.specs.declared.number.Order.{Order}
-use Rattle.cap_octet.specs.declared.device.Input.{Ghosts}
-use Rattle.cap_pcap.specs.Header.{IsHeader}
-use Rattle.cap_octet.specs.Device.{HasGiven}
-use Rattle.cap_pcapng.specs.Frame.{is_section}
-use Rattle.cap_pcapng.specs.Interface.{Described, FitSection}
-use Rattle.cap_pcapng.specs.Unit.{Section}
-use Rattle.cap_pcap.specs.declared.header.Head.{Head}
-use Rattle.cap_pcap.specs.declared.header.RecordHead.{RecordHead}
-use Rattle.cap_io.specs.declared.file_state.NextUnit.{NextUnit}
-use Rattle.cap_io.specs.declared.file_state.NextUnit.TheVariants as next_unit
-use Rattle.cap_pcapng.specs.declared.effect.PacketSpans.{PacketSpans}
-use Rattle.cap_io.specs.declared.lending.Lending.{Lending}
-use Rattle.cap_io.specs.declared.next_unit.UnitReader.{UnitReader}
-use Rattle.cap_io.specs.declared.file_state.FileState.{FileState}
-use Rattle.cap_io.specs.declared.file_state.FileState.TheVariants as state
+use Rattle.cap_pcap.specs.{Header.IsHeader, declared.header.Head.Head, declared.header.RecordHead.RecordHead}
+use Rattle.cap_pcapng.specs.{Frame.is_section, Interface.Described, Interface.FitSection}
+use Rattle.cap_pcapng.specs.{Unit.Section, declared.effect.PacketSpans.PacketSpans}
 use Rattle.cap_io.specs.Capture.{Declared, Nothing, PcapFile, PcapngFile, IsUnit, NoUnit, first_link_after, front_of}
 use Rattle.cap_io.specs.Reading.{most_in_unit, read_failures, IsTaken, TakesMemory, held_length, IsReason, declared_by, packet_in_unit}
+use Rattle.cap_io.specs.declared.file_state.{FileState.FileState, NextUnit.NextUnit}
+use Rattle.cap_io.specs.declared.{lending.Lending.Lending, next_unit.UnitReader.UnitReader}
 
 -- How a call that reads a unit changes the counts of its device. Before the call, the first `front`
 -- bytes of the unit had been read. If the call succeeds, `count` bytes of the unit have been read,
@@ -80,23 +69,22 @@ pub record HeaderCame (unread : List ℕ) (head : Head) (unread' : List ℕ) : T
 
 -- the byte order of the current section, if there is one
 abbrev pub known_order : FileState → Option Order
-known_order state.Unknown = None
-known_order (state.Pcap head) = None
-known_order (state.Pcapng order first) = Some order
+known_order (FileState.Pcapng order first) = Some order
+known_order other = None
 
 -- the first link type that the units so far declare; None if none does
 abbrev pub known_first_link : FileState → Option ℕ
-known_first_link state.Unknown = None
-known_first_link (state.Pcap head) = Some head.link
-known_first_link (state.Pcapng order first) = first
+known_first_link FileState.Unknown = None
+known_first_link (FileState.Pcap head) = Some head.link
+known_first_link (FileState.Pcapng order first) = first
 
 -- Before the first unit there is no interface. In pcap there is no condition. In pcapng, the
 -- section has at most 256 interfaces, with names of at most 255 bytes; if it has one, the first
 -- link type of the file is known.
 abbrev pub IsConsistent : FileState → List Described → Type 0
-IsConsistent state.Unknown interfaces = interfaces ≡ []
-IsConsistent (state.Pcap head) interfaces = Unit {0}
-IsConsistent (state.Pcapng order first) interfaces =
+IsConsistent FileState.Unknown interfaces = interfaces ≡ []
+IsConsistent (FileState.Pcap head) interfaces = Unit {0}
+IsConsistent (FileState.Pcapng order first) interfaces =
     (first_link_after first (record { order = order; interfaces = interfaces }) ≡ first)
     × FitSection interfaces
 
@@ -121,9 +109,8 @@ HasInterface (PcapngFile first section) spans =
 
 -- if a packet was read, its interface is declared
 abbrev pub HasInterfaceIfAny : Declared → PacketSpans → NextUnit → Type 0
-HasInterfaceIfAny declared spans (next_unit.Other size) = Unit {0}
-HasInterfaceIfAny declared spans next_unit.Packet = HasInterface declared spans
-HasInterfaceIfAny declared spans next_unit.End = Unit {0}
+HasInterfaceIfAny declared spans NextUnit.Packet = HasInterface declared spans
+HasInterfaceIfAny declared spans other = Unit {0}
 
 -- the spans of the packet in a record with this header: its data follow the 16 bytes of the header,
 -- and its options are empty
@@ -185,40 +172,39 @@ pub record EndCame (declared : Declared) (unread : List ℕ) (declared' : Declar
 -- one with a packet, or the clean end
 abbrev pub UnitCame : Declared → List ℕ → List ℕ → PacketSpans → NextUnit → Declared → List ℕ
     → Type 0
-UnitCame declared unread buffer spans (next_unit.Other size) declared' unread' =
+UnitCame declared unread buffer spans (NextUnit.Other size) declared' unread' =
     UnitPassed declared unread size declared' unread'
-UnitCame declared unread buffer spans next_unit.Packet declared' unread' =
+UnitCame declared unread buffer spans NextUnit.Packet declared' unread' =
     PacketCame declared unread buffer spans declared' unread'
-UnitCame declared unread buffer spans next_unit.End declared' unread' =
+UnitCame declared unread buffer spans NextUnit.End declared' unread' =
     EndCame declared unread declared' unread'
 
 -- the size of the unit that was read; 0 at the end
 abbrev pub unit_size : PacketSpans → NextUnit → ℕ
-unit_size spans (next_unit.Other size) = size
-unit_size spans next_unit.Packet = spans.size
-unit_size spans next_unit.End = 0
+unit_size spans (NextUnit.Other size) = size
+unit_size spans NextUnit.Packet = spans.size
+unit_size spans NextUnit.End = 0
 
 -- Bounds that hold even if contracts don't know the bytes of the device. A unit without a packet
 -- has at least one byte; the spans of a packet fit the buffer. After either, the device has given
 -- fewer than 2^63 bytes in all. At the end nothing is stated.
 abbrev pub IsSized : PacketSpans → NextUnit → List ℕ → ℕ → Type 0
-IsSized spans (next_unit.Other size) buffer given = (0 < size) × (given < 2 ^ 63)
-IsSized spans next_unit.Packet buffer given = FitsBuffer spans buffer × (given < 2 ^ 63)
-IsSized spans next_unit.End buffer given = Unit {0}
+IsSized spans (NextUnit.Other size) buffer given = (0 < size) × (given < 2 ^ 63)
+IsSized spans NextUnit.Packet buffer given = FitsBuffer spans buffer × (given < 2 ^ 63)
+IsSized spans NextUnit.End buffer given = Unit {0}
 
 -- the current section, before the next block is read; None in pcap and before the first unit
 abbrev pub section_before : FileState → List Described → Option Section
-section_before state.Unknown interfaces = None
-section_before (state.Pcap head) interfaces = None
-section_before (state.Pcapng order first) interfaces =
+section_before (FileState.Pcapng order first) interfaces =
     Some (record { order = order; interfaces = interfaces })
+section_before other interfaces = None
 
 -- Whether these bytes may begin a block: in pcapng always, in pcap never; before the first unit, if
 -- they begin with the type of a section header.
 abbrev pub BeginsBlock : FileState → List ℕ → Type 0
-BeginsBlock state.Unknown front = is_section front ≡ true
-BeginsBlock (state.Pcap head) front = ⊥
-BeginsBlock (state.Pcapng order first) front = Unit {0}
+BeginsBlock FileState.Unknown front = is_section front ≡ true
+BeginsBlock (FileState.Pcap head) front = ⊥
+BeginsBlock (FileState.Pcapng order first) front = Unit {0}
 
 -- The effect of a call that reads a unit of which `front` was read before (often nothing): on the
 -- device, the buffer, the spans of the packet, the table and the state of the file. A fault changes

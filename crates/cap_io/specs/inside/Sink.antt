@@ -1,10 +1,8 @@
 -- What a packet adds to a file, by the sink's own state.
 use Rattle.std.specs.Prelude.{◌≡◌, ℕ, Bool, true, false, ◌+◌, List, [], ◌++◌, Result, IsTrue}
-use Rattle.cap_octet.specs.Device.{AppendsOrStops, failures_of}
-use Rattle.cap_octet.specs.Packet.{Captured}
+use Rattle.cap_octet.specs.{Device.AppendsOrStops, Device.failures_of, Packet.Captured}
+use Rattle.cap_octet.specs.declared.device.{DeviceFault.DeviceFault, Output.Ghosts}
 use Rattle.cap_pcapng.specs.Encoding as pcapng
-use Rattle.cap_octet.specs.declared.device.DeviceFault.{DeviceFault}
-use Rattle.cap_octet.specs.declared.device.Output.{Ghosts}
 use Rattle.cap_io.specs.declared.numbering.InterfaceNumber.{InterfaceNumber}
 
 -- the description of a packet's interface, if that is new

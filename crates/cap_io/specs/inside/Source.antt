@@ -1,35 +1,24 @@
 -- The invariant of a source between calls, and the result of reading one unit.
 use Rattle.std.specs.Prelude.{◌≡◌, ℕ, ◌+◌, ◌^◌, ◌<◌, ◌≤◌, Bool, true, false, IsTrue, List, [], length, None, Result, Ok, Err, OnOk, OnErr, is_some}
-use Rattle.cap_octet.specs.Device.{HasGiven}
-use Rattle.cap_octet.specs.declared.device.Input.{Ghosts}
-use Rattle.cap_octet.specs.declared.fault.Fault.{Fault}
-use Rattle.cap_io.specs.declared.source.Stage.{Stage}
-use Rattle.cap_io.specs.declared.source.Stage.TheVariants as stage
-use Rattle.cap_io.specs.declared.file_state.NextUnit.{NextUnit}
-use Rattle.cap_io.specs.declared.file_state.NextUnit.TheVariants as next_unit
-use Rattle.cap_pcapng.specs.declared.effect.PacketSpans.{PacketSpans}
-use Rattle.cap_io.specs.declared.lending.Lending.{Lending}
-use Rattle.cap_io.specs.declared.next_unit.UnitReader.{UnitReader}
-use Rattle.cap_io.specs.Capture.{Declared}
-use Rattle.cap_io.specs.Reading.{most_in_unit, read_failures, declared_by}
-use Rattle.cap_io.specs.inside.Reading.{HasInterface, FitsBuffer, IsConsistent}
+use Rattle.cap_octet.specs.{Device.HasGiven, declared.device.Input.Ghosts, declared.fault.Fault.Fault}
+use Rattle.cap_io.specs.{Capture.Declared, Reading.most_in_unit, Reading.read_failures, Reading.declared_by}
 use Rattle.cap_io.specs.Source.{SourceView, block_at, unit_at, SkipsUnits, FindsPacket, FindsEnd, IsBroken, end_offset, Reading, Ended}
+use Rattle.cap_io.specs.declared.file_state.NextUnit.{NextUnit}
+use Rattle.cap_io.specs.declared.{lending.Lending.Lending, next_unit.UnitReader.UnitReader, source.Stage.Stage}
+use Rattle.cap_io.specs.inside.Reading.{HasInterface, FitsBuffer, IsConsistent}
+use Rattle.cap_pcapng.specs.declared.effect.PacketSpans.{PacketSpans}
 
 -- if a packet is current, its unit is among these bytes
 abbrev pub HoldsIfAny : Stage → PacketSpans → List ℕ → Type 0
-HoldsIfAny stage.Between spans bytes = Unit {0}
-HoldsIfAny stage.Current spans bytes = FitsBuffer spans bytes
-HoldsIfAny stage.Lent spans bytes = FitsBuffer spans bytes
-HoldsIfAny stage.Ended spans bytes = Unit {0}
-HoldsIfAny (stage.Failed fault) spans bytes = Unit {0}
+HoldsIfAny Stage.Current spans bytes = FitsBuffer spans bytes
+HoldsIfAny Stage.Lent spans bytes = FitsBuffer spans bytes
+HoldsIfAny other spans bytes = Unit {0}
 
 -- if a packet is current, its interface is known
 abbrev pub HasInterfaceIfCurrent : Stage → PacketSpans → Declared → Type 0
-HasInterfaceIfCurrent stage.Between spans declared = Unit {0}
-HasInterfaceIfCurrent stage.Current spans declared = HasInterface declared spans
-HasInterfaceIfCurrent stage.Lent spans declared = HasInterface declared spans
-HasInterfaceIfCurrent stage.Ended spans declared = Unit {0}
-HasInterfaceIfCurrent (stage.Failed fault) spans declared = Unit {0}
+HasInterfaceIfCurrent Stage.Current spans declared = HasInterface declared spans
+HasInterfaceIfCurrent Stage.Lent spans declared = HasInterface declared spans
+HasInterfaceIfCurrent other spans declared = Unit {0}
 
 -- the invariant of a source's fields
 pub record IsSound {I A : Type 0} (device : Ghosts I) (stage : Stage)
@@ -50,18 +39,7 @@ Continues old (Err fault) new = IsBroken old new fault
 
 -- a source past its current unit, if there was one: its offset is that of the next unit
 abbrev pub past_unit : SourceView → SourceView
-past_unit s = record {
-  phase = s.phase;
-  declared = s.declared;
-  packet = None;
-  block = [];
-  offset = s.offset + length s.block;
-  unread = s.unread;
-  given = s.given;
-  failures = s.failures;
-  sure = s.sure;
-  room = s.room;
-}
+past_unit s = record s { packet = None; block = []; offset = s.offset + length s.block }
 
 -- a source is between units: no packet is current, and no end or fault was met
 pub record IsBetween (s : SourceView) : Type 0 where
@@ -72,9 +50,9 @@ pub record IsBetween (s : SourceView) : Type 0 where
 -- the result of reading one unit, by what was returned: a packet, a unit without one, the clean
 -- end, or a fault
 abbrev pub FindsNext : SourceView → Result NextUnit Fault → SourceView → Type 0
-FindsNext old (Ok next_unit.Packet) new = FindsPacket old new
-FindsNext old (Ok (next_unit.Other size)) new = SkipsUnits old new new.unread
-FindsNext old (Ok next_unit.End) new = FindsEnd old new
+FindsNext old (Ok NextUnit.Packet) new = FindsPacket old new
+FindsNext old (Ok (NextUnit.Other size)) new = SkipsUnits old new new.unread
+FindsNext old (Ok NextUnit.End) new = FindsEnd old new
 FindsNext old (Err fault) new = IsBroken old new fault
 
 -- the bounds of reading one unit, for all devices: counts, and the size of what is held
@@ -87,19 +65,19 @@ pub record NextBounds (old : SourceView) (r : Result NextUnit Fault)
   pub block : length new.block ≤ new.room
   pub held : new.room ≤ most_in_unit
   pub room : old.room ≤ new.room
-  pub packet : r ≡ Ok next_unit.Packet
+  pub packet : r ≡ Ok NextUnit.Packet
       → (old.given < new.given) × (new.given < 2 ^ 63) × (is_some new.packet ≡ true)
   pub counted : OnOk r (new.given + end_offset old ≡ old.given + end_offset new)
   pub broken : OnErr r
       ((old.given + end_offset new ≤ new.given + end_offset old)
       × (new.given + end_offset old ≤ old.given + end_offset new + most_in_unit))
-  pub ended : r ≡ Ok next_unit.End → new.phase ≡ Ended
-  pub found : r ≡ Ok next_unit.Packet → new.phase ≡ Reading
-  pub passed : (size : ℕ) → r ≡ Ok (next_unit.Other size)
+  pub ended : r ≡ Ok NextUnit.End → new.phase ≡ Ended
+  pub found : r ≡ Ok NextUnit.Packet → new.phase ≡ Reading
+  pub passed : (size : ℕ) → r ≡ Ok (NextUnit.Other size)
       → (old.given < new.given) × (new.given < 2 ^ 63) × IsBetween new
 
 -- the current unit is ended, and the next one, which the device has at hand, is taken: it has a
 -- packet
 pub record TakesNext (tells : Bool) (old new : SourceView) : Type 0 where
   pub packet : IsTrue tells → FindsPacket old new
-  pub bounds : NextBounds old (Ok next_unit.Packet) new
+  pub bounds : NextBounds old (Ok NextUnit.Packet) new

@@ -1,5 +1,4 @@
-use Rattle.std.proofs.Common.{arith}
-use Rattle.std.proofs.lemmas.Grind.{common_steps}
+use Rattle.std.proofs.{Common.arith, lemmas.Grind.common_steps}
 use Rattle.std.specs.Vec.Iter.{into_iter_items}
 use Rattle.cap_inputs.proofs.Common.{◌≡◌, ◌++◌, ◌∙◌, [], List, map, sym, ap, append-nil, fresh_view, fresh_input}
 use Rattle.cap_inputs.proofs.inputs.cursors_of.Goals as goal

@@ -1,5 +1,4 @@
-use Rattle.std.proofs.Common.{arith}
-use Rattle.std.proofs.lemmas.Grind.{common_steps}
+use Rattle.std.proofs.{Common.arith, lemmas.Grind.common_steps}
 use Rattle.cap_inputs.proofs.inputs.first_link_in.Goals as goal
 
 pub loop-i-preserved : goal.loop-i-preserved

@@ -1,13 +1,7 @@
-use Rattle.std.proofs.Common.{refl, inl, inr}
-use Rattle.cap_inputs.proofs.Cursors.{some-among}
+use Rattle.std.proofs.Common.{inl, inr}
 use Rattle.cap_inputs.proofs.Leasts.{first-least, empty-none}
 use Rattle.cap_inputs.proofs.inputs.next_by_time.Goals as goal
 use Rattle.cap_inputs.proofs.inputs.next_by_time.Goals.{else-next-last-via-then-next-last+else-next-cursors, else-next-last-via-else-next-last}
-
-pub returns-then-next-cursors : goal.returns-then-next-cursors
-returns-then-next-cursors g c =
-    let a = some-among c.args.cursors.now c.args.next c.if-next-cursors.true in
-    record { is = refl; before = c.if-next-last.true; cursor = a.0; among = a.1 }
 
 pub returns-in-Some : goal.returns-in-Some
 returns-in-Some g c = (
@@ -15,7 +9,7 @@ returns-in-Some g c = (
     | else-next-last-via-then-next-last+else-next-cursors w ↦ inr w.if-next-cursors.false
     | else-next-last-via-else-next-last w ↦ inl w.if-next-last.false
   ],
-  first-least c.args.cursors.now c.args.next c.args.last c.args.queue.now c.in-Some.first c.requires c.in-Some.ensures,
+  first-least c.args.cursors.now c.args.queue.now c.in-Some.first c.requires c.in-Some.ensures,
 )
 
 pub returns-in-None : goal.returns-in-None
@@ -24,5 +18,5 @@ returns-in-None g c = (
     | else-next-last-via-then-next-last+else-next-cursors w ↦ inr w.if-next-cursors.false
     | else-next-last-via-else-next-last w ↦ inl w.if-next-last.false
   ],
-  empty-none c.args.cursors.now c.args.next c.args.last c.args.queue.now c.requires c.in-None.ensures,
+  empty-none c.args.cursors.now c.args.queue.now c.requires c.in-None.ensures,
 )

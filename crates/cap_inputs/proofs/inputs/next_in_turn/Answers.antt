@@ -1,24 +1,18 @@
-use Rattle.std.proofs.Common.{refl, ◌∙◌, sym, ap}
-use Rattle.cap_inputs.specs.Inputs.{InputView}
-use Rattle.cap_inputs.proofs.Cursors.{get-among}
+use Rattle.std.proofs.{Common.refl, Common.sym, Common.ap, Common.◌∙◌, lemmas.Option.slice_get_read}
+use Rattle.std.specs.Option.{option_map}
+use Rattle.cap_inputs.proofs.Common.{InputView, length, Some}
 use Rattle.cap_inputs.proofs.inputs.next_in_turn.Goals as goal
 
 pub returns-then-cursor : goal.returns-then-cursor
 returns-then-cursor g c = (
   refl,
-  record {
-    cursor = c.index-cursors-turn.result;
-    among = get-among c.args.cursors.now c.args.turn c.index-cursors-turn.result _ c.if-turn-cursors.true c.index-cursors-turn.is;
-    waits = ap (λ (h : InputView). h.waiting) (sym c.cursor.view_is) ∙ c.if-cursor.true;
-  },
+  ap (option_map (λ (h : InputView). h.waiting)) (slice_get_read c.args.cursors.now (length c.args.cursors.now) c.args.turn c.index-cursors-turn.result refl c.if-turn-cursors.true c.index-cursors-turn.is)
+      ∙ ap Some (ap (λ (h : InputView). h.waiting) (sym c.cursor.view_is) ∙ c.if-cursor.true),
 )
 
 pub returns-else-cursor : goal.returns-else-cursor
 returns-else-cursor g c = (
   refl,
-  record {
-    cursor = c.index-cursors-turn.result;
-    among = get-among c.args.cursors.now c.args.turn c.index-cursors-turn.result _ c.if-turn-cursors.true c.index-cursors-turn.is;
-    waits = ap (λ (h : InputView). h.waiting) (sym c.cursor.view_is) ∙ c.if-cursor.false;
-  },
+  ap (option_map (λ (h : InputView). h.waiting)) (slice_get_read c.args.cursors.now (length c.args.cursors.now) c.args.turn c.index-cursors-turn.result refl c.if-turn-cursors.true c.index-cursors-turn.is)
+      ∙ ap Some (ap (λ (h : InputView). h.waiting) (sym c.cursor.view_is) ∙ c.if-cursor.false),
 )

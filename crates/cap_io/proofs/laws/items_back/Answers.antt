@@ -1,7 +1,6 @@
 use Rattle.cap_octet.specs.declared.format.Format.TheVariants.{Pcap, NsecPcap, Pcapng}
 use Rattle.cap_io.specs.RoundTrip.{ItemsBack}
-use Rattle.cap_io.proofs.PcapBack.{pcap-back, nanoseconds-back}
-use Rattle.cap_io.proofs.PcapngBack.{pcapng-back}
+use Rattle.cap_io.proofs.{PcapBack.pcap-back, PcapBack.nanoseconds-back, PcapngBack.pcapng-back}
 use Rattle.cap_io.proofs.laws.items_back.Goals as goal
 
 items-back : ItemsBack

@@ -1,8 +1,8 @@
-use Rattle.cap_io.proofs.Common.{rules, IsTrue, [], ◌≡◌, ◌≤◌, ◌++◌, ℕ, List, Some, length, take, drop, refl, sym, ap, ap₂, ◌∙◌, subst, arith, take-take, take-append-drop, append_assoc, length-take-le, section_of, PacketCame, PcapngFile}
-use Rattle.cap_io.specs.declared.file_state.FileState.TheVariants as state
 use Rattle.cap_io.proofs.BlocksCame.{FrontSays, block_came, front_says, whole_came}
 use Rattle.cap_io.proofs.CapturesCame.{packet-block}
+use Rattle.cap_io.proofs.Common.{rules, IsTrue, [], ◌≡◌, ◌≤◌, ◌++◌, ℕ, List, Some, length, take, drop, refl, sym, ap, ap₂, ◌∙◌, subst, arith, take-take, take-append-drop, append_assoc, length-take-le, section_of, PacketCame, PcapngFile}
 use Rattle.cap_io.proofs.Hands.{begins-long, begins-same, lent-first}
+use Rattle.cap_io.specs.declared.file_state.FileState.{FileState}
 use Rattle.cap_io.proofs.pcapng.lend_block.Goals as goal
 
 pub returns-clause-lent : goal.returns-clause-lent
@@ -50,7 +50,7 @@ returns-clause-lent g c = λ is.
       sure = lends.sure;
       enough = lends.enough;
       came = λ t. subst P (sym (append_assoc front (drop 12 block) left) ∙ ap (λ (l : List ℕ). l ++ left) joined ∙ sym (splits t))
-          (packet-block (state.Pcapng order first) table table [] (front ++ (drop 12 block ++ left)) held left frame.order size spans tt there consistent short refl
+          (packet-block (FileState.Pcapng order first) table table [] (front ++ (drop 12 block ++ left)) held left frame.order size spans tt there consistent short refl
           (block_came (Some (section_of order table)) (Some order) table table (front ++ (drop 12 block ++ left)) left _ held frame (Some spans) refl refl least there came
           (ap (take size) same ∙ unit) enters));
     })

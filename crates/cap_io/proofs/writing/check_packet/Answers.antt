@@ -1,5 +1,4 @@
-use Rattle.std.proofs.Common.{arith}
-use Rattle.std.proofs.lemmas.Grind.{common_steps}
+use Rattle.std.proofs.{Common.arith, lemmas.Grind.common_steps}
 use Rattle.cap_io.proofs.writing.check_packet.Goals as goal
 
 pub returns-then-link-packet : goal.returns-then-link-packet

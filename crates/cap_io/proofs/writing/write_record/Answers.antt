@@ -1,6 +1,6 @@
 use Rattle.cap_io.proofs.Common.{◌≡◌, ℕ, List, [], ◌++◌, ap, ◌∙◌, append-nil, err_from_is_err_and, captured, record_text}
-use Rattle.cap_pcap.specs.Encoding.{resolution_of}
 use Rattle.cap_io.proofs.Parts.{appends-as, appends-stopped, appends-then}
+use Rattle.cap_pcap.specs.Encoding.{resolution_of}
 use Rattle.cap_io.proofs.writing.write_record.Goals as goal
 
 pub returns-in_err-write_file_start : goal.returns-in_err-write_file_start

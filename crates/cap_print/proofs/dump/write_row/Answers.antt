@@ -1,8 +1,6 @@
 use Rattle.std.proofs.Common.{◌≡◌, ◌*◌, ℕ, List, [], ◌∷◌, ◌++◌, length, take, drop, min, ap, arith, append_assoc, length-append}
-use Rattle.std.proofs.lemmas.Grind.{common_steps}
-use Rattle.std.proofs.lemmas.List.{length-take, take_rest}
-use Rattle.cap_print.specs.Dump.{pairs, row}
-use Rattle.cap_print.specs.Hexadecimal.{hex_place}
+use Rattle.std.proofs.lemmas.{Grind.common_steps, List.length-take, List.take_rest}
+use Rattle.cap_print.specs.{Dump.pairs, Dump.row, Hexadecimal.hex_place}
 use Rattle.cap_print.proofs.dump.write_row.Goals as goal
 
 -- no more than there are

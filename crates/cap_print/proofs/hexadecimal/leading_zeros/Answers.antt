@@ -1,5 +1,5 @@
 use Rattle.std.proofs.Common.{◌∙◌, arith}
-use Rattle.cap_print.proofs.Zeros.{zeros-more, zeros-end}
+use Rattle.cap_print.proofs.Digits.{zeros-more, zeros-end}
 use Rattle.cap_print.proofs.hexadecimal.leading_zeros.Goals as goal
 
 pub returns-then-digits-i-ne48-clause-value : goal.returns-then-digits-i-ne48-clause-value

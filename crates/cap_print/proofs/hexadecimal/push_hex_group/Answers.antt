@@ -1,6 +1,6 @@
 use Rattle.std.proofs.Common.{refl, arith}
 use Rattle.cap_print.specs.Hexadecimal.{hex_four}
-use Rattle.cap_print.proofs.Groups.{group_of_one, group_of_two, group_of_three, group_of_four}
+use Rattle.cap_print.proofs.Digits.{group_of_one, group_of_two, group_of_three, group_of_four}
 use Rattle.cap_print.proofs.hexadecimal.push_hex_group.Goals as goal
 
 pub returns-in_default-clause-value : goal.returns-in_default-clause-value

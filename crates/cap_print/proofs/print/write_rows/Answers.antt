@@ -1,6 +1,6 @@
 use Rattle.std.proofs.Common.{◌∙◌}
 use Rattle.cap_octet.proofs.Writing.{stops-part}
-use Rattle.cap_print.proofs.Rows.{rows-among}
+use Rattle.cap_print.proofs.Printing.{rows-among}
 use Rattle.cap_print.proofs.print.write_rows.Goals as goal
 
 pub returns-in_default-clause-exact : goal.returns-in_default-clause-exact

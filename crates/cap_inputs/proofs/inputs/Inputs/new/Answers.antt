@@ -1,7 +1,5 @@
-use Rattle.cap_inputs.proofs.Common.{◌≡◌, ◌≤◌, IsTrue, List, [], length, ap, ◌∙◌, refl, arith, InputView, first_schedule, fresh_view, order_of, fresh_input}
-use Rattle.cap_inputs.proofs.Fresh.{first-inputs}
-use Rattle.cap_inputs.proofs.Leasts.{holds-first}
-use Rattle.cap_inputs.proofs.Placed.{placed-first}
+use Rattle.cap_inputs.proofs.Common.{List, length, ap, ◌∙◌, refl, arith, InputView, first_schedule, fresh_view, order_of, fresh_input}
+use Rattle.cap_inputs.proofs.{Cursors.first-inputs, Cursors.first-ordering, Leasts.queued-first, Placed.placed-first}
 use Rattle.cap_inputs.proofs.inputs.Inputs.new.Goals as goal
 
 pub returns : goal.returns
@@ -10,10 +8,10 @@ returns g c =
     (c.first_schedule-schedule.ensures ∙ ap (λ (l : List InputView). first_schedule (order_of c.args.merges) (length l)) c.deref.ensures.value)
 
 pub invariant_of-result : goal.invariant_of-result
-invariant_of-result g c = (
-  let found : (c.in_ok-queue.queue.waiting ≡ []) × (IsTrue c.args.merges → c.len.result ≤ c.in_ok-queue.queue.room) = c.in_ok-queue.ensures in
-      holds-first (λ input. fresh_view (fresh_input g.I.Input input)) c.args.inputs.items c.in_ok-cursors.cursors.items c.args.merges c.first_schedule-schedule.result c.in_ok-queue.queue
-      (λ input. refl) c.in_ok-cursors.ensures (c.first_schedule-schedule.ensures ∙ ap (λ (l : List InputView). first_schedule (order_of c.args.merges) (length l)) c.deref.ensures.value) (found.0, λ merges. (let fits = found.1 merges in omega (arith, fits, c.len.ensures, c.in_ok-cursors.cursors.ok.0))),
-  placed-first (λ input. fresh_view (fresh_input g.I.Input input)) c.args.inputs.items c.in_ok-cursors.cursors.items (order_of c.args.merges) c.first_schedule-schedule.result
-      (λ input. refl) (λ input. refl) c.in_ok-cursors.ensures (c.first_schedule-schedule.ensures ∙ ap (λ (l : List InputView). first_schedule (order_of c.args.merges) (length l)) c.deref.ensures.value),
-)
+invariant_of-result g c =
+    let found = c.in_ok-queue.ensures in
+    rw (c.first_schedule-schedule.ensures, first-ordering, c.deref.ensures.value, c.in_ok-cursors.ensures) (
+      queued-first (λ input. fresh_view (fresh_input g.I.Input input)) c.args.inputs.items c.args.merges c.in_ok-queue.queue (λ input. refl) found.0
+          (λ merges. (let fits = found.1 merges in omega (arith, fits, c.len.ensures, c.in_ok-cursors.cursors.ok.0, ap length c.in_ok-cursors.ensures))),
+      placed-first (λ input. fresh_view (fresh_input g.I.Input input)) c.args.inputs.items (order_of c.args.merges) (λ input. refl) (λ input. refl),
+    )

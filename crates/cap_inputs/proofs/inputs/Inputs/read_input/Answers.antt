@@ -1,57 +1,30 @@
-use Rattle.cap_inputs.proofs.Common.{◌<◌, ◌&&◌, ℕ, ap, sym, ◌∙◌, subst, length, slice_set, Schedule, ordering_of, EntersQueue, HoldsQueue, IsNextAt, IsScheduled, is_merge, PacketOrder, InputsView, ReadsInput, ReadSteps, InputView, is_packet_found, IsNext}
-use Rattle.cap_inputs.specs.declared.inputs.Next.TheVariants as next
+use Rattle.cap_inputs.proofs.Common.{ap, ◌∙◌, ordering_of, InputView}
 use Rattle.cap_inputs.proofs.Cursors.{get-among, fetches-by, read_input-steps-by, schedule-order}
-use Rattle.cap_inputs.proofs.Leasts.{queue-read, room-for}
-use Rattle.cap_inputs.proofs.Placed.{placed-read, read-at}
+use Rattle.cap_inputs.proofs.{Leasts.room-for, Placed.goes-on, Placed.read-idle}
 use Rattle.cap_inputs.proofs.inputs.Inputs.read_input.Goals as goal
 
 pub returns-clause-exact : goal.returns-clause-exact
-returns-clause-exact g c = λ ti.
-    let old : InputsView = record { order = ordering_of c.self.inside.schedule; cursors = c.self.inside.cursors.items } in
-    let made : PacketOrder → InputsView = λ o. record { order = o; cursors = slice_set c.self.inside.cursors.items c.args.input c.advance-result.new.self } in
-    let P : InputsView → Type 0 = λ v. ReadsInput v c.args.input c.advance-result.result (made (ordering_of c.update_after_read.new.schedule)) in
-    let O : PacketOrder → Type 0 = λ o. ReadsInput old c.args.input c.advance-result.result (made o) in
-    let W : InputsView → Type 0 = λ v. c.args.input < length v.cursors in
-    subst P c.self.view_is
-    (subst O (sym (ap ordering_of c.update_after_read.ensures.schedule ∙ schedule-order c.self.inside.schedule c.args.input c.advance-result.result))
-    (fetches-by old c.args.input c.advance-result.result c.index_mut-cursor.result.now c.advance-result.new.self
-    (subst W (sym c.self.view_is) c.requires.within) c.index_mut-cursor.ensures.value (c.advance-result.ensures.exact ti) c.advance-result.ensures.steps c.advance-result.ensures.is))
+returns-clause-exact g c = λ ti. rw (← c.self.view_is)
+    (fetches-by _ c.args.input c.advance-result.result c.index_mut-cursor.result.now c.advance-result.new.self (ordering_of c.update_after_read.new.schedule)
+    (ap ordering_of c.update_after_read.ensures.schedule ∙ schedule-order c.self.inside.schedule c.args.input c.advance-result.result)
+    (rw (← c.self.view_is) at c.requires.within) c.index_mut-cursor.ensures.value (c.advance-result.ensures.exact ti) c.advance-result.ensures.steps c.advance-result.ensures.is)
 
 pub returns-clause-steps : goal.returns-clause-steps
-returns-clause-steps g c =
-    let old : InputsView = record { order = ordering_of c.self.inside.schedule; cursors = c.self.inside.cursors.items } in
-    let made : PacketOrder → InputsView = λ o. record { order = o; cursors = slice_set c.self.inside.cursors.items c.args.input c.advance-result.new.self } in
-    let P : InputsView → Type 0 = λ v. ReadSteps v c.args.input c.advance-result.result (made (ordering_of c.update_after_read.new.schedule)) in
-    let O : PacketOrder → Type 0 = λ o. ReadSteps old c.args.input c.advance-result.result (made o) in
-    let W : InputsView → Type 0 = λ v. c.args.input < length v.cursors in
-    subst P c.self.view_is
-    (subst O (sym (ap ordering_of c.update_after_read.ensures.schedule ∙ schedule-order c.self.inside.schedule c.args.input c.advance-result.result))
-    (read_input-steps-by old c.args.input c.advance-result.result c.index_mut-cursor.result.now c.advance-result.new.self
-    (subst W (sym c.self.view_is) c.requires.within) c.index_mut-cursor.ensures.value c.advance-result.ensures.steps c.advance-result.ensures.phase c.advance-result.ensures.upper_bound c.advance-result.ensures.is))
+returns-clause-steps g c = rw (← c.self.view_is)
+    (read_input-steps-by _ c.args.input c.advance-result.result c.index_mut-cursor.result.now c.advance-result.new.self (ordering_of c.update_after_read.new.schedule)
+    (ap ordering_of c.update_after_read.ensures.schedule ∙ schedule-order c.self.inside.schedule c.args.input c.advance-result.result)
+    (rw (← c.self.view_is) at c.requires.within) c.index_mut-cursor.ensures.value c.advance-result.ensures.steps c.advance-result.ensures.phase c.advance-result.ensures.upper_bound c.advance-result.ensures.is)
 
 pub update_after_read-requires-clause-room : goal.update_after_read-requires-clause-room
 update_after_read-requires-clause-room g c =
-    let W : InputsView → Type 0 = λ v. c.args.input < length v.cursors in
-    let T : InputsView → Type 0 = λ v. IsNext v (next.Read c.args.input) in
-    let a = get-among c.self.inside.cursors.items c.args.input c.index_mut-cursor.result.now c.index_mut-cursor.result.now (subst W (sym c.self.view_is) c.requires.within) c.index_mut-cursor.ensures.value in
-    let at : IsNextAt c.self.inside.schedule c.self.inside.cursors.items (next.Read c.args.input) = read-at c.self.inside.schedule c.self.inside.cursors.items c.args.input c.self.invariant.1 (subst T (sym c.self.view_is) c.requires.next) in
-    room-for c.self.inside.schedule c.self.inside.cursors.items c.args.input c.index_mut-cursor.result.now _ c.self.inside.queue a at c.self.invariant.0
+    let a = get-among c.self.inside.cursors.items c.args.input c.index_mut-cursor.result.now (rw (← c.self.view_is) at c.requires.within) c.index_mut-cursor.ensures.value in
+    room-for c.self.inside.schedule c.self.inside.cursors.items c.args.input c.index_mut-cursor.result.now _ c.self.inside.queue a
+    (read-idle _ c.self.inside.cursors.items c.args.input c.index_mut-cursor.result.now a (rw (← c.self.view_is) at c.requires.next)) c.self.invariant.0
 
 pub invariant_of-self : goal.invariant_of-self
 invariant_of-self g c =
-    let W : InputsView → Type 0 = λ v. c.args.input < length v.cursors in
-    let T : InputsView → Type 0 = λ v. IsNext v (next.Read c.args.input) in
-    let a = get-among c.self.inside.cursors.items c.args.input c.index_mut-cursor.result.now c.index_mut-cursor.result.now (subst W (sym c.self.view_is) c.requires.within) c.index_mut-cursor.ensures.value in
-    let at : IsNextAt c.self.inside.schedule c.self.inside.cursors.items (next.Read c.args.input) = read-at c.self.inside.schedule c.self.inside.cursors.items c.args.input c.self.invariant.1 (subst T (sym c.self.view_is) c.requires.next) in
-    let waits = ap (λ (h : InputView). h.waiting) c.advance-result.ensures.is in
-    let K : ℕ → Type 0 = λ n. EntersQueue (is_packet_found c.advance-result.result && is_merge c.self.inside.schedule) (record { time = n; input = c.args.input }) c.self.inside.queue c.update_after_read.new.queue in
-    let cursors' = slice_set c.self.inside.cursors.items c.args.input c.advance-result.new.self in
-    let P : Schedule → Type 0 = λ p. HoldsQueue p cursors' c.update_after_read.new.queue in
-    let Q : Schedule → Type 0 = λ p. IsScheduled p cursors' in (
-      subst P (sym c.update_after_read.ensures.schedule)
-          (queue-read c.self.inside.schedule c.self.inside.cursors.items c.args.input c.index_mut-cursor.result.now c.advance-result.new.self c.advance-result.result c.self.inside.queue c.update_after_read.new.queue
-          a at waits (subst K c.key-time.ensures c.update_after_read.ensures.queue) c.self.invariant.0),
-      subst Q (sym c.update_after_read.ensures.schedule)
-          (placed-read c.self.inside.schedule c.self.inside.cursors.items c.args.input c.index_mut-cursor.result.now c.advance-result.new.self c.advance-result.result
-          a at waits (ap (λ (h : InputView). h.source.phase) c.advance-result.ensures.is ∙ c.advance-result.ensures.phase) c.self.invariant.1),
-    )
+    let a = get-among c.self.inside.cursors.items c.args.input c.index_mut-cursor.result.now (rw (← c.self.view_is) at c.requires.within) c.index_mut-cursor.ensures.value in
+    goes-on c.self.inside.schedule c.update_after_read.new.schedule c.self.inside.cursors.items c.args.input c.index_mut-cursor.result.now c.advance-result.new.self c.advance-result.result c.self.inside.queue c.update_after_read.new.queue
+    a (rw (← c.self.view_is) at c.requires.next) (ap (λ (h : InputView). h.waiting) c.advance-result.ensures.is)
+    (ap (λ (h : InputView). h.source.phase) c.advance-result.ensures.is ∙ c.advance-result.ensures.phase) c.update_after_read.ensures.schedule
+    (rw c.key-time.ensures at c.update_after_read.ensures.queue) c.self.invariant

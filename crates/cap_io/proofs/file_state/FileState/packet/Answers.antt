@@ -1,6 +1,6 @@
 use Rattle.cap_io.proofs.Common.{common_steps, ◌∙◌, refl, take, arith, description_of}
-use Rattle.cap_pcapng.proofs.Entered.{known_interface}
 use Rattle.cap_io.proofs.Passing.{part-lent, pcap-lent, pcapng-lent}
+use Rattle.cap_pcapng.proofs.Entered.{known_interface}
 use Rattle.cap_io.proofs.file_state.FileState.packet.Goals as goal
 
 pub returns-in-Pcap-clause-packet : goal.returns-in-Pcap-clause-packet

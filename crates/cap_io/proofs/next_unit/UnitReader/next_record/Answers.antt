@@ -1,59 +1,33 @@
-use Rattle.cap_io.proofs.Common.{rules, ◌≡◌, ◌+◌, length, take, refl, arith, take_at, err_from_is_err_and}
-use Rattle.cap_io.proofs.Came.{error_is, fields_came, fields_refused, fields-has_memory, no_room, data_missing, record_came, record-takes}
+use Rattle.cap_io.proofs.Came.{fields_came, fields_refused, fields-has_memory, no_room, data_missing, record_came, record-takes}
+use Rattle.cap_io.proofs.CapturesCame.{reads-no_unit}
+use Rattle.cap_io.proofs.Common.{rules, [], ◌≡◌, ◌+◌, length, take, refl, arith, take_at, err_from_is_err_and}
 use Rattle.cap_io.proofs.next_unit.UnitReader.next_record.Goals as goal
 
 pub returns-in_err-found : goal.returns-in_err-found
 returns-in_err-found g c =
     let p = err_from_is_err_and c.from_residual-in_err-found.result c.from_residual-in_err-found.ensures.1 in
-    rw (p.1, p.2) (record {
-      moves = search rules;
-      sized = tt;
-      consistent = tt;
-      known = tt;
-      ok = tt;
-      err = λ t. rw c.requires (fields_refused _ _ _ c.read_front.new.front _ _ (rw c.if-not-branch.false at (c.in_ok-read_front.ensures.ok t)) (search rules) c.read_record.ensures.answer c.in_err-found.was);
-      kept = (refl, refl);
-      grown = omega arith;
-      bounded = λ most. most;
-      fits = tt;
-      memory = λ e. absurd (fields-has_memory c.args.head.now c.read_front.new.front _ _ c.read_record.ensures.answer c.in_err-found.was (error_is e));
-    })
+    rw (p.1, p.2) (reads-no_unit g.I.Input c.args.self.now [] _ _ (search rules)
+    (λ t. rw c.requires (fields_refused _ _ _ c.read_front.new.front _ _ (rw c.if-not-branch.false at (c.in_ok-read_front.ensures.ok t)) (search rules) c.read_record.ensures.answer c.in_err-found.was))
+    (refl, refl) (omega arith) (λ most. most)
+    (λ e. absurd (fields-has_memory c.args.head.now c.read_front.new.front _ _ c.read_record.ensures.answer c.in_err-found.was e)))
 
 pub returns-in_err-make_room : goal.returns-in_err-make_room
 returns-in_err-make_room g c =
     let p = err_from_is_err_and c.from_residual-in_err-make_room.result c.from_residual-in_err-make_room.ensures.1 in
-    rw (p.1, p.2, c.in_err-make_room.ensures.memory.0) (record {
-      moves = search rules;
-      sized = tt;
-      consistent = tt;
-      known = tt;
-      ok = tt;
-      err = λ t. rw c.requires (no_room _ _ _ c.read_front.new.front (rw c.if-not-branch.false at (c.in_ok-read_front.ensures.ok t)) (search rules));
-      kept = (refl, refl);
-      grown = c.make_room.ensures.grown;
-      bounded = λ most. c.make_room.ensures.bounded (omega (arith, c.in_ok-found.ensures.short)) most;
-      fits = tt;
-      memory = λ e t. rw c.requires (record-takes c.args.head.now _ _ c.read_front.new.front c.in_ok-found.found _ _ refl (rw c.if-not-branch.false at (c.in_ok-read_front.ensures.ok t)) (search rules)
-          (fields_came _ _ _ _ c.read_record.ensures.answer c.in_ok-found.was) (search rules));
-    })
+    rw (p.1, p.2, c.in_err-make_room.ensures.memory.0) (reads-no_unit g.I.Input c.args.self.now [] _ _ (search rules)
+    (λ t. rw c.requires (no_room _ _ _ c.read_front.new.front (rw c.if-not-branch.false at (c.in_ok-read_front.ensures.ok t)) (search rules)))
+    (refl, refl) (c.make_room.ensures.grown) (λ most. c.make_room.ensures.bounded (omega (arith, c.in_ok-found.ensures.short)) most)
+    (λ e t. rw c.requires (record-takes c.args.head.now _ _ c.read_front.new.front c.in_ok-found.found _ _ refl (rw c.if-not-branch.false at (c.in_ok-read_front.ensures.ok t)) (search rules)
+    (fields_came _ _ _ _ c.read_record.ensures.answer c.in_ok-found.was) (search rules))))
 
 pub returns-in_err-read_rest : goal.returns-in_err-read_rest
 returns-in_err-read_rest g c =
     let p = err_from_is_err_and c.from_residual-in_err-read_rest.result c.from_residual-in_err-read_rest.ensures.1 in
-    rw (p.1, p.2) (record {
-      moves = search rules;
-      sized = tt;
-      consistent = tt;
-      known = tt;
-      ok = tt;
-      err = λ t. rw c.requires (data_missing _ _ _ _ c.read_front.new.front c.in_ok-found.found _ _ (search rules) (rw c.if-not-branch.false at (c.in_ok-read_front.ensures.ok t)) (search rules)
-          (fields_came _ _ _ _ c.read_record.ensures.answer c.in_ok-found.was) (omega (arith, c.in_ok-found.ensures.short)) (c.in_err-read_rest.ensures.err t));
-      kept = (refl, refl);
-      grown = rw (take_at c.read_rest.new.buffer _ c.make_room.new.buffer.len (search rules)) (let size : length c.read_rest.new.buffer ≡ c.make_room.new.buffer.len = search rules in omega (arith, size, c.make_room.ensures.grown, c.make_room.new.buffer.ok.0));
-      bounded = λ most. rw (take_at c.read_rest.new.buffer _ c.make_room.new.buffer.len (search rules)) (let size : length c.read_rest.new.buffer ≡ c.make_room.new.buffer.len = search rules in omega (arith, size, c.make_room.ensures.bounded (omega (arith, c.in_ok-found.ensures.short)) most, c.make_room.new.buffer.ok.0));
-      fits = tt;
-      memory = λ e. absurd (c.in_err-read_rest.ensures.memory (error_is e));
-    })
+    rw (p.1, p.2) (reads-no_unit g.I.Input c.args.self.now [] _ _ (search rules)
+    (λ t. rw c.requires (data_missing _ _ _ _ c.read_front.new.front c.in_ok-found.found _ _ (search rules) (rw c.if-not-branch.false at (c.in_ok-read_front.ensures.ok t)) (search rules)
+    (fields_came _ _ _ _ c.read_record.ensures.answer c.in_ok-found.was) (omega (arith, c.in_ok-found.ensures.short)) (c.in_err-read_rest.ensures.err t)))
+    (refl, refl) (rw (take_at c.read_rest.new.buffer _ c.make_room.new.buffer.len (search rules)) (let size : length c.read_rest.new.buffer ≡ c.make_room.new.buffer.len = search rules in omega (arith, size, c.make_room.ensures.grown, c.make_room.new.buffer.ok.0))) (λ most. rw (take_at c.read_rest.new.buffer _ c.make_room.new.buffer.len (search rules)) (let size : length c.read_rest.new.buffer ≡ c.make_room.new.buffer.len = search rules in omega (arith, size, c.make_room.ensures.bounded (omega (arith, c.in_ok-found.ensures.short)) most, c.make_room.new.buffer.ok.0)))
+    (λ e. absurd (c.in_err-read_rest.ensures.memory e)))
 
 pub returns : goal.returns
 returns g c = rw c.record_spans-self.ensures (record {

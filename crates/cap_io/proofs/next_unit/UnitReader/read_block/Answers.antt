@@ -1,67 +1,38 @@
-use Rattle.cap_io.proofs.Common.{rules, ◌≡◌, length, take, ap, arith, refl, sym, ◌∙◌, take_at, err_from_is_err_and, frame_in, section_of, PcapngFile, first_link_after, declared_by, known_first_link, section_before}
 use Rattle.cap_io.proofs.BlocksCame.{adds-describes, block-exceeds, block_came, entry_refused, frame-has_memory, frame_refused, front_says, no_room_for_block, rest_of_block, whole_came}
-use Rattle.cap_io.proofs.Came.{error_is}
-use Rattle.cap_io.proofs.CapturesCame.{block-takes, first-again, has-section, interface-takes, interfaces-held, interfaces-kept, order-held, packet-block, passed-block, refused-block, section-fits, small-following}
-use Rattle.cap_io.proofs.Fitting.{held_length-le}
-use Rattle.cap_io.proofs.OwnFaults.{entry-adds, entry-own}
+use Rattle.cap_io.proofs.CapturesCame.{block-takes, first-again, has-section, interface-takes, interfaces-held, interfaces-kept, order-held, packet-block, passed-block, reads-no_unit, refused-block, section-fits, small-following}
+use Rattle.cap_io.proofs.Common.{rules, ◌≡◌, length, take, ap, arith, refl, sym, ◌∙◌, take_at, err_from_is_err_and, frame_in, section_of, PcapngFile, first_link_after, declared_by, known_first_link, section_before}
+use Rattle.cap_io.proofs.{OwnFaults.entry-adds, OwnFaults.entry-own, Units.held_length-le}
 use Rattle.cap_io.proofs.next_unit.UnitReader.read_block.Goals as goal
 
 pub returns-in_err-found : goal.returns-in_err-found
 returns-in_err-found g c =
     let p = err_from_is_err_and c.from_residual.result c.from_residual.ensures.1 in
-    rw (p.1, p.2) (record {
-      moves = search rules;
-      sized = tt;
-      consistent = tt;
-      known = tt;
-      ok = tt;
-      err = λ t. refused-block c.args.self.now.file c.args.self.now.table c.args.front.now _ _ _ (search rules) c.requires.begins
-          (frame_refused (section_before c.args.self.now.file c.args.self.now.table) c.order.result c.args.front.now _ _ _ (order-held c.args.self.now.file c.args.self.now.table ∙ sym c.order.ensures) (search rules) c.frame.ensures.answer c.in_err-found.was);
-      kept = (refl, refl);
-      grown = omega arith;
-      bounded = λ most. most;
-      fits = tt;
-      memory = λ e. absurd (frame-has_memory c.order.result c.args.front.now _ _ c.frame.ensures.answer c.in_err-found.was (error_is e));
-    })
+    rw (p.1, p.2) (reads-no_unit g.I.Input c.args.self.now c.args.front.now _ _ (search rules)
+    (λ t. refused-block c.args.self.now.file c.args.self.now.table c.args.front.now _ _ _ (search rules) c.requires.begins
+    (frame_refused (section_before c.args.self.now.file c.args.self.now.table) c.order.result c.args.front.now _ _ _ (order-held c.args.self.now.file c.args.self.now.table ∙ sym c.order.ensures) (search rules) c.frame.ensures.answer c.in_err-found.was))
+    (refl, refl) (omega arith) (λ most. most)
+    (λ e. absurd (frame-has_memory c.order.result c.args.front.now _ _ c.frame.ensures.answer c.in_err-found.was e)))
 
 pub returns-in_err-make_room : goal.returns-in_err-make_room
 returns-in_err-make_room g c =
     let p = err_from_is_err_and c.from_residual-in_err-make_room.result c.from_residual-in_err-make_room.ensures.1 in
-    rw (p.1, p.2, c.in_err-make_room.ensures.memory.0) (record {
-      moves = search rules;
-      sized = tt;
-      consistent = tt;
-      known = tt;
-      ok = tt;
-      err = λ t. refused-block c.args.self.now.file c.args.self.now.table c.args.front.now _ _ _ (search rules) c.requires.begins
-          (no_room_for_block (section_before c.args.self.now.file c.args.self.now.table) c.args.front.now _ (search rules));
-      kept = (refl, refl);
-      grown = c.make_room.ensures.grown;
-      bounded = λ most. c.make_room.ensures.bounded c.in_ok-found.ensures.longest most;
-      fits = tt;
-      memory = λ e t. block-takes c.args.self.now.file c.args.self.now.table c.args.front.now _ _ (search rules) c.requires.begins
-          (block-exceeds (section_before c.args.self.now.file c.args.self.now.table) c.order.result c.args.front.now _ c.in_ok-found.found _ (order-held c.args.self.now.file c.args.self.now.table ∙ sym c.order.ensures) (search rules)
-          (front_says c.order.result c.args.front.now _ c.in_ok-found.found c.frame.ensures.answer c.in_ok-found.was) (search rules));
-    })
+    rw (p.1, p.2, c.in_err-make_room.ensures.memory.0) (reads-no_unit g.I.Input c.args.self.now c.args.front.now _ _ (search rules)
+    (λ t. refused-block c.args.self.now.file c.args.self.now.table c.args.front.now _ _ _ (search rules) c.requires.begins
+    (no_room_for_block (section_before c.args.self.now.file c.args.self.now.table) c.args.front.now _ (search rules)))
+    (refl, refl) (c.make_room.ensures.grown) (λ most. c.make_room.ensures.bounded c.in_ok-found.ensures.longest most)
+    (λ e t. block-takes c.args.self.now.file c.args.self.now.table c.args.front.now _ _ (search rules) c.requires.begins
+    (block-exceeds (section_before c.args.self.now.file c.args.self.now.table) c.order.result c.args.front.now _ c.in_ok-found.found _ (order-held c.args.self.now.file c.args.self.now.table ∙ sym c.order.ensures) (search rules)
+    (front_says c.order.result c.args.front.now _ c.in_ok-found.found c.frame.ensures.answer c.in_ok-found.was) (search rules))))
 
 pub returns-in_err-read_rest : goal.returns-in_err-read_rest
 returns-in_err-read_rest g c =
     let p = err_from_is_err_and c.from_residual-in_err-read_rest.result c.from_residual-in_err-read_rest.ensures.1 in
-    rw (p.1, p.2) (record {
-      moves = search rules;
-      sized = tt;
-      consistent = tt;
-      known = tt;
-      ok = tt;
-      err = λ t. refused-block c.args.self.now.file c.args.self.now.table c.args.front.now _ _ _ (search rules) c.requires.begins
-          (rest_of_block (section_before c.args.self.now.file c.args.self.now.table) c.order.result c.args.front.now _ _ c.in_ok-found.found _ (order-held c.args.self.now.file c.args.self.now.table ∙ sym c.order.ensures) (search rules)
-          (front_says c.order.result c.args.front.now _ c.in_ok-found.found c.frame.ensures.answer c.in_ok-found.was) c.in_ok-found.ensures.longest (c.in_err-read_rest.ensures.err t));
-      kept = (refl, refl);
-      grown = rw (take_at c.read_rest.new.buffer _ c.make_room.new.buffer.len (search rules)) (let size : length c.read_rest.new.buffer ≡ c.make_room.new.buffer.len = search rules in omega (arith, size, c.make_room.ensures.grown, c.make_room.new.buffer.ok.0));
-      bounded = λ most. rw (take_at c.read_rest.new.buffer _ c.make_room.new.buffer.len (search rules)) (let size : length c.read_rest.new.buffer ≡ c.make_room.new.buffer.len = search rules in omega (arith, size, c.make_room.ensures.bounded c.in_ok-found.ensures.longest most, c.make_room.new.buffer.ok.0));
-      fits = tt;
-      memory = λ e. absurd (c.in_err-read_rest.ensures.memory (error_is e));
-    })
+    rw (p.1, p.2) (reads-no_unit g.I.Input c.args.self.now c.args.front.now _ _ (search rules)
+    (λ t. refused-block c.args.self.now.file c.args.self.now.table c.args.front.now _ _ _ (search rules) c.requires.begins
+    (rest_of_block (section_before c.args.self.now.file c.args.self.now.table) c.order.result c.args.front.now _ _ c.in_ok-found.found _ (order-held c.args.self.now.file c.args.self.now.table ∙ sym c.order.ensures) (search rules)
+    (front_says c.order.result c.args.front.now _ c.in_ok-found.found c.frame.ensures.answer c.in_ok-found.was) c.in_ok-found.ensures.longest (c.in_err-read_rest.ensures.err t)))
+    (refl, refl) (rw (take_at c.read_rest.new.buffer _ c.make_room.new.buffer.len (search rules)) (let size : length c.read_rest.new.buffer ≡ c.make_room.new.buffer.len = search rules in omega (arith, size, c.make_room.ensures.grown, c.make_room.new.buffer.ok.0))) (λ most. rw (take_at c.read_rest.new.buffer _ c.make_room.new.buffer.len (search rules)) (let size : length c.read_rest.new.buffer ≡ c.make_room.new.buffer.len = search rules in omega (arith, size, c.make_room.ensures.bounded c.in_ok-found.ensures.longest most, c.make_room.new.buffer.ok.0)))
+    (λ e. absurd (c.in_err-read_rest.ensures.memory e)))
 
 pub apply_block-requires-clause-section : goal.apply_block-requires-clause-section
 apply_block-requires-clause-section g c = section-fits c.args.self.now.file c.args.self.now.table c.args.front.now c.requires.begins c.requires.consistent
@@ -70,42 +41,35 @@ pub returns-in-Err : goal.returns-in-Err
 returns-in-Err g c =
     let moves = c.in_ok-read_rest.ensures.moves in
     let own = entry-own _ _ _ c.in-Err.fault c.in-Err.ensures.err in
-    record {
-      moves = record {
-        counted = tt;
-        grown = moves.grown;
-        bounded = tt;
-        at_most = omega (arith, moves.counted, c.in_ok-found.ensures.longest);
-        failed = omega (arith, moves.failed, own);
-        sure = moves.sure;
-        enough = moves.enough;
-        told = moves.told;
-      };
-      sized = tt;
-      consistent = tt;
-      known = tt;
-      ok = tt;
-      err = λ t. refused-block c.args.self.now.file c.args.self.now.table c.args.front.now _ _ _ (search rules) c.requires.begins
-          (entry_refused (section_before c.args.self.now.file c.args.self.now.table) c.order.result c.args.self.now.table _ _ _ _ c.in_ok-found.found _ (order-held c.args.self.now.file c.args.self.now.table ∙ sym c.order.ensures)
-          (interfaces-held c.args.self.now.file c.args.self.now.table c.args.front.now c.requires.begins c.requires.consistent) c.in_ok-found.ensures.shortest c.in_ok-found.ensures.longest
-          (omega (arith, c.in_ok-make_room.ensures.room, c.deref.ensures.len, ap length c.deref.ensures.value))
-          (whole_came c.order.result c.args.front.now _ _ (take c.in_ok-found.found.length c.read_rest.new.buffer) _ c.in_ok-found.found (search rules)
-          (front_says c.order.result c.args.front.now _ c.in_ok-found.found c.frame.ensures.answer c.in_ok-found.was)
-          (rw (take_at c.read_rest.new.buffer _ c.make_room.new.buffer.len (search rules)) refl) c.in_ok-read_rest.ensures.same (c.in_ok-read_rest.ensures.ok t))
-          (ap (take c.in_ok-found.found.length) c.deref.ensures.value) c.in-Err.ensures.err);
-      kept = (refl, c.in-Err.ensures.kept);
-      grown = rw (take_at c.read_rest.new.buffer _ c.make_room.new.buffer.len (search rules)) (let size : length c.read_rest.new.buffer ≡ c.make_room.new.buffer.len = search rules in omega (arith, size, c.make_room.ensures.grown, c.make_room.new.buffer.ok.0));
-      bounded = λ most. rw (take_at c.read_rest.new.buffer _ c.make_room.new.buffer.len (search rules)) (let size : length c.read_rest.new.buffer ≡ c.make_room.new.buffer.len = search rules in omega (arith, size, c.make_room.ensures.bounded c.in_ok-found.ensures.longest most, c.make_room.new.buffer.ok.0));
-      fits = tt;
-      memory = λ e t. interface-takes c.args.self.now.file c.args.self.now.table c.args.front.now _ _ (search rules) c.requires.begins
-          (adds-describes (section_before c.args.self.now.file c.args.self.now.table) c.order.result c.args.self.now.table _ _ _ _ c.in_ok-found.found (order-held c.args.self.now.file c.args.self.now.table ∙ sym c.order.ensures)
-          (interfaces-held c.args.self.now.file c.args.self.now.table c.args.front.now c.requires.begins c.requires.consistent) c.in_ok-found.ensures.shortest
-          (omega (arith, c.in_ok-make_room.ensures.room, c.deref.ensures.len, ap length c.deref.ensures.value))
-          (whole_came c.order.result c.args.front.now _ _ (take c.in_ok-found.found.length c.read_rest.new.buffer) _ c.in_ok-found.found (search rules)
-          (front_says c.order.result c.args.front.now _ c.in_ok-found.found c.frame.ensures.answer c.in_ok-found.was)
-          (rw (take_at c.read_rest.new.buffer _ c.make_room.new.buffer.len (search rules)) refl) c.in_ok-read_rest.ensures.same (c.in_ok-read_rest.ensures.ok t))
-          (ap (take c.in_ok-found.found.length) c.deref.ensures.value) (entry-adds _ _ _ c.in-Err.fault c.in-Err.ensures.err (error_is e)));
-    }
+    reads-no_unit g.I.Input c.args.self.now c.args.front.now _ _ (record {
+      counted = tt;
+      grown = moves.grown;
+      bounded = tt;
+      at_most = omega (arith, moves.counted, c.in_ok-found.ensures.longest);
+      failed = omega (arith, moves.failed, own);
+      sure = moves.sure;
+      enough = moves.enough;
+      told = moves.told;
+    })
+    (λ t. refused-block c.args.self.now.file c.args.self.now.table c.args.front.now _ _ _ (search rules) c.requires.begins
+    (entry_refused (section_before c.args.self.now.file c.args.self.now.table) c.order.result c.args.self.now.table _ _ _ _ c.in_ok-found.found _ (order-held c.args.self.now.file c.args.self.now.table ∙ sym c.order.ensures)
+    (interfaces-held c.args.self.now.file c.args.self.now.table c.args.front.now c.requires.begins c.requires.consistent) c.in_ok-found.ensures.shortest c.in_ok-found.ensures.longest
+    (omega (arith, c.in_ok-make_room.ensures.room, c.deref.ensures.len, ap length c.deref.ensures.value))
+    (whole_came c.order.result c.args.front.now _ _ (take c.in_ok-found.found.length c.read_rest.new.buffer) _ c.in_ok-found.found (search rules)
+    (front_says c.order.result c.args.front.now _ c.in_ok-found.found c.frame.ensures.answer c.in_ok-found.was)
+    (rw (take_at c.read_rest.new.buffer _ c.make_room.new.buffer.len (search rules)) refl) c.in_ok-read_rest.ensures.same (c.in_ok-read_rest.ensures.ok t))
+    (ap (take c.in_ok-found.found.length) c.deref.ensures.value) c.in-Err.ensures.err))
+    (refl, c.in-Err.ensures.kept)
+    (rw (take_at c.read_rest.new.buffer _ c.make_room.new.buffer.len (search rules)) (let size : length c.read_rest.new.buffer ≡ c.make_room.new.buffer.len = search rules in omega (arith, size, c.make_room.ensures.grown, c.make_room.new.buffer.ok.0)))
+    (λ most. rw (take_at c.read_rest.new.buffer _ c.make_room.new.buffer.len (search rules)) (let size : length c.read_rest.new.buffer ≡ c.make_room.new.buffer.len = search rules in omega (arith, size, c.make_room.ensures.bounded c.in_ok-found.ensures.longest most, c.make_room.new.buffer.ok.0)))
+    (λ e t. interface-takes c.args.self.now.file c.args.self.now.table c.args.front.now _ _ (search rules) c.requires.begins
+    (adds-describes (section_before c.args.self.now.file c.args.self.now.table) c.order.result c.args.self.now.table _ _ _ _ c.in_ok-found.found (order-held c.args.self.now.file c.args.self.now.table ∙ sym c.order.ensures)
+    (interfaces-held c.args.self.now.file c.args.self.now.table c.args.front.now c.requires.begins c.requires.consistent) c.in_ok-found.ensures.shortest
+    (omega (arith, c.in_ok-make_room.ensures.room, c.deref.ensures.len, ap length c.deref.ensures.value))
+    (whole_came c.order.result c.args.front.now _ _ (take c.in_ok-found.found.length c.read_rest.new.buffer) _ c.in_ok-found.found (search rules)
+    (front_says c.order.result c.args.front.now _ c.in_ok-found.found c.frame.ensures.answer c.in_ok-found.was)
+    (rw (take_at c.read_rest.new.buffer _ c.make_room.new.buffer.len (search rules)) refl) c.in_ok-read_rest.ensures.same (c.in_ok-read_rest.ensures.ok t))
+    (ap (take c.in_ok-found.found.length) c.deref.ensures.value) (entry-adds _ _ _ c.in-Err.fault c.in-Err.ensures.err e)))
 
 pub returns-in-Ok-Some : goal.returns-in-Ok-Some
 returns-in-Ok-Some g c =

@@ -1,6 +1,6 @@
 use Rattle.cap_io.proofs.Common.{◌≡◌, ◌<◌, List, ◌++◌, length, map, nat_lt, nat_le, sym, ap, subst, ◌∙◌, arith, length-map, captured, Interface, interface_of, most_output_interfaces, new_among, is_among, interface_in}
+use Rattle.cap_io.proofs.Interfaces.{among-keys, room-full, room-below}
 use Rattle.std.proofs.lemmas.Bool.{lt-ltb}
-use Rattle.cap_io.proofs.Keys.{among-keys, room-full, room-below}
 use Rattle.cap_io.proofs.numbering.OutputInterfaces.has_room.Goals as goal
 
 pub returns-then-len-lt-MOST_OUTPUT_INTERFACES : goal.returns-then-len-lt-MOST_OUTPUT_INTERFACES

@@ -1,7 +1,7 @@
 use Rattle.cap_io.proofs.Common.{◌∙◌, ℕ, List, ap, take, declared_by, packet_in_unit, SourceView}
+use Rattle.cap_io.proofs.source.Source.head.Goals.{in_default+in-Current, in-Lent}
 use Rattle.std.specs.Borrow.{Bor}
 use Rattle.cap_io.proofs.source.Source.head.Goals as goal
-use Rattle.cap_io.proofs.source.Source.head.Goals.{in_default+in-Current, in-Lent}
 
 pub returns-clause-packet : goal.returns-clause-packet
 returns-clause-packet g c =

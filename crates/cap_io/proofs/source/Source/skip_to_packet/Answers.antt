@@ -1,5 +1,4 @@
-use Rattle.std.proofs.Common.{◌∙◌, ap, arith, Ok, refl}
-use Rattle.std.proofs.lemmas.Result.{err_from_is_err_and}
+use Rattle.std.proofs.{Common.◌∙◌, Common.ap, Common.arith, Common.Ok, Common.refl, lemmas.Result.err_from_is_err_and}
 use Rattle.cap_io.proofs.Passing.{FindsEnd-then, FindsPacket-then, IsBroken-then, SkipsUnits-then, no-unit-end, stays}
 use Rattle.cap_io.proofs.source.Source.skip_to_packet.Goals as goal
 

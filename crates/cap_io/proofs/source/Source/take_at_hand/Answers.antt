@@ -1,5 +1,4 @@
-use Rattle.cap_io.proofs.Common.{◌≡◌, rules, Reading}
-use Rattle.cap_io.proofs.Hands.{if-at-hand}
+use Rattle.cap_io.proofs.{Common.◌≡◌, Common.rules, Common.Reading, Hands.if-at-hand}
 use Rattle.cap_io.proofs.source.Source.take_at_hand.Goals as goal
 
 pub returns-in-Lent-clause-takes : goal.returns-in-Lent-clause-takes

@@ -1,6 +1,5 @@
-use Rattle.std.proofs.Common.{refl, arith}
-use Rattle.std.proofs.lemmas.Fmt.{decimal_digit}
-use Rattle.cap_print.proofs.Decimals.{decimal_two}
+use Rattle.std.proofs.{Common.refl, Common.arith, lemmas.Fmt.decimal_digit}
+use Rattle.cap_print.proofs.Digits.{decimal_two}
 use Rattle.cap_print.proofs.text.Text.push_below_100.Goals as goal
 
 pub returns-then-number-lt10-clause-value : goal.returns-then-number-lt10-clause-value

@@ -1,5 +1,5 @@
 use Rattle.std.proofs.Common.{refl, arith, append_assoc}
-use Rattle.cap_print.proofs.Decimals.{decimal_pair, decimal_two_pairs}
+use Rattle.cap_print.proofs.Digits.{decimal_pair, decimal_two_pairs}
 use Rattle.cap_print.proofs.text.Text.push_decimal.Goals as goal
 
 pub returns-then-number-lt10000-clause-value : goal.returns-then-number-lt10000-clause-value
