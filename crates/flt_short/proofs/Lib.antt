@@ -1,5 +1,4 @@
 pub mod Common
-pub mod Arriving
 pub mod Basics
 pub mod Knowing
 pub mod Walks

@@ -1,16 +1,12 @@
 -- Threaded code returns the same, and keeps its length, its tests and what breaks no rule.
-use Rattle.flt_short.proofs.Common.{◌≡◌, ℕ, zero, suc, ◌+◌, ◌%◌, ◌^◌, ◌<◌, List, [], ◌∷◌, length, count_by, get_or, cond, Bool, true, false, Option, Some, None, refl, sym, ap, ◌∙◌, subst, arith, nat_lt, ◌&&◌, if◌then◌else◌, slice_get, option_map, option_map_or, nat_tests, Insn, State, Operation, LoadAbsolute, LoadIndirect, Load, LoadHeaderLength, Store, Compute, Negate, Jump, JumpIf, ReturnConstant, ReturnAccumulator, CopyToIndex, CopyToAccumulator, Accumulator, Index, Immediate, Memory, Length, Constant, Byte, Next, does_if_known, test_holds, operand_value, field, compute, header_length, start, answer_of, answer_after, unless, fault_if_known, ends_in_return, IsFaultless, is_branch, Held, Known, at_start, known_at, arrived, masked_by, masked_held, held_without_index, known_after, known_by_test, threaded_offset, threaded_by, threaded_insn, is_reached, with_arrivals_by, with_arrivals, flow, and_parts}
+use Rattle.flt_short.proofs.Basics.{by_test, known_step}
+use Rattle.flt_short.proofs.Common.{◌≡◌, ℕ, zero, suc, ◌+◌, ◌<◌, List, [], ◌∷◌, length, count_by, get_or, cond, Bool, true, false, Option, Some, None, refl, sym, ap, ◌∙◌, subst, arith, nat_lt, ◌&&◌, if◌then◌else◌, nat_tests, Insn, State, Operation, Jump, JumpIf, ReturnConstant, ReturnAccumulator, Next, Goes, does, does_if_known, test_holds, operand_value, start, answer_of, answer_after, unless, fault_if_known, ends_in_return, IsFaultless, is_branch, Held, Known, at_start, known_at, arrived, known_after, known_by_test, threaded_offset, threaded_by, threaded_insn, is_reached, with_arrivals_by, with_arrivals, flow, and_parts}
+use Rattle.flt_short.proofs.Knowing.{HeldHolds, Holds, tested, After, after, HoldsAt, start_holds, raised_at, raised_keeps}
+use Rattle.flt_short.proofs.Walks.{moved_same, moved_inside}
 use Rattle.std.proofs.lemmas.List.Sums.{sum_by-cons}
-use Rattle.flt_bpf.specs.declared.fault.CheckFault.{CheckFault}
-use Rattle.flt_bpf.specs.declared.operation.AluOperation.TheVariants as arithmetic
-use Rattle.flt_bpf.specs.Instructions.{operation_of}
-use Rattle.flt_bpf.specs.Check.{fault_of}
+use Rattle.flt_bpf.specs.{Check.fault_of, Instructions.operation_of, declared.fault.CheckFault.CheckFault}
 use Rattle.flt_short.specs.Threads.{Threads}
 use Rattle.flt_short.specs.declared.facts.Held.TheVariants as held_variant
-use Rattle.flt_short.proofs.Basics.{by_test, known_step, into_both, word_both, stored_both}
-use Rattle.flt_short.proofs.Arriving.{HoldsAt, start_holds, raised_at, raised_keeps}
-use Rattle.flt_short.proofs.Knowing.{loaded, masked, value_at, loaded_at, HeldHolds, Holds, tested}
-use Rattle.flt_short.proofs.Walks.{moved_same, moved_inside}
 
 by_code : (op : Option Operation) (k : Known) (i : Insn) (c : List Insn) → (threaded_by op k i c).code ≡ i.code
 by_code (Some (JumpIf t o)) k i c = refl
@@ -37,48 +33,17 @@ module _ (p : List ℕ) (n : ℕ) where
   Alike from c d seen = (m : ℕ) (t : State) → HoldsAt p n seen (from + m) t → answer_of c p n m t ≡ answer_of d p n m t
 
   module _ (c d : List Insn) where
-    abbrev Same : Next → Next → Type 0
-    Same u v = answer_after (answer_of c p n) u ≡ answer_after (answer_of d p n) v
-
     way_same : (b : Bool) (v w x y : ℕ) (s : State) → (b ≡ true → answer_of c p n v s ≡ answer_of d p n x s) → (b ≡ false → answer_of c p n w s ≡ answer_of d p n y s) → answer_of c p n (if b then v else w) s ≡ answer_of d p n (if b then x else y) s
     way_same true v w x y s f g = f refl
     way_same false v w x y s f g = g refl
 
-  -- A where X is another number
-  without : (h : Held) (s : State) (x : ℕ) → HeldHolds p n h s → HeldHolds p n (held_without_index h) (record s { index = x })
-  without held_variant.Unreached s x y = y
-  without (held_variant.Field f) s x y = y
-  without _ s x y = tt
-
-  masks : (h : Held) (m v : ℕ) (s : State) → HeldHolds p n h s → compute arithmetic.And s.accumulator m ≡ Some v → HeldHolds p n (masked_held h m) (record s { accumulator = v })
-  masks (held_variant.Field f) m v s x e = by f.mask refl
-    where
-      by : (o : Option ℕ) → f.mask ≡ o → HeldHolds p n (option_map_or held_variant.Field (masked_by o f m) held_variant.Unknown) (record s { accumulator = v })
-      by (Some old) q = tt
-      by None q = ap (masked (Some m)) (ap (value_at p n f.code f.k) (sym q) ∙ x) ∙ e
-  masks _ m v s x e = tt
-
   module _ (from : ℕ) (k : Known) (i : Insn) (is d : List Insn) (seen : List Known) (s : State) (x : Holds p n k s) where
-    plain : (op : Option Operation) (t : State) → Alike from d is (arrived seen from (known_after op k i)) → Holds p n (known_after op k i) t → answer_of d p n 0 t ≡ answer_of is p n 0 t
-    plain op t f h =
-        let none : from ≡ from + 0 = omega arith in
-        f 0 t (subst (λ q. HoldsAt p n (arrived seen from (known_after op k i)) q t) none (raised_at p n seen from (known_after op k i) t h))
-
-    -- A is another number, of which nothing is known
-    anyhow : (op : Option Operation) (v : ℕ) → known_after op k i ≡ record { held = held_variant.Unknown; index = k.index; facts = k.facts } → Holds p n (known_after op k i) (record s { accumulator = v })
-    anyhow op v e = subst (λ g. Holds p n g (record s { accumulator = v })) (sym e) (record { a = tt; x = x.x; facts = x.facts })
-
-    -- X is
-    elsewhere : (v : ℕ) → Holds p n (record { held = held_without_index k.held; index = None; facts = k.facts }) (record s { index = v })
-    elsewhere v = record { a = without k.held s v x.a; x = tt; facts = x.facts }
-
-    stays : (m : List ℕ) → Holds p n (record { held = k.held; index = k.index; facts = k.facts }) (record s { memory = m })
-    stays m = by k.held x.a
-      where
-        by : (h : Held) → HeldHolds p n h s → Holds p n (record { held = h; index = k.index; facts = k.facts }) (record s { memory = m })
-        by held_variant.Unreached y = absurd y
-        by held_variant.Unknown y = record { a = tt; x = x.x; facts = x.facts }
-        by _ y = record { a = y; x = x.x; facts = x.facts }
+    plain : (op : Option Operation) (u : Next) → Alike from d is (arrived seen from (known_after op k i)) → After p n (known_after op k i) u → answer_after (answer_of d p n) u ≡ answer_after (answer_of is p n) u
+    plain op (Goes far t) f h =
+        let zero = h.0 in
+        let there : from ≡ from + far = omega arith in
+        f far t (subst (λ q. HoldsAt p n (arrived seen from (known_after op k i)) q t) there (raised_at p n seen from (known_after op k i) t h.1))
+    plain op _ f h = refl
 
     here : (op : Option Operation) → operation_of i.code ≡ op → Alike from d is (with_arrivals_by from op k (threaded_by op k i is) seen) → answer_after (answer_of d p n) (does_if_known op (threaded_by op k i is) p n s) ≡ answer_after (answer_of is p n) (does_if_known op i p n s)
     here None e f = refl
@@ -93,23 +58,9 @@ module _ (p : List ℕ) (n : ℕ) where
         (λ g. let h = tested p n t o k i false s x g in
         f b s (raised_at p n (arrived seen (from + a) yes) (from + b) other s h) ∙ moved_same p n is other i.jf s h)
     here (Some Jump) e f = f i.k s (raised_at p n seen (from + i.k) k s x)
-    here (Some (LoadAbsolute w)) e f = into_both p n (Same d is) refl refl Accumulator (field p i.k w) s s (λ v g. plain (Some (LoadAbsolute w)) (record s { accumulator = v }) f (record { a = ap (λ o. loaded o p n i.k) e ∙ g; x = x.x; facts = x.facts }))
-    here (Some (LoadIndirect w)) e f = into_both p n (Same d is) refl refl Accumulator (field p ((s.index + i.k) % 2 ^ 32) w) s s (λ v g. plain (Some (LoadIndirect w)) (record s { accumulator = v }) f (record { a = ap (λ o. loaded_at o p s.index i.k) e ∙ g; x = x.x; facts = x.facts }))
     here (Some ReturnConstant) e f = refl
     here (Some ReturnAccumulator) e f = refl
-    here (Some (Load Accumulator Immediate)) e f = plain (Some (Load Accumulator Immediate)) _ f (anyhow (Some (Load Accumulator Immediate)) i.k refl)
-    here (Some (Load Accumulator Length)) e f = plain (Some (Load Accumulator Length)) (record s { accumulator = n }) f (record { a = ap (λ o. loaded o p n i.k) e; x = x.x; facts = x.facts })
-    here (Some (Load Accumulator Memory)) e f = word_both p n (Same d is) refl refl Accumulator (slice_get s.memory i.k) s s (λ v g. plain (Some (Load Accumulator Memory)) _ f (anyhow (Some (Load Accumulator Memory)) v refl))
-    here (Some (Load Index Immediate)) e f = plain (Some (Load Index Immediate)) _ f (elsewhere i.k)
-    here (Some (Load Index Length)) e f = plain (Some (Load Index Length)) _ f (elsewhere n)
-    here (Some (Load Index Memory)) e f = word_both p n (Same d is) refl refl Index (slice_get s.memory i.k) s s (λ v g. plain (Some (Load Index Memory)) _ f (elsewhere v))
-    here (Some LoadHeaderLength) e f = into_both p n (Same d is) refl refl Index (option_map header_length (field p i.k Byte)) s s (λ v g. plain (Some LoadHeaderLength) (record s { index = v }) f (record { a = without k.held s v x.a; x = g; facts = x.facts }))
-    here (Some (Store r)) e f = stored_both p n (Same d is) refl refl (nat_lt i.k (length s.memory)) _ _ (plain (Some (Store r)) _ f (stays _))
-    here (Some (Compute arithmetic.And Constant)) e f = into_both p n (Same d is) refl refl Accumulator (compute arithmetic.And s.accumulator i.k) s s (λ v g. plain (Some (Compute arithmetic.And Constant)) (record s { accumulator = v }) f (record { a = masks k.held i.k v s x.a g; x = x.x; facts = x.facts }))
-    here (Some (Compute operator o)) e f = into_both p n (Same d is) refl refl Accumulator (compute operator s.accumulator (operand_value o i.k s.index)) s s (λ v g. plain (Some (Compute operator o)) _ f (anyhow (Some (Compute operator o)) v refl))
-    here (Some Negate) e f = plain (Some Negate) _ f (anyhow (Some Negate) _ refl)
-    here (Some CopyToIndex) e f = plain (Some CopyToIndex) _ f (elsewhere s.accumulator)
-    here (Some CopyToAccumulator) e f = plain (Some CopyToAccumulator) _ f (anyhow (Some CopyToAccumulator) s.index refl)
+    here (Some op) e f = plain (Some op) (does op i p n s) f (after p n op k i s e refl x)
 
     at_top : Alike from d is (with_arrivals_by from (operation_of i.code) k (threaded_by (operation_of i.code) k i is) seen) → answer_of (threaded_by (operation_of i.code) k i is ∷ d) p n 0 s ≡ answer_of (i ∷ is) p n 0 s
     at_top f =
@@ -157,7 +108,7 @@ passes false f e = cc
 is_moved_inside : (k : Known) (is : List Insn) (to : ℕ) → nat_lt to (length is) ≡ true → nat_lt (threaded_offset k is to) (length is) ≡ true
 is_moved_inside k is to l =
     let low : to < length is = grind (arith, nat_tests) in
-    let inside = moved_inside [] 0 is k to low in
+    let inside = moved_inside is k to low in
     grind (arith, nat_tests)
 
 both_inside : (k g : Known) (i : Insn) (is : List Insn) (f : CheckFault) → unless (nat_lt i.jt (length is) && nat_lt i.jf (length is)) f ≡ None → unless (nat_lt (threaded_offset k is i.jt) (length is) && nat_lt (threaded_offset g is i.jf) (length is)) f ≡ None

@@ -9,17 +9,11 @@
 //! Most clauses cite definitions that mirror the code, with the same names or without `is_`; the
 //! contract of `replaces` states what follows from them (`Shortens`).
 
-ghost use Rattle.std.specs.Prelude.{◌≡◌, ◌≢◌, ◌↔◌, ◌+◌, ◌-◌, ◌%◌, ◌^◌, ◌==◌, ◌&&◌, length};
-ghost use Rattle.std.specs.Prelude.{IsTrue, All, true, false};
+ghost use Rattle.std.specs.Prelude.{◌≡◌, ◌≢◌, ◌↔◌, ◌+◌, ◌-◌, ◌%◌, ◌^◌, ◌==◌, ◌&&◌, length, IsTrue, All, true, false};
 ghost use Rattle.flt_bpf.specs.Instructions.{operation_of};
+ghost use Rattle.flt_bpf.specs.{Layout.JUMP, inside.Flow.goes_on_or_rejects};
 ghost use Rattle.flt_short.specs.Alike.{Shortens};
-ghost use Rattle.flt_short.specs.inside.Alike.{goes_on, same_step};
-ghost use Rattle.flt_short.specs.inside.Alike.{is_masked_test, one_test};
-ghost use Rattle.flt_short.specs.inside.Alike.{rejects, is_sure, begins};
-ghost use Rattle.flt_bpf.specs.inside.Flow.{goes_on_or_rejects};
-ghost use Rattle.flt_short.specs.inside.Alike.{code_from, are_copies, lands_at};
-ghost use Rattle.flt_short.specs.inside.Alike.{left_out, stands, are_alike};
-ghost use Rattle.flt_bpf.specs.Layout.{JUMP};
+ghost use Rattle.flt_short.specs.inside.Alike.{goes_on, same_step, is_masked_test, one_test, rejects, is_sure, begins, code_from, are_copies, lands_at, left_out, stands, are_alike};
 
 use crate::valid::{count_tests, is_valid_unless_long};
 use flt_bpf::operation::{AluOperation, Operand, Operation, Register, Source, Test, decode};

@@ -3,8 +3,8 @@
 //!
 //! `flt_gen` calls [`threaded`], then [`shortened`].
 //!
-//! - `thread` moves the targets. `facts` has what is known of a packet and of A and X, and
-//!   `arrivals` has it for each place that runs reach.
+//! - `thread` moves the targets. `facts` has what is known of a packet and of A and X at each place
+//!   that runs reach.
 //! - `shorten` proposes shorter code. `alike` checks that the new code does what the old one does,
 //!   and `valid` that it breaks no rule.
 //!
@@ -18,7 +18,6 @@
 #![tactic(auto)]
 
 mod alike;
-mod arrivals;
 mod facts;
 mod shorten;
 mod thread;

@@ -4,8 +4,7 @@
 
 ghost use Rattle.std.specs.Prelude.{◌≡◌, None, true, IsTrue, count_by};
 ghost use Rattle.flt_bpf.specs.Check.{fault_of, ends_in_return, IsFaultless, IsValidUnlessLong};
-ghost use Rattle.flt_bpf.specs.Instructions.{operation_of};
-ghost use Rattle.flt_bpf.specs.Layout.{is_branch};
+ghost use Rattle.flt_bpf.specs.{Instructions.operation_of, Layout.is_branch};
 
 use flt_bpf::operation::{Operand, Operation, Source, decode};
 use flt_bpf::{WORDS, Wide, constant_fault, is_return};
@@ -61,7 +60,7 @@ pub fn is_valid_unless_long(code: &[Wide]) -> bool
 }
 
 /// Whether an instruction is a test, which the definition calls a branch.
-fn is_test(insn: &Wide) -> bool
+pub fn is_test(insn: &Wide) -> bool
     ensures { result ≡ is_branch (operation_of insn.now.code) }
 {
     matches!(decode(insn.code), Some(Operation::JumpIf(_, _)))
