@@ -15,6 +15,7 @@ pub use Rattle.flt_bpf.specs.declared.operation.Register.TheVariants.{Accumulato
 pub use Rattle.flt_bpf.specs.declared.operation.Source.TheVariants.{Immediate, Memory, Length}
 pub use Rattle.flt_bpf.specs.declared.operation.Width.TheVariants.{Byte, Word}
 pub use Rattle.flt_bpf.specs.inside.Flow.{goes_on_or_rejects}
+pub use Rattle.flt_bpf.proofs.Both.{known_step, into_both, word_both, stored_both, plain_both}
 pub use Rattle.flt_bpf.proofs.Checking.{parts, last_returns}
 pub use Rattle.flt_short.specs.declared.facts.{Field.Field, Held.Held, Known.Known}
 pub use Rattle.flt_short.specs.inside.Alike.{goes_on, rejects, is_sure, same_target, goes_on_alike, are_copies, lands_at_if, lands_at, code_from, stands_at, stands, are_alike, begins}

@@ -1,5 +1,4 @@
 -- What is known holds of the packet and of the registers.
-use Rattle.flt_short.proofs.Basics.{by_test}
 use Rattle.flt_short.proofs.Common.{◌≡◌, ℕ, zero, suc, ◌+◌, ◌%◌, ◌^◌, List, [], ◌∷◌, length, Bool, true, false, Option, Some, None, refl, sym, ap, ◌∙◌, subst, arith, ◌⊎◌, inl, inr, ◌==◌, nat_lt, ◌&&◌, not, if◌then◌else◌, map, replicate, slice_set, slice_get, bit_and, option_map, option_or, nat_tests, State, Operation, LoadAbsolute, LoadIndirect, Load, LoadHeaderLength, Store, Compute, Negate, CopyToIndex, CopyToAccumulator, JumpIf, Accumulator, Index, Immediate, Memory, Length, Constant, Byte, Insn, Next, Goes, does, into, word_into, with_register, goes_on_or_rejects, field, compute, header_length, test_holds, operand_value, Field, Held, Known, nothing_claimed, nothing_known, same_optional, same_field, claims_nothing, allows, entails_some, entails, one_of_two, joined_claim, joined_with_any, joined_fact, same_held, common_header, joined_by, joined, outcome_by_claim, speaks_of, claim_about, other_by_claim, with_fact, captures, any_captures, holds_field, is_captured, claim_after, known_by_test, known_after, unreached, known_at, arrived, at_start, masked_held, masked_by, and_parts, or_cases}
 use Rattle.flt_bpf.specs.{Instructions.operation_of, declared.operation.AluOperation.AluOperation}
 use Rattle.flt_bpf.specs.declared.operation.{Operand.Operand, Register.Register, Test.Test, Test.TheVariants.Equal}
@@ -7,6 +6,11 @@ use Rattle.flt_short.specs.declared.facts.Claim.{Claim}
 use Rattle.flt_short.specs.declared.facts.Claim.TheVariants.{Nothing, Is, IsNot, IsOneOf}
 use Rattle.flt_short.specs.declared.facts.Fact.{Fact}
 use Rattle.flt_short.specs.declared.facts.Held.TheVariants as held
+
+-- by a test
+pub by_test : {A : Type 0} (P : A → Type 0) (b : Bool) (x y : A) → (b ≡ true → P x) → (b ≡ false → P y) → P (if b then x else y)
+by_test P true x y t f = t refl
+by_test P false x y t f = f refl
 
 -- what a field of a packet p of original length n is
 abbrev pub loaded : Option Operation → List ℕ → ℕ → ℕ → Option ℕ
@@ -182,13 +186,17 @@ module _ (p : List ℕ) (len : ℕ) where
   abbrev pub IsThere : ℕ → ℕ → Type 0
   IsThere code k = (v : ℕ) × (loaded (operation_of code) p len k ≡ Some v)
 
+  there_of : (f : Field) (code k v : ℕ) → value_of p len f ≡ Some v → (f.code == code && f.k == k) ≡ true → IsThere code k
+  there_of f code k v is e =
+      let q = and_parts (f.code == code) (f.k == k) e in
+      let t = held_there f.mask (loaded (operation_of f.code) p len f.k) v is in
+      (t.0, ap (λ m. loaded (operation_of m) p len k) (sym (numbers f.code code q.0)) ∙ ap (loaded (operation_of f.code) p len) (sym (numbers f.k k q.1)) ∙ t.1)
+
   there_by : (x : Fact) (code k : ℕ) → Says x → captures x code k ≡ true → IsThere code k
   there_by x code k h e =
       let q = and_parts (x.field.code == code && x.field.k == k) (not (claims_nothing x.claim)) e in
-      let r = and_parts (x.field.code == code) (x.field.k == k) q.0 in
       let said = said_some x.claim (value_of p len x.field) q.1 h in
-      let t = held_there x.field.mask (loaded (operation_of x.field.code) p len x.field.k) said.0 said.1 in
-      (t.0, ap (λ m. loaded (operation_of m) p len k) (sym (numbers x.field.code code r.0)) ∙ ap (loaded (operation_of x.field.code) p len) (sym (numbers x.field.k k r.1)) ∙ t.1)
+      there_of x.field code k said.0 said.1 q.0
 
   any_there : (xs : List Fact) (code k : ℕ) → AllSay xs → any_captures xs code k ≡ true → IsThere code k
   any_there [] code k h e = cc
@@ -247,10 +255,7 @@ module _ (p : List ℕ) (len : ℕ) where
   fact_holds k f c s y h = record { a = y.a; x = y.x; facts = set_says k.facts _ _ y.facts h }
 
   field_there : (h : Held) (code k : ℕ) (s : State) → HeldHolds h s → holds_field h code k ≡ true → IsThere code k
-  field_there (held.Field f) code k s x e =
-      let q = and_parts (f.code == code) (f.k == k) e in
-      let t = held_there f.mask (loaded (operation_of f.code) p len f.k) s.accumulator x in
-      (t.0, ap (λ m. loaded (operation_of m) p len k) (sym (numbers f.code code q.0)) ∙ ap (loaded (operation_of f.code) p len) (sym (numbers f.k k q.1)) ∙ t.1)
+  field_there (held.Field f) code k s x e = there_of f code k s.accumulator x e
   field_there held.Unreached code k s x e = absurd x
   field_there _ code k s x e = cc
 

@@ -1,14 +1,21 @@
 //! The abstract state at an instruction: what is known of the packet, of A and of X in each run
-//! that reaches it, the join of two such states, and the states at all places, which here are indices
-//! of instructions from the beginning of the code. Clauses cite definitions of the same names; a
-//! function that changes what is known cites the definition of its effect. The proofs show that
-//! what is known holds in each run.
+//! that reaches it; the join of two such states; and the states at all places, which here are
+//! indices of instructions from the beginning of the code. Clauses cite definitions of the same
+//! names; a function that changes what is known cites the definition of its effect. The proofs show
+//! that what is known holds in each run.
 //!
 //! `code` and `k` are those of a load: together they say which bytes of the packet it takes.
 
 ghost use Rattle.std.specs.Prelude.{◌≡◌, ◌≤◌, length, map, IfOk};
 ghost use Rattle.flt_bpf.specs.Instructions.{operation_of};
-ghost use Rattle.flt_short.specs.inside.Facts.{same_optional, same_field, claims_nothing, allows, entails, joined_claim, joined_with_any, joined_fact, same_held, joined, outcome_by_claim, speaks_of, claim_about, gives_way, other_by_claim, place_for, with_fact, any_captures, holds_field, is_captured, masked_held, held_after, index_after, known_after, claim_after, known_by_test, nothing_known, unreached, known_at, arrived, at_start};
+ghost use Rattle.flt_short.specs.inside.Facts.{same_optional, same_field, claims_nothing, allows};
+ghost use Rattle.flt_short.specs.inside.Facts.{entails, joined_claim, joined_with_any, joined_fact};
+ghost use Rattle.flt_short.specs.inside.Facts.{same_held, joined, outcome_by_claim, speaks_of};
+ghost use Rattle.flt_short.specs.inside.Facts.{claim_about, gives_way, other_by_claim, place_for};
+ghost use Rattle.flt_short.specs.inside.Facts.{with_fact, any_captures, holds_field, is_captured};
+ghost use Rattle.flt_short.specs.inside.Facts.{masked_held, held_after, index_after, known_after};
+ghost use Rattle.flt_short.specs.inside.Facts.{claim_after, known_by_test, nothing_known};
+ghost use Rattle.flt_short.specs.inside.Facts.{unreached, known_at, arrived, at_start};
 
 use flt_bpf::Wide;
 use flt_bpf::operation::{AluOperation, Operand, Operation, Register, Source, Test, decode};
@@ -371,7 +378,8 @@ fn masked_held(held: Held, mask: u32) -> Held
 }
 
 /// The value of A after an instruction, by the value before. It is known after a load of the packet
-/// or of its length, and after a mask of a field. A test keeps it; after all others it is `Unknown`.
+/// or of its length, and after a mask of a field. A test keeps it; after all others it is
+/// `Unknown`.
 pub fn held_after(held: Held, insn: Wide) -> Held
     ensures { result ≡ held_after (operation_of insn.code) held insn }
 {

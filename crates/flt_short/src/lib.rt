@@ -6,7 +6,7 @@
 //! - `thread` moves the targets. `facts` has what is known of a packet and of A and X at each place
 //!   that runs reach.
 //! - `shorten` proposes shorter code. `alike` checks that the new code does what the old one does,
-//!   and `valid` that it breaks no rule.
+//!   and breaks no rule.
 //!
 //! The terms of this crate:
 //!
@@ -21,7 +21,6 @@ mod alike;
 mod facts;
 mod shorten;
 mod thread;
-mod valid;
 
 pub use shorten::shortened;
 pub use thread::threaded;

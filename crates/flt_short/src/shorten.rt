@@ -11,7 +11,8 @@
 //! answers. `replaces` (`alike.rt`) checks the new code with the landings noted here; if it returns
 //! `false`, the old code is kept.
 
-ghost use Rattle.std.specs.{Option.IfSome, Prelude.IfOk};
+ghost use Rattle.std.specs.Option.{IfSome};
+ghost use Rattle.std.specs.Prelude.{IfOk};
 ghost use Rattle.flt_short.specs.Alike.{Shortens};
 
 use crate::alike::{Landing, goes_on_or_rejects, is_masked_test, is_rejection, is_sure, replaces};
@@ -46,16 +47,6 @@ fn landing_before(operation: Operation, place: usize, next: Landing) -> Landing 
         accumulator: reads_accumulator(operation)
             || next.accumulator && !sets_accumulator(operation),
         index: reads_index(operation) || next.index && !sets_index(operation),
-    }
-}
-
-/// The registers that are read after a test which goes on at one of two landings, as a landing at
-/// the place of the first.
-fn landing_after_test(yes: Landing, no: Landing) -> Landing {
-    Landing {
-        place: yes.place,
-        accumulator: yes.accumulator || no.accumulator,
-        index: yes.index || no.index,
     }
 }
 
@@ -240,31 +231,11 @@ impl Shortening<'_> {
         }
     }
 
-    /// Whether the offsets of the instruction right in front of a place of the new code lead to the
-    /// places `yes` and `no`.
-    fn has_targets(&self, place: usize, yes: usize, no: usize) -> bool {
-        match self.backwards.get(place) {
-            Some(other) => {
-                other.yes as usize == place.saturating_sub(yes)
-                    && other.no as usize == place.saturating_sub(no)
-            }
-            None => false,
-        }
-    }
-
-    /// Whether the instruction right in front of a place of the new code equals the one right in
-    /// front of `at` in the old code; tests may have other targets.
-    fn is_front_at(&self, place: usize, at: usize) -> bool {
-        match self.insns.get(at.wrapping_sub(1)) {
-            None => false,
-            Some(front) => self.stands_before(place, *front),
-        }
-    }
-
     /// The place of a test in the new code with the same code, `k` and targets; `None` if there is
-    /// none. A test after the same instruction (`is_front_at`) is preferred, since that instruction
-    /// can then be shared too.
+    /// none. A test after the same instruction as in the old code is preferred, since that
+    /// instruction can then be shared too.
     fn find_same_test(&self, at: usize, insn: Wide, yes: usize, no: usize) -> Option<usize> {
+        let front = self.insns.get(at.wrapping_sub(1)).copied().unwrap_or(EMPTY);
         let mut found = None;
         let mut entry = self.first_entry(insn, yes, no);
         for _ in 0..self.tests.len() {
@@ -273,11 +244,13 @@ impl Shortening<'_> {
                 break;
             }
             let place = test.saturating_sub(1);
+            let other = self.backwards.get(place).copied().unwrap_or(EMPTY);
             if place >= yes.max(no)
-                && self.stands_before(place, insn)
-                && self.has_targets(place, yes, no)
+                && (other.code == insn.code && other.k == insn.k)
+                && other.yes as usize == place.saturating_sub(yes)
+                && other.no as usize == place.saturating_sub(no)
             {
-                if self.is_front_at(test, at) {
+                if self.stands_before(test, front) {
                     return Some(test);
                 }
                 found = Some(test);
@@ -308,7 +281,12 @@ impl Shortening<'_> {
     fn emit_test(&mut self, at: usize, insn: Wide, last: usize) {
         let yes = self.landing_at(index_after(last, insn.yes as usize));
         let no = self.landing_at(index_after(last, insn.no as usize));
-        let next = landing_after_test(yes, no);
+        // What is read after the test, as a landing at the place of the first outcome.
+        let next = Landing {
+            place: yes.place,
+            accumulator: yes.accumulator || no.accumulator,
+            index: yes.index || no.index,
+        };
         if yes.place == no.place && yes.place > 0 {
             // Both ways lead to one place: no test is needed.
             self.land(at, next);

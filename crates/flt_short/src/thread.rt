@@ -11,14 +11,17 @@
 
 ghost use Rattle.std.specs.Prelude.{IfOk, ◌≡◌, ◌<◌, ◌^◌, nat_lt, if◌then◌else◌, length};
 ghost use Rattle.flt_bpf.specs.Instructions.{operation_of};
-ghost use Rattle.flt_short.specs.{Threads.Threads, inside.Facts.at_start};
-ghost use Rattle.flt_short.specs.inside.Threads.{skipped_by_test, skipped_after, is_free, can_stop, walk, threaded_offset, threaded_test, threaded_insn, with_ways, with_arrivals, flow};
+ghost use Rattle.flt_short.specs.Threads.{Threads};
+ghost use Rattle.flt_short.specs.inside.Facts.{at_start};
+ghost use Rattle.flt_short.specs.inside.Threads.{skipped_by_test, skipped_after, is_free, can_stop};
+ghost use Rattle.flt_short.specs.inside.Threads.{walk, threaded_offset, threaded_insn};
+ghost use Rattle.flt_short.specs.inside.Threads.{place_or_best, with_arrivals, flow};
 
+use crate::alike::is_test;
 use crate::facts::{
     FEW, Held, Known, arrive, at_start, claim_about, few_at_start, held_after, is_captured,
     known_at, learn, outcome_by_claim, pass_insn, same_held, same_optional,
 };
-use crate::valid::is_test;
 use flt_bpf::operation::{AluOperation, Operand, Operation, Register, Source, Test, decode};
 use flt_bpf::{Wide, reads_accumulator, sets_accumulator};
 use std::alloc::{AllocError, Allocator};
@@ -58,8 +61,8 @@ fn skipped_by_test(known: &Known, insn: Wide, held: Held) -> Option<u32>
 }
 
 /// How many instructions a walk skips after this one, before which A would be `held`; `None` if the
-/// walk ends before it. A walk passes only tests that the facts decide, and instructions that change
-/// nothing but A and go on at the next one on each packet with this state.
+/// walk ends before it. A walk passes only tests that the facts decide, and instructions that
+/// change nothing but A and go on at the next one on each packet with this state.
 fn skipped_after(known: &Known, insn: Wide, held: Held) -> Option<u32>
     ensures { result ≡ skipped_after (operation_of insn.code) known.now insn held }
 {
@@ -106,6 +109,18 @@ fn can_stop(known: &Known, code: &[Wide], spot: Spot) -> bool
     spot.place < code.len() && (same_held(spot.held, known.held) || is_free(&code[spot.place..]))
 }
 
+/// The place of a spot if a run may continue there; else `best`, the last such place so far. At the
+/// start of a walk both are the same.
+fn place_or_best(known: &Known, code: &[Wide], spot: Spot, best: usize) -> usize
+    ensures { result ≡ place_or_best known.now code.now spot best }
+{
+    if spot.place == best || can_stop(known, code, spot) {
+        spot.place
+    } else {
+        best
+    }
+}
+
 /// The last place found at which a run may continue instead of at the start of a walk that is at
 /// `spot`; `best` if it finds none. The walk goes on to the first instruction that it can't pass,
 /// past at most `fuel` instructions. If that is a test, it goes on after both outcomes, unless it
@@ -114,11 +129,7 @@ fn can_stop(known: &Known, code: &[Wide], spot: Spot) -> bool
 fn walk(fuel: usize, known: &Known, code: &[Wide], spot: Spot, best: usize, forks: bool) -> usize
     ensures { result ≡ walk fuel known.now code.now spot best forks }
 {
-    let best = if can_stop(known, code, spot) {
-        spot.place
-    } else {
-        best
-    };
+    let best = place_or_best(known, code, spot, best);
     if fuel == 0 {
         return best;
     }
@@ -126,16 +137,18 @@ fn walk(fuel: usize, known: &Known, code: &[Wide], spot: Spot, best: usize, fork
         return best;
     };
     let (left, next) = (fuel - 1, spot.place + 1);
-    let held = held_after(spot.held, *insn);
     if let Some(skipped) = skipped_after(known, *insn, spot.held) {
-        let place = next + skipped as usize;
+        let (place, held) = (next + skipped as usize, held_after(spot.held, *insn));
         return walk(left, known, code, Spot { place, held }, best, forks);
     }
     if !forks || !is_test(insn) {
         return best;
     }
-    let place = next + insn.yes as usize;
+    let (place, held) = (next + insn.yes as usize, spot.held);
     let yes = walk(left, known, code, Spot { place, held }, best, false);
+    if yes == best {
+        return best;
+    }
     let place = next + insn.no as usize;
     let no = walk(left, known, code, Spot { place, held }, best, false);
     if yes == no { yes } else { best }
@@ -159,38 +172,10 @@ fn threaded_offset(known: &Known, following: &[Wide], skipped: u32) -> u32
     }
 }
 
-/// Threads both targets of a test, and joins the state after each outcome into the state at its
-/// target. The instruction after the test is at the place `from` of the whole code. Afterwards
-/// `here` is the state after the test if it fails.
-fn thread_test(
-    seen: &mut [Known],
-    from: usize,
-    here: &mut Known,
-    insn: Wide,
-    following: &[Wide],
-) -> Wide
-    requires { from < 2 ^ 63 }
-    ensures insn { result ≡ threaded_test (operation_of insn.code) here.old insn following.now }
-    ensures seen { seen.new ≡ with_ways from (operation_of insn.code) here.old result seen.old }
-{
-    let mut yes = *here;
-    learn(&mut yes, insn, true);
-    learn(here, insn, false);
-    let insn = Wide {
-        code: insn.code,
-        yes: threaded_offset(&yes, following, insn.yes),
-        no: threaded_offset(here, following, insn.no),
-        k: insn.k,
-    };
-    arrive(seen, from + insn.yes as usize, &yes);
-    arrive(seen, from + insn.no as usize, here);
-    insn
-}
-
-/// Threads one instruction: only a test changes, and only if a run may reach it. Joins the state
-/// after it into the state at each place where a run continues. The next instruction is at the
-/// place `from` of the whole code. `here`, the state before the instruction, may change, and isn't
-/// needed any more.
+/// Threads one instruction: only a test changes, in both targets, and only if a run may reach it.
+/// Joins the state after it, of a test by its outcome, into the state at each place where a run
+/// continues. The next instruction is at the place `from` of the whole code. `here`, the state
+/// before the instruction, may change, and isn't needed any more.
 fn thread_insn(
     seen: &mut [Known],
     from: usize,
@@ -206,7 +191,20 @@ fn thread_insn(
         return insn;
     }
     match decode(insn.code) {
-        Some(Operation::JumpIf(_, _)) => thread_test(seen, from, here, insn, following),
+        Some(Operation::JumpIf(_, _)) => {
+            let mut yes = *here;
+            learn(&mut yes, insn, true);
+            learn(here, insn, false);
+            let insn = Wide {
+                code: insn.code,
+                yes: threaded_offset(&yes, following, insn.yes),
+                no: threaded_offset(here, following, insn.no),
+                k: insn.k,
+            };
+            arrive(seen, from + insn.yes as usize, &yes);
+            arrive(seen, from + insn.no as usize, here);
+            insn
+        }
         Some(Operation::Jump) => {
             arrive(seen, from + insn.k as usize, here);
             insn
@@ -270,9 +268,11 @@ fn is_load(insn: Wide) -> bool {
 fn repeats_a_load(insns: &[Wide]) -> bool {
     for at in 0..insns.len() {
         let (load, next) = (insns[at], at + 1);
-        for other in &insns[next..] {
-            if other.code == load.code && other.k == load.k && is_load(load) {
-                return true;
+        if is_load(load) {
+            for other in &insns[next..] {
+                if other.code == load.code && other.k == load.k {
+                    return true;
+                }
             }
         }
     }

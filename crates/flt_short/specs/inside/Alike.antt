@@ -7,10 +7,12 @@ use Rattle.flt_bpf.specs.Instructions.{code_of, operation_of}
 use Rattle.flt_bpf.specs.Registers.{reads_accumulator, reads_index, sets_accumulator, sets_index}
 use Rattle.flt_bpf.specs.declared.insn.Insn.{Insn}
 use Rattle.flt_bpf.specs.declared.operation.AluOperation.TheVariants.{And, Divide, Remainder}
-use Rattle.flt_bpf.specs.declared.operation.{Operand.TheVariants.Constant, Operation.Operation}
+use Rattle.flt_bpf.specs.declared.operation.Operand.TheVariants.{Constant}
+use Rattle.flt_bpf.specs.declared.operation.Operation.{Operation}
 use Rattle.flt_bpf.specs.declared.operation.Operation.TheVariants.{Load, Compute, Negate, Jump, JumpIf, ReturnConstant, ReturnAccumulator, CopyToIndex, CopyToAccumulator}
 use Rattle.flt_bpf.specs.declared.operation.Source.TheVariants.{Immediate, Length}
-use Rattle.flt_bpf.specs.{declared.operation.Test.Test, inside.Flow.goes_on_or_rejects}
+use Rattle.flt_bpf.specs.declared.operation.Test.{Test}
+use Rattle.flt_bpf.specs.inside.Flow.{goes_on_or_rejects}
 use Rattle.flt_short.specs.declared.alike.Landing.{Landing}
 
 -- the code from a place on, which is named by the number of instructions from there to the end; all

@@ -1,17 +1,23 @@
 -- The abstract state (`Known`) at an instruction: what is known of the packet, of A and of X in
--- each run that reaches it; the join of two states; and the states at all places (`seen`). `code` and `k` are those of a load.
--- Together they identify its value: bytes of the packet at a fixed place or at X, or the packet's
--- length. Elsewhere `k` is a state. `i` is an instruction.
+-- each run that reaches it; the join of two states; and the states at all places (`seen`). `code`
+-- and `k` are those of a load. Together they identify its value: bytes of the packet at a fixed
+-- place or at X, or the packet's length. Elsewhere `k` is a state. `i` is an instruction.
 use Rattle.std.specs.Option.{option_or}
 use Rattle.std.specs.Prelude.{ℕ, suc, ◌==◌, not, Bool, true, false, if◌then◌else◌, ◌&&◌, ◌||◌, List, [], ◌∷◌, length, map, replicate, Option, Some, None, slice_set, slice_index_or}
-use Rattle.flt_bpf.specs.declared.{insn.Insn.Insn, operation.AluOperation.TheVariants.And}
-use Rattle.flt_bpf.specs.declared.operation.{Operand.TheVariants.Constant, Operation.Operation}
-use Rattle.flt_bpf.specs.declared.operation.Operation.TheVariants.{LoadAbsolute, LoadIndirect, Load, LoadHeaderLength, Store, Compute, Jump, JumpIf, CopyToIndex}
+use Rattle.flt_bpf.specs.declared.insn.Insn.{Insn}
+use Rattle.flt_bpf.specs.declared.operation.AluOperation.TheVariants.{And}
+use Rattle.flt_bpf.specs.declared.operation.Operand.TheVariants.{Constant}
+use Rattle.flt_bpf.specs.declared.operation.Operation.{Operation}
+use Rattle.flt_bpf.specs.declared.operation.Operation.TheVariants.{LoadAbsolute, LoadIndirect, Load, LoadHeaderLength, Compute, JumpIf, CopyToIndex}
 use Rattle.flt_bpf.specs.declared.operation.Register.TheVariants.{Accumulator, Index}
-use Rattle.flt_bpf.specs.declared.operation.{Source.TheVariants.Length, Test.TheVariants.Equal}
+use Rattle.flt_bpf.specs.declared.operation.Source.TheVariants.{Length}
+use Rattle.flt_bpf.specs.declared.operation.Test.TheVariants.{Equal}
 use Rattle.flt_short.specs.declared.facts.Claim.{Claim}
 use Rattle.flt_short.specs.declared.facts.Claim.TheVariants.{Nothing, Is, IsNot, IsOneOf}
-use Rattle.flt_short.specs.declared.facts.{Fact.Fact, Field.Field, Held.Held, Known.Known}
+use Rattle.flt_short.specs.declared.facts.Fact.{Fact}
+use Rattle.flt_short.specs.declared.facts.Field.{Field}
+use Rattle.flt_short.specs.declared.facts.Held.{Held}
+use Rattle.flt_short.specs.declared.facts.Known.{Known}
 
 -- a fact that claims nothing
 abbrev pub nothing_claimed : Fact
@@ -95,7 +101,7 @@ joined_fact x ys = if claims_nothing x.claim then x else joined_with_any x ys
 -- `Unknown`
 abbrev pub same_held : Held → Held → Bool
 same_held (Held.Field f) (Held.Field g) = same_field f g
-same_held (Held.AtIndex code k) (Held.AtIndex other_code other_k) = code == other_code && k == other_k
+same_held (Held.AtIndex code k) (Held.AtIndex other j) = code == other && k == j
 same_held _ _ = false
 
 -- the header whose length X holds on both of two paths; None if they differ
@@ -186,8 +192,8 @@ abbrev pub masked_held : Held → ℕ → Held
 masked_held (Held.Field f) m = masked_by f.mask f m
 masked_held _ m = Held.Unknown
 
--- the value of A after an instruction, by the value before; it may be known after a load of the
--- packet or of its length, and after a mask; a test keeps it, and after all others it is `Unknown`
+-- the value of A after an instruction, by the value before; it is known after a load of the packet
+-- or of its length, and after a mask; a test keeps it, and after all others it is `Unknown`
 abbrev pub held_after : Option Operation → Held → Insn → Held
 held_after (Some (LoadAbsolute width)) h i =
     Held.Field (record { code = i.code; k = i.k; mask = None })

@@ -4,26 +4,33 @@
 -- instruction.
 use Rattle.std.specs.Option.{option_map, option_map_or}
 use Rattle.std.specs.Prelude.{ℕ, zero, suc, ◌+◌, ◌^◌, ◌==◌, nat_lt, Bool, true, false, if◌then◌else◌, ◌&&◌, ◌||◌, not, List, [], ◌∷◌, length, drop, Option, Some, None, slice_get}
-use Rattle.flt_bpf.specs.{Instructions.operation_of, Layout.is_branch}
+use Rattle.flt_bpf.specs.Instructions.{operation_of}
+use Rattle.flt_bpf.specs.Layout.{is_branch}
 use Rattle.flt_bpf.specs.Registers.{reads_accumulator, sets_accumulator}
-use Rattle.flt_bpf.specs.declared.{insn.Insn.Insn, operation.AluOperation.TheVariants.And}
-use Rattle.flt_bpf.specs.declared.operation.{Operand.TheVariants.Constant, Operation.Operation}
+use Rattle.flt_bpf.specs.declared.insn.Insn.{Insn}
+use Rattle.flt_bpf.specs.declared.operation.AluOperation.TheVariants.{And}
+use Rattle.flt_bpf.specs.declared.operation.Operand.TheVariants.{Constant}
+use Rattle.flt_bpf.specs.declared.operation.Operation.{Operation}
 use Rattle.flt_bpf.specs.declared.operation.Operation.TheVariants.{LoadAbsolute, LoadIndirect, Load, LoadHeaderLength, Compute, Jump, JumpIf, ReturnConstant, ReturnAccumulator}
 use Rattle.flt_bpf.specs.declared.operation.Register.TheVariants.{Accumulator}
-use Rattle.flt_bpf.specs.declared.operation.{Source.TheVariants.Length, Test.TheVariants.Equal}
-use Rattle.flt_short.specs.declared.{facts.Held.Held, facts.Known.Known, thread.Spot.Spot}
+use Rattle.flt_bpf.specs.declared.operation.Source.TheVariants.{Length}
+use Rattle.flt_bpf.specs.declared.operation.Test.TheVariants.{Equal}
+use Rattle.flt_short.specs.declared.facts.Held.{Held}
+use Rattle.flt_short.specs.declared.facts.Known.{Known}
+use Rattle.flt_short.specs.declared.thread.Spot.{Spot}
 use Rattle.flt_short.specs.inside.Facts.{same_held, same_optional, claim_about, outcome_by_claim, is_captured, held_after, known_after, known_by_test, known_at, arrived}
 
--- how many instructions a test for equality with a constant skips; None if the facts don't decide it
+-- how many instructions a test for equality with a constant skips; None if the facts don't decide
+-- it
 abbrev pub skipped_by_test : Known → Insn → Held → Option ℕ
 skipped_by_test k i (Held.Field f) =
     option_map (λ outcome. if outcome then i.jt else i.jf)
     (outcome_by_claim (claim_about k.facts f i.k) i.k)
 skipped_by_test k i _ = None
 
--- How many instructions a walk skips after one with this operation; None if the walk ends before it.
--- A walk passes only tests that the facts decide, and instructions that change nothing but A and go
--- on at the next one on each packet with this state.
+-- How many instructions a walk skips after one with this operation; None if the walk ends before
+-- it. A walk passes only tests that the facts decide, and instructions that change nothing but A and
+-- go on at the next one on each packet with this state.
 abbrev pub skipped_after : Option Operation → Known → Insn → Held → Option ℕ
 skipped_after (Some (JumpIf Equal Constant)) k i h = skipped_by_test k i h
 skipped_after (Some (LoadAbsolute width)) k i h =
@@ -58,23 +65,27 @@ can_stop k c s =
 
 -- the place of a spot if a run may continue there; else `best`, the last such place so far
 abbrev pub place_or_best : Known → List Insn → Spot → ℕ → ℕ
-place_or_best k c s best = if can_stop k c s then s.place else best
+place_or_best k c s best = if s.place == best || can_stop k c s then s.place else best
 
--- the spot after the instruction i and those that it skips
-abbrev pub spot_after : Spot → Insn → ℕ → Spot
-spot_after s i skipped = record {
-  place = s.place + 1 + skipped;
-  held = held_after (operation_of i.code) s.held i;
-}
+-- the spot after the next instruction and those that it skips, with this value of A
+abbrev pub spot_after : Held → Spot → ℕ → Spot
+spot_after h s skipped = record { place = s.place + 1 + skipped; held = h }
+
+-- the place where both outcomes of a test lead; `best` if there is none, or the first doesn't lead
+-- further
+abbrev pub agreed : ℕ → ℕ → ℕ → ℕ
+agreed one other best =
+    if one == best then best else (if one == other then one else best)
 
 -- a walk goes on after i, if it passes it; if it doesn't and i is a test, it goes on after both
--- outcomes where it may, and ends where both end
+-- outcomes, if it may fork
 abbrev pub walk_on : (Spot → Bool → ℕ) → Spot → Insn → ℕ → Bool → Option ℕ → ℕ
-walk_on go_on s i best forks (Some skipped) = go_on (spot_after s i skipped) forks
+walk_on go_on s i best forks (Some skipped) =
+    go_on (spot_after (held_after (operation_of i.code) s.held i) s skipped) forks
 walk_on go_on s i best forks None =
     if forks && is_branch (operation_of i.code)
-    then (if go_on (spot_after s i i.jt) false == go_on (spot_after s i i.jf) false
-    then go_on (spot_after s i i.jt) false else best) else best
+    then agreed (go_on (spot_after s.held s i.jt) false) (go_on (spot_after s.held s i.jf) false) best
+    else best
 
 -- the last place at which a run may continue instead of at the start of a walk that is at a spot;
 -- `best` if there is none; the walk passes at most `fuel` instructions
@@ -83,10 +94,11 @@ walk zero k c s best forks = place_or_best k c s best
 walk (suc fuel) k c s best forks =
     let here = place_or_best k c s best in
     option_map_or
-    (λ i. walk_on (λ next f. walk fuel k c next here f) s i here forks (skipped_after (operation_of i.code) k i s.held))
+    (λ i. walk_on (λ next f. walk fuel k c next here f) s i here forks
+    (skipped_after (operation_of i.code) k i s.held))
     (slice_get c s.place) here
 
--- where the walk from a target leads, past at most 128 instructions
+-- the place to which the walk from a target leads, past at most 128 instructions
 abbrev pub target : Known → List Insn → ℕ → ℕ
 target k c from = walk 128 k c (record { place = from; held = k.held }) from true
 
@@ -97,17 +109,14 @@ threaded_offset k c skipped =
     if nat_lt (target k c skipped) (2 ^ 32) && nat_lt (target k c skipped) (length c)
     then target k c skipped else skipped
 
--- the test with threaded offsets, each for the state after that outcome
-abbrev pub threaded_test : Option Operation → Known → Insn → List Insn → Insn
-threaded_test op k i c =
-    record i {
-      jt = threaded_offset (known_by_test op k.held k i.k true) c i.jt;
-      jf = threaded_offset (known_by_test op k.held k i.k false) c i.jf;
-    }
-
--- the threaded instruction, with this operation: only a test changes
+-- the threaded instruction, with this operation: only a test changes; its offsets are threaded, each
+-- for the state after that outcome
 abbrev pub threaded_by : Option Operation → Known → Insn → List Insn → Insn
-threaded_by (Some (JumpIf test operand)) k i c = threaded_test (Some (JumpIf test operand)) k i c
+threaded_by (Some (JumpIf test operand)) k i c =
+    record i {
+      jt = threaded_offset (known_by_test (Some (JumpIf test operand)) k.held k i.k true) c i.jt;
+      jf = threaded_offset (known_by_test (Some (JumpIf test operand)) k.held k i.k false) c i.jf;
+    }
 threaded_by _ k i c = i
 
 -- whether a run may reach a place, by what is known of A there
@@ -119,17 +128,12 @@ is_reached _ = true
 abbrev pub threaded_insn : Option Operation → Known → Insn → List Insn → Insn
 threaded_insn op k i c = if is_reached k.held then threaded_by op k i c else i
 
--- the state at each place after runs went on at both targets of a test; the code after it begins at
--- `from`
-abbrev pub with_ways : ℕ → Option Operation → Known → Insn → List Known → List Known
-with_ways from op k i seen =
-    arrived (arrived seen (from + i.jt) (known_by_test op k.held k i.k true))
-    (from + i.jf) (known_by_test op k.held k i.k false)
-
--- the state at each place after runs went on after an instruction with this operation
+-- the state at each place after runs went on after an instruction with this operation, of a test at
+-- both targets; the code after it begins at `from`
 abbrev pub with_arrivals_by : ℕ → Option Operation → Known → Insn → List Known → List Known
 with_arrivals_by from (Some (JumpIf test operand)) k i seen =
-    with_ways from (Some (JumpIf test operand)) k i seen
+    arrived (arrived seen (from + i.jt) (known_by_test (Some (JumpIf test operand)) k.held k i.k true))
+    (from + i.jf) (known_by_test (Some (JumpIf test operand)) k.held k i.k false)
 with_arrivals_by from (Some Jump) k i seen = arrived seen (from + i.k) k
 with_arrivals_by from (Some ReturnConstant) k i seen = seen
 with_arrivals_by from (Some ReturnAccumulator) k i seen = seen
