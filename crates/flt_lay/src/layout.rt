@@ -38,13 +38,6 @@ pub enum Reach {
     BothFar,
 }
 
-/// The places where a test goes on if it holds, and if it doesn't.
-#[derive(Clone, Copy)]
-struct Targets {
-    yes: usize,
-    no: usize,
-}
-
 /// A jump that is laid out: its place, and the place where it leads.
 #[derive(Clone, Copy)]
 struct PlacedJump {
@@ -203,18 +196,17 @@ impl<A: Allocator> Layout<A> {
         }
     }
 
-    /// Which targets a test that is put in front needs a jump for: as few as possible. A jump for
-    /// one makes the other one farther by an instruction.
-    fn test_reach(&self, to: Targets) -> Reach
+    /// Which of its two places a test that is put in front needs a jump for: as few as possible. A
+    /// jump for one makes the other one farther by an instruction.
+    fn test_reach(&self, yes: usize, no: usize) -> Reach
         requires { length self.now.code < 2 ^ 32 }
-        ensures { result ≡ test_reach to.yes to.no self.now.code }
+        ensures { result ≡ test_reach yes no self.now.code }
     {
-        let (yes, no) = (self.distance(to.yes), self.distance(to.no));
-        if yes <= MOST_OFFSET && no <= MOST_OFFSET {
+        if self.distance(yes) <= MOST_OFFSET && self.distance(no) <= MOST_OFFSET {
             Reach::Near
-        } else if self.distance_over_jump(to.no) <= MOST_OFFSET {
+        } else if self.distance_over_jump(no) <= MOST_OFFSET {
             Reach::YesFar
-        } else if self.distance_over_jump(to.yes) <= MOST_OFFSET {
+        } else if self.distance_over_jump(yes) <= MOST_OFFSET {
             Reach::NoFar
         } else {
             Reach::BothFar
@@ -224,24 +216,24 @@ impl<A: Allocator> Layout<A> {
     /// Puts a test in front that goes on at one of two places, and right after it the jumps that it
     /// needs: three instructions at most, which fit 32 bits by the clause.
     #[tactic(auto, unfolding(crate::specs::inside::Layout::with_test))]
-    fn emit_test(&mut self, insn: Wide, to: Targets) -> Result<(), AllocError>
+    fn emit_test(&mut self, insn: Wide, yes: usize, no: usize) -> Result<(), AllocError>
         requires { length self.old.code + 3 < 2 ^ 32 }
-        ensures { OnOk result (self.new ≡ with_test insn to.yes to.no self.old) }
+        ensures { OnOk result (self.new ≡ with_test insn yes no self.old) }
     {
-        let (jt, jf) = match self.test_reach(to) {
-            Reach::Near => (self.distance(to.yes), self.distance(to.no)),
+        let (jt, jf) = match self.test_reach(yes, no) {
+            Reach::Near => (self.distance(yes), self.distance(no)),
             Reach::YesFar => {
-                self.emit_jump(to.yes)?;
-                (0, self.distance(to.no))
+                self.emit_jump(yes)?;
+                (0, self.distance(no))
             }
             Reach::NoFar => {
-                self.emit_jump(to.no)?;
-                (self.distance(to.yes), 0)
+                self.emit_jump(no)?;
+                (self.distance(yes), 0)
             }
             // The code grows from its end, so the jump that comes last is put first.
             Reach::BothFar => {
-                self.emit_jump(to.no)?;
-                self.emit_jump(to.yes)?;
+                self.emit_jump(no)?;
+                self.emit_jump(yes)?;
                 (0, 1)
             }
         };
@@ -267,11 +259,7 @@ impl<A: Allocator> Layout<A> {
         match decode(insn.code) {
             Some(Operation::JumpIf(_, _)) => {
                 let (yes, no) = (self.target_place(insn.yes), self.target_place(insn.no));
-                let to = Targets {
-                    yes: self.near_place(yes),
-                    no: self.near_place(no),
-                };
-                self.emit_test(insn, to)?;
+                self.emit_test(insn, self.near_place(yes), self.near_place(no))?;
             }
             Some(Operation::Jump) => {
                 let to = self.target_place(insn.k);

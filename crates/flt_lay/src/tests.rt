@@ -3,16 +3,9 @@
 ghost use Rattle.std.specs.Prelude.{◌<◌};
 
 use crate::laid_out;
-use flt_bpf::{Insn, Program, Wide, check, run};
+use flt_bpf::{Program, Wide, check, run};
 use std::alloc::{AllocError, Global};
 use std::test::Fail;
-
-// A = original length, A = k ?, return k
-const LOAD_LENGTH: u16 = 128;
-
-const IF_EQUAL: u16 = 21;
-
-const RETURN: u16 = 6;
 
 /// How many tests lead to far returns by turns.
 const TESTS: u32 = 200;
@@ -20,36 +13,31 @@ const TESTS: u32 = 200;
 /// How many returns follow the tests.
 const RETURNS: usize = 300;
 
-fn plain(code: u16, k: u32) -> Wide {
-    let (yes, no) = (0, 0);
-    Wide { code, yes, no, k }
-}
-
-/// A test for a packet of this length.
+/// A test for a packet of this length (`A = k ?`).
 fn has_length(k: u32, yes: u32, no: u32) -> Wide {
-    let code = IF_EQUAL;
+    let code = 21;
     Wide { code, yes, no, k }
 }
 
-/// The length of a packet, tests of it, and then returns of 0, 1, 2 and so on, all laid out.
-fn with_returns(alloc: Global, tests: &[Wide]) -> Result<Vec<Insn>, Fail> {
+/// The length of a packet (`A = original length`), tests of it, and then returns of 0, 1, 2 and so
+/// on (`return k`), all laid out: how many instructions they are, and their program.
+fn with_returns(alloc: Global, tests: &[Wide]) -> Result<(usize, Program<Global>), Fail> {
+    let (yes, no) = (0, 0);
     let mut wide = Vec::new(alloc);
-    wide.push(plain(LOAD_LENGTH, 0))?;
+    let (code, k) = (128, 0);
+    wide.push(Wide { code, yes, no, k })?;
     for test in tests {
         wide.push(*test)?;
     }
     for k in 0..RETURNS as u32 {
-        wide.push(plain(RETURN, k))?;
+        let code = 6;
+        wide.push(Wide { code, yes, no, k })?;
     }
     if wide.len() > 1_000 {
         return Err(Fail::from("too many tests"));
     }
-    Ok(laid_out(alloc, &wide)?)
-}
-
-/// The program that the code is.
-fn program_of(code: Vec<Insn>) -> Result<Program<Global>, Fail> {
-    Ok(check(code).ok().ok_or("not valid")?)
+    let code = laid_out(alloc, &wide)?;
+    Ok((code.len(), check(code).ok().ok_or("not valid")?))
 }
 
 /// The answer on a packet of a length, and how many instructions the run met.
@@ -75,10 +63,9 @@ fn one_test(rt: HostRuntime) -> Result<(), Fail> {
         (256, 256, 1, 1),
     ];
     for (yes, no, jumps_if_yes, jumps_if_no) in rows {
-        let code = with_returns(rt.alloc(), &[has_length(1, yes, no)])?;
+        let (len, mut program) = with_returns(rt.alloc(), &[has_length(1, yes, no)])?;
         let jumps = jumps_if_yes.saturating_add(jumps_if_no);
-        assert!(rt; code.len() == RETURNS.saturating_add(2).saturating_add(jumps));
-        let mut program = program_of(code)?;
+        assert!(rt; len == RETURNS.saturating_add(2).saturating_add(jumps));
         assert!(rt; run_on(&mut program, 1) == (yes, jumps_if_yes.saturating_add(3)));
         assert!(rt; run_on(&mut program, 2) == (no, jumps_if_no.saturating_add(3)));
     }
@@ -89,12 +76,11 @@ fn one_test(rt: HostRuntime) -> Result<(), Fail> {
 #[test]
 fn two_tests(rt: HostRuntime) -> Result<(), Fail> {
     let tests = [has_length(1, 255, 0), has_length(2, 256, 270)];
-    let code = with_returns(rt.alloc(), &tests)?;
-    assert!(rt; code.len() == RETURNS + 3 + 3);
-    let mut program = program_of(code)?;
-    assert!(rt; run_on(&mut program, 1) == (254, 4));
-    assert!(rt; run_on(&mut program, 2) == (256, 5));
-    assert!(rt; run_on(&mut program, 3) == (270, 5));
+    let (len, mut program) = with_returns(rt.alloc(), &tests)?;
+    assert!(rt; len == RETURNS + 3 + 3);
+    for (len, met) in [(1, (254, 4)), (2, (256, 5)), (3, (270, 5))] {
+        assert!(rt; run_on(&mut program, len) == met);
+    }
     Ok(())
 }
 
@@ -115,9 +101,9 @@ fn tests_by_turns(alloc: Global, returns: u32) -> Result<Vec<Wide>, Fail>
 #[test]
 fn shared_jumps(rt: HostRuntime) -> Result<(), Fail> {
     for (returns, jumps) in [(1, 1), (4, 4), (5, 200)] {
-        let code = with_returns(rt.alloc(), &tests_by_turns(rt.alloc(), returns)?)?;
-        assert!(rt; code.len() == RETURNS.saturating_add(201).saturating_add(jumps));
-        let mut program = program_of(code)?;
+        let tests = tests_by_turns(rt.alloc(), returns)?;
+        let (len, mut program) = with_returns(rt.alloc(), &tests)?;
+        assert!(rt; len == RETURNS.saturating_add(201).saturating_add(jumps));
         for length in 1..TESTS + 1 {
             let answer = 299u32.saturating_sub(length % returns);
             assert!(rt; run_on(&mut program, length) == (answer, length as usize + 3));

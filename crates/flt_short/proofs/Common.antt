@@ -1,28 +1,23 @@
 -- The names that most proofs here cite, passed on from one place. Declares nothing.
 pub use Rattle.std.proofs.Common.{ℕ, zero, suc, List, [], ◌∷◌, inl, inr, replicate, ◌≡◌, ◌%◌, ◌+◌, ◌^◌, length, Bool, true, false, Option, Some, None, refl, ap, if◌then◌else◌, nat_lt, slice_get, sym, ◌∙◌, subst, arith, ◌⊎◌, ◌==◌, ◌&&◌, not, map, slice_set, bit_and, ◌-◌, ◌<◌, ◌≤◌, drop, length-drop, ◌≢◌, All, count_by, ◌||◌, get_or, cond}
-pub use Rattle.std.specs.Option.{option_map, option_or, option_map_or, is_none, option_and_then}
-pub use Rattle.std.proofs.lemmas.Bool.Decides.{nat_tests}
-pub use Rattle.std.proofs.lemmas.Bool.{and_parts, or_cases}
+pub use Rattle.std.proofs.lemmas.Bool.{and_parts, or_cases, Decides.nat_tests}
 pub use Rattle.std.proofs.lemmas.Option.{slice_get_within, get_or_from_slice_get, option_and_then_some, slice_get_read}
-pub use Rattle.flt_bpf.specs.declared.machine.State.{State}
-pub use Rattle.flt_bpf.specs.declared.insn.Insn.{Insn}
+pub use Rattle.std.specs.Option.{option_map, option_or, option_map_or, is_none, option_and_then}
+pub use Rattle.flt_bpf.specs.Answer.{answer_of, answer_after}
+pub use Rattle.flt_bpf.specs.Check.{IsValidUnlessLong, unless, fault_if_known, ends_in_return, IsFaultless, is_return}
+pub use Rattle.flt_bpf.specs.{Instructions.code_of, Layout.JUMP, Layout.is_branch}
+pub use Rattle.flt_bpf.specs.Machine.{Next, Goes, Ends, Lost, does, does_if_known, into, word_into, with_register, field, compute, operand_value, header_length, test_holds, into_word, Answered, run_from, progress_after, step_if_there, machine, start}
+pub use Rattle.flt_bpf.specs.declared.{insn.Insn.Insn, machine.State.State}
+pub use Rattle.flt_bpf.specs.declared.operation.Operand.TheVariants.{Constant, IndexRegister}
 pub use Rattle.flt_bpf.specs.declared.operation.Operation.{Operation}
 pub use Rattle.flt_bpf.specs.declared.operation.Operation.TheVariants.{LoadAbsolute, LoadIndirect, Load, LoadHeaderLength, Store, Compute, Negate, CopyToIndex, CopyToAccumulator, JumpIf, Jump, ReturnConstant, ReturnAccumulator}
 pub use Rattle.flt_bpf.specs.declared.operation.Register.TheVariants.{Accumulator, Index}
 pub use Rattle.flt_bpf.specs.declared.operation.Source.TheVariants.{Immediate, Memory, Length}
 pub use Rattle.flt_bpf.specs.declared.operation.Width.TheVariants.{Byte, Word}
-pub use Rattle.flt_bpf.specs.Machine.{Next, Goes, Ends, Lost, does, does_if_known, into, word_into, with_register, field, compute, operand_value, header_length, test_holds, into_word, Answered, run_from, progress_after, step_if_there, machine, start}
-pub use Rattle.flt_bpf.specs.declared.operation.Operand.TheVariants.{Constant, IndexRegister}
-pub use Rattle.flt_bpf.specs.Instructions.{code_of}
-pub use Rattle.flt_bpf.specs.Check.{IsValidUnlessLong, unless, fault_if_known, ends_in_return, IsFaultless, is_return}
-pub use Rattle.flt_bpf.specs.Layout.{JUMP, is_branch}
-pub use Rattle.flt_bpf.specs.Answer.{answer_of, answer_after}
-pub use Rattle.flt_bpf.proofs.Checking.{parts, last_returns}
-pub use Rattle.flt_short.specs.declared.facts.Known.{Known}
-pub use Rattle.flt_short.specs.inside.Facts.{nothing_known, unreached, nothing_claimed, same_optional, same_field, claims_nothing, allows, entails_some, entails, one_of_two, joined_claim, joined_with_any, joined_fact, joined_held, common_header, joined_by, joined, outcome_by_claim, decided, other_by_claim, other_number, with_fact, captures, any_captures, holds_field, is_captured, claim_after, known_by, known_by_test, masked_by, masked_held, held_without_index, known_after, field_of, masked_field}
-pub use Rattle.flt_short.specs.inside.Arrivals.{known_at, arrived, at_start}
 pub use Rattle.flt_bpf.specs.inside.Flow.{goes_on_or_rejects}
+pub use Rattle.flt_bpf.proofs.Both.{known_step, into_both, word_both, stored_both, plain_both}
+pub use Rattle.flt_bpf.proofs.Checking.{parts, last_returns}
+pub use Rattle.flt_short.specs.declared.facts.{Field.Field, Held.Held, Known.Known}
 pub use Rattle.flt_short.specs.inside.Alike.{goes_on, rejects, is_sure, same_target, goes_on_alike, are_copies, lands_at_if, lands_at, code_from, stands_at, stands, are_alike, begins}
-pub use Rattle.flt_short.specs.declared.facts.Field.{Field}
-pub use Rattle.flt_short.specs.declared.facts.Held.{Held}
-pub use Rattle.flt_short.specs.inside.Threads.{threaded_offset, threaded_by, threaded_insn, is_reached, with_arrivals_by, with_arrivals, flow, field_at, other_field, spot_at, holds_load, past_insn, ignores_accumulator, ignores_accumulator_at, is_free_by, is_free, can_stop, walk_on, FUEL, walk_from, best_after, target_by, target}
+pub use Rattle.flt_short.specs.inside.Facts.{nothing_known, unreached, nothing_claimed, same_optional, same_field, claims_nothing, allows, entails_some, entails, one_of_two, joined_claim, joined_with_any, joined_fact, same_held, common_header, joined_by, joined, outcome_by_claim, speaks_of, claim_about, other_by_claim, with_fact, captures, any_captures, holds_field, is_captured, claim_after, known_by_test, masked_by, masked_held, held_after, known_after, known_at, arrived, at_start}
+pub use Rattle.flt_short.specs.inside.Threads.{threaded_offset, threaded_by, threaded_insn, is_reached, with_arrivals_by, with_arrivals, flow, skipped_by_test, skipped_after, is_free_by, is_free, can_stop, place_or_best, spot_after, walk_on, target}

@@ -1,14 +1,16 @@
 -- What is known holds of the packet and of the registers.
-use Rattle.flt_short.proofs.Common.{◌≡◌, ℕ, zero, suc, ◌+◌, ◌%◌, ◌^◌, List, [], ◌∷◌, Bool, true, false, Option, Some, None, refl, sym, ap, ◌∙◌, subst, arith, ◌⊎◌, inl, inr, ◌==◌, ◌&&◌, not, if◌then◌else◌, map, replicate, slice_set, bit_and, option_map, option_or, nat_tests, State, Operation, LoadAbsolute, LoadIndirect, Load, JumpIf, Accumulator, Length, Constant, Byte, Insn, field, header_length, test_holds, operand_value, Field, Held, Known, nothing_claimed, nothing_known, same_optional, same_field, claims_nothing, allows, entails_some, entails, one_of_two, joined_claim, joined_with_any, joined_fact, joined_held, common_header, joined_by, joined, outcome_by_claim, decided, other_by_claim, other_number, with_fact, captures, any_captures, holds_field, is_captured, claim_after, known_by, known_by_test, and_parts, or_cases}
-use Rattle.flt_bpf.specs.declared.operation.Test.{Test}
-use Rattle.flt_bpf.specs.declared.operation.Test.TheVariants.{Equal}
-use Rattle.flt_bpf.specs.declared.operation.Operand.{Operand}
-use Rattle.flt_bpf.specs.Instructions.{operation_of}
+use Rattle.flt_short.proofs.Common.{◌≡◌, ℕ, zero, suc, ◌+◌, ◌%◌, ◌^◌, List, [], ◌∷◌, length, Bool, true, false, Option, Some, None, refl, sym, ap, ◌∙◌, subst, arith, ◌⊎◌, inl, inr, ◌==◌, nat_lt, ◌&&◌, not, if◌then◌else◌, map, replicate, slice_set, slice_get, bit_and, option_map, option_or, nat_tests, State, Operation, LoadAbsolute, LoadIndirect, Load, LoadHeaderLength, Store, Compute, Negate, CopyToIndex, CopyToAccumulator, JumpIf, Accumulator, Index, Immediate, Memory, Length, Constant, Byte, Insn, Next, Goes, does, into, word_into, with_register, goes_on_or_rejects, field, compute, header_length, test_holds, operand_value, Field, Held, Known, nothing_claimed, nothing_known, same_optional, same_field, claims_nothing, allows, entails_some, entails, one_of_two, joined_claim, joined_with_any, joined_fact, same_held, common_header, joined_by, joined, outcome_by_claim, speaks_of, claim_about, other_by_claim, with_fact, captures, any_captures, holds_field, is_captured, claim_after, known_by_test, known_after, unreached, known_at, arrived, at_start, masked_held, masked_by, and_parts, or_cases}
+use Rattle.flt_bpf.specs.{Instructions.operation_of, declared.operation.AluOperation.AluOperation}
+use Rattle.flt_bpf.specs.declared.operation.{Operand.Operand, Register.Register, Test.Test, Test.TheVariants.Equal}
 use Rattle.flt_short.specs.declared.facts.Claim.{Claim}
 use Rattle.flt_short.specs.declared.facts.Claim.TheVariants.{Nothing, Is, IsNot, IsOneOf}
 use Rattle.flt_short.specs.declared.facts.Fact.{Fact}
 use Rattle.flt_short.specs.declared.facts.Held.TheVariants as held
-use Rattle.flt_short.proofs.Basics.{by_test}
+
+-- by a test
+pub by_test : {A : Type 0} (P : A → Type 0) (b : Bool) (x y : A) → (b ≡ true → P x) → (b ≡ false → P y) → P (if b then x else y)
+by_test P true x y t f = t refl
+by_test P false x y t f = f refl
 
 -- what a field of a packet p of original length n is
 abbrev pub loaded : Option Operation → List ℕ → ℕ → ℕ → Option ℕ
@@ -102,7 +104,7 @@ joins_claims c d o h =
     (λ _. one_of_both c d o h))
 
 -- what a claim says of a test
-says_right : (c : Claim) (n v : ℕ) (b : Bool) → allows c v ≡ true → outcome_by_claim c n ≡ Some b → (v == n) ≡ b
+pub says_right : (c : Claim) (n v : ℕ) (b : Bool) → allows c v ≡ true → outcome_by_claim c n ≡ Some b → (v == n) ≡ b
 says_right (Is a) n v b h e =
     let is_b : (a == n) ≡ b = cc in
     ap (λ m. m == n) (numbers v a h) ∙ is_b
@@ -150,16 +152,12 @@ module _ (p : List ℕ) (len : ℕ) where
   of_value : (x : Fact) (f : Field) (v : ℕ) → same_field x.field f ≡ true → value_of p len f ≡ Some v → Says x → allows x.claim v ≡ true
   of_value x f v same is h = subst (λ o. is_said x.claim o ≡ true) (same_value p len x.field f same ∙ is) h
 
-  first_right : {A : Type 0} (o later : Option A) (b : A) (P : Type 0) → (o ≡ Some b → P) → (later ≡ Some b → P) → option_or o later ≡ Some b → P
-  first_right (Some c) later b P f g e = f e
-  first_right None later b P f g e = g e
-
-  pub decided_right : (xs : List Fact) (f : Field) (v n : ℕ) (b : Bool) → AllSay xs → value_of p len f ≡ Some v → decided xs f n ≡ Some b → (v == n) ≡ b
-  decided_right [] f v n b h is = λ e. cc
-  decided_right (x ∷ xs) f v n b h is =
-      by_test (λ z. z ≡ Some b → (v == n) ≡ b) (same_field x.field f) _ _
-      (λ same. first_right (outcome_by_claim x.claim n) (decided xs f n) b ((v == n) ≡ b) (says_right x.claim n v b (of_value x f v same is h.0)) (decided_right xs f v n b h.1 is))
-      (λ _. decided_right xs f v n b h.1 is)
+  pub about_right : (xs : List Fact) (f : Field) (v n : ℕ) → AllSay xs → value_of p len f ≡ Some v → allows (claim_about xs f n) v ≡ true
+  about_right [] f v n h is = refl
+  about_right (x ∷ xs) f v n h is =
+      by_test (λ c. allows c v ≡ true) (same_field x.field f && speaks_of x.claim n) x.claim (claim_about xs f n)
+      (λ t. of_value x f v (and_parts (same_field x.field f) (speaks_of x.claim n) t).0 is h.0)
+      (λ _. about_right xs f v n h.1 is)
 
   -- of two numbers it is the other one
   clash : (v n a : ℕ) → (n == a) ≡ true → v ≡ a → (v == n) ≡ false → ⊥
@@ -173,13 +171,6 @@ module _ (p : List ℕ) (len : ℕ) where
       (λ e. λ g. elim (or_cases (v == a) (v == b) h) [ inl i ↦ (let same : a ≡ m = cc in numbers v a i ∙ same) | inr i ↦ absurd (clash v n b e (numbers v b i) other) ])
       (λ _. λ g. cc))
   other_said _ n m v h other = λ g. cc
-
-  other_right : (xs : List Fact) (f : Field) (v n m : ℕ) → AllSay xs → value_of p len f ≡ Some v → (v == n) ≡ false → other_number xs f n ≡ Some m → v ≡ m
-  other_right [] f v n m h is other = λ e. cc
-  other_right (x ∷ xs) f v n m h is other =
-      by_test (λ z. z ≡ Some m → v ≡ m) (same_field x.field f) _ _
-      (λ same. first_right (other_by_claim x.claim n) (other_number xs f n) m (v ≡ m) (other_said x.claim n m v (of_value x f v same is h.0) other) (other_right xs f v n m h.1 is other))
-      (λ _. other_right xs f v n m h.1 is other)
 
   -- what is captured
   said_some : (c : Claim) (o : Option ℕ) → not (claims_nothing c) ≡ true → is_said c o ≡ true → (v : ℕ) × (o ≡ Some v)
@@ -195,13 +186,17 @@ module _ (p : List ℕ) (len : ℕ) where
   abbrev pub IsThere : ℕ → ℕ → Type 0
   IsThere code k = (v : ℕ) × (loaded (operation_of code) p len k ≡ Some v)
 
+  there_of : (f : Field) (code k v : ℕ) → value_of p len f ≡ Some v → (f.code == code && f.k == k) ≡ true → IsThere code k
+  there_of f code k v is e =
+      let q = and_parts (f.code == code) (f.k == k) e in
+      let t = held_there f.mask (loaded (operation_of f.code) p len f.k) v is in
+      (t.0, ap (λ m. loaded (operation_of m) p len k) (sym (numbers f.code code q.0)) ∙ ap (loaded (operation_of f.code) p len) (sym (numbers f.k k q.1)) ∙ t.1)
+
   there_by : (x : Fact) (code k : ℕ) → Says x → captures x code k ≡ true → IsThere code k
   there_by x code k h e =
       let q = and_parts (x.field.code == code && x.field.k == k) (not (claims_nothing x.claim)) e in
-      let r = and_parts (x.field.code == code) (x.field.k == k) q.0 in
       let said = said_some x.claim (value_of p len x.field) q.1 h in
-      let t = held_there x.field.mask (loaded (operation_of x.field.code) p len x.field.k) said.0 said.1 in
-      (t.0, ap (λ m. loaded (operation_of m) p len k) (sym (numbers x.field.code code r.0)) ∙ ap (loaded (operation_of x.field.code) p len) (sym (numbers x.field.k k r.1)) ∙ t.1)
+      there_of x.field code k said.0 said.1 q.0
 
   any_there : (xs : List Fact) (code k : ℕ) → AllSay xs → any_captures xs code k ≡ true → IsThere code k
   any_there [] code k h e = cc
@@ -223,21 +218,18 @@ module _ (p : List ℕ) (len : ℕ) where
     pub x : IndexHolds k.index s.index
     pub facts : AllSay k.facts
 
-  joins_held : (one other : Held) (s : State) → HeldHolds one s ⊎ HeldHolds other s → HeldHolds (joined_held one other) s
-  joins_held held.Unreached other s (inl x) = absurd x
-  joins_held held.Unreached other s (inr x) = x
-  joins_held h held.Unreached s (inl x) = x
-  joins_held h held.Unreached s (inr x) = absurd x
-  joins_held (held.Field f) (held.Field g) s h =
-      by_test (λ h. HeldHolds h s) (same_field f g) _ _
-      (λ e. elim h [ inl x ↦ x | inr x ↦ same_value p len f g e ∙ x ])
+  pub same_holds : (g h : Held) (s : State) → same_held g h ≡ true → HeldHolds h s → HeldHolds g s
+  same_holds (held.Field f) (held.Field g) s e x = same_value p len f g e ∙ x
+  same_holds (held.AtIndex c k) (held.AtIndex d j) s e x =
+      let q : (c ≡ d) × (k ≡ j) = grind (arith, nat_tests) in
+      ap (λ m. loaded_at (operation_of m) p s.index k) q.0 ∙ ap (loaded_at (operation_of d) p s.index) q.1 ∙ x
+  same_holds _ _ s e x = cc
+
+  joins_held : (one other : Held) (s : State) → HeldHolds one s ⊎ HeldHolds other s → HeldHolds (if same_held one other then one else held.Unknown) s
+  joins_held one other s h =
+      by_test (λ z. HeldHolds z s) (same_held one other) one held.Unknown
+      (λ e. elim h [ inl x ↦ x | inr x ↦ same_holds one other s e x ])
       (λ _. tt)
-  joins_held (held.AtIndex c k) (held.AtIndex d j) s h =
-      by_test (λ h. HeldHolds h s) (c == d && k == j) _ _
-      (λ e. let q : (c ≡ d) × (k ≡ j) = grind (arith, nat_tests) in
-      elim h [ inl x ↦ x | inr x ↦ ap (λ m. loaded_at (operation_of m) p s.index k) q.0 ∙ ap (loaded_at (operation_of d) p s.index) q.1 ∙ x ])
-      (λ _. tt)
-  joins_held _ _ s h = tt
 
   joins_index : (a b : Option ℕ) (n : ℕ) → IndexHolds a n ⊎ IndexHolds b n → IndexHolds (common_header a b) n
   joins_index a b n h =
@@ -263,10 +255,7 @@ module _ (p : List ℕ) (len : ℕ) where
   fact_holds k f c s y h = record { a = y.a; x = y.x; facts = set_says k.facts _ _ y.facts h }
 
   field_there : (h : Held) (code k : ℕ) (s : State) → HeldHolds h s → holds_field h code k ≡ true → IsThere code k
-  field_there (held.Field f) code k s x e =
-      let q = and_parts (f.code == code) (f.k == k) e in
-      let t = held_there f.mask (loaded (operation_of f.code) p len f.k) s.accumulator x in
-      (t.0, ap (λ m. loaded (operation_of m) p len k) (sym (numbers f.code code q.0)) ∙ ap (loaded (operation_of f.code) p len) (sym (numbers f.k k q.1)) ∙ t.1)
+  field_there (held.Field f) code k s x e = there_of f code k s.accumulator x e
   field_there held.Unreached code k s x e = absurd x
   field_there _ code k s x e = cc
 
@@ -279,9 +268,9 @@ module _ (p : List ℕ) (len : ℕ) where
   claimed false v n None g e = ap not e
   claimed false v n (Some m) g e = same_number v m (g e m refl)
 
-  pub tested_field : (k : Known) (f : Field) (v n : ℕ) (outcome : Bool) (s : State) → Holds k s → value_of p len f ≡ Some v → (v == n) ≡ outcome → Holds (known_by k f n outcome) s
+  pub tested_field : (k : Known) (f : Field) (v n : ℕ) (outcome : Bool) (s : State) → Holds k s → value_of p len f ≡ Some v → (v == n) ≡ outcome → Holds (with_fact k f (claim_after outcome n (other_by_claim (claim_about k.facts f n) n))) s
   tested_field k f v n outcome s y is e =
-      fact_holds k f _ s y (subst (λ o. is_said (claim_after outcome n (other_number k.facts f n)) o ≡ true) (sym is) (claimed outcome v n (other_number k.facts f n) (λ other m g. other_right k.facts f v n m y.facts is other g) e))
+      fact_holds k f _ s y (subst (λ o. is_said (claim_after outcome n (other_by_claim (claim_about k.facts f n) n)) o ≡ true) (sym is) (claimed outcome v n (other_by_claim (claim_about k.facts f n) n) (λ other m g. other_said (claim_about k.facts f n) n m v (about_right k.facts f v n y.facts is) other g) e))
 
   tested_by : (t : Test) (o : Operand) (h : Held) (k : Known) (i : Insn) (outcome : Bool) (s : State) → HeldHolds h s → Holds k s → test_holds t s.accumulator (operand_value o i.k s.index) ≡ outcome → Holds (known_by_test (Some (JumpIf t o)) h k i.k outcome) s
   tested_by Equal Constant (held.Field f) k i outcome s x y e = tested_field k f s.accumulator i.k outcome s y x e
@@ -289,3 +278,63 @@ module _ (p : List ℕ) (len : ℕ) where
 
   pub tested : (t : Test) (o : Operand) (k : Known) (i : Insn) (outcome : Bool) (s : State) → Holds k s → test_holds t s.accumulator (operand_value o i.k s.index) ≡ outcome → Holds (known_by_test (Some (JumpIf t o)) k.held k i.k outcome) s
   tested t o k i outcome s y e = tested_by t o k.held k i outcome s y.a y e
+
+  -- what is known after an instruction that is neither a jump nor a return holds, if the run goes on
+  abbrev pub After : Known → Next → Type 0
+  After k (Goes far t) = (far ≡ 0) × Holds k t
+  After k _ = Unit {0}
+
+  went : (k : Known) (r : Register) (o : Option ℕ) (s : State) → ((v : ℕ) → o ≡ Some v → Holds k (with_register r v s)) → After k (into r o s)
+  went k r None s f = tt
+  went k r (Some v) s f = (refl, f v refl)
+
+  word_went : (k : Known) (r : Register) (o : Option ℕ) (s : State) → ((v : ℕ) → Holds k (with_register r v s)) → After k (word_into r o s)
+  word_went k r None s f = tt
+  word_went k r (Some v) s f = (refl, f v)
+
+  masks : (h : Held) (m v : ℕ) (s : State) → HeldHolds h s → compute AluOperation.And s.accumulator m ≡ Some v → HeldHolds (masked_held h m) (record s { accumulator = v })
+  masks (held.Field f) m v s x e = by f.mask refl
+    where
+      by : (o : Option ℕ) → f.mask ≡ o → HeldHolds (masked_by o f m) (record s { accumulator = v })
+      by (Some old) q = tt
+      by None q = ap (masked (Some m)) (ap (value_at p len f.code f.k) (sym q) ∙ x) ∙ e
+  masks _ m v s x e = tt
+
+  pub after : (op : Operation) (k : Known) (i : Insn) (s : State) → operation_of i.code ≡ Some op → goes_on_or_rejects op ≡ true → Holds k s → After (known_after (Some op) k i) (does op i p len s)
+  after (LoadAbsolute w) k i s e _ y = went _ Accumulator (field p i.k w) s (λ v g. record { a = ap (λ o. loaded o p len i.k) e ∙ g; x = y.x; facts = y.facts })
+  after (LoadIndirect w) k i s e _ y = went _ Accumulator (field p ((s.index + i.k) % 2 ^ 32) w) s (λ v g. record { a = ap (λ o. loaded_at o p s.index i.k) e ∙ g; x = y.x; facts = y.facts })
+  after (Load Accumulator Immediate) k i s e _ y = (refl, record { a = tt; x = y.x; facts = y.facts })
+  after (Load Accumulator Length) k i s e _ y = (refl, record { a = ap (λ o. loaded o p len i.k) e; x = y.x; facts = y.facts })
+  after (Load Accumulator Memory) k i s e _ y = word_went _ Accumulator (slice_get s.memory i.k) s (λ v. record { a = tt; x = y.x; facts = y.facts })
+  after (Load Index Immediate) k i s e _ y = (refl, record { a = tt; x = tt; facts = y.facts })
+  after (Load Index Length) k i s e _ y = (refl, record { a = tt; x = tt; facts = y.facts })
+  after (Load Index Memory) k i s e _ y = word_went _ Index (slice_get s.memory i.k) s (λ v. record { a = tt; x = tt; facts = y.facts })
+  after LoadHeaderLength k i s e _ y = went _ Index (option_map header_length (field p i.k Byte)) s (λ v g. record { a = tt; x = g; facts = y.facts })
+  after (Store r) k i s e _ y = by_test (After (known_after (Some (Store r)) k i)) (nat_lt i.k (length s.memory)) _ _ (λ _. (refl, record { a = tt; x = y.x; facts = y.facts })) (λ _. tt)
+  after (Compute AluOperation.And Constant) k i s e _ y = went _ Accumulator (compute AluOperation.And s.accumulator i.k) s (λ v g. record { a = masks k.held i.k v s y.a g; x = y.x; facts = y.facts })
+  after (Compute operator o) k i s e _ y = went _ Accumulator (compute operator s.accumulator (operand_value o i.k s.index)) s (λ v g. record { a = tt; x = y.x; facts = y.facts })
+  after Negate k i s e _ y = (refl, record { a = tt; x = y.x; facts = y.facts })
+  after CopyToIndex k i s e _ y = (refl, record { a = tt; x = tt; facts = y.facts })
+  after CopyToAccumulator k i s e _ y = (refl, record { a = tt; x = y.x; facts = y.facts })
+  after _ k i s e f y = cc
+
+  -- what is known at a place holds in a run
+  abbrev pub HoldsAt : List Known → ℕ → State → Type 0
+  HoldsAt seen q s = Holds (known_at seen q) s
+
+  -- in the run that comes
+  pub raised_at : (seen : List Known) (place : ℕ) (k : Known) (s : State) → Holds k s → HoldsAt (arrived seen place k) place s
+  raised_at [] place k s x = nothing_holds s
+  raised_at (g ∷ seen) zero k s x = joins g k s (inr x)
+  raised_at (g ∷ seen) (suc place) k s x = raised_at seen place k s x
+
+  -- and in the runs that came
+  pub raised_keeps : (seen : List Known) (place : ℕ) (k : Known) (q : ℕ) (s : State) → HoldsAt seen q s → HoldsAt (arrived seen place k) q s
+  raised_keeps [] place k q s x = x
+  raised_keeps (g ∷ seen) zero k zero s x = joins g k s (inl x)
+  raised_keeps (g ∷ seen) zero k (suc q) s x = x
+  raised_keeps (g ∷ seen) (suc place) k zero s x = x
+  raised_keeps (g ∷ seen) (suc place) k (suc q) s x = raised_keeps seen place k q s x
+
+  pub start_holds : (len : ℕ) (s : State) → HoldsAt (at_start len) 0 s
+  start_holds len s = raised_at (replicate len unreached) 0 nothing_known s (nothing_holds s)

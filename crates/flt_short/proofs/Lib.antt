@@ -1,7 +1,4 @@
 pub mod Common
-pub mod Arriving
-pub mod Basics
 pub mod Knowing
-pub mod Walks
 pub mod Threading
 pub mod Likeness

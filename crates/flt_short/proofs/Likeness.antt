@@ -1,20 +1,13 @@
 -- Code that is alike has the answers of the old code, and a run of it meets no more instructions.
-use Rattle.flt_short.proofs.Common.{◌≡◌, inl, inr, ℕ, zero, suc, ◌+◌, ◌-◌, ◌%◌, ◌^◌, ◌<◌, ◌≤◌, List, [], ◌∷◌, length, drop, length-drop, Bool, true, false, Option, Some, None, refl, sym, ap, ◌∙◌, subst, arith, ◌≢◌, All, count_by, ◌==◌, nat_lt, ◌&&◌, ◌||◌, not, if◌then◌else◌, slice_get, slice_set, bit_and, option_map, option_map_or, and_parts, or_cases, nat_tests, slice_get_within, get_or_from_slice_get, Insn, State, Operation, LoadAbsolute, LoadIndirect, Load, LoadHeaderLength, Store, Compute, Negate, Jump, JumpIf, ReturnConstant, ReturnAccumulator, CopyToIndex, CopyToAccumulator, Accumulator, Index, Immediate, Memory, Length, Constant, IndexRegister, Byte, code_of, Next, Goes, Ends, Lost, does, does_if_known, into, into_word, operand_value, test_holds, field, compute, header_length, Answered, run_from, progress_after, step_if_there, machine, start, IsValidUnlessLong, JUMP, is_branch, goes_on, rejects, is_sure, goes_on_or_rejects, same_target, goes_on_alike, are_copies, lands_at_if, lands_at, code_from, stands_at, stands, are_alike, begins, answer_of, answer_after, parts}
+use Rattle.flt_short.proofs.Common.{◌≡◌, inl, inr, ℕ, zero, suc, ◌+◌, ◌-◌, ◌%◌, ◌^◌, ◌<◌, ◌≤◌, List, [], ◌∷◌, length, drop, length-drop, Bool, true, false, Option, Some, None, refl, sym, ap, ◌∙◌, subst, arith, ◌≢◌, All, count_by, ◌==◌, nat_lt, ◌&&◌, ◌||◌, not, if◌then◌else◌, slice_get, slice_set, bit_and, option_map, option_map_or, and_parts, or_cases, nat_tests, slice_get_within, get_or_from_slice_get, Insn, State, Operation, LoadAbsolute, LoadIndirect, Load, LoadHeaderLength, Store, Compute, Negate, Jump, JumpIf, ReturnConstant, ReturnAccumulator, CopyToIndex, CopyToAccumulator, Accumulator, Index, Immediate, Memory, Length, Constant, IndexRegister, Byte, code_of, Next, Goes, Ends, Lost, does, does_if_known, into, into_word, operand_value, test_holds, field, compute, header_length, Answered, run_from, progress_after, step_if_there, machine, start, IsValidUnlessLong, JUMP, is_branch, goes_on, rejects, is_sure, goes_on_or_rejects, same_target, goes_on_alike, are_copies, lands_at_if, lands_at, code_from, stands_at, stands, are_alike, begins, answer_of, answer_after, parts, known_step, into_both, word_both, stored_both, plain_both}
 use Rattle.std.specs.Option.{is_some}
-use Rattle.std.proofs.lemmas.List.{drop-drop}
-use Rattle.std.proofs.Math.Seq.{drop-nil}
-use Rattle.flt_bpf.specs.declared.operation.Test.TheVariants as test
-use Rattle.flt_bpf.specs.declared.operation.AluOperation.TheVariants as arithmetic
-use Rattle.flt_bpf.specs.declared.operation.Width.{Width}
-use Rattle.flt_bpf.specs.Instructions.{operation_of}
-use Rattle.flt_bpf.specs.Machine.{step}
-use Rattle.flt_short.specs.declared.alike.Landing.{Landing}
-use Rattle.flt_short.specs.Alike.{Comes, Shortens}
+use Rattle.std.proofs.{Math.Seq.drop-nil, Math.Seq.drop-cons, lemmas.List.drop-drop}
+use Rattle.flt_bpf.specs.{Instructions.operation_of, Machine.step}
 use Rattle.flt_bpf.specs.Registers.{reads_accumulator, reads_index, sets_accumulator, sets_index}
+use Rattle.flt_bpf.specs.declared.operation.{AluOperation.AluOperation, Test.Test, Width.Width}
+use Rattle.flt_short.specs.{Alike.Comes, Alike.Shortens, declared.alike.Landing.Landing}
 use Rattle.flt_short.specs.inside.Alike.{same_step, one_test, left_out}
-use Rattle.flt_bpf.proofs.Codes.{code_is}
-use Rattle.flt_bpf.proofs.Suffix.{answer_drop, machine_answers, valid_if_short}
-use Rattle.flt_short.proofs.Basics.{known_step, into_both, word_both, stored_both, plain_both}
+use Rattle.flt_bpf.proofs.{Codes.code_is, Suffix.answer_drop, Suffix.machine_answers, Suffix.valid_if_short}
 
 -- how many instructions a run meets after an instruction, and from a place on
 abbrev pub steps_after : (ℕ → State → ℕ) → Next → ℕ
@@ -33,9 +26,25 @@ steps_drop _ p n zero s = refl
 steps_drop _ p n _ s = refl
 
 drop_at : (c : List Insn) (k : ℕ) (j : Insn) → slice_get c k ≡ Some j → drop k c ≡ j ∷ drop (suc k) c
-drop_at [] k j e = cc
-drop_at (i ∷ c) zero j e = let same : i ≡ j = cc in ap (λ z. z ∷ c) same
-drop_at (i ∷ c) (suc k) j e = drop_at c k j e
+drop_at c k j e = drop-cons c k j (slice_get_within c k j e) ∙ ap (λ z. z ∷ drop (suc k) c) (get_or_from_slice_get c k j j e)
+
+rest_at : (c : List Insn) (place far : ℕ) → drop far (drop (suc place) c) ≡ drop (place + 1 + far) c
+rest_at c place far = let there : suc place + far ≡ place + 1 + far = omega arith in drop-drop far (suc place) c ∙ ap (λ m. drop m c) there
+
+-- the answer from a place on, and how many instructions are met, by the instruction there
+pub at_step : (c : List Insn) (p : List ℕ) (n place : ℕ) (i : Insn) (s : State) → slice_get c place ≡ Some i → answer_of c p n place s ≡ answer_after (λ far w. answer_of c p n (place + 1 + far) w) (step i p n s)
+at_step c p n place i s g = sym (answer_drop c p n place s) ∙ ap (λ z. answer_of z p n 0 s) (drop_at c place i g) ∙ by (step i p n s)
+  where
+    by : (o : Next) → answer_after (answer_of (drop (suc place) c) p n) o ≡ answer_after (λ far w. answer_of c p n (place + 1 + far) w) o
+    by (Goes far w) = sym (answer_drop (drop (suc place) c) p n far w) ∙ ap (λ z. answer_of z p n 0 w) (rest_at c place far) ∙ answer_drop c p n (place + 1 + far) w
+    by _ = refl
+
+steps_at : (c : List Insn) (p : List ℕ) (n place : ℕ) (i : Insn) (s : State) → slice_get c place ≡ Some i → steps_of c p n place s ≡ suc (steps_after (λ far w. steps_of c p n (place + 1 + far) w) (step i p n s))
+steps_at c p n place i s g = sym (steps_drop c p n place s) ∙ ap (λ z. steps_of z p n 0 s) (drop_at c place i g) ∙ ap suc (by (step i p n s))
+  where
+    by : (o : Next) → steps_after (steps_of (drop (suc place) c) p n) o ≡ steps_after (λ far w. steps_of c p n (place + 1 + far) w) o
+    by (Goes far w) = sym (steps_drop (drop (suc place) c) p n far w) ∙ ap (λ z. steps_of z p n 0 w) (rest_at c place far) ∙ steps_drop c p n (place + 1 + far) w
+    by _ = refl
 
 -- after two instructions: where the old code has an answer, the code has the same, and in no more
 -- instructions
@@ -49,7 +58,7 @@ abbrev pub AsGood : List Insn → List Insn → List ℕ → ℕ → ℕ → ℕ
 AsGood d is p n far k t s = Follows d is p n (Goes far t) (Goes k s)
 
 -- A and X may differ
-abbrev other : State → ℕ → ℕ → State
+abbrev pub other : State → ℕ → ℕ → State
 other s a x = record s { accumulator = a; index = x }
 
 -- but not where they are read
@@ -69,9 +78,7 @@ read_is true u v h = h refl
 read_is false u v h = refl
 
 drop_after : (c : List Insn) (k : ℕ) (j : Insn) (js : List Insn) → drop k c ≡ j ∷ js → drop (suc k) c ≡ js
-drop_after (i ∷ c) (suc k) j js e = drop_after c k j js e
-drop_after _ zero j js e = cc
-drop_after _ _ j js e = cc
+drop_after c k j js e = let next : k + 1 ≡ suc k = omega arith in ap (λ m. drop m c) (sym next) ∙ sym (drop-drop 1 k c) ∙ ap (drop 1) e
 
 tail_after : (c : List Insn) (place : ℕ) (j : Insn) (js : List Insn) → 0 < place → place ≤ length c → code_from c place ≡ j ∷ js → js ≡ code_from c (place - 1)
 tail_after c place j js some low e =
@@ -253,11 +260,11 @@ module _ (p : List ℕ) (n : ℕ) where
       let q : (i.code ≡ 84) × (u.code ≡ 21) × (u.k ≡ 0) × (j.code ≡ 69) × (i.k ≡ j.k) × (l.accumulator ≡ true) × (lands_at c ls (1 + u.jt) (l.place - (1 + j.jf)) false l.index ≡ true) × (lands_at c ls (1 + u.jf) (l.place - (1 + j.jt)) false l.index ≡ true) = grind (arith, nat_tests) in
       let s' : State = record s { accumulator = bit_and s.accumulator i.k } in
       let z = bit_and s.accumulator i.k == 0 in
-      let second = coded_step (JumpIf test.Equal Constant) u s' q.1 ∙ ap (λ m. Goes (if bit_and s.accumulator i.k == m then u.jt else u.jf) s') q.2 in
-      let new = coded_step (JumpIf test.AnyBit Constant) j (other s a x) q.3
+      let second = coded_step (JumpIf Test.Equal Constant) u s' q.1 ∙ ap (λ m. Goes (if bit_and s.accumulator i.k == m then u.jt else u.jf) s') q.2 in
+      let new = coded_step (JumpIf Test.AnyBit Constant) j (other s a x) q.3
       ∙ ap (λ m. Goes (if not (bit_and m j.k == 0) then j.jt else j.jf) (other s a x)) (ha q.5)
       ∙ ap (λ m. Goes (if not (bit_and s.accumulator m == 0) then j.jt else j.jf) (other s a x)) (sym q.4) in
-      old_alone (j ∷ code_from c (l.place - 1)) (u ∷ is) i 0 (other s a x) s s' (coded_step (Compute arithmetic.And Constant) i s q.0)
+      old_alone (j ∷ code_from c (l.place - 1)) (u ∷ is) i 0 (other s a x) s s' (coded_step (Compute AluOperation.And Constant) i s q.0)
       (both (code_from c (l.place - 1)) is j u (other s a x) s' _ _ new second (ways q.6 q.7 z))
     where
       ways : lands_at c ls (1 + u.jt) (l.place - (1 + j.jf)) false l.index ≡ true → lands_at c ls (1 + u.jf) (l.place - (1 + j.jt)) false l.index ≡ true → (z : Bool) → AsGood (code_from c (l.place - 1)) is p n (if not z then j.jt else j.jf) (if z then u.jt else u.jf) (other s a x) (record s { accumulator = bit_and s.accumulator i.k })
@@ -276,12 +283,12 @@ module _ (p : List ℕ) (n : ℕ) where
       (ap (answer_after (answer_of js p n)) does ∙ ap Some q.1, ap (λ o. suc (steps_after (steps_of js p n) o)) does)
 
   -- what an operation does that can't fail: A and X are others, if it sets them
-  record Sets (op : Operation) (o : Next) (s : State) : Type 0 where
-    a : ℕ
-    x : ℕ
-    goes : o ≡ Goes 0 (other s a x)
-    keeps_a : not (sets_accumulator op) ≡ true → a ≡ s.accumulator
-    keeps_x : not (sets_index op) ≡ true → x ≡ s.index
+  pub record Sets (op : Operation) (o : Next) (s : State) : Type 0 where
+    pub a : ℕ
+    pub x : ℕ
+    pub goes : o ≡ Goes 0 (other s a x)
+    pub keeps_a : not (sets_accumulator op) ≡ true → a ≡ s.accumulator
+    pub keeps_x : not (sets_index op) ≡ true → x ≡ s.index
 
   sets_a : (op : Operation) (o : Next) (s : State) (v : ℕ) → o ≡ Goes 0 (other s v s.index) → sets_accumulator op ≡ true → Sets op o s
   sets_a op o s v e t = record { a = v; x = s.index; goes = e; keeps_a = λ h. cc; keeps_x = λ h. refl }
@@ -289,13 +296,13 @@ module _ (p : List ℕ) (n : ℕ) where
   sets_x : (op : Operation) (o : Next) (s : State) (v : ℕ) → o ≡ Goes 0 (other s s.accumulator v) → sets_index op ≡ true → Sets op o s
   sets_x op o s v e t = record { a = s.accumulator; x = v; goes = e; keeps_a = λ h. refl; keeps_x = λ h. cc }
 
-  sure_sets : (op : Operation) (i : Insn) (s : State) → is_sure op ≡ true → Sets op (does op i p n s) s
+  pub sure_sets : (op : Operation) (i : Insn) (s : State) → is_sure op ≡ true → Sets op (does op i p n s) s
   sure_sets (Load Accumulator Immediate) i s e = sets_a _ _ s i.k refl refl
   sure_sets (Load Accumulator Length) i s e = sets_a _ _ s n refl refl
   sure_sets (Load Index Immediate) i s e = sets_x _ _ s i.k refl refl
   sure_sets (Load Index Length) i s e = sets_x _ _ s n refl refl
-  sure_sets (Compute arithmetic.Divide o) i s e = cc
-  sure_sets (Compute arithmetic.Remainder o) i s e = cc
+  sure_sets (Compute AluOperation.Divide o) i s e = cc
+  sure_sets (Compute AluOperation.Remainder o) i s e = cc
   sure_sets (Compute operator o) i s e = sets_a _ _ s _ refl refl
   sure_sets Negate i s e = sets_a _ _ s _ refl refl
   sure_sets CopyToIndex i s e = sets_x _ _ s _ refl refl
@@ -343,27 +350,20 @@ module _ (p : List ℕ) (n : ℕ) where
           | inr e ↦ let r = and_parts (rejects j) (goes_on_or_rejects op) e in rejected_left op j js d o r.0 r.1 q.1
         ]
 
-  or_either : (A : Type 0) (a b : Bool) → (a || b) ≡ true → (a ≡ true → A) → (b ≡ true → A) → A
-  or_either A true b e f g = f refl
-  or_either A false b e f g = g e
-
-  -- the instruction j and the code after its place are as good as the instruction i and those after
-  -- it
-  abbrev Good : List Insn → Landing → Insn → Insn → State → ℕ → ℕ → List Insn → Type 0
-  Good c l j i s a x is = AsGood (j ∷ code_from c (l.place - 1)) (i ∷ is) p n 0 0 (other s a x) s
-
   -- by one of three ways
-  one_of : (c is : List Insn) (ls : List Landing) (l : Landing) (all : AllLand c is ls) (low : l.place ≤ length c) (j i : Insn) (js : List Insn) → code_from c l.place ≡ j ∷ js → js ≡ code_from c (l.place - 1) → ((same_step c (operation_of i.code) j l i ls || one_test c j l i is ls) || left_out c (operation_of i.code) j l i ls) ≡ true → (s : State) (a x : ℕ) → Same l.accumulator a s.accumulator → Same l.index x s.index → AsGood (j ∷ code_from c (l.place - 1)) (i ∷ is) p n 0 0 (other s a x) s
-  one_of c is ls l all low j i js first next f s a x ha hx =
-      or_either (Good c l j i s a x is) (same_step c (operation_of i.code) j l i ls || one_test c j l i is ls) (left_out c (operation_of i.code) j l i ls) f
-      (λ e. or_either (Good c l j i s a x is) (same_step c (operation_of i.code) j l i ls) (one_test c j l i is ls) e (λ g. same_good c is ls l all low j i (operation_of i.code) refl g s a x ha hx) (λ g. one_good c is ls l all low j i g s a x ha hx))
-      (λ e. subst (λ d. AsGood d (i ∷ is) p n 0 0 (other s a x) s) (first ∙ ap (λ z. j ∷ z) next) (left_good c is ls l all i s a x ha hx (operation_of i.code) j js first refl e))
-
   here : (c is : List Insn) (ls : List Landing) (l : Landing) (i : Insn) → AllLand c is ls → 0 < l.place → l.place ≤ length c → (d : List Insn) → code_from c l.place ≡ d → stands_at c d l i is ls ≡ true → Lands c (i ∷ is) l 0
   here c is ls l i all some low [] e f s a x ha hx = cc
   here c is ls l i all some low (j ∷ js) e f s a x ha hx =
-      let next = tail_after c l.place j js some low e in
-      subst (λ d. AsGood d (i ∷ is) p n 0 0 (other s a x) s) (sym (e ∙ ap (λ z. j ∷ z) next)) (one_of c is ls l all low j i js e next f s a x ha hx)
+      let op = operation_of i.code in
+      let whole = e ∙ ap (λ z. j ∷ z) (tail_after c l.place j js some low e) in
+      elim (or_cases (same_step c op j l i ls || one_test c j l i is ls) (left_out c op j l i ls) f) [
+        | inl g ↦
+            subst (λ d. AsGood d (i ∷ is) p n 0 0 (other s a x) s) (sym whole) (elim (or_cases (same_step c op j l i ls) (one_test c j l i is ls) g) [
+              | inl h ↦ same_good c is ls l all low j i op refl h s a x ha hx
+              | inr h ↦ one_good c is ls l all low j i h s a x ha hx
+            ])
+        | inr g ↦ left_good c is ls l all i s a x ha hx op j js e refl g
+      ]
 
   -- at each landing
   pub all_land : (c is : List Insn) (ls : List Landing) → length ls ≡ length is → are_alike c is ls ≡ true → AllLand c is ls
@@ -380,33 +380,20 @@ module _ (p : List ℕ) (n : ℕ) where
 
   -- a run's answer and count are those of the code
   pub record Met (prog : List Insn) (s : State) (place count a m : ℕ) : Type 0 where
-    pub answer : answer_of (drop place prog) p n 0 s ≡ Some a
-    steps : m ≡ count + steps_of (drop place prog) p n 0 s
+    pub answer : answer_of prog p n place s ≡ Some a
+    steps : m ≡ count + steps_of prog p n place s
 
   met_next : (prog : List Insn) (left place count : ℕ) (s : State) (a m : ℕ) → ((k : ℕ) (u : State) → run_from prog p n left (place + 1 + k) u (count + 1) ≡ Answered a m → Met prog u (place + 1 + k) (count + 1) a m) → (i : Insn) (o : Next) → slice_get prog place ≡ Some i → step i p n s ≡ o → progress_after (run_from prog p n left) place count o ≡ Answered a m → Met prog s place count a m
   met_next prog left place count s a m later i (Goes k u) g st f =
       let r = later k u f in
-      let first = drop_at prog place i g in
-      let one : place + 1 + k ≡ suc place + k = omega arith in
-      let rest = ap (λ z. drop z prog) one ∙ sym (drop-drop k (suc place) prog) in
       let q = r.steps in
-      let steps_first = ap (λ z. steps_of z p n 0 s) first in
-      let steps_step = ap (steps_after (steps_of (drop (suc place) prog) p n)) st in
-      let steps_rest = ap (λ z. steps_of z p n 0 u) rest ∙ steps_drop (drop (suc place) prog) p n k u in
-      record {
-        answer = ap (λ z. answer_of z p n 0 s) first ∙ ap (answer_after (answer_of (drop (suc place) prog) p n)) st ∙ sym (answer_drop (drop (suc place) prog) p n k u) ∙ ap (λ z. answer_of z p n 0 u) (sym rest) ∙ r.answer;
-        steps = omega arith;
-      }
+      let here = steps_at prog p n place i s g ∙ ap (λ o. suc (steps_after (λ far w. steps_of prog p n (place + 1 + far) w) o)) st in
+      record { answer = at_step prog p n place i s g ∙ ap (answer_after (λ far w. answer_of prog p n (place + 1 + far) w)) st ∙ r.answer; steps = omega arith }
   met_next prog left place count s a m later i (Ends b) g st f =
-      let first = drop_at prog place i g in
       let same : b ≡ a = cc in
       let more : count + 1 ≡ m = cc in
-      let steps_first = ap (λ z. steps_of z p n 0 s) first in
-      let steps_step = ap (steps_after (steps_of (drop (suc place) prog) p n)) st in
-      record {
-        answer = ap (λ z. answer_of z p n 0 s) first ∙ ap (answer_after (answer_of (drop (suc place) prog) p n)) st ∙ ap Some same;
-        steps = omega arith;
-      }
+      let here = steps_at prog p n place i s g ∙ ap (λ o. suc (steps_after (λ far w. steps_of prog p n (place + 1 + far) w) o)) st in
+      record { answer = at_step prog p n place i s g ∙ ap (answer_after (λ far w. answer_of prog p n (place + 1 + far) w)) st ∙ ap Some same; steps = omega arith }
   met_next prog left place count s a m later i Lost g st f = cc
 
   met_there : (prog : List Insn) (left place count : ℕ) (s : State) (a m : ℕ) → ((k : ℕ) (u : State) → run_from prog p n left (place + 1 + k) u (count + 1) ≡ Answered a m → Met prog u (place + 1 + k) (count + 1) a m) → (o : Option Insn) → slice_get prog place ≡ o → progress_after (run_from prog p n left) place count (step_if_there o p n s) ≡ Answered a m → Met prog s place count a m

@@ -1,11 +1,11 @@
 -- What is kept of code once the targets of its tests are others: what it does, and more.
 use Rattle.std.specs.Prelude.{◌≡◌, ℕ, List, length, count_by}
-use Rattle.flt_bpf.specs.declared.insn.Insn.{Insn}
 use Rattle.flt_bpf.specs.Answer.{answer_of}
 use Rattle.flt_bpf.specs.Check.{IsValidUnlessLong}
 use Rattle.flt_bpf.specs.Instructions.{operation_of}
 use Rattle.flt_bpf.specs.Layout.{is_branch, HasNoJump}
 use Rattle.flt_bpf.specs.Machine.{start}
+use Rattle.flt_bpf.specs.declared.insn.Insn.{Insn}
 
 -- code instead of old code: it has as many instructions and tests, it returns the same on each
 -- packet; if the old code breaks no rule but perhaps that on the length, nor does it, and if that

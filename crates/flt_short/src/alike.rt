@@ -1,5 +1,6 @@
 //! Checks, instruction by instruction, that a new program does what an old one does. A and X must
-//! be the same in both only if they may be read later.
+//! be the same in both only if they may be read later. Checks too that it breaks no rule of
+//! `flt_bpf::check`, except perhaps that on the length.
 //!
 //! Each instruction of the old program has a landing: the place from which on the new program does
 //! the same, or nowhere. The rules 1 to 3 (`stands`) check this. `old` is an instruction of the old
@@ -9,21 +10,22 @@
 //! Most clauses cite definitions that mirror the code, with the same names or without `is_`; the
 //! contract of `replaces` states what follows from them (`Shortens`).
 
-ghost use Rattle.std.specs.Prelude.{◌≡◌, ◌≢◌, ◌↔◌, ◌+◌, ◌-◌, ◌%◌, ◌^◌, ◌==◌, ◌&&◌, length};
-ghost use Rattle.std.specs.Prelude.{IsTrue, All, true, false};
+ghost use Rattle.std.specs.Prelude.{◌≡◌, ◌≢◌, ◌↔◌, ◌+◌, ◌-◌, ◌%◌, ◌^◌, ◌==◌, ◌&&◌, length, IsTrue};
+ghost use Rattle.std.specs.Prelude.{All, true, false, None, count_by};
 ghost use Rattle.flt_bpf.specs.Instructions.{operation_of};
-ghost use Rattle.flt_short.specs.Alike.{Shortens};
-ghost use Rattle.flt_short.specs.inside.Alike.{goes_on, same_step};
-ghost use Rattle.flt_short.specs.inside.Alike.{is_masked_test, one_test};
-ghost use Rattle.flt_short.specs.inside.Alike.{rejects, is_sure, begins};
+ghost use Rattle.flt_bpf.specs.Layout.{JUMP, is_branch};
+ghost use Rattle.flt_bpf.specs.Check.{fault_of, ends_in_return, IsFaultless, IsValidUnlessLong};
 ghost use Rattle.flt_bpf.specs.inside.Flow.{goes_on_or_rejects};
-ghost use Rattle.flt_short.specs.inside.Alike.{code_from, are_copies, lands_at};
-ghost use Rattle.flt_short.specs.inside.Alike.{left_out, stands, are_alike};
-ghost use Rattle.flt_bpf.specs.Layout.{JUMP};
+ghost use Rattle.flt_short.specs.Alike.{Shortens};
+ghost use Rattle.flt_short.specs.inside.Alike.{goes_on, same_step, is_masked_test, one_test};
+ghost use Rattle.flt_short.specs.inside.Alike.{rejects, is_sure, begins, code_from, are_copies};
+ghost use Rattle.flt_short.specs.inside.Alike.{lands_at, left_out, stands, are_alike};
 
-use crate::valid::{count_tests, is_valid_unless_long};
 use flt_bpf::operation::{AluOperation, Operand, Operation, Register, Source, Test, decode};
-use flt_bpf::{Wide, reads_accumulator, reads_index, sets_accumulator, sets_index};
+use flt_bpf::{
+    WORDS, Wide, constant_fault, is_return, reads_accumulator, reads_index, sets_accumulator,
+    sets_index,
+};
 
 /// The place of the new program that corresponds to an instruction of the old one: from there on
 /// the new program does what the old one does from the instruction on.
@@ -311,6 +313,70 @@ fn begins(landings: &[Landing], len: usize) -> bool
         [] => false,
         [first, ..] => 0 < first.place && first.place == len,
     }
+}
+
+/// Whether an instruction that has `following` others after it breaks no rule.
+#[tactic(auto, unfolding(flt_bpf::specs::Check::fault_of))]
+fn is_faultless(insn: Wide, following: usize) -> bool
+    ensures { IsTrue result → fault_of insn following ≡ None }
+{
+    match decode(insn.code) {
+        None => false,
+        Some(Operation::Jump) => (insn.k as usize) < following,
+        Some(Operation::JumpIf(_, _)) => {
+            (insn.yes as usize) < following && (insn.no as usize) < following
+        }
+        Some(Operation::Load(_, Source::Memory) | Operation::Store(_)) => (insn.k as usize) < WORDS,
+        Some(Operation::Compute(operator, Operand::Constant)) => {
+            constant_fault(operator, insn.k).is_none()
+        }
+        Some(_) => true,
+    }
+}
+
+/// Whether no instruction of the code breaks a rule.
+fn are_faultless(code: &[Wide]) -> bool
+    ensures { IsTrue result → IsFaultless code.now }
+{
+    for at in (0..code.len()).rev() {
+        if !is_faultless(code[at], code.len() - 1 - at) {
+            return false;
+        }
+    }
+    true
+}
+
+/// Whether the last instruction is a return.
+fn ends_in_return(code: &[Wide]) -> bool
+    ensures { IsTrue result → ends_in_return code.now ≡ true }
+{
+    let len = code.len();
+    if len == 0 {
+        return false;
+    }
+    let last = code[len - 1];
+    is_return(last.code)
+}
+
+/// Whether code breaks no rule, that on its length aside.
+pub fn is_valid_unless_long(code: &[Wide]) -> bool
+    ensures { IsTrue result → IsValidUnlessLong code.now }
+{
+    are_faultless(code) && ends_in_return(code)
+}
+
+/// Whether an instruction is a test, which the definition calls a branch.
+pub fn is_test(insn: &Wide) -> bool
+    ensures { result ≡ is_branch (operation_of insn.now.code) }
+{
+    matches!(decode(insn.code), Some(Operation::JumpIf(_, _)))
+}
+
+/// The number of tests in the code.
+pub fn count_tests(code: &[Wide]) -> usize
+    ensures { result ≡ count_by (λ i. is_branch (operation_of i.code)) code.now }
+{
+    code.iter().filter(|insn| is_test(insn)).count()
 }
 
 /// Whether no instruction of the code is a jump (`ja` has the code 5).

@@ -1,24 +1,25 @@
 //! The abstract state at an instruction: what is known of the packet, of A and of X in each run
-//! that reaches it, and the join of two such states. Clauses cite definitions of the same names; a
-//! function that changes what is known cites the definition of its effect. The proofs show that
-//! what is known holds in each run.
+//! that reaches it; the join of two such states; and the states at all places, which here are
+//! indices of instructions from the beginning of the code. Clauses cite definitions of the same
+//! names; a function that changes what is known cites the definition of its effect. The proofs show
+//! that what is known holds in each run.
 //!
 //! `code` and `k` are those of a load: together they say which bytes of the packet it takes.
 
-ghost use Rattle.std.specs.Prelude.{◌≡◌, ◌≤◌, length, map};
+ghost use Rattle.std.specs.Prelude.{◌≡◌, ◌≤◌, length, map, IfOk};
 ghost use Rattle.flt_bpf.specs.Instructions.{operation_of};
 ghost use Rattle.flt_short.specs.inside.Facts.{same_optional, same_field, claims_nothing, allows};
-ghost use Rattle.flt_short.specs.inside.Facts.{entails, joined_claim};
-ghost use Rattle.flt_short.specs.inside.Facts.{joined_with_any, joined_fact, joined_held, joined};
-ghost use Rattle.flt_short.specs.inside.Facts.{outcome_by_claim, decided, gives_way};
-ghost use Rattle.flt_short.specs.inside.Facts.{other_by_claim, other_number, place_for, with_fact};
-ghost use Rattle.flt_short.specs.inside.Facts.{any_captures, holds_field, is_captured, field_of};
-ghost use Rattle.flt_short.specs.inside.Facts.{masked_field, masked_held, held_without_index};
-ghost use Rattle.flt_short.specs.inside.Facts.{held_after, index_after, known_after, claim_after};
-ghost use Rattle.flt_short.specs.inside.Facts.{known_by, known_by_test, nothing_known, unreached};
+ghost use Rattle.flt_short.specs.inside.Facts.{entails, joined_claim, joined_with_any, joined_fact};
+ghost use Rattle.flt_short.specs.inside.Facts.{same_held, joined, outcome_by_claim, speaks_of};
+ghost use Rattle.flt_short.specs.inside.Facts.{claim_about, gives_way, other_by_claim, place_for};
+ghost use Rattle.flt_short.specs.inside.Facts.{with_fact, any_captures, holds_field, is_captured};
+ghost use Rattle.flt_short.specs.inside.Facts.{masked_held, held_after, index_after, known_after};
+ghost use Rattle.flt_short.specs.inside.Facts.{claim_after, known_by_test, nothing_known};
+ghost use Rattle.flt_short.specs.inside.Facts.{unreached, known_at, arrived, at_start};
 
 use flt_bpf::Wide;
 use flt_bpf::operation::{AluOperation, Operand, Operation, Register, Source, Test, decode};
+use std::alloc::{AllocError, Allocator};
 
 /// The number of facts kept at a place. One more takes the place of another (`place_for`).
 pub const MOST_FACTS: usize = 5;
@@ -82,7 +83,7 @@ const NOTHING_CLAIMED: Fact = Fact {
 };
 
 /// The state at a place if nothing is known of the runs that reach it.
-pub fn nothing_known() -> Known
+fn nothing_known() -> Known
     ensures { result ≡ nothing_known }
 {
     Known {
@@ -93,7 +94,7 @@ pub fn nothing_known() -> Known
 }
 
 /// The state at a place that no run reaches.
-pub fn unreached() -> Known
+fn unreached() -> Known
     ensures { result ≡ unreached }
 {
     Known {
@@ -213,24 +214,23 @@ fn join_facts(facts: &mut [Fact], others: &[Fact])
     }
 }
 
-/// The join of two values of A, where two paths meet: the value that A holds on both, or on one of
-/// them if no run comes on the other.
-fn joined_held(one: Held, other: Held) -> Held
-    ensures { result ≡ joined_held one other }
+/// Whether two values of A are the same value of the packet. Nothing is known of two that are
+/// `Unknown`.
+pub fn same_held(one: Held, other: Held) -> bool
+    ensures { result ≡ same_held one other }
 {
     match (one, other) {
-        (Held::Unreached, other) => other,
-        (one, Held::Unreached) => one,
-        (Held::Field(field), Held::Field(another)) if same_field(field, another) => one,
-        (Held::AtIndex(code, k), Held::AtIndex(another, other_k))
-            if code == another && k == other_k => { one }
-        _ => Held::Unknown,
+        (Held::Field(field), Held::Field(another)) => same_field(field, another),
+        (Held::AtIndex(code, k), Held::AtIndex(another, other_k)) => {
+            code == another && k == other_k
+        }
+        _ => false,
     }
 }
 
 /// The join of states: changes the state at a place so that it also holds in one more run, which
 /// has the state `came`. If no run came before, it becomes `came`.
-pub fn join(known: &mut Known, came: &Known)
+fn join(known: &mut Known, came: &Known)
     ensures { known.new ≡ joined known.old came.now }
 {
     if let Held::Unreached = known.held {
@@ -238,7 +238,9 @@ pub fn join(known: &mut Known, came: &Known)
         return;
     }
     join_facts(&mut known.facts, &came.facts);
-    known.held = joined_held(known.held, came.held);
+    if !same_held(known.held, came.held) {
+        known.held = Held::Unknown;
+    }
     if !same_optional(known.index, came.index) {
         known.index = None;
     }
@@ -246,7 +248,7 @@ pub fn join(known: &mut Known, came: &Known)
 
 /// The outcome of the test whether a number is this one, by a claim about it; `None` if the claim
 /// doesn't decide it.
-fn outcome_by_claim(claim: Claim, number: u32) -> Option<bool>
+pub fn outcome_by_claim(claim: Claim, number: u32) -> Option<bool>
     ensures { result ≡ outcome_by_claim claim number }
 {
     match claim {
@@ -256,20 +258,29 @@ fn outcome_by_claim(claim: Claim, number: u32) -> Option<bool>
     }
 }
 
-/// The outcome of the test whether a field is this number, by the first fact that decides it;
-/// `None` if no fact does.
-pub fn decided(facts: &[Fact], field: &Field, number: u32) -> Option<bool>
-    ensures { result ≡ decided facts.now field.now number }
+/// Whether a claim says something of whether a number is this one.
+fn speaks_of(claim: Claim, number: u32) -> bool
+    ensures { result ≡ speaks_of claim number }
+{
+    match claim {
+        Claim::Nothing => false,
+        Claim::IsNot(one) => one == number,
+        _ => true,
+    }
+}
+
+/// The claim of the first fact that says something of whether a field is this number; `Nothing` if
+/// no fact does.
+pub fn claim_about(facts: &[Fact], field: &Field, number: u32) -> Claim
+    ensures { result ≡ claim_about facts.now field.now number }
 {
     match facts {
-        [] => None,
+        [] => Claim::Nothing,
         [first, others @ ..] => {
-            if !same_field(first.field, *field) {
-                return decided(others, field, number);
-            }
-            match outcome_by_claim(first.claim, number) {
-                Some(outcome) => Some(outcome),
-                None => decided(others, field, number),
+            if same_field(first.field, *field) && speaks_of(first.claim, number) {
+                first.claim
+            } else {
+                claim_about(others, field, number)
             }
         }
     }
@@ -283,25 +294,6 @@ fn other_by_claim(claim: Claim, number: u32) -> Option<u32>
         Claim::IsOneOf(one, other) if number == one => Some(other),
         Claim::IsOneOf(one, other) if number == other => Some(one),
         _ => None,
-    }
-}
-
-/// The number that a field is if it isn't this one, by the first fact that says so; `None` if no
-/// fact does.
-fn other_number(facts: &[Fact], field: &Field, number: u32) -> Option<u32>
-    ensures { result ≡ other_number facts.now field.now number }
-{
-    match facts {
-        [] => None,
-        [first, others @ ..] => {
-            if !same_field(first.field, *field) {
-                return other_number(others, field, number);
-            }
-            match other_by_claim(first.claim, number) {
-                Some(other) => Some(other),
-                None => other_number(others, field, number),
-            }
-        }
     }
 }
 
@@ -372,73 +364,37 @@ pub fn is_captured(known: &Known, code: u16, k: u32) -> bool
     holds_field(known.held, code, k) || any_captures(&known.facts, code, k)
 }
 
-/// The field that a load puts into A.
-pub fn field_of(load: Wide) -> Field
-    ensures { result ≡ field_of load }
-{
-    Field {
-        code: load.code,
-        k: load.k,
-        mask: None,
-    }
-}
-
-/// A field with a mask; `None` if it has one already, since two aren't kept.
-pub fn masked_field(field: Field, mask: u32) -> Option<Field>
-    ensures { result ≡ masked_field field mask }
-{
-    match field.mask {
-        None => Some(Field {
-            code: field.code,
-            k: field.k,
-            mask: Some(mask),
-        }),
-        Some(_) => None,
-    }
-}
-
-/// The value of A after a mask, by the value before.
+/// The value of A after a mask, by the value before. It is `Unknown` after two masks.
 fn masked_held(held: Held, mask: u32) -> Held
     ensures { result ≡ masked_held held mask }
 {
     match held {
-        Held::Field(field) => match masked_field(field, mask) {
-            Some(field) => Held::Field(field),
-            None => Held::Unknown,
-        },
+        Held::Field(field) if field.mask.is_none() => Held::Field(Field {
+            mask: Some(mask),
+            ..field
+        }),
         _ => Held::Unknown,
     }
 }
 
-/// The value of A after X has changed: one that a load at X would put there becomes `Unknown`.
-fn held_without_index(held: Held) -> Held
-    ensures { result ≡ held_without_index held }
-{
-    match held {
-        Held::AtIndex(_, _) => Held::Unknown,
-        held => held,
-    }
-}
-
-/// The value of A after an instruction that isn't a test, by the value before. It is known after a
-/// load of the packet or of its length, and after a mask of a field. Instructions that don't set A
-/// keep it, but a value that was loaded at X is forgotten if X changes.
-fn held_after(held: Held, insn: Wide) -> Held
+/// The value of A after an instruction, by the value before. It is known after a load of the packet
+/// or of its length, and after a mask of a field. A test keeps it; after all others it is
+/// `Unknown`.
+pub fn held_after(held: Held, insn: Wide) -> Held
     ensures { result ≡ held_after (operation_of insn.code) held insn }
 {
     match decode(insn.code) {
         Some(Operation::LoadAbsolute(_) | Operation::Load(Register::Accumulator, Source::Length)) =>
-            Held::Field(field_of(insn)),
+            Held::Field(Field {
+                code: insn.code,
+                k: insn.k,
+                mask: None,
+            }),
         Some(Operation::LoadIndirect(_)) => Held::AtIndex(insn.code, insn.k),
         Some(Operation::Compute(AluOperation::And, Operand::Constant)) => {
             masked_held(held, insn.k)
         }
-        Some(
-            Operation::LoadHeaderLength
-            | Operation::Load(Register::Index, _)
-            | Operation::CopyToIndex,
-        ) => held_without_index(held),
-        Some(Operation::Store(_) | Operation::Jump) => held,
+        Some(Operation::JumpIf(_, _)) => held,
         _ => Held::Unknown,
     }
 }
@@ -467,23 +423,16 @@ pub fn pass_insn(known: &mut Known, insn: Wide)
 /// The claim about a field after the test whether it is a number had this outcome. If the field is
 /// known to be one of two numbers, and isn't this one, it is the other one.
 fn claim_by_outcome(facts: &[Fact], field: &Field, number: u32, outcome: bool) -> Claim
-    ensures { result ≡ claim_after outcome number (other_number facts.now field.now number) }
+    ensures { result ≡ claim_after outcome number
+        (other_by_claim (claim_about facts.now field.now number) number) }
 {
     if outcome {
         return Claim::Is(number);
     }
-    match other_number(facts, field, number) {
+    match other_by_claim(claim_about(facts, field, number), number) {
         Some(other) => Claim::Is(other),
         None => Claim::IsNot(number),
     }
-}
-
-/// Adds to the state the fact that the test whether a field is a number had this outcome.
-fn learn_number(known: &mut Known, field: Field, number: u32, outcome: bool)
-    ensures { known.new ≡ known_by known.old field number outcome }
-{
-    let claim = claim_by_outcome(&known.facts, &field, number, outcome);
-    add_fact(known, field, claim);
 }
 
 /// Adds to the state the fact that a test had this outcome. Only a test for equality shows one, if
@@ -494,7 +443,50 @@ pub fn learn(known: &mut Known, insn: Wide, outcome: bool)
 {
     if let Some(Operation::JumpIf(Test::Equal, Operand::Constant)) = decode(insn.code) {
         if let Held::Field(field) = known.held {
-            learn_number(known, field, insn.k, outcome);
+            let claim = claim_by_outcome(&known.facts, &field, insn.k, outcome);
+            add_fact(known, field, claim);
         }
     }
+}
+
+/// The most instructions of code whose states lie on the stack, so that threading it takes no
+/// memory: about 170 bytes for each.
+pub const FEW: usize = 16;
+
+/// The state at a place; past the end of the code, the one in which nothing is known.
+pub fn known_at(seen: &[Known], place: usize) -> Known
+    ensures { result ≡ known_at seen.now place }
+{
+    match seen.get(place) {
+        Some(known) => *known,
+        None => nothing_known(),
+    }
+}
+
+/// Joins the state of one more run into the state at a place.
+pub fn arrive(seen: &mut [Known], place: usize, known: &Known)
+    ensures { seen.new ≡ arrived seen.old place known.now }
+{
+    if place < seen.len() {
+        join(&mut seen[place], known);
+    }
+}
+
+/// The states before code of this length is read: a run reaches place 0, with nothing known, and
+/// none reaches another place.
+pub fn at_start<A: Allocator>(alloc: A, len: usize) -> Result<Vec<Known, A>, AllocError>
+    ensures { IfOk result (λ seen. seen.items ≡ at_start len) }
+{
+    let mut seen = vec![in alloc; unreached(); len]?;
+    arrive(&mut seen, 0, &nothing_known());
+    Ok(seen)
+}
+
+/// As `at_start`, for code of few instructions: an array.
+pub fn few_at_start() -> [Known; FEW]
+    ensures { result ≡ at_start 16 }
+{
+    let mut seen = [unreached(); FEW];
+    arrive(&mut seen, 0, &nothing_known());
+    seen
 }

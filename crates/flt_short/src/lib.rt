@@ -3,10 +3,10 @@
 //!
 //! `flt_gen` calls [`threaded`], then [`shortened`].
 //!
-//! - `thread` moves the targets. `facts` has what is known of a packet and of A and X, and
-//!   `arrivals` has it for each place that runs reach.
+//! - `thread` moves the targets. `facts` has what is known of a packet and of A and X at each place
+//!   that runs reach.
 //! - `shorten` proposes shorter code. `alike` checks that the new code does what the old one does,
-//!   and `valid` that it breaks no rule.
+//!   and breaks no rule.
 //!
 //! The terms of this crate:
 //!
@@ -18,11 +18,9 @@
 #![tactic(auto)]
 
 mod alike;
-mod arrivals;
 mod facts;
 mod shorten;
 mod thread;
-mod valid;
 
 pub use shorten::shortened;
 pub use thread::threaded;

@@ -11,8 +11,8 @@
 //! answers. `replaces` (`alike.rt`) checks the new code with the landings noted here; if it returns
 //! `false`, the old code is kept.
 
-ghost use Rattle.std.specs.Prelude.{IfOk};
 ghost use Rattle.std.specs.Option.{IfSome};
+ghost use Rattle.std.specs.Prelude.{IfOk};
 ghost use Rattle.flt_short.specs.Alike.{Shortens};
 
 use crate::alike::{Landing, goes_on_or_rejects, is_masked_test, is_rejection, is_sure, replaces};
@@ -47,16 +47,6 @@ fn landing_before(operation: Operation, place: usize, next: Landing) -> Landing 
         accumulator: reads_accumulator(operation)
             || next.accumulator && !sets_accumulator(operation),
         index: reads_index(operation) || next.index && !sets_index(operation),
-    }
-}
-
-/// The registers that are read after a test which goes on at one of two landings, as a landing at
-/// the place of the first.
-fn landing_after_test(yes: Landing, no: Landing) -> Landing {
-    Landing {
-        place: yes.place,
-        accumulator: yes.accumulator || no.accumulator,
-        index: yes.index || no.index,
     }
 }
 
@@ -208,19 +198,11 @@ impl Shortening<'_> {
         }
     }
 
-    /// The instructions of the old code from `at` on.
-    fn insns_from(&self, at: usize) -> &[Wide] {
-        match self.insns.get(at..) {
-            Some(insns) => insns,
-            None => &[],
-        }
-    }
-
     /// The test of bits (`69 k`) that replaces the mask at `at` and the test for 0 after it
     /// (`84 k`, `21 0`). `None` if these aren't the instructions at `at`, if A is read after them,
     /// or if both outcomes land at the same place.
     fn bits_test_at(&self, at: usize) -> Option<Wide> {
-        let [mask, test, ..] = self.insns_from(at) else {
+        let Some([mask, test, ..]) = self.insns.get(at..) else {
             return None;
         };
         if !is_masked_test(*mask, *test) {
@@ -249,31 +231,11 @@ impl Shortening<'_> {
         }
     }
 
-    /// Whether the offsets of the instruction right in front of a place of the new code lead to the
-    /// places `yes` and `no`.
-    fn has_targets(&self, place: usize, yes: usize, no: usize) -> bool {
-        match self.backwards.get(place) {
-            Some(other) => {
-                other.yes as usize == place.saturating_sub(yes)
-                    && other.no as usize == place.saturating_sub(no)
-            }
-            None => false,
-        }
-    }
-
-    /// Whether the instruction right in front of a place of the new code equals the one right in
-    /// front of `at` in the old code; tests may have other targets.
-    fn is_front_at(&self, place: usize, at: usize) -> bool {
-        match self.insns.get(at.wrapping_sub(1)) {
-            None => false,
-            Some(front) => self.stands_before(place, *front),
-        }
-    }
-
     /// The place of a test in the new code with the same code, `k` and targets; `None` if there is
-    /// none. A test after the same instruction (`is_front_at`) is preferred, since that instruction
-    /// can then be shared too.
+    /// none. A test after the same instruction as in the old code is preferred, since that
+    /// instruction can then be shared too.
     fn find_same_test(&self, at: usize, insn: Wide, yes: usize, no: usize) -> Option<usize> {
+        let front = self.insns.get(at.wrapping_sub(1)).copied().unwrap_or(EMPTY);
         let mut found = None;
         let mut entry = self.first_entry(insn, yes, no);
         for _ in 0..self.tests.len() {
@@ -282,11 +244,13 @@ impl Shortening<'_> {
                 break;
             }
             let place = test.saturating_sub(1);
+            let other = self.backwards.get(place).copied().unwrap_or(EMPTY);
             if place >= yes.max(no)
-                && self.stands_before(place, insn)
-                && self.has_targets(place, yes, no)
+                && (other.code == insn.code && other.k == insn.k)
+                && other.yes as usize == place.saturating_sub(yes)
+                && other.no as usize == place.saturating_sub(no)
             {
-                if self.is_front_at(test, at) {
+                if self.stands_before(test, front) {
                     return Some(test);
                 }
                 found = Some(test);
@@ -317,7 +281,12 @@ impl Shortening<'_> {
     fn emit_test(&mut self, at: usize, insn: Wide, last: usize) {
         let yes = self.landing_at(index_after(last, insn.yes as usize));
         let no = self.landing_at(index_after(last, insn.no as usize));
-        let next = landing_after_test(yes, no);
+        // What is read after the test, as a landing at the place of the first outcome.
+        let next = Landing {
+            place: yes.place,
+            accumulator: yes.accumulator || no.accumulator,
+            index: yes.index || no.index,
+        };
         if yes.place == no.place && yes.place > 0 {
             // Both ways lead to one place: no test is needed.
             self.land(at, next);
@@ -427,8 +396,12 @@ impl Shortening<'_> {
         self.land(at, landing_before(operation, place, landing));
     }
 
-    /// Emits an instruction of the old code that isn't joined with others.
-    fn emit_alone(&mut self, at: usize, insn: Wide) {
+    /// Emits an instruction of the old code, joined with the one after it if that is shorter.
+    fn emit(&mut self, at: usize, insn: Wide) {
+        if let Some(test) = self.bits_test_at(at) {
+            self.emit_test(at, test, index_after(at, 0));
+            return;
+        }
         match decode(insn.code) {
             Some(Operation::JumpIf(_, _)) => self.emit_test(at, insn, at),
             Some(operation @ (Operation::ReturnConstant | Operation::ReturnAccumulator)) => {
@@ -439,50 +412,19 @@ impl Shortening<'_> {
         }
     }
 
-    /// Emits an instruction of the old code, joined with the one after it if that is shorter.
-    fn emit(&mut self, at: usize, insn: Wide) {
-        match self.bits_test_at(at) {
-            Some(test) => self.emit_test(at, test, index_after(at, 0)),
-            None => self.emit_alone(at, insn),
-        }
-    }
-
-    /// Reads this instruction of the old code, at `at`, and emits it if a run reaches it, unless an
-    /// earlier one is joined with it.
-    fn read_insn(&mut self, at: usize, insn: Wide) {
-        let is_reached = self.landing_at(at).place > 0;
-        self.land(at, NOWHERE);
-        if is_reached && !self.is_joined(at, insn) {
-            self.emit(at, insn);
-        }
-    }
-
-    /// Reads the whole old code. Returns the number of instructions of the new one.
+    /// Reads the whole old code, and emits what a run reaches, unless an earlier instruction is
+    /// joined with it. Returns the number of instructions of the new code.
     fn read_all(&mut self) -> usize {
         self.mark_all_reached();
         for (at, insn) in self.insns.iter().enumerate().rev() {
-            self.read_insn(at, *insn);
+            let is_reached = self.landing_at(at).place > 0;
+            self.land(at, NOWHERE);
+            if is_reached && !self.is_joined(at, *insn) {
+                self.emit(at, *insn);
+            }
         }
         self.len
     }
-}
-
-/// Shortens the code `insns` into the space `backwards`, from the last instruction to the first,
-/// and notes the landings. Returns the number of instructions of the new code.
-fn shorten(
-    insns: &[Wide],
-    landings: &mut [Landing],
-    backwards: &mut [Wide],
-    tests: &mut [usize],
-) -> usize {
-    let mut shortening = Shortening {
-        insns,
-        landings,
-        backwards,
-        len: 0,
-        tests,
-    };
-    shortening.read_all()
 }
 
 /// Returns the length of the new code without the instructions in front of its entry. Instructions
@@ -510,7 +452,14 @@ fn replacement<A: Allocator>(
 ) -> Option<Vec<Wide, A>>
     ensures { IfSome result (λ short. Shortens short.items insns.now) }
 {
-    let len = shorten(insns, landings, &mut backwards, tests);
+    let mut shortening = Shortening {
+        insns,
+        landings: &mut *landings,
+        backwards: &mut backwards,
+        len: 0,
+        tests,
+    };
+    let len = shortening.read_all();
     backwards.truncate(leave_out_front(landings, len));
     backwards.reverse();
     replaces(&backwards, insns, landings).then_some(backwards)

@@ -1,18 +1,18 @@
 -- When two places of two programs do the same: the new one is c, the old one is read from its
 -- instruction i on, which lands at l. `is` are the old instructions after i, `ls` their landings, j
 -- the instruction of the new program where i lands, and `js` those after it.
-use Rattle.std.specs.Prelude.{ℕ, ◌+◌, ◌-◌, ◌%◌, ◌^◌, ◌==◌, nat_lt, nat_le, Bool, true, false, ◌&&◌, ◌||◌, not, List, [], ◌∷◌, length, Option, Some, None, slice_get, drop}
 use Rattle.std.specs.Option.{is_some, option_map_or}
+use Rattle.std.specs.Prelude.{ℕ, ◌+◌, ◌-◌, ◌%◌, ◌^◌, ◌==◌, nat_lt, nat_le, Bool, true, false, ◌&&◌, ◌||◌, not, List, [], ◌∷◌, length, Option, Some, None, slice_get, drop}
+use Rattle.flt_bpf.specs.Instructions.{code_of, operation_of}
+use Rattle.flt_bpf.specs.Registers.{reads_accumulator, reads_index, sets_accumulator, sets_index}
 use Rattle.flt_bpf.specs.declared.insn.Insn.{Insn}
+use Rattle.flt_bpf.specs.declared.operation.AluOperation.TheVariants.{And, Divide, Remainder}
+use Rattle.flt_bpf.specs.declared.operation.Operand.TheVariants.{Constant}
 use Rattle.flt_bpf.specs.declared.operation.Operation.{Operation}
 use Rattle.flt_bpf.specs.declared.operation.Operation.TheVariants.{Load, Compute, Negate, Jump, JumpIf, ReturnConstant, ReturnAccumulator, CopyToIndex, CopyToAccumulator}
 use Rattle.flt_bpf.specs.declared.operation.Source.TheVariants.{Immediate, Length}
-use Rattle.flt_bpf.specs.declared.operation.Operand.TheVariants.{Constant}
-use Rattle.flt_bpf.specs.declared.operation.Test.TheVariants as test
-use Rattle.flt_bpf.specs.declared.operation.AluOperation.TheVariants.{And, Divide, Remainder}
-use Rattle.flt_bpf.specs.Instructions.{code_of, operation_of}
+use Rattle.flt_bpf.specs.declared.operation.Test.{Test}
 use Rattle.flt_bpf.specs.inside.Flow.{goes_on_or_rejects}
-use Rattle.flt_bpf.specs.Registers.{reads_accumulator, reads_index, sets_accumulator, sets_index}
 use Rattle.flt_short.specs.declared.alike.Landing.{Landing}
 
 -- the code from a place on, which is named by the number of instructions from there to the end; all
@@ -83,7 +83,7 @@ same_step c (Some op) j l i ls =
 -- i is a mask, and t a test whether 0 is left
 abbrev pub is_masked_test : Insn → Insn → Bool
 is_masked_test i t =
-    (i.code == code_of (Compute And Constant) && t.code == code_of (JumpIf test.Equal Constant))
+    (i.code == code_of (Compute And Constant) && t.code == code_of (JumpIf Test.Equal Constant))
     && t.k == 0
 
 -- j is one test of bits instead of i, which is a mask, and of the test after it whether 0 is left;
@@ -91,7 +91,7 @@ is_masked_test i t =
 unfoldable pub one_test : List Insn → Insn → Landing → Insn → List Insn → List Landing → Bool
 one_test c j l i [] ls = false
 one_test c j l i (t ∷ is) ls =
-    (is_masked_test i t && (j.code == code_of (JumpIf test.AnyBit Constant) && i.k == j.k))
+    (is_masked_test i t && (j.code == code_of (JumpIf Test.AnyBit Constant) && i.k == j.k))
     && (l.accumulator
     && (lands_at c ls (1 + t.jt) (l.place - (1 + j.jf)) false l.index
     && lands_at c ls (1 + t.jf) (l.place - (1 + j.jt)) false l.index))

@@ -1,23 +1,22 @@
 -- The abstract state (`Known`) at an instruction: what is known of the packet, of A and of X in
--- each run that reaches it; and the join of two states. `code` and `k` are those of a load.
--- Together they identify its value: bytes of the packet at a fixed place or at X, or the packet's
--- length. Elsewhere `k` is a state. `i` is an instruction.
-use Rattle.std.specs.Prelude.{ℕ, suc, ◌==◌, not, Bool, true, false, if◌then◌else◌, ◌&&◌, ◌||◌, List, [], ◌∷◌, length, map, replicate, Option, Some, None, slice_set}
-use Rattle.std.specs.Option.{option_or, option_map_or}
+-- each run that reaches it; the join of two states; and the states at all places (`seen`). `code`
+-- and `k` are those of a load. Together they identify its value: bytes of the packet at a fixed
+-- place or at X, or the packet's length. Elsewhere `k` is a state. `i` is an instruction.
+use Rattle.std.specs.Option.{option_or}
+use Rattle.std.specs.Prelude.{ℕ, suc, ◌==◌, not, Bool, true, false, if◌then◌else◌, ◌&&◌, ◌||◌, List, [], ◌∷◌, length, map, replicate, Option, Some, None, slice_set, slice_index_or}
 use Rattle.flt_bpf.specs.declared.insn.Insn.{Insn}
+use Rattle.flt_bpf.specs.declared.operation.AluOperation.TheVariants.{And}
+use Rattle.flt_bpf.specs.declared.operation.Operand.TheVariants.{Constant}
 use Rattle.flt_bpf.specs.declared.operation.Operation.{Operation}
-use Rattle.flt_bpf.specs.declared.operation.Operation.TheVariants.{LoadAbsolute, LoadIndirect, Load, LoadHeaderLength, Store, Compute, Jump, JumpIf, CopyToIndex}
+use Rattle.flt_bpf.specs.declared.operation.Operation.TheVariants.{LoadAbsolute, LoadIndirect, Load, LoadHeaderLength, Compute, JumpIf, CopyToIndex}
 use Rattle.flt_bpf.specs.declared.operation.Register.TheVariants.{Accumulator, Index}
 use Rattle.flt_bpf.specs.declared.operation.Source.TheVariants.{Length}
-use Rattle.flt_bpf.specs.declared.operation.Operand.TheVariants.{Constant}
 use Rattle.flt_bpf.specs.declared.operation.Test.TheVariants.{Equal}
-use Rattle.flt_bpf.specs.declared.operation.AluOperation.TheVariants.{And}
-use Rattle.flt_short.specs.declared.facts.Field.{Field}
 use Rattle.flt_short.specs.declared.facts.Claim.{Claim}
 use Rattle.flt_short.specs.declared.facts.Claim.TheVariants.{Nothing, Is, IsNot, IsOneOf}
 use Rattle.flt_short.specs.declared.facts.Fact.{Fact}
+use Rattle.flt_short.specs.declared.facts.Field.{Field}
 use Rattle.flt_short.specs.declared.facts.Held.{Held}
-use Rattle.flt_short.specs.declared.facts.Held.TheVariants as held
 use Rattle.flt_short.specs.declared.facts.Known.{Known}
 
 -- a fact that claims nothing
@@ -27,14 +26,14 @@ nothing_claimed = record { field = record { code = 0; k = 0; mask = None }; clai
 -- the state at a place if nothing is known of the runs that reach it
 abbrev pub nothing_known : Known
 nothing_known = record {
-  held = held.Unknown;
+  held = Held.Unknown;
   index = None;
   facts = replicate 5 nothing_claimed;
 }
 
 -- the state at a place that no run reaches
 abbrev pub unreached : Known
-unreached = record nothing_known { held = held.Unreached }
+unreached = record nothing_known { held = Held.Unreached }
 
 -- whether two numbers that may be missing are the same or both missing: masks, or headers
 abbrev pub same_optional : Option ℕ → Option ℕ → Bool
@@ -98,16 +97,12 @@ joined_with_any x (y ∷ ys) =
 abbrev pub joined_fact : Fact → List Fact → Fact
 joined_fact x ys = if claims_nothing x.claim then x else joined_with_any x ys
 
--- the join of two values of A: the value that A has on both paths, or on one of them if no run
--- comes on the other; else `Unknown`
-abbrev pub joined_held : Held → Held → Held
-joined_held held.Unreached other = other
-joined_held h held.Unreached = h
-joined_held (held.Field f) (held.Field g) =
-    if same_field f g then held.Field f else held.Unknown
-joined_held (held.AtIndex code k) (held.AtIndex other_code other_k) =
-    if code == other_code && k == other_k then held.AtIndex code k else held.Unknown
-joined_held _ _ = held.Unknown
+-- whether two values of A are the same value of the packet; nothing is known of two that are
+-- `Unknown`
+abbrev pub same_held : Held → Held → Bool
+same_held (Held.Field f) (Held.Field g) = same_field f g
+same_held (Held.AtIndex code k) (Held.AtIndex other j) = code == other && k == j
+same_held _ _ = false
 
 -- the header whose length X holds on both of two paths; None if they differ
 abbrev pub common_header : Option ℕ → Option ℕ → Option ℕ
@@ -117,9 +112,9 @@ common_header a b = if same_optional a b then a else None
 -- is `came`. Else it joins the values of A, the headers of X, and each fact of k with those of
 -- `came`.
 abbrev pub joined_by : Held → Known → Known → Known
-joined_by held.Unreached k came = came
+joined_by Held.Unreached k came = came
 joined_by h k came = record {
-  held = joined_held h came.held;
+  held = if same_held h came.held then h else Held.Unknown;
   index = common_header k.index came.index;
   facts = map (λ x. joined_fact x came.facts) k.facts;
 }
@@ -135,24 +130,22 @@ abbrev pub outcome_by_claim : Claim → ℕ → Option Bool
 outcome_by_claim (Is a) n = Some (a == n)
 outcome_by_claim c n = if allows c n then None else Some false
 
--- the outcome of the test `field = n`, by the first fact that decides it; None if no fact does
-abbrev pub decided : List Fact → Field → ℕ → Option Bool
-decided [] f n = None
-decided (x ∷ xs) f n =
-    if same_field x.field f then option_or (outcome_by_claim x.claim n) (decided xs f n)
-    else decided xs f n
+-- whether a claim says something of whether a number is n
+abbrev pub speaks_of : Claim → ℕ → Bool
+speaks_of Nothing n = false
+speaks_of (IsNot a) n = a == n
+speaks_of _ n = true
+
+-- the claim of the first fact that says something of whether a field is n; `Nothing` if none does
+abbrev pub claim_about : List Fact → Field → ℕ → Claim
+claim_about [] f n = Nothing
+claim_about (x ∷ xs) f n =
+    if same_field x.field f && speaks_of x.claim n then x.claim else claim_about xs f n
 
 -- the other one of two numbers, if the claim is that a number is one of them, and n is one
 abbrev pub other_by_claim : Claim → ℕ → Option ℕ
 other_by_claim (IsOneOf a b) n = if n == a then Some b else (if n == b then Some a else None)
 other_by_claim _ n = None
-
--- the number that a field is if it isn't n, by the first fact that says so; None if no fact does
-abbrev pub other_number : List Fact → Field → ℕ → Option ℕ
-other_number [] f n = None
-other_number (x ∷ xs) f n =
-    if same_field x.field f then option_or (other_by_claim x.claim n) (other_number xs f n)
-    else other_number xs f n
 
 -- whether a new fact y may take the place of x without loss: x claims nothing, or follows from y
 abbrev pub gives_way : Fact → Fact → Bool
@@ -182,50 +175,34 @@ any_captures (x ∷ xs) code k = captures x code k || any_captures xs code k
 
 -- whether A holds the field of a load, perhaps masked, so that its bytes are captured
 abbrev pub holds_field : Held → ℕ → ℕ → Bool
-holds_field (held.Field f) code k = f.code == code && f.k == k
+holds_field (Held.Field f) code k = f.code == code && f.k == k
 holds_field _ code k = false
 
 -- whether the bytes of a load are known to be captured, by the value of A or by a fact
 abbrev pub is_captured : Known → ℕ → ℕ → Bool
 is_captured known code k = holds_field known.held code k || any_captures known.facts code k
 
--- the field that a load puts into A
-abbrev pub field_of : Insn → Field
-field_of i = record { code = i.code; k = i.k; mask = None }
+-- the value of A after a mask m of the field f, which has this mask or none
+abbrev pub masked_by : Option ℕ → Field → ℕ → Held
+masked_by None f m = Held.Field (record f { mask = Some m })
+masked_by (Some old) f m = Held.Unknown
 
--- the field f, which has this mask or none, with the mask m; None if it has one already
-abbrev pub masked_by : Option ℕ → Field → ℕ → Option Field
-masked_by None f m = Some (record f { mask = Some m })
-masked_by (Some old) f m = None
-
--- a field with the mask m; None if it has one already, since two aren't kept
-abbrev pub masked_field : Field → ℕ → Option Field
-masked_field f m = masked_by f.mask f m
-
--- the value of A after a mask, by the value before
+-- the value of A after a mask, by the value before; it is `Unknown` after two masks
 abbrev pub masked_held : Held → ℕ → Held
-masked_held (held.Field f) m = option_map_or held.Field (masked_field f m) held.Unknown
-masked_held _ m = held.Unknown
+masked_held (Held.Field f) m = masked_by f.mask f m
+masked_held _ m = Held.Unknown
 
--- the value of A after X has changed: one that a load at X would put into A becomes `Unknown`
-abbrev pub held_without_index : Held → Held
-held_without_index (held.AtIndex code k) = held.Unknown
-held_without_index h = h
-
--- The value of A after an instruction that isn't a test, by the value before. It may be known after
--- a load of the packet or of its length, after a mask, and after instructions that don't change A;
--- after all others it is `Unknown`.
+-- the value of A after an instruction, by the value before; it is known after a load of the packet
+-- or of its length, and after a mask; a test keeps it, and after all others it is `Unknown`
 abbrev pub held_after : Option Operation → Held → Insn → Held
-held_after (Some (LoadAbsolute width)) h i = held.Field (field_of i)
-held_after (Some (Load Accumulator Length)) h i = held.Field (field_of i)
-held_after (Some (LoadIndirect width)) h i = held.AtIndex i.code i.k
+held_after (Some (LoadAbsolute width)) h i =
+    Held.Field (record { code = i.code; k = i.k; mask = None })
+held_after (Some (Load Accumulator Length)) h i =
+    Held.Field (record { code = i.code; k = i.k; mask = None })
+held_after (Some (LoadIndirect width)) h i = Held.AtIndex i.code i.k
 held_after (Some (Compute And Constant)) h i = masked_held h i.k
-held_after (Some LoadHeaderLength) h i = held_without_index h
-held_after (Some (Load Index source)) h i = held_without_index h
-held_after (Some CopyToIndex) h i = held_without_index h
-held_after (Some (Store register)) h i = h
-held_after (Some Jump) h i = h
-held_after _ h i = held.Unknown
+held_after (Some (JumpIf test operand)) h i = h
+held_after _ h i = Held.Unknown
 
 -- the header whose length X holds after an instruction that isn't a test, by the one before; None
 -- if none is known
@@ -250,12 +227,21 @@ claim_after true n other = Is n
 claim_after false n None = IsNot n
 claim_after false n (Some m) = Is m
 
--- the state after a test `field = n` with this outcome
-abbrev pub known_by : Known → Field → ℕ → Bool → Known
-known_by k f n outcome = with_fact k f (claim_after outcome n (other_number k.facts f n))
-
 -- the state after a test with this outcome: it has a new fact only if the test is for equality with
 -- the constant n, and A holds a field (h)
 abbrev pub known_by_test : Option Operation → Held → Known → ℕ → Bool → Known
-known_by_test (Some (JumpIf Equal Constant)) (held.Field f) k n outcome = known_by k f n outcome
+known_by_test (Some (JumpIf Equal Constant)) (Held.Field f) k n outcome =
+    with_fact k f (claim_after outcome n (other_by_claim (claim_about k.facts f n) n))
 known_by_test _ h k n outcome = k
+
+-- the facts at a place; past the end of the code there are none
+abbrev pub known_at : List Known → ℕ → Known
+known_at seen place = slice_index_or seen place nothing_known
+
+-- the facts after one more run, with the facts `k`, goes on at a place
+abbrev pub arrived : List Known → ℕ → Known → List Known
+arrived seen place k = slice_set seen place (joined (known_at seen place) k)
+
+-- the facts before code of a length is read: a run goes on at place 0, with no facts
+abbrev pub at_start : ℕ → List Known
+at_start len = arrived (replicate len unreached) 0 nothing_known

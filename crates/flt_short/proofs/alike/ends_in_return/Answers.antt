@@ -1,7 +1,7 @@
 -- The last instruction decides.
 use Rattle.flt_short.proofs.Common.{◌-◌, length, refl, ◌∙◌, sym, ap, arith, slice_get_read, Insn, is_return, last_returns}
 use Rattle.flt_bpf.specs.Instructions.{operation_of}
-use Rattle.flt_short.proofs.valid.ends_in_return.Goals as goal
+use Rattle.flt_short.proofs.alike.ends_in_return.Goals as goal
 
 pub returns : goal.returns
 returns c = λ t.
