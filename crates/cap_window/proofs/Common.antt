@@ -7,5 +7,5 @@ pub use Rattle.std.specs.Option.{IsSome, option_copied, option_copied_mut}
 pub use Rattle.std.proofs.lemmas.Option.{get_or_from_slice_get, slice_get-get_or}
 pub use Rattle.cap_window.specs.declared.links.Links.{Links}
 pub use Rattle.cap_window.specs.declared.mark.Mark.{Mark}
-pub use Rattle.cap_window.specs.inside.Index.{IsHung, IsIndex, IsPutOnTop, IsSoundIndex, IsMarkTree, Empty, Topped, but, every, marks_with_bit, has_hash, hash_of, link_by_bit, links_at, mark_at, mark_bit, IsOnTop, HasNoMark}
+pub use Rattle.cap_window.specs.inside.Index.{Agrees, IsHung, IsIndex, IsOnTop, IsPutOnTop, IsSameOutside, IsSoundIndex, IsWay, Ends, Goes, Lacks, hash_of, link_by_bit, links_at, mark_at, mark_bit}
 pub use Rattle.cap_window.specs.Marks.{last, is_same_mark, has_same}
