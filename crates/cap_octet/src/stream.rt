@@ -124,19 +124,13 @@ impl<R: Read> Input for StdInput<R> {
 
     /// The bytes that the reader's own buffer holds.
     #[inline(always)]
-    fn at_hand(&self) -> &[u8]
-        ensures exact { IsTrue false → StartsWith [] result.now }
-        ensures held { result.now ≡ reader_buffer self.now.reader.reader }
-    {
+    fn at_hand(&self) -> &[u8] {
         self.reader.buffer()
     }
 
     /// Whether the reader's buffer holds as many bytes, and 2^63 in all wouldn't be reached.
     #[inline(always)]
-    fn can_pass(&self, count: usize) -> bool
-        ensures { result ≡ true → (count ≤ length (reader_buffer self.now.reader.reader))
-            × (self.now.given + count < 2 ^ 63) }
-    {
+    fn can_pass(&self, count: usize) -> bool {
         count <= self.reader.buffer().len() && self.given + (count as u64) < GIVEN_END
     }
 
