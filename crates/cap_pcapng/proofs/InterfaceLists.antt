@@ -3,8 +3,7 @@ use Rattle.cap_pcapng.proofs.Common.{◌≡◌, ℕ, Bool, true, false, List, []
 use Rattle.std.proofs.Math.Nat.{one-le-pow}
 use Rattle.std.proofs.lemmas.List.{append_assoc}
 use Rattle.std.specs.Borrow.{Bor}
-use Rattle.cap_pcapng.specs.inside.Interface.{Adds, IsFound, is_found}
-use Rattle.cap_pcapng.specs.inside.InterfaceOptions.{value_for}
+use Rattle.cap_pcapng.specs.inside.Interface.{Adds, IsFound, is_found, value_for}
 use Rattle.cap_pcapng.specs.declared.interface.FoundOptions.{FoundOptions}
 
 -- what an iterator of options has left, once some were read and passed, and this was found in them

@@ -5,11 +5,9 @@
 -- link is the number of places from a mark back to the top of a tree below it. If it leads to a
 -- place before the oldest mark, the tree is empty. The index is described by the way that a search
 -- for any mark goes.
+use Rattle.std.specs.{Int.w32, Int.from_le_bytes, List.slice_index_or}
 use Rattle.std.specs.Prelude.{◌≡◌, ◌≢◌, ℕ, ◌+◌, ◌-◌, ◌/◌, ◌%◌, ◌^◌, ◌<◌, ◌≤◌, ◌==◌, Bool, true, false, nat_lt, if◌then◌else◌, List, [], length, slice_index, take, bit_and}
-use Rattle.std.specs.Int.{w32, from_le_bytes}
-use Rattle.std.specs.List.{slice_index_or}
-use Rattle.cap_window.specs.declared.links.Links.{Links}
-use Rattle.cap_window.specs.declared.mark.Mark.{Mark}
+use Rattle.cap_window.specs.declared.{links.Links.Links, mark.Mark.Mark}
 
 -- The bit of a mark at a depth. The depths 0 to 127 are the bits of its digest, from the last byte
 -- to the first; those from 128 on are the 32 bits of its length, repeated. The lowest bit of each

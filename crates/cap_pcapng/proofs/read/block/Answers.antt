@@ -14,18 +14,6 @@ returns-clause-refused c =
     subst P (block_fault-body frame c.args.bytes.now body (omega arith) (omega arith) (omega arith) is)
     (judged-fault (body_checks frame.block_type frame.order body ++ option_checks (parts_in_body frame.block_type frame.order body)) c.read_body.result _ c.read_body.ensures.parts)
 
-pub returns-then-size-lt12-clause-refused : goal.returns-then-size-lt12-clause-refused
-returns-then-size-lt12-clause-refused c = grind arith
-
-pub returns-then-bytes-size-clause-refused : goal.returns-then-bytes-size-clause-refused
-returns-then-bytes-size-clause-refused c = grind arith
-
-pub returns-then-u32_at-frame-clause-refused : goal.returns-then-u32_at-frame-clause-refused
-returns-then-u32_at-frame-clause-refused c = grind arith
-
-pub returns-clause-parts : goal.returns-clause-parts
-returns-clause-parts c = grind arith
-
 pub returns-clause-passes : goal.returns-clause-passes
 returns-clause-passes c =
     let frame = c.args.frame.now in

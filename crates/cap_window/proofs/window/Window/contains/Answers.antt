@@ -1,6 +1,5 @@
 use Rattle.cap_window.proofs.Common.{common_steps, [], arith, refl, ◌≡◌, ◌∙◌, ap, sym, get_or, ◌-◌, ◌<◌, ◌≤◌, length, get_or_default, get_or_from_slice_get, slice_get-get_or, option_copied, links_at, mark_at}
-use Rattle.cap_window.proofs.Marks.{links_are_there, mark_is_there}
-use Rattle.cap_window.proofs.Trees.{ended, least, past_top, top_of}
+use Rattle.cap_window.proofs.{Marks.is_there, Trees.ended, Trees.least, Trees.past_top, Trees.top_of}
 use Rattle.cap_window.proofs.window.Window.contains.Goals as goal
 
 pub loop-step-init : goal.loop-step-init
@@ -57,18 +56,9 @@ overflow_sub-step g c =
 pub unwrap-requires : goal.unwrap-requires
 unwrap-requires g c =
     let step = least c.loop-step.invariant.way in
-    mark_is_there _ _ (c.get.ensures ∙ slice_get-get_or c.self.inside.marks.items (c.loop-step.limit - c.loop-step.step) (record { length = 0; digest = [] }) (omega (arith, c.loop-step.invariant.within, step)))
+    is_there _ _ (c.get.ensures ∙ slice_get-get_or c.self.inside.marks.items (c.loop-step.limit - c.loop-step.step) (record { length = 0; digest = [] }) (omega (arith, c.loop-step.invariant.within, step)))
 
 pub unwrap-requires-in-loop-step : goal.unwrap-requires-in-loop-step
 unwrap-requires-in-loop-step g c =
     let step = least c.loop-step.invariant.way in
-    links_are_there _ _ (c.get-in-loop-step.ensures ∙ slice_get-get_or c.self.inside.links.items (c.loop-step.limit - c.loop-step.step) (record { zeros = 0; ones = 0 }) (omega (arith, c.loop-step.invariant.within, step, c.self.invariant.index.long)))
-
-pub overflow_sub-limit : goal.overflow_sub-limit
-overflow_sub-limit g c = grind (arith, common_steps)
-
-pub overflow_add-depth : goal.overflow_add-depth
-overflow_add-depth g c = grind (arith, common_steps)
-
-pub overflow_add-step : goal.overflow_add-step
-overflow_add-step g c = grind (arith, common_steps)
+    is_there _ _ (c.get-in-loop-step.ensures ∙ slice_get-get_or c.self.inside.links.items (c.loop-step.limit - c.loop-step.step) (record { zeros = 0; ones = 0 }) (omega (arith, c.loop-step.invariant.within, step, c.self.invariant.index.long)))

@@ -51,18 +51,3 @@ overflow_sub-step g c =
     let head : c.index.result.now ≡ get_or heads c.hash_of-hash.result 0 = c.index.ensures ∙ get_or_default _ _ _ 0 inside in
     let small : get_or heads c.hash_of-hash.result 0 ≤ c.self.inside.newest = c.self.invariant.index.small c.hash_of-hash.result inside in
     omega (arith, head, small)
-
-pub returns : goal.returns
-returns g c = grind (arith, common_steps)
-
-pub overflow_cast-len : goal.overflow_cast-len
-overflow_cast-len g c = grind (arith, common_steps)
-
-pub place_newest-requires-clause-long : goal.place_newest-requires-clause-long
-place_newest-requires-clause-long g c = grind (arith, common_steps)
-
-pub place_newest-requires-clause-upper_bound : goal.place_newest-requires-clause-upper_bound
-place_newest-requires-clause-upper_bound g c = grind (arith, common_steps)
-
-pub renumber-self-inside-requires : goal.renumber-self-inside-requires
-renumber-self-inside-requires g c = grind (arith, common_steps)
