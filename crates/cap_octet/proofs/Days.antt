@@ -1,12 +1,11 @@
 -- Days counted one by one are the days of their numbers.
 use Rattle.cap_octet.proofs.Common.{◌≡◌, ℕ, ap, Bool, true, false, ◌&&◌, None, if◌then◌else◌, zero, suc, ◌+◌, ◌<◌, ◌≤◌, ◌⊎◌, inl, inr, refl, sym, ◌∙◌, arith, rules, ℤ, pos, negsuc, ◌≤ℤ◌, ◌+ℤ◌, ◌-◌, unsigned_abs, Some, nat_lt, lt-ltb, le-ltb, cases_order, days_in_month, IsCivilDate, epoch_day, signed_arith, le-leb, leb-true, day_number}
-use Rattle.jiff_core.specs.declared.civil.date.Date.{Date}
-use Rattle.jiff_core.specs.Calendar.{days_from_civil}
+use Rattle.cap_octet.proofs.Numerals.{both}
+use Rattle.jiff_core.specs.{Calendar.days_from_civil, declared.civil.date.Date.Date}
+use Rattle.cap_octet.specs.Calendar.{Day, ymd, next_day, day_from_epoch}
 use Rattle.cap_octet.specs.Laws.{DayHasItsNumber, NumberHasItsDay}
 use Rattle.jiff_core.proofs.CalendarLemmas.{days_in_month_bounds}
 use Rattle.jiff_core.proofs.DateLemmas.{days_from_civil-day, days_from_civil-next_month, days_from_civil-next_year, days_from_civil-max, epoch_day_injective, epoch_day_same, epoch_day-lt, cases_date}
-use Rattle.cap_octet.specs.Calendar.{Day, ymd, next_day, day_from_epoch}
-use Rattle.cap_octet.proofs.Numerals.{both}
 use Rattle.std.proofs.lemmas.Option.{cond_some}
 
 -- c is the day with the number n

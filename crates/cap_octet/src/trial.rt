@@ -1,12 +1,9 @@
 //! Devices for tests, over memory: they move a few bytes per call and fail when a test asks, and
 //! the input counts its reads. The first clauses of a method are those of its trait with this
 //! device's ghost members put in (`tells`, `failures` and so on).
-ghost use Rattle.std.specs.Prelude.{◌≡◌, ℕ, ◌+◌, ◌-◌, ◌≤◌, ◌<◌, ◌^◌, IsTrue, List, [], length};
+ghost use Rattle.std.specs.{Io.StartsWith, Option.option_map};
+ghost use Rattle.std.specs.Prelude.{◌≡◌, ℕ, ◌+◌, ◌-◌, ◌≤◌, ◌<◌, ◌^◌, IsTrue, List, [], length, Some, None, true, IfOk, IsErr, OnErr, OnOk, min, is_some, drop, if◌then◌else◌, take};
 ghost use Rattle.std.proofs.Common.{rules};
-ghost use Rattle.std.specs.Prelude.{Some, None, true, IfOk, IsErr, OnErr, OnOk, min, is_some};
-ghost use Rattle.std.specs.Prelude.{drop, if◌then◌else◌, take};
-ghost use Rattle.std.specs.Option.{option_map};
-ghost use Rattle.std.specs.Io.{StartsWith};
 ghost use Rattle.cap_octet.specs.Device.{Passes, Reads, Writes, count_of, failures_of};
 
 use crate::count::ContractCount;

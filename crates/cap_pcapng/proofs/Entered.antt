@@ -1,15 +1,10 @@
 -- A block finds its place in the table of interfaces, and its packet its data.
 use Rattle.cap_pcapng.proofs.Common.{◌≡◌, ℕ, ◌+◌, ◌-◌, ◌/◌, ◌*◌, ◌^◌, ◌<◌, ◌≤◌, Bool, true, false, List, [], ◌∷◌, length, take, drop, Option, Some, None, Ok, refl, sym, ap, ap₂, subst, ◌∙◌, arith, lit≤, leb-true, length-drop, inl, inr, if◌then◌else◌, nat_lt, is_some, unwrap_or, AllByRecursion, slice_get, option_map, ok_or, drop-drop, drop-take, take-take, length-take-le, length-take, take_all, first_failing, Fault, TimeOutOfRange, TooManyInterfaces, Order, all_met, met_front, Parts, SectionParts, InterfaceParts, EnhancedParts, SimpleParts, SkippedParts, block_checks, block_fault, option_checks, body_checks, body_in, data_checks, parts_in, parts_in_body, parts_of, simple_captured, comment_code, comment_in, Described, most_interfaces, first_value, fitting_options, padded_length, representable_time, checks_among, packet_by, packet_of, section_by, Frame, Enters, IsBlockFault, held_packet, section_of, span_bytes}
-use Rattle.cap_pcapng.proofs.OptionLists.{options_in-none}
+use Rattle.cap_pcapng.proofs.{Faults.all_failing, Faults.all_of_options, OptionLists.options_in-none}
 use Rattle.cap_pcapng.proofs.WholeBlocks.{block_fails, block_passes}
-use Rattle.cap_pcapng.specs.declared.blocks.Block.TheVariants as read
-use Rattle.cap_pcapng.specs.declared.blocks.EnhancedBlock.{EnhancedBlock}
-use Rattle.cap_pcapng.specs.declared.blocks.SimpleBlock.{SimpleBlock}
-use Rattle.cap_pcapng.specs.declared.frames.BlockType.{BlockType}
-use Rattle.cap_pcapng.specs.declared.frames.BlockType.TheVariants as type
+use Rattle.cap_pcapng.specs.declared.blocks.{Block.Block, EnhancedBlock.EnhancedBlock, SimpleBlock.SimpleBlock}
+use Rattle.cap_pcapng.specs.declared.{effect.PacketSpans.PacketSpans, frames.BlockType.BlockType}
 use Rattle.cap_pcapng.specs.inside.Effect.{PacketFound, fault_among}
-use Rattle.cap_pcapng.specs.declared.effect.PacketSpans.{PacketSpans}
-use Rattle.cap_pcapng.proofs.Faults.{all_failing, all_of_options}
 
 -- ---- a packet's data
 
@@ -103,14 +98,14 @@ simple_found interfaces i orig size rest known upper_bound = (
 
 enhanced_body : (kind : BlockType) (order own : Order) (body rest : List ℕ) (number ticks captured orig : ℕ) → parts_in_body kind order body ≡ EnhancedParts number ticks captured orig own rest
     → first_failing (body_checks kind order body) ≡ None → (rest ≡ drop 20 body) × (20 ≤ length body) × (own ≡ order)
-enhanced_body type.EnhancedPacket order own body rest number ticks captured orig e none =
-    ((cc), leb-true 20 (length body) (all_met (body_checks type.EnhancedPacket order body) none).0, (cc))
+enhanced_body BlockType.EnhancedPacket order own body rest number ticks captured orig e none =
+    ((cc), leb-true 20 (length body) (all_met (body_checks BlockType.EnhancedPacket order body) none).0, (cc))
 enhanced_body kind order own body rest number ticks captured orig e none = absurd (cc)
 
 simple_body : (kind : BlockType) (order : Order) (body rest : List ℕ) (orig : ℕ) → parts_in_body kind order body ≡ SimpleParts orig rest
     → first_failing (body_checks kind order body) ≡ None → (rest ≡ drop 4 body) × (4 ≤ length body)
-simple_body type.SimplePacket order body rest orig e none =
-    ((cc), leb-true 4 (length body) (all_met (body_checks type.SimplePacket order body) none).0)
+simple_body BlockType.SimplePacket order body rest orig e none =
+    ((cc), leb-true 4 (length body) (all_met (body_checks BlockType.SimplePacket order body) none).0)
 simple_body kind order body rest orig e none = absurd (cc)
 
 rows_after : (b : Bool) (fault : Fault) (rows : List (Bool × Fault)) → first_failing ((b, fault) ∷ rows) ≡ None → first_failing rows ≡ None
@@ -164,7 +159,7 @@ packet_enters frame interfaces block rest parts skip spans whole least is passes
 
 -- what is left of the body after the fields of an enhanced packet lies in the block
 pub enhanced_room : (frame : Frame) (block : List ℕ) (b : EnhancedBlock) → length block ≡ frame.length → 12 ≤ frame.length
-    → parts_of (read.Enhanced b) ≡ parts_in frame block → block_fault frame block ≡ None → 28 + length b.rest.now ≤ frame.length
+    → parts_of (Block.Enhanced b) ≡ parts_in frame block → block_fault frame block ≡ None → 28 + length b.rest.now ≤ frame.length
 enhanced_room frame block b whole least is none =
     let passes = (block_passes frame block least (omega (arith, whole)) none).0 in
     let body = enhanced_body frame.block_type frame.order b.order (body_in frame block) b.rest.now b.interface b.ticks b.captured b.orig (sym is) (body_passes frame block passes) in
@@ -172,23 +167,23 @@ enhanced_room frame block b whole least is none =
     omega (arith, size, body.1, ap length body.0, length-drop 20 (body_in frame block), least)
 
 pub enhanced_enters : (frame : Frame) (interfaces : List Described) (block : List ℕ) (b : EnhancedBlock) (spans : PacketSpans) → length block ≡ frame.length → 12 ≤ frame.length
-    → parts_of (read.Enhanced b) ≡ parts_in frame block → block_fault frame block ≡ None
-    → IsFound (checks_among interfaces (parts_of (read.Enhanced b))) (PacketFound b.order interfaces (parts_of (read.Enhanced b)) 28 frame.length b.rest.now spans)
+    → parts_of (Block.Enhanced b) ≡ parts_in frame block → block_fault frame block ≡ None
+    → IsFound (checks_among interfaces (parts_of (Block.Enhanced b))) (PacketFound b.order interfaces (parts_of (Block.Enhanced b)) 28 frame.length b.rest.now spans)
     → Enters frame interfaces block (Some spans) interfaces
 enhanced_enters frame interfaces block b spans whole least is none found =
     let passes = (block_passes frame block least (omega (arith, whole)) none).0 in
     let body = enhanced_body frame.block_type frame.order b.order (body_in frame block) b.rest.now b.interface b.ticks b.captured b.orig (sym is) (body_passes frame block passes) in
-    let P : Order → Type 0 = λ order. PacketFound order interfaces (parts_of (read.Enhanced b)) 28 frame.length b.rest.now spans in
-    packet_enters frame interfaces block b.rest.now (parts_of (read.Enhanced b)) 20 spans whole least is passes body.0 body.1 found.0 (subst P body.2 found.1) refl
+    let P : Order → Type 0 = λ order. PacketFound order interfaces (parts_of (Block.Enhanced b)) 28 frame.length b.rest.now spans in
+    packet_enters frame interfaces block b.rest.now (parts_of (Block.Enhanced b)) 20 spans whole least is passes body.0 body.1 found.0 (subst P body.2 found.1) refl
 
 pub simple_enters : (frame : Frame) (interfaces : List Described) (block : List ℕ) (b : SimpleBlock) (spans : PacketSpans) → length block ≡ frame.length → 12 ≤ frame.length
-    → parts_of (read.Simple b) ≡ parts_in frame block → block_fault frame block ≡ None
-    → IsFound (checks_among interfaces (parts_of (read.Simple b))) ((order : Order) → PacketFound order interfaces (parts_of (read.Simple b)) 12 frame.length b.rest.now spans)
+    → parts_of (Block.Simple b) ≡ parts_in frame block → block_fault frame block ≡ None
+    → IsFound (checks_among interfaces (parts_of (Block.Simple b))) ((order : Order) → PacketFound order interfaces (parts_of (Block.Simple b)) 12 frame.length b.rest.now spans)
     → Enters frame interfaces block (Some spans) interfaces
 simple_enters frame interfaces block b spans whole least is none found =
     let passes = (block_passes frame block least (omega (arith, whole)) none).0 in
     let body = simple_body frame.block_type frame.order (body_in frame block) b.rest.now b.orig (sym is) (body_passes frame block passes) in
-    packet_enters frame interfaces block b.rest.now (parts_of (read.Simple b)) 4 spans whole least is passes body.0 body.1 found.0 (found.1 frame.order) refl
+    packet_enters frame interfaces block b.rest.now (parts_of (Block.Simple b)) 4 spans whole least is passes body.0 body.1 found.0 (found.1 frame.order) refl
 
 -- ---- a block that is refused by itself
 
@@ -198,12 +193,12 @@ Stays fault = (interfaces : List Described) → fault_among interfaces fault ≡
 
 body_stays : (kind : BlockType) (order : Order) (body : List ℕ) → AllByRecursion (λ row. Stays row.1) (body_checks kind order body)
 unfolding Stays
-body_stays type.Section order body = (λ i. refl, (λ i. refl, tt))
-body_stays type.Interface order body = (λ i. refl, tt)
-body_stays type.ObsoletePacket order body = (λ i. refl, tt)
-body_stays type.SimplePacket order body = (λ i. refl, tt)
-body_stays type.EnhancedPacket order body = (λ i. refl, tt)
-body_stays type.Other order body = tt
+body_stays BlockType.Section order body = (λ i. refl, (λ i. refl, tt))
+body_stays BlockType.Interface order body = (λ i. refl, tt)
+body_stays BlockType.ObsoletePacket order body = (λ i. refl, tt)
+body_stays BlockType.SimplePacket order body = (λ i. refl, tt)
+body_stays BlockType.EnhancedPacket order body = (λ i. refl, tt)
+body_stays BlockType.Other order body = tt
 
 block_stays : (frame : Frame) (block : List ℕ) (fault : Fault) → first_failing (block_checks frame block) ≡ Some fault → (interfaces : List Described) → fault_among interfaces fault ≡ fault
 unfolding Stays

@@ -1,5 +1,6 @@
 -- The index stays an index when a mark comes, when the oldest goes, and when all get new numbers.
 use Rattle.cap_window.proofs.Common.{◌≡◌, ◌≢◌, ℕ, zero, suc, ◌+◌, ◌-◌, ◌^◌, ◌<◌, ◌≤◌, inl, inr, List, [], ◌∷◌, ◌++◌, length, get_or, drop, refl, sym, ap, ◌∙◌, arith, set, length-append, length-drop, eq-zero-or-pos, cases_order, get_or-append_right, get_or-set_other, get_or-set_same, length-set, take, Links, Mark, IsHung, IsIndex, IsPutOnTop, IsSoundIndex, IsWay, Ends, Goes, Agrees, hash_of, mark_at, last}
+use Rattle.std.proofs.lemmas.Grind.{get_or-set_at}  -- `grind` does not fit a call that has one variable twice to numbers that are equal by bounds alone. S ..
 use Rattle.cap_window.proofs.Trees.{appended, dropped, raised, relinked}
 use Rattle.std.proofs.lemmas.Nat.{and_le_r}
 use Rattle.std.specs.Int.{w32, from_le_bytes}
@@ -82,13 +83,7 @@ index_lowered mask ms ls heads heads' newest new upper_bound less wide l i = rec
 
 heads_small : (heads : List ℕ) (x newest : ℕ) → ((h : ℕ) → h < length heads → get_or heads h 0 ≤ newest) → x < length heads
     → (h : ℕ) → h < length (set heads x (newest + 1)) → get_or (set heads x (newest + 1)) h 0 ≤ newest + 1
-heads_small heads x newest small inside h lt =
-    let size = length-set heads x (newest + 1) in
-    elim (cases_order h x) [
-      | inl e ↦ (let there : get_or (set heads x (newest + 1)) h 0 ≡ newest + 1 = rw e (get_or-set_same heads x (newest + 1) 0 inside) in omega arith)
-      | inr apart ↦ (let same = get_or-set_other heads x h (newest + 1) 0 (λ e. elim apart [ inl lt' ↦ omega arith | inr gt ↦ omega arith ]) in
-          let before = small h (omega arith) in omega arith)
-    ]
+heads_small heads x newest small inside h lt = grind (arith, common_steps, get_or-set_at, get_or-set_other, length-set, small)
 
 -- the newest mark is in its tree
 index_placed : (mask : ℕ) (ms : List Mark) (ls new : List Links) (heads : List ℕ) (newest : ℕ) (m : Mark) → IsAwaiting mask ms ls heads newest m

@@ -1,7 +1,6 @@
 use Rattle.cap_pcapng.proofs.Common.{◌≡◌, ◌++◌, ◌-◌, ℕ, List, ap, arith, drop, IfErr, IfOk, take, Option, None, Some, subst, body_checks, body_in, option_checks, parts_in_body, Fault}
+use Rattle.cap_pcapng.proofs.{Judged.judged-fault, Judged.judged-passes, WholeBlocks.block_fault-body}
 use Rattle.cap_pcapng.specs.declared.blocks.Block.{Block}
-use Rattle.cap_pcapng.proofs.Judged.{judged-fault, judged-passes}
-use Rattle.cap_pcapng.proofs.WholeBlocks.{block_fault-body}
 use Rattle.cap_pcapng.proofs.read.block.Goals as goal
 
 pub returns-clause-refused : goal.returns-clause-refused
