@@ -1,4 +1,4 @@
-use Rattle.cap_window.proofs.Common.{common_steps, arith, refl, ◌≡◌, ◌∙◌, get_or, set, ◌+◌, ◌-◌, ◌<◌, ◌≤◌, length, take, drop, ◌++◌, List, ℕ, ap, get_or_default, take-append-le, take_all, hash_of, Links}
+use Rattle.cap_window.proofs.Common.{arith, refl, ◌≡◌, ◌∙◌, get_or, set, ◌+◌, ◌-◌, ◌<◌, ◌≤◌, length, take, drop, ◌++◌, List, ℕ, ap, get_or_default, take-append-le, take_all, hash_of, Links}
 use Rattle.cap_window.proofs.Indexes.{IsLowered, sound_hung, sound_push}
 use Rattle.cap_window.proofs.window.Window.push.Goals as goal
 
