@@ -78,6 +78,7 @@ pub fn mark_bit(mark: &Mark, depth: u32) -> bool
 /// places before it, by new links. The mark whose place it takes goes down by its own bits and
 /// takes another's place, and so on, until there is no tree below. A mark that is equal to the one
 /// that takes its place drops out of the tree, and ends this too.
+#[tactic(auto, using(std::proofs::lemmas::Grind::common_steps, std::proofs::lemmas::Option::gets))]
 pub fn place_newest<A: Allocator>(
     marks: &HeapCircularBuffer<Mark, A>,
     links: &mut HeapCircularBuffer<Links, A>,

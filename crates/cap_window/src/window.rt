@@ -88,6 +88,7 @@ impl<A: Allocator> Window<A> {
 
     /// Whether an equal mark is in the window. If so, it is in the tree of this mark's hash, at the
     /// place where the way down by this mark's bits meets it.
+    #[tactic(auto, using(std::proofs::lemmas::Option::gets))]
     fn contains(&self, mark: &Mark) -> bool
         ensures { IsTrue result ↔ Contains self.now.marks mark.now }
     {

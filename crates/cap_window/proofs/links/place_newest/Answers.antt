@@ -1,31 +1,10 @@
-use Rattle.cap_window.proofs.Common.{[], ◌≡◌, ◌==◌, ◌∙◌, ℕ, zero, suc, true, false, ◌-◌, ◌<◌, sym, ap, refl, arith, rules, length, not, Some, None, Option, MutBor, length-set, get_or_from_slice_get, slice_get-get_or, IsSome, option_copied, option_copied_mut, Links, mark_bit, links_at, mark_at}
-use Rattle.cap_window.proofs.Marks.{is_there}
+use Rattle.cap_window.proofs.Common.{◌≡◌, ◌==◌, ◌∙◌, ℕ, zero, suc, true, false, ◌-◌, ◌<◌, sym, ap, refl, arith, length, not, length-set, get_or_from_slice_get, option_copied, mark_bit, links_at, mark_at}
 use Rattle.cap_window.proofs.Trees.{after_links, placing_end, placing_equal, placing_next, step_at}
 use Rattle.cap_window.proofs.links.place_newest.Goals as goal
 
 nonzero : (n : ℕ) → (n == 0) ≡ false → 0 < n
 nonzero zero e = absurd (let never : true ≡ false = e in cc)
 nonzero (suc n) e = omega arith
-
-mut_is_there : (o : Option (MutBor Links)) (x : Links) → option_copied_mut o ≡ Some x → IsSome o
-mut_is_there (Some r) x e = search rules
-mut_is_there None x e = absurd cc
-
-pub unwrap-above-requires : goal.unwrap-above-requires
-unwrap-above-requires g c =
-    is_there _ _ (c.get.ensures ∙ slice_get-get_or c.args.marks.now.items c.loop-step.place (record { length = 0; digest = [] }) (omega (arith, c.len.ensures.len)))
-
-pub unwrap-below-requires : goal.unwrap-below-requires
-unwrap-below-requires g c =
-    is_there _ _ (c.get-in-loop-step.ensures ∙ slice_get-get_or c.args.marks.now.items (c.loop-step.place - c.loop-step.step) (record { length = 0; digest = [] }) (omega (arith, c.len.ensures.len)))
-
-pub unwrap-requires : goal.unwrap-requires
-unwrap-requires g c =
-    is_there _ _ (c.get-in-loop-step-2.ensures ∙ slice_get-get_or c.loop-step.links.items (c.loop-step.place - c.loop-step.step) (record { zeros = 0; ones = 0 }) (omega (arith, c.len.ensures.len)))
-
-pub unwrap-requires-then-is_same_mark : goal.unwrap-requires-then-is_same_mark
-unwrap-requires-then-is_same_mark g c =
-    mut_is_there _ _ (c.get_mut.follows ∙ slice_get-get_or c.loop-step.links.items c.loop-step.place (record { zeros = 0; ones = 0 }) (omega (arith, c.len.ensures.len)))
 
 pub loop-step-init : goal.loop-step-init
 loop-step-init g c =
@@ -52,10 +31,6 @@ returns-then-is_same_mark-clause-placed g c = λ some mask hung.
     placing_equal (c.loop-step.invariant.placing mask hung) c.plus_step.result (omega arith) (omega arith) (omega arith) (omega arith)
     (above ∙ c.is_same_mark.ensures.0 c.if-is_same_mark.true ∙ sym below)
     (rw under (after_links c.unwrap.result.now c.plus_step.result c.loop-step.step c.plus_step.ensures.zeros c.plus_step.ensures.ones))
-
-pub unwrap-requires-in-loop-step : goal.unwrap-requires-in-loop-step
-unwrap-requires-in-loop-step g c =
-    mut_is_there _ _ (c.get_mut-in-loop-step.follows ∙ slice_get-get_or c.loop-step.links.items c.loop-step.place (record { zeros = 0; ones = 0 }) (omega arith))
 
 pub loop-step-preserved : goal.loop-step-preserved
 loop-step-preserved g c =
@@ -84,10 +59,6 @@ pub loop-step-smaller : goal.loop-step-smaller
 loop-step-smaller g c =
     let step = step_at (c.loop-step.invariant.placing (c.requires.hung (omega arith)).0 (c.requires.hung (omega arith)).1) in
     omega (arith, step)
-
-pub unwrap-requires-2 : goal.unwrap-requires-2
-unwrap-requires-2 g c =
-    mut_is_there _ _ (c.get_mut-2.follows ∙ slice_get-get_or c.loop-step.links.items c.loop-step.place (record { zeros = 0; ones = 0 }) (omega arith))
 
 pub returns-clause-placed : goal.returns-clause-placed
 returns-clause-placed g c = λ some mask hung.

@@ -58,7 +58,3 @@ unwrap-requires g c =
     let step = least c.loop-step.invariant.way in
     is_there _ _ (c.get.ensures ∙ slice_get-get_or c.self.inside.marks.items (c.loop-step.limit - c.loop-step.step) (record { length = 0; digest = [] }) (omega (arith, c.loop-step.invariant.within, step)))
 
-pub unwrap-requires-in-loop-step : goal.unwrap-requires-in-loop-step
-unwrap-requires-in-loop-step g c =
-    let step = least c.loop-step.invariant.way in
-    is_there _ _ (c.get-in-loop-step.ensures ∙ slice_get-get_or c.self.inside.links.items (c.loop-step.limit - c.loop-step.step) (record { zeros = 0; ones = 0 }) (omega (arith, c.loop-step.invariant.within, step, c.self.invariant.index.long)))
