@@ -1,5 +1,5 @@
 -- Days counted one by one are the days of their numbers.
-use Rattle.cap_octet.proofs.Common.{◌≡◌, ℕ, ap, Bool, true, false, ◌&&◌, None, if◌then◌else◌, zero, suc, ◌+◌, ◌<◌, ◌≤◌, ◌⊎◌, inl, inr, refl, sym, ◌∙◌, arith, rules, ℤ, pos, negsuc, ◌≤ℤ◌, ◌+ℤ◌, ◌-◌, unsigned_abs, Some, nat_lt, lt-ltb, le-ltb, cases_order, days_in_month, IsCivilDate, epoch_day, signed_arith, le-leb, leb-true, day_number}
+use Rattle.cap_octet.proofs.Common.{◌≡◌, ℕ, ap, zero, suc, ◌+◌, ◌<◌, ◌≤◌, ◌⊎◌, inl, inr, refl, sym, ◌∙◌, arith, rules, ℤ, pos, negsuc, ◌≤ℤ◌, ◌+ℤ◌, ◌-◌, unsigned_abs, Some, nat_lt, lt-ltb, le-ltb, cases_order, days_in_month, IsCivilDate, epoch_day, signed_arith, le-leb, leb-true, day_number}
 use Rattle.cap_octet.proofs.Numerals.{both}
 use Rattle.jiff_core.specs.{Calendar.days_from_civil, declared.civil.date.Date.Date}
 use Rattle.cap_octet.specs.Calendar.{Day, ymd, next_day, day_from_epoch}
