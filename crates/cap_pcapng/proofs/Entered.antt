@@ -1,5 +1,5 @@
 -- A block finds its place in the table of interfaces, and its packet its data.
-use Rattle.cap_pcapng.proofs.Common.{◌≡◌, ℕ, ◌+◌, ◌-◌, ◌/◌, ◌*◌, ◌^◌, ◌<◌, ◌≤◌, Bool, true, false, List, [], ◌∷◌, length, take, drop, Option, Some, None, Ok, refl, sym, ap, ap₂, subst, ◌∙◌, arith, lit≤, leb-true, length-drop, inl, inr, if◌then◌else◌, nat_lt, is_some, unwrap_or, AllByRecursion, slice_get, option_map, ok_or, drop-drop, drop-take, take-take, length-take-le, length-take, take_all, first_failing, Fault, TimeOutOfRange, TooManyInterfaces, Order, all_met, met_front, Parts, SectionParts, InterfaceParts, EnhancedParts, SimpleParts, SkippedParts, block_checks, block_fault, option_checks, body_checks, body_in, data_checks, parts_in, parts_in_body, parts_of, simple_captured, comment_code, comment_in, Described, most_interfaces, first_value, fitting_options, padded_length, representable_time, checks_among, packet_by, packet_of, section_by, Frame, Enters, IsBlockFault, held_packet, section_of, span_bytes}
+use Rattle.cap_pcapng.proofs.Common.{◌≡◌, ℕ, ◌+◌, ◌-◌, ◌^◌, ◌<◌, ◌≤◌, Bool, true, false, List, [], ◌∷◌, length, take, drop, Option, Some, None, Ok, refl, sym, ap, ap₂, subst, ◌∙◌, arith, lit≤, leb-true, length-drop, inl, inr, if◌then◌else◌, nat_lt, is_some, unwrap_or, AllByRecursion, slice_get, option_map, ok_or, drop-drop, drop-take, take-take, length-take-le, length-take, take_all, first_failing, Fault, TimeOutOfRange, TooManyInterfaces, Order, all_met, met_front, Parts, InterfaceParts, EnhancedParts, SimpleParts, block_checks, block_fault, option_checks, body_checks, body_in, data_checks, parts_in, parts_in_body, parts_of, simple_captured, comment_code, comment_in, Described, most_interfaces, first_value, fitting_options, padded_length, representable_time, checks_among, packet_by, packet_of, section_by, Frame, Enters, IsBlockFault, held_packet, section_of, span_bytes}
 use Rattle.cap_pcapng.proofs.{Faults.all_failing, Faults.all_of_options, OptionLists.options_in-none}
 use Rattle.cap_pcapng.proofs.WholeBlocks.{block_fails, block_passes}
 use Rattle.cap_pcapng.specs.declared.blocks.{Block.Block, EnhancedBlock.EnhancedBlock, SimpleBlock.SimpleBlock}

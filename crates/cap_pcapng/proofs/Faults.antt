@@ -1,6 +1,6 @@
 -- What holds of the faults of all checks holds of the first that fails; and which faults options
 -- have.
-use Rattle.cap_pcapng.proofs.Common.{◌≡◌, ℕ, zero, suc, Bool, true, false, List, [], ◌∷◌, ◌++◌, length, drop, Some, Result, Ok, Err, cond, subst, ◌==◌, is_some, if◌then◌else◌, AllByRecursion, first_failing, Fault, BadOption, BadTimeResolution, Order, Parts, SectionParts, InterfaceParts, EnhancedParts, SimpleParts, SkippedParts, option_checks, checks_after, first_checks, first_value, list_checks, name_checks, name_code, offset_checks, offset_code, resolution_checks, resolution_code, CodedValue, ends_at, fits_at, option_at, option_size, padded_length}
+use Rattle.cap_pcapng.proofs.Common.{◌≡◌, ℕ, zero, suc, Bool, true, false, List, [], ◌∷◌, ◌++◌, length, drop, Some, Result, Ok, Err, cond, subst, ◌==◌, is_some, AllByRecursion, first_failing, Fault, BadOption, BadTimeResolution, Order, Parts, InterfaceParts, option_checks, checks_after, first_value, list_checks, name_checks, name_code, offset_checks, offset_code, resolution_checks, resolution_code, CodedValue, ends_at, fits_at, option_at, option_size, padded_length}
 use Rattle.cap_pcapng.specs.OptionList.{options_in, options_within}
 
 -- ---- the faults of some rows

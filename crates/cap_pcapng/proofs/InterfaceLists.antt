@@ -1,5 +1,5 @@
 -- Options of an interface, read one after another.
-use Rattle.cap_pcapng.proofs.Common.{◌≡◌, ℕ, Bool, true, false, List, [], ◌∷◌, ◌++◌, cond, refl, sym, ap, ◌∙◌, eqb-true, Option, Some, None, Result, Ok, ◌<◌, ◌≤◌, ◌^◌, ◌-◌, nat_lt, unwrap_or, arith, is_some, if◌then◌else◌, ◌==◌, slice_index, option_copied, option_map, option_or, met_front, failing_front, first_failing, Fault, Order, checks_after, first_checks, first_value, fitting_options, list_checks, name_code, offset_code, offset_in_value, resolution_code, units_in_value, CodedValue, microseconds}
+use Rattle.cap_pcapng.proofs.Common.{◌≡◌, ℕ, Bool, true, false, List, [], ◌∷◌, ◌++◌, cond, refl, sym, ap, ◌∙◌, eqb-true, Option, Some, None, Result, Ok, ◌<◌, ◌≤◌, ◌^◌, ◌-◌, nat_lt, unwrap_or, arith, is_some, if◌then◌else◌, ◌==◌, slice_index, option_map, option_or, met_front, failing_front, first_failing, Fault, Order, checks_after, first_checks, first_value, fitting_options, list_checks, name_code, offset_code, offset_in_value, resolution_code, units_in_value, CodedValue, microseconds}
 use Rattle.std.proofs.{Math.Nat.one-le-pow, lemmas.List.append_assoc}
 use Rattle.std.specs.Borrow.{Bor}
 use Rattle.cap_pcapng.specs.declared.interface.FoundOptions.{FoundOptions}

@@ -1,5 +1,5 @@
 -- What a text begins with is told by its first bytes alone: a block.
-use Rattle.cap_pcapng.proofs.Common.{◌≡◌, Parts, ℕ, ◌+◌, ◌-◌, ◌<◌, ◌≤◌, Bool, true, false, ◌&&◌, List, [], ◌∷◌, ◌++◌, length, take, drop, Option, Some, None, refl, sym, ap, ap₂, ◌∙◌, subst, arith, leb-true, le-leb, nat_le, ◌==◌, lt-leb, length-take-le, take-append-drop, take-append-le, drop-append-le, first_failing, Fault, BadBlockLength, Truncated, Order, Little, Big, all_met, failing_front, met_front, block_checks, body_checks, body_in, parts_in, parts_in_body, frame_checks, frame_in, length_in, order_in, IsBlock, Section, block_size, checks_among, frame_after, interfaces_before, order_before, parts_after, unit_fault, Frame}
+use Rattle.cap_pcapng.proofs.Common.{◌≡◌, Parts, ℕ, ◌+◌, ◌-◌, ◌<◌, ◌≤◌, Bool, true, false, ◌&&◌, List, [], ◌∷◌, ◌++◌, length, take, drop, Option, Some, None, refl, sym, ap, ap₂, ◌∙◌, arith, leb-true, le-leb, nat_le, ◌==◌, lt-leb, length-take-le, take-append-drop, take-append-le, drop-append-le, first_failing, Fault, BadBlockLength, Truncated, Order, Little, Big, all_met, failing_front, met_front, block_checks, body_checks, body_in, parts_in, parts_in_body, frame_checks, frame_in, length_in, order_in, IsBlock, Section, block_size, checks_among, frame_after, interfaces_before, order_before, parts_after, unit_fault, Frame}
 use Rattle.std.proofs.lemmas.List.{length-append, length-drop}
 use Rattle.cap_octet.proofs.Numbers.{number_in-append}
 

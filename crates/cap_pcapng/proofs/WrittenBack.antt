@@ -1,5 +1,5 @@
 -- Blocks that were written read back.
-use Rattle.cap_pcapng.proofs.Common.{◌≡◌, ℕ, ◌+◌, ◌-◌, ◌*◌, ◌/◌, ◌%◌, ◌^◌, ◌<◌, ◌≤◌, Bool, true, false, List, [], ◌∷◌, ◌++◌, length, take, drop, replicate, refl, sym, ap, ap₂, ◌∙◌, arith, append_assoc, length-append, Option, Some, None, le-leb, leb-true, lt-ltb, eq-eqb, lit≤, pos, ◌==◌, nat_le, slice_get, option_to_list, length-replicate, take_at, drop_at, little_bytes, all_met, met_front, first_failing, u16_in, u32_in, Fault, Truncated, Little, EnhancedParts, InterfaceParts, Parts, block_checks, body_checks, body_in, parts_in, parts_in_body, comment_in, frame_checks, frame_in, most_block, section_type, type_of_block, Captured, Described, most_interfaces, InterfaceBack, PacketBack, SectionBack, ReadsAs, written_interface, written_section, padded_length, time_by, representable_time, Section, checks_among, frame_after, interfaces_before, order_before, packet_by, section_by, unit_fault, block_size, block_text, comment_text, end_text, block_fit_checks, interface_body, name_text, packet_body, padded_text, resolution_text, Frame}
+use Rattle.cap_pcapng.proofs.Common.{◌≡◌, ℕ, ◌+◌, ◌-◌, ◌*◌, ◌/◌, ◌%◌, ◌^◌, ◌<◌, ◌≤◌, false, List, [], ◌∷◌, ◌++◌, length, take, drop, replicate, refl, sym, ap, ap₂, ◌∙◌, arith, append_assoc, length-append, Some, None, le-leb, leb-true, lt-ltb, eq-eqb, lit≤, pos, ◌==◌, slice_get, option_to_list, length-replicate, take_at, drop_at, little_bytes, all_met, first_failing, u16_in, u32_in, Little, EnhancedParts, InterfaceParts, Parts, block_checks, body_checks, body_in, parts_in, parts_in_body, comment_in, frame_checks, frame_in, most_block, section_type, type_of_block, Captured, Described, most_interfaces, InterfaceBack, PacketBack, SectionBack, ReadsAs, written_interface, written_section, padded_length, time_by, representable_time, checks_among, packet_by, section_by, block_size, block_text, comment_text, end_text, block_fit_checks, interface_body, name_text, packet_body, padded_text, resolution_text, Frame}
 use Rattle.cap_pcapng.proofs.Numerals.{number_at}
 use Rattle.cap_pcapng.proofs.OptionsBack.{comment_back, options_describe, options_pass}
 use Rattle.cap_pcapng.proofs.Units.{unit_fault-passes}
