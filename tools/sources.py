@@ -57,6 +57,16 @@ def bound_names(code):
     return {name for groups in BINDERS.findall(code) for group in groups for name in re.findall(WORD, group)}
 
 
+def split_import(line):
+    """An import of names of several modules, `use P.{A.b, A.c}`, as imports of one module each, `use P.A.{b}`."""
+    found = re.match(r"(.*?use )([\w.]+)\.\{(.*)\}", line, re.DOTALL)
+    names = [name.strip() for name in found[3].split(",")] if found else []
+    if not any(re.match(r"\w+\.", name) for name in names):
+        return [line]
+    paths = [f"{found[2]}.{name}" for name in names]
+    return [found[1] + (path if " as " in path else "{0}.{{{2}}}".format(*path.rpartition("."))) for path in paths]
+
+
 def used_names(code, scope, bound):
     """The items that a term names, by the names in scope; a name after a point is a field."""
     code = FIELD_VALUE.sub(r"\1 \2", code)
@@ -212,7 +222,7 @@ class Sources:
     def imported(self, lines, where):
         """The scope of some `use` lines."""
         scope = {}
-        for line in lines:
+        for line in [it for line in lines for it in split_import(line)]:
             if found := re.match(r"(?:ghost )?use (Rattle\.(\w+)\.[\w.]+)\.\{(.*)\}", line, re.DOTALL):
                 names = re.split(r"[\s,]+", found[3]) if found[2] not in self.crates else []
                 self.foreign[where] |= {(found[1], name) for name in names if re.fullmatch(WORD, name)}

@@ -1,8 +1,7 @@
 -- A table of checks returns no fault exactly where all of them are met.
 use Rattle.std.proofs.Common.{◌≡◌, Bool, true, false, List, [], ◌∷◌, ◌++◌, Option, Some, None, Ok, Err, refl}
 use Rattle.std.specs.List.{AllByRecursion}
-use Rattle.cap_octet.specs.declared.fault.Fault.{Fault}
-use Rattle.cap_octet.specs.Checks.{checked, first_failing}
+use Rattle.cap_octet.specs.{Checks.checked, Checks.first_failing, declared.fault.Fault.Fault}
 
 pub all_met : (rows : List (Bool × Fault)) → first_failing rows ≡ None → AllByRecursion (λ row. row.0 ≡ true) rows
 all_met [] none = tt

@@ -1,11 +1,12 @@
 -- Days counted one by one are the days of their numbers.
-use Rattle.cap_octet.proofs.Common.{◌≡◌, ℕ, ap, Bool, true, false, ◌&&◌, None, if◌then◌else◌, zero, suc, ◌+◌, ◌<◌, ◌≤◌, ◌⊎◌, inl, inr, refl, sym, ◌∙◌, arith, rules, ℤ, pos, negsuc, ◌≤ℤ◌, ◌+ℤ◌, ◌-◌, unsigned_abs, Some, nat_lt, lt-ltb, le-ltb, cases_order, days_in_month, IsCivilDate, epoch_day, signed_arith, le-leb, leb-true, day_number}
-use Rattle.jiff_core.specs.declared.civil.date.Date.{Date}
-use Rattle.jiff_core.specs.Calendar.{days_from_civil}
+use Rattle.cap_octet.proofs.Common.{◌≡◌, ℕ, ap, zero, suc, ◌+◌, ◌<◌, ◌≤◌, ◌⊎◌, inl, inr, refl, sym, ◌∙◌, arith, rules, ℤ, pos, negsuc, ◌≤ℤ◌, ◌+ℤ◌, ◌-◌, unsigned_abs, Some, nat_lt, lt-ltb, le-ltb, cases_order, days_in_month, IsCivilDate, epoch_day, signed_arith, le-leb, leb-true, day_number}
+use Rattle.cap_octet.proofs.Numerals.{both}
+use Rattle.jiff_core.specs.{Calendar.days_from_civil, declared.civil.date.Date.Date}
+use Rattle.cap_octet.specs.Calendar.{Day, ymd, next_day, day_from_epoch}
 use Rattle.cap_octet.specs.Laws.{DayHasItsNumber, NumberHasItsDay}
 use Rattle.jiff_core.proofs.CalendarLemmas.{days_in_month_bounds}
 use Rattle.jiff_core.proofs.DateLemmas.{days_from_civil-day, days_from_civil-next_month, days_from_civil-next_year, days_from_civil-max, epoch_day_injective, epoch_day_same, epoch_day-lt, cases_date}
-use Rattle.cap_octet.specs.Calendar.{Day, ymd, next_day, day_from_epoch}
+use Rattle.std.proofs.lemmas.Option.{cond_some}
 
 -- c is the day with the number n
 pub record IsCounted (n : ℕ) (c : Day) : Type 0 where
@@ -113,15 +114,6 @@ day_has_its_number n small =
     let year : c.year ≤ 9999 = omega (arith, signed_arith, h.civil.0) in
     day_there c.year c.month c.day h.low year h.civil.1.0 h.civil.1.1 h.civil.2.0 h.civil.2.1 ∙ ap (λ (z : ℤ). Some (unsigned_abs z)) h.number
 
-both : (a b : Bool) → a && b ≡ true → (a ≡ true) × (b ≡ true)
-both true b h = (refl, h)
-both false b h = absurd (cc)
-
--- what a test that holds gives is its value
-if_some : (b : Bool) (v n : ℕ) → (if b then Some v else None) ≡ Some n → (b ≡ true) × (v ≡ n)
-if_some true v n e = (refl, cc)
-if_some false v n e = absurd (cc)
-
 -- the calendar has a day that has a number
 pub record IsNumbered (y m d n : ℕ) : Type 0 where
   pub low : 1970 ≤ y
@@ -130,7 +122,7 @@ pub record IsNumbered (y m d n : ℕ) : Type 0 where
 
 numbered : (y m d n : ℕ) → day_number y m d ≡ Some n → IsNumbered y m d n
 numbered y m d n e =
-    let found = if_some _ _ _ e in
+    let found = cond_some _ _ _ e in
     let t1 = both _ _ found.0 in
     let t2 = both _ _ t1.1 in
     let t3 = both _ _ t2.1 in

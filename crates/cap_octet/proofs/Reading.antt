@@ -1,9 +1,7 @@
 -- One read after another, and one write after another.
 use Rattle.cap_octet.proofs.Common.{◌≡◌, ℕ, ◌+◌, ◌-◌, ◌<◌, ◌≤◌, min, Bool, true, false, if◌then◌else◌, List, [], ◌++◌, length, take, drop, sym, ◌∙◌, ap, arith, subst, Option, None, Some, length-take, drop-drop, drop_at, take_at, append-nil, append_assoc, take-take, take_all, drop-append-le, take-append-drop, take-add, Takes, TakesSome, TakesFull, TakesFront}
-use Rattle.std.specs.Io.KnownBytes.{Consumes, prepend_known}
-use Rattle.std.specs.Io.BufRead.{DropsConsumable}
-use Rattle.std.proofs.lemmas.List.{length-drop}
-use Rattle.std.proofs.Math.ListN.{drop_of_length-le}
+use Rattle.std.specs.Io.{BufRead.DropsConsumable, KnownBytes.Consumes, KnownBytes.prepend_known}
+use Rattle.std.proofs.{Math.ListN.drop_of_length-le, lemmas.List.length-drop}
 use borrow.Rule.Slice.PartMut.{put_mid, mid_of}
 
 -- what is after the first c bytes of the buffer after the first c came
@@ -20,7 +18,7 @@ joined u b c k n h l =
     (grind (arith, append_assoc, append-nil))
 
 -- what came into the rest of a buffer came into the buffer
-Takes-following : (u b u1 b1 : List ℕ) (c k n : ℕ) (u2 p : List ℕ) → Takes u b c u1 b1 → Takes u1 (mid_of c k b1) n u2 p
+pub Takes-following : (u b u1 b1 : List ℕ) (c k n : ℕ) (u2 p : List ℕ) → Takes u b c u1 b1 → Takes u1 (mid_of c k b1) n u2 p
     → c + k ≡ length b → c ≤ length b → Takes u b (c + n) u2 (put_mid c k b1 p)
 Takes-following u b u1 b1 c k n u2 p first next e h =
     let l : length (drop c b) ≤ k = simp length-drop (omega arith) in
@@ -29,10 +27,6 @@ Takes-following u b u1 b1 c k n u2 p first next e h =
       bytes = rw (next.bytes, first.rest, first.bytes) (joined u b c k n first.there l);
       rest = next.rest ∙ ap (λ (x : List ℕ). drop n x) first.rest ∙ drop-drop n c u;
     }
-
-pub Takes-again : (u b u1 b1 : List ℕ) (c k n : ℕ) (u2 p : List ℕ) → Takes u b c u1 b1 → TakesSome u1 (mid_of c k b1) n u2 p
-    → c + k ≡ length b → c ≤ length b → Takes u b (c + n) u2 (put_mid c k b1 p)
-Takes-again u b u1 b1 c k n u2 p first next e h = Takes-following u b u1 b1 c k n u2 p first next.taken e h
 
 -- a first read, and then reads until the rest is full or the end is met
 pub full-following : (u b u1 b1 : List ℕ) (c k n : ℕ) (u2 p : List ℕ) → Takes u b c u1 b1 → TakesFull u1 (mid_of c k b1) n u2 p
@@ -61,7 +55,7 @@ front-following u b u1 b1 c k given u2 p given1 given2 first next e h same count
 pub Takes-nothing : (u b u1 b1 : List ℕ) (c k n : ℕ) (u2 p : List ℕ) → Takes u b c u1 b1 → TakesSome u1 (mid_of c k b1) n u2 p
     → c + k ≡ length b → 0 < k → n ≡ 0 → length b1 ≡ length b → TakesFull u b c u2 (put_mid c k b1 p)
 Takes-nothing u b u1 b1 c k n u2 p first next e pos zero same =
-    let again : Takes u b (c + n) u2 (put_mid c k b1 p) = Takes-again u b u1 b1 c k n u2 p first next e (omega arith) in
+    let again : Takes u b (c + n) u2 (put_mid c k b1 p) = Takes-following u b u1 b1 c k n u2 p first next.taken e (omega arith) in
     let c0 : c + n ≡ c = omega arith in
     let mid : length (mid_of c k b1) ≡ k = length-take k (drop c b1) ∙ (simp length-drop (omega arith)) in
     let ended : u1 ≡ [] = next.at_end zero (omega arith) in

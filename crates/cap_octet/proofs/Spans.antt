@@ -1,9 +1,8 @@
 -- A number of seconds is read in a word of 64 bits, and nothing is lost by that.
 use Rattle.cap_octet.proofs.Common.{◌≡◌, ℕ, ◌+◌, ◌-◌, ◌*◌, ◌^◌, ◌<◌, ◌≤◌, inl, inr, Bool, true, false, nat_le, ◌&&◌, ◌==◌, not, List, length, Option, Some, None, refl, sym, ap, ◌∙◌, arith, if◌then◌else◌, take, drop, one-le-pow, mul-le-mul_right, cases_order, lt-ltb, le-ltb, digits_value, NANOS_PER_SECOND, are_digits, decimal_value, in_u64, duration_of_parts, fraction_nanoseconds, number_at}
-use Rattle.std.proofs.Common.{length-take}
-use Rattle.std.proofs.lemmas.Nat.{pow-add}
-use Rattle.std.specs.Option.{option_and_then}
 use Rattle.cap_octet.proofs.Numerals.{below_ten_to, both, few_in_u64}
+use Rattle.std.proofs.{Common.length-take, lemmas.Nat.pow-add}
+use Rattle.std.specs.Option.{option_and_then}
 
 -- a number of a digits, moved to nine
 nine : (a v : ℕ) → a ≤ 9 → v < 10 ^ a → v * 10 ^ (9 - a) < 1000000000

@@ -4,16 +4,21 @@ use Rattle.std.proofs.lemmas.Grind.{flat_map-append}
 use Rattle.cap_octet.specs.declared.device.Stopped.{Stopped}
 
 -- a part that stopped after others, and that more would have followed
+stops-at : (old mid new done part more : List ℕ) (stopped : Stopped) → mid ≡ old ++ done → stopped.written < length part
+    → WritesAll mid part (Err stopped) new → new ≡ old ++ take (length done + stopped.written) (done ++ (part ++ more))
+stops-at old mid new done part more stopped first less second =
+    second
+    ∙ ap (λ (x : List ℕ). x ++ take stopped.written part) first
+    ∙ append_assoc old done (take stopped.written part)
+    ∙ ap (λ (x : List ℕ). old ++ (done ++ x)) (sym (take-append-le stopped.written part more (omega (arith, less))))
+    ∙ ap (λ (x : List ℕ). old ++ x) (sym (take-append-add done (part ++ more) stopped.written))
+
 pub stops-part : (old mid new done part more : List ℕ) (stopped : Stopped) → mid ≡ old ++ done
     → stopped.written < length part → WritesAll mid part (Err stopped) new → Stops old (done ++ (part ++ more)) new
 stops-part old mid new done part more stopped first less second = (
   length done + stopped.written,
   omega (arith, less, length-append done (part ++ more), length-append part more),
-  second
-      ∙ ap (λ (x : List ℕ). x ++ take stopped.written part) first
-      ∙ append_assoc old done (take stopped.written part)
-      ∙ ap (λ (x : List ℕ). old ++ (done ++ x)) (sym (take-append-le stopped.written part more (omega (arith, less))))
-      ∙ ap (λ (x : List ℕ). old ++ x) (sym (take-append-add done (part ++ more) stopped.written)),
+  stops-at old mid new done part more stopped first less second,
 )
 
 -- the parts before, at and after a place
@@ -37,12 +42,5 @@ pub parts-stop-at : {X : Type 0} (f : X → List ℕ) (parts : List X) (i : ℕ)
     → stopped.written < length (f (get_or parts i d)) → WritesAll mid (f (get_or parts i d)) (Err stopped) new
     → new ≡ old ++ take (before + stopped.written) (flat_map f parts)
 parts-stop-at f parts i d before old mid new stopped within before_is first less second =
-    let done : List ℕ = flat_map f (take i parts) in
-    let part : List ℕ = f (get_or parts i d) in
-    let more : List ℕ = flat_map f (drop (i + 1) parts) in
-    rw (parts_at f parts i d within, before_is) (
-    second
-    ∙ ap (λ (x : List ℕ). x ++ take stopped.written part) first
-    ∙ append_assoc old done (take stopped.written part)
-    ∙ ap (λ (x : List ℕ). old ++ (done ++ x)) (sym (take-append-le stopped.written part more (omega (arith, less))))
-    ∙ ap (λ (x : List ℕ). old ++ x) (sym (take-append-add done (part ++ more) stopped.written)))
+    rw (parts_at f parts i d within, before_is)
+    (stops-at old mid new (flat_map f (take i parts)) (f (get_or parts i d)) (flat_map f (drop (i + 1) parts)) stopped first less second)

@@ -1,7 +1,6 @@
 -- The results of a device's calls, for its bytes and for the counts that contracts see.
 use Rattle.std.specs.Prelude.{◌≡◌, ℕ, ◌+◌, ◌<◌, ◌≤◌, Bool, true, false, List, [], ◌++◌, length, take, drop, Option, None, Some, Result, Ok, Err, min}
-use Rattle.cap_octet.specs.declared.device.DeviceFault.{DeviceFault}
-use Rattle.cap_octet.specs.declared.device.Stopped.{Stopped}
+use Rattle.cap_octet.specs.declared.device.{DeviceFault.DeviceFault, Stopped.Stopped}
 
 -- the number of bytes that came: 0 in a call that failed
 abbrev pub count_of : {E : Type 0} → Result ℕ E → ℕ

@@ -1,8 +1,6 @@
 -- Numbers that digits write.
+use Rattle.std.specs.{Char.digit_value, List.list_all, Option.option_and_then}
 use Rattle.std.specs.Prelude.{ℕ, ◌^◌, nat_lt, ◌==◌, ◌&&◌, not, Bool, if◌then◌else◌, List, length, Option, Some, None}
-use Rattle.std.specs.Char.{digit_value}
-use Rattle.std.specs.List.{list_all}
-use Rattle.std.specs.Option.{option_and_then}
 use Rattle.std.specs.Str.Parse.{digits_value}
 
 -- whether all bytes are digits of a radix, in ASCII

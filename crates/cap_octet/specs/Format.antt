@@ -1,9 +1,7 @@
 -- The formats that captures are written in.
-use Rattle.std.specs.Prelude.{ℕ, List, [], ◌∷◌, Option, codes}
 use Rattle.std.specs.List.{find}
-use Rattle.std.specs.Str.{bytes_eq}
-use Rattle.cap_octet.specs.declared.format.Format.{Format}
-use Rattle.cap_octet.specs.declared.format.Format.TheVariants.{Pcap, NsecPcap, Pcapng}
+use Rattle.std.specs.{Prelude.ℕ, Prelude.List, Prelude.[], Prelude.◌∷◌, Prelude.Option, Prelude.codes, Str.bytes_eq}
+use Rattle.cap_octet.specs.declared.format.Format.{Format, TheVariants.Pcap, TheVariants.NsecPcap, TheVariants.Pcapng}
 
 -- every format
 unfoldable pub all_formats : List Format

@@ -1,8 +1,7 @@
 -- Days are counted in two ways: one by one when a date is printed, and by jiff's day numbers when
 -- one is read.
 use Rattle.std.specs.Prelude.{◌≡◌, ℕ, ◌≤◌, Some}
-use Rattle.cap_octet.specs.Calendar.{ymd, day_from_epoch}
-use Rattle.cap_octet.specs.Timestamp.{day_number}
+use Rattle.cap_octet.specs.{Calendar.ymd, Calendar.day_from_epoch, Timestamp.day_number}
 
 -- the day that comes n days after 1970-01-01 has the number n, for n up to 200,000
 abbrev pub DayHasItsNumber : Type 0

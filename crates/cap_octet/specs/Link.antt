@@ -1,11 +1,9 @@
 -- The links that lines and expressions know: how packets begin that were captured on them.
-use Rattle.std.specs.Prelude.{ℕ, ◌==◌, List, [], ◌∷◌, Option, None, Some, codes}
 use Rattle.std.specs.List.{find}
+use Rattle.std.specs.Prelude.{ℕ, ◌==◌, List, [], ◌∷◌, Option, None, Some, codes}
 use Rattle.std.specs.Str.{bytes_eq}
-use Rattle.cap_octet.specs.Assigned.{LINKTYPE_ETHERNET, LINKTYPE_RAW, LINKTYPE_LINUX_SLL}
-use Rattle.cap_octet.specs.Assigned.{ETHERNET_TYPE_OFFSET, ETHERNET_HEADER_LENGTH, LINUX_SLL_TYPE_OFFSET, LINUX_SLL_HEADER_LENGTH}
-use Rattle.cap_octet.specs.declared.link.Link.{Link}
-use Rattle.cap_octet.specs.declared.link.Link.TheVariants.{Ether, Raw, Cooked}
+use Rattle.cap_octet.specs.Assigned.{LINKTYPE_ETHERNET, LINKTYPE_RAW, LINKTYPE_LINUX_SLL, ETHERNET_TYPE_OFFSET, ETHERNET_HEADER_LENGTH, LINUX_SLL_TYPE_OFFSET, LINUX_SLL_HEADER_LENGTH}
+use Rattle.cap_octet.specs.declared.link.Link.{Link, TheVariants.Ether, TheVariants.Raw, TheVariants.Cooked}
 
 -- every link
 unfoldable pub all_links : List Link

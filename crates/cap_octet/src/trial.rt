@@ -1,12 +1,9 @@
 //! Devices for tests, over memory: they move a few bytes per call and fail when a test asks, and
 //! the input counts its reads. The first clauses of a method are those of its trait with this
 //! device's ghost members put in (`tells`, `failures` and so on).
-ghost use Rattle.std.specs.Prelude.{◌≡◌, ℕ, ◌+◌, ◌-◌, ◌≤◌, ◌<◌, ◌^◌, IsTrue, List, [], length};
+ghost use Rattle.std.specs.{Io.StartsWith, Option.option_map};
+ghost use Rattle.std.specs.Prelude.{◌≡◌, ℕ, ◌+◌, ◌-◌, ◌≤◌, ◌<◌, ◌^◌, IsTrue, List, [], length, Some, None, true, IfOk, IsErr, OnErr, OnOk, min, is_some, drop, if◌then◌else◌, take};
 ghost use Rattle.std.proofs.Common.{rules};
-ghost use Rattle.std.specs.Prelude.{Some, None, true, IfOk, IsErr, OnErr, OnOk, min, is_some};
-ghost use Rattle.std.specs.Prelude.{drop, if◌then◌else◌, take};
-ghost use Rattle.std.specs.Option.{option_map};
-ghost use Rattle.std.specs.Io.{StartsWith};
 ghost use Rattle.cap_octet.specs.Device.{Passes, Reads, Writes, count_of, failures_of};
 
 use crate::count::ContractCount;
@@ -64,9 +61,9 @@ impl<'a> TrialInput<'a> {
 impl Input for TrialInput<'_> {
     ghost tells = { true };
 
-    ghost unread = { λ s. ⟦<MemInput<'static> as Input>⟧.unread s.inner };
+    ghost unread = { λ s. s.inner.rest.now };
 
-    ghost given = { λ s. ⟦<MemInput<'static> as Input>⟧.given s.inner };
+    ghost given = { λ s. s.inner.given };
 
     ghost failures = { λ s. s.failures.count };
 
@@ -74,21 +71,18 @@ impl Input for TrialInput<'_> {
     ghost sure = { λ s. option_map {U = ℕ} (λ _. 0) s.fails_at };
 
     /// What one read gives; nothing if some read must fail.
-    ghost held = { λ s. if is_some s.fails_at then []
-        else take s.piece (⟦<MemInput<'static> as Input>⟧.unread s.inner) };
+    ghost held = { λ s. if is_some s.fails_at then [] else take s.piece s.inner.rest.now };
 
     /// Gives at most `piece` bytes; fails only when `reads` becomes `fails_at`.
     fn read(&mut self, buf: &mut [u8]) -> Result<usize, DeviceFault>
         ensures within { IfOk result (λ n. n ≤ length buf.old) }
-        ensures counted { ⟦<MemInput<'static> as Input>⟧.given self.new.inner
-            ≡ ⟦<MemInput<'static> as Input>⟧.given self.old.inner + count_of result }
-        ensures bounded { ⟦<MemInput<'static> as Input>⟧.given self.new.inner < 2 ^ 63 }
+        ensures counted { self.new.inner.given ≡ self.old.inner.given + count_of result }
+        ensures bounded { self.new.inner.given < 2 ^ 63 }
         ensures failed { self.new.failures.count ≡ self.old.failures.count + failures_of result }
         ensures sure { option_map {U = ℕ} (λ _. 0) self.new.fails_at
             ≡ option_map {U = ℕ} (λ _. 0) self.old.fails_at }
         ensures exact { IsTrue true
-            → Reads (⟦<MemInput<'static> as Input>⟧.unread self.old.inner) buf.old result
-            (⟦<MemInput<'static> as Input>⟧.unread self.new.inner) buf.new }
+            → Reads self.old.inner.rest.now buf.old result self.new.inner.rest.now buf.new }
         ensures piece { IfOk result (λ n. n ≤ self.old.piece) }
         ensures fails { OnErr result (self.old.fails_at ≡ Some self.new.reads) }
         ensures fails_there { self.old.fails_at ≡ Some self.new.reads → IsErr result }
@@ -106,12 +100,7 @@ impl Input for TrialInput<'_> {
     }
 
     /// What one read gives; nothing if some read must fail, so that reads are made and counted.
-    fn at_hand(&self) -> &[u8]
-        ensures exact { IsTrue true
-            → StartsWith (⟦<MemInput<'static> as Input>⟧.unread self.now.inner) result.now }
-        ensures held { result.now ≡ (if is_some self.now.fails_at then []
-            else take self.now.piece (⟦<MemInput<'static> as Input>⟧.unread self.now.inner)) }
-    {
+    fn at_hand(&self) -> &[u8] {
         if self.fails_at.is_some() {
             return &[];
         }
@@ -120,43 +109,32 @@ impl Input for TrialInput<'_> {
     }
 
     /// Whether one read gives as many bytes, and no read must fail.
-    fn can_pass(&self, count: usize) -> bool
-        ensures { result ≡ true → (count ≤ length (if is_some self.now.fails_at then []
-            else take self.now.piece (⟦<MemInput<'static> as Input>⟧.unread self.now.inner)))
-            × (⟦<MemInput<'static> as Input>⟧.given self.now.inner + count < 2 ^ 63) }
-    {
+    fn can_pass(&self, count: usize) -> bool {
         self.fails_at.is_none() && count <= self.piece && self.inner.can_pass(count)
     }
 
     /// Takes `count` bytes if one read gives as many and no read must fail; else none, and
     /// returns `false`.
     fn pass(&mut self, count: usize) -> bool
-        ensures counted { ⟦<MemInput<'static> as Input>⟧.given self.new.inner
-            ≡ ⟦<MemInput<'static> as Input>⟧.given self.old.inner
-            + (if result then count else 0) }
-        ensures bounded { IsTrue result
-            → ⟦<MemInput<'static> as Input>⟧.given self.new.inner < 2 ^ 63 }
+        ensures counted { self.new.inner.given
+            ≡ self.old.inner.given + (if result then count else 0) }
+        ensures bounded { IsTrue result → self.new.inner.given < 2 ^ 63 }
         ensures failed { self.new.failures.count ≡ self.old.failures.count }
         ensures sure { option_map {U = ℕ} (λ _. 0) self.new.fails_at
             ≡ option_map {U = ℕ} (λ _. 0) self.old.fails_at }
-        ensures rest { ⟦<MemInput<'static> as Input>⟧.unread self.new.inner
-            ≡ drop (if result then count else 0)
-            (⟦<MemInput<'static> as Input>⟧.unread self.old.inner) }
+        ensures rest { self.new.inner.rest.now
+            ≡ drop (if result then count else 0) self.old.inner.rest.now }
         ensures exact { IsTrue true
-            → Passes (⟦<MemInput<'static> as Input>⟧.unread self.old.inner) count result
-            (⟦<MemInput<'static> as Input>⟧.unread self.new.inner) }
-        ensures passes { 0 < count
-            → count ≤ length (if is_some self.old.fails_at then []
-            else take self.old.piece (⟦<MemInput<'static> as Input>⟧.unread self.old.inner))
-            → ⟦<MemInput<'static> as Input>⟧.given self.old.inner + count < 2 ^ 63
-            → result ≡ true }
+            → Passes self.old.inner.rest.now count result self.new.inner.rest.now }
+        ensures passes { 0 < count → count ≤ length (if is_some self.old.fails_at then []
+            else take self.old.piece self.old.inner.rest.now)
+            → self.old.inner.given + count < 2 ^ 63 → result ≡ true }
         ensures stays { StartsWith (if is_some self.new.fails_at then []
-            else take self.new.piece (⟦<MemInput<'static> as Input>⟧.unread self.new.inner))
+            else take self.new.piece self.new.inner.rest.now)
             (drop (if result then count else 0) (if is_some self.old.fails_at then []
-            else take self.old.piece (⟦<MemInput<'static> as Input>⟧.unread self.old.inner))) }
+            else take self.old.piece self.old.inner.rest.now)) }
         ensures always { self.old.fails_at ≡ None → count ≤ self.old.piece
-            → count ≤ length (⟦<MemInput<'static> as Input>⟧.unread self.old.inner)
-            → result ≡ true }
+            → count ≤ length self.old.inner.rest.now → result ≡ true }
         ensures settings { (self.new.piece ≡ self.old.piece)
             × (self.new.fails_at ≡ self.old.fails_at) × (self.new.reads ≡ self.old.reads) }
     {
@@ -205,25 +183,23 @@ impl<'a> TrialOutput<'a> {
 impl Output for TrialOutput<'_> {
     ghost tells = { true };
 
-    ghost written = { λ s. ⟦<MemOutput<'static> as Output>⟧.written s.inner };
+    ghost written = { λ s. take s.inner.len s.inner.bytes.now };
 
-    ghost failures = { λ s. ⟦<MemOutput<'static> as Output>⟧.failures s.inner };
+    ghost failures = { λ s. s.inner.failures.count };
 
-    ghost room = { λ s. ⟦<MemOutput<'static> as Output>⟧.room s.inner };
+    ghost room = { λ s. length s.inner.bytes.now };
 
     /// Takes at most `piece` bytes, and fails only if the slice is full.
     fn write(&mut self, buf: &[u8]) -> Result<usize, DeviceFault>
         ensures within { IfOk result (λ n. n ≤ length buf.now) }
         ensures some { IfOk result (λ n. 0 < length buf.now → 0 < n) }
-        ensures failed { ⟦<MemOutput<'static> as Output>⟧.failures self.new.inner
-            ≡ ⟦<MemOutput<'static> as Output>⟧.failures self.old.inner + failures_of result }
-        ensures room { ⟦<MemOutput<'static> as Output>⟧.room self.new.inner
-            ≡ ⟦<MemOutput<'static> as Output>⟧.room self.old.inner }
+        ensures failed { self.new.inner.failures.count
+            ≡ self.old.inner.failures.count + failures_of result }
+        ensures room { length self.new.inner.bytes.now ≡ length self.old.inner.bytes.now }
         ensures exact { IsTrue true
-            → Writes (⟦<MemOutput<'static> as Output>⟧.written self.old.inner) buf.now result
-            (⟦<MemOutput<'static> as Output>⟧.written self.new.inner) }
+            → Writes (take self.old.inner.len self.old.inner.bytes.now) buf.now result
+            (take self.new.inner.len self.new.inner.bytes.now) }
         ensures piece { IfOk result (λ n. n ≤ self.old.piece) }
-        ensures full { OnErr result (self.old.inner.len ≡ length self.old.inner.bytes.now) }
         ensures settings { self.new.piece ≡ self.old.piece }
     {
         let most = buf.len().min(self.piece);

@@ -1,12 +1,9 @@
 -- What a text begins with is told by its first bytes alone: the file header.
 use Rattle.std.proofs.Common.{◌≡◌, ℕ, ◌+◌, ◌<◌, ◌≤◌, true, List, ◌++◌, length, Some, None, is_some, refl, arith}
-use Rattle.std.proofs.lemmas.List.{length-append}
-use Rattle.std.proofs.lemmas.Bool.{leb-true, le-leb, lt-leb}
+use Rattle.std.proofs.lemmas.{Bool.leb-true, Bool.le-leb, Bool.lt-leb, List.length-append}
 use Rattle.cap_octet.specs.declared.fault.Fault.TheVariants.{NotACaptureFile, Truncated}
-use Rattle.cap_octet.specs.declared.number.Order.{Order}
-use Rattle.cap_octet.specs.declared.number.Order.TheVariants.{Little, Big}
-use Rattle.cap_octet.proofs.Checks.{all_met}
-use Rattle.cap_octet.proofs.Numbers.{number_in-append}
+use Rattle.cap_octet.specs.declared.number.Order.{Order, TheVariants.Little, TheVariants.Big}
+use Rattle.cap_octet.proofs.{Checks.all_met, Numbers.number_in-append}
 use Rattle.cap_pcap.specs.Header.{form_in, form_of, header_checks, header_fault, header_in}
 
 -- ---- more bytes after

@@ -1,14 +1,12 @@
 -- What a text begins with is told by its first bytes alone: a record.
 use Rattle.std.proofs.Common.{◌≡◌, ℕ, ◌+◌, ◌<◌, ◌≤◌, Bool, List, [], ◌∷◌, ◌++◌, length, take, drop, nat_le, Some, None, refl, sym, ap, ◌∙◌, arith}
-use Rattle.std.proofs.lemmas.List.{length-append, length-take-le, take-append-drop}
 use Rattle.std.proofs.lemmas.Bool.{leb-true, le-leb, lt-leb}
+use Rattle.std.proofs.lemmas.List.{length-append, length-take-le, take-append-drop}
 use Rattle.cap_octet.specs.Checks.{first_failing}
-use Rattle.cap_octet.specs.declared.fault.Fault.{Fault}
-use Rattle.cap_octet.specs.declared.fault.Fault.TheVariants.{Truncated}
-use Rattle.cap_octet.proofs.Checks.{all_met, failing_front, met_front}
-use Rattle.cap_octet.proofs.Numbers.{number_in-append}
-use Rattle.cap_pcap.specs.declared.header.Head.{Head}
+use Rattle.cap_octet.specs.declared.fault.Fault.{Fault, TheVariants.Truncated}
+use Rattle.cap_octet.proofs.{Checks.all_met, Checks.failing_front, Checks.met_front, Numbers.number_in-append}
 use Rattle.cap_pcap.specs.Record.{captured_len, record_size, field_checks, record_checks, record_fault, record_header_in, IsRecord}
+use Rattle.cap_pcap.specs.declared.header.Head.{Head}
 
 -- ---- more bytes after
 

@@ -1,16 +1,11 @@
 -- Pcap savefiles as they are written: the headers, and which packets they hold.
 use Rattle.std.specs.Prelude.{ℕ, ◌^◌, ◌/◌, ◌%◌, Bool, List, [], ◌∷◌, ◌++◌, length, nat_lt, nat_le}
 use Rattle.byteorder.specs.Endian.{little_bytes}
-use Rattle.cap_octet.specs.Date.{NANOS_PER_SECOND}
-use Rattle.cap_octet.specs.Packet.{Captured}
-use Rattle.cap_octet.specs.declared.fault.Fault.{Fault}
-use Rattle.cap_octet.specs.declared.fault.Fault.TheVariants.{TooLong, TimeOutOfRange}
-use Rattle.cap_octet.specs.declared.format.Format.{Format}
-use Rattle.cap_octet.specs.declared.format.Format.TheVariants.{Pcap, NsecPcap, Pcapng}
-use Rattle.cap_pcap.specs.Header.{magic}
-use Rattle.cap_pcap.specs.Record.{most_captured, nanoseconds_of_part}
-use Rattle.cap_pcap.specs.declared.header.Resolution.{Resolution}
-use Rattle.cap_pcap.specs.declared.header.Resolution.TheVariants.{Microseconds, Nanoseconds}
+use Rattle.cap_octet.specs.{Date.NANOS_PER_SECOND, Packet.Captured}
+use Rattle.cap_octet.specs.declared.fault.Fault.{Fault, TheVariants.TooLong, TheVariants.TimeOutOfRange}
+use Rattle.cap_octet.specs.declared.format.Format.{Format, TheVariants.Pcap, TheVariants.NsecPcap, TheVariants.Pcapng}
+use Rattle.cap_pcap.specs.{Header.magic, Record.most_captured, Record.nanoseconds_of_part}
+use Rattle.cap_pcap.specs.declared.header.Resolution.{Resolution, TheVariants.Microseconds, TheVariants.Nanoseconds}
 
 -- the formats whose headers are here
 abbrev pub IsPcap : Format → Type 0

@@ -1,14 +1,10 @@
 -- The file header of a pcap savefile: its checks, in order, and what it says
 -- (draft-ietf-opsawg-pcap, "File Header").
 use Rattle.std.specs.Prelude.{◌≡◌, ℕ, ◌==◌, ◌&&◌, if◌then◌else◌, Bool, List, [], ◌∷◌, length, nat_lt, nat_le, Option, Some, None, is_some, unwrap_or}
-use Rattle.cap_octet.specs.Checks.{first_failing}
-use Rattle.cap_octet.specs.Number.{u16_in, u32_in}
-use Rattle.cap_octet.specs.declared.fault.Fault.{Fault}
+use Rattle.cap_octet.specs.{Checks.first_failing, Number.u16_in, Number.u32_in, declared.fault.Fault.Fault}
 use Rattle.cap_octet.specs.declared.fault.Fault.TheVariants.{NotACaptureFile, Truncated, BadVersion, BadLinkTypeField}
-use Rattle.cap_octet.specs.declared.number.Order.{Order}
-use Rattle.cap_octet.specs.declared.number.Order.TheVariants.{Little, Big}
-use Rattle.cap_pcap.specs.declared.header.Head.{Head}
-use Rattle.cap_pcap.specs.declared.header.Resolution.{Resolution}
+use Rattle.cap_octet.specs.declared.number.Order.{Order, TheVariants.Little, TheVariants.Big}
+use Rattle.cap_pcap.specs.declared.header.{Head.Head, Resolution.Resolution}
 use Rattle.cap_pcap.specs.declared.header.Resolution.TheVariants.{Microseconds, Nanoseconds}
 
 -- the magic number of a file of this resolution: its first four bytes

@@ -1,24 +1,16 @@
 -- A block finds its place in the table of interfaces, and its packet its data.
-use Rattle.cap_pcapng.proofs.Common.{◌≡◌, ℕ, ◌+◌, ◌-◌, ◌/◌, ◌*◌, ◌^◌, ◌<◌, ◌≤◌, Bool, true, false, List, [], ◌∷◌, length, take, drop, Option, Some, None, Ok, refl, sym, ap, ap₂, subst, ◌∙◌, arith, lit≤, leb-true, length-drop, inl, inr, if◌then◌else◌, nat_lt, is_some, unwrap_or, AllByRecursion, slice_get, option_map, ok_or, drop-drop, drop-take, take-take, length-take-le, length-take, take_all, first_failing, Fault, TimeOutOfRange, TooManyInterfaces, Order, all_met, met_front, Parts, SectionParts, InterfaceParts, EnhancedParts, SimpleParts, SkippedParts, block_checks, block_fault, option_checks, body_checks, body_in, data_checks, parts_in, parts_in_body, parts_of, simple_captured, comment_code, comment_in, Described, most_interfaces, first_value, fitting_options, padded_length, representable_time, checks_among, packet_by, packet_of, section_by, Frame, Enters, IsBlockFault, held_packet, section_of, span_bytes}
-use Rattle.cap_pcapng.proofs.OptionLists.{options_in-none}
+use Rattle.cap_pcapng.proofs.Common.{◌≡◌, ℕ, ◌+◌, ◌-◌, ◌^◌, ◌<◌, ◌≤◌, Bool, true, false, List, [], ◌∷◌, length, take, drop, Option, Some, None, Ok, refl, sym, ap, ap₂, subst, ◌∙◌, arith, lit≤, leb-true, length-drop, inl, inr, if◌then◌else◌, nat_lt, is_some, unwrap_or, AllByRecursion, slice_get, option_map, ok_or, drop-drop, drop-take, take-take, length-take-le, length-take, take_all, first_failing, Fault, TimeOutOfRange, TooManyInterfaces, Order, all_met, met_front, Parts, InterfaceParts, EnhancedParts, SimpleParts, block_checks, block_fault, option_checks, body_checks, body_in, data_checks, parts_in, parts_in_body, parts_of, simple_captured, comment_code, comment_in, Described, most_interfaces, first_value, fitting_options, padded_length, representable_time, checks_among, packet_by, packet_of, section_by, Frame, Enters, IsBlockFault, held_packet, section_of, span_bytes}
+use Rattle.cap_pcapng.proofs.{Faults.all_failing, Faults.all_of_options, OptionLists.options_in-none}
 use Rattle.cap_pcapng.proofs.WholeBlocks.{block_fails, block_passes}
-use Rattle.cap_pcapng.specs.declared.blocks.Block.TheVariants as read
-use Rattle.cap_pcapng.specs.declared.blocks.EnhancedBlock.{EnhancedBlock}
-use Rattle.cap_pcapng.specs.declared.blocks.SimpleBlock.{SimpleBlock}
-use Rattle.cap_pcapng.specs.declared.frames.BlockType.{BlockType}
-use Rattle.cap_pcapng.specs.declared.frames.BlockType.TheVariants as type
+use Rattle.cap_pcapng.specs.declared.blocks.{Block.Block, EnhancedBlock.EnhancedBlock, SimpleBlock.SimpleBlock}
+use Rattle.cap_pcapng.specs.declared.{effect.PacketSpans.PacketSpans, frames.BlockType.BlockType}
 use Rattle.cap_pcapng.specs.inside.Effect.{PacketFound, fault_among}
-use Rattle.cap_pcapng.specs.declared.effect.PacketSpans.{PacketSpans}
-use Rattle.cap_pcapng.proofs.Faults.{all_failing, all_of_options}
 
 -- ---- a packet's data
 
 -- captured bytes lie in what is left of a body where their padding does
 captured_fits : (captured : ℕ) (rest : List ℕ) → first_failing (data_checks captured rest) ≡ None → captured ≤ length rest
-captured_fits captured rest none =
-    let room : padded_length captured ≤ length rest = leb-true (padded_length captured) (length rest) (all_met (data_checks captured rest) none).0 in
-    let more : captured ≤ (captured + 3) / 4 * 4 = omega arith in
-    omega (arith, room, more)
+captured_fits captured rest none = omega (arith, leb-true (padded_length captured) (length rest) (all_met (data_checks captured rest) none).0)
 
 pub known_interface : {X : Type 0} (found : Option X) (f : X → Described) (x : X) (i : Option Described) → found ≡ Some x → option_map f found ≡ i → i ≡ Some (f x)
 known_interface found f x i is same = sym same ∙ ap (option_map f) is
@@ -104,40 +96,17 @@ simple_found interfaces i orig size rest known upper_bound = (
 
 -- ---- the body in its block
 
--- bytes after the front of a body, as bytes of the block
-pub lies : (text : List ℕ) (skip most count : ℕ) → count ≤ length (drop skip (take most (drop 8 text))) → skip ≤ most
-    → take count (drop (8 + skip) text) ≡ take count (drop skip (take most (drop 8 text)))
-lies text skip most count there enough =
-    let whole : skip + (most - skip) ≡ most = omega arith in
-    let same : drop skip (take most (drop 8 text)) ≡ take (most - skip) (drop (8 + skip) text) =
-    ap (λ n. drop skip (take n (drop 8 text))) (sym whole) ∙ drop-take skip (most - skip) (drop 8 text) ∙ ap (take (most - skip)) (drop-drop skip 8 text) in
-    let upper_bound : count ≤ most - skip = omega (arith, there, ap length same, length-take (most - skip) (drop (8 + skip) text)) in
-    sym (take-take count (most - skip) (drop (8 + skip) text) upper_bound) ∙ ap (take count) (sym same)
-
--- what is left of the body of a block with a packet, and that the front of it is there
-record BodyIs (skip : ℕ) (rest : List ℕ) (frame : Frame) (block : List ℕ) : Type 0 where
-  left : rest ≡ drop skip (body_in frame block)
-  there : skip ≤ length (body_in frame block)
-
 enhanced_body : (kind : BlockType) (order own : Order) (body rest : List ℕ) (number ticks captured orig : ℕ) → parts_in_body kind order body ≡ EnhancedParts number ticks captured orig own rest
     → first_failing (body_checks kind order body) ≡ None → (rest ≡ drop 20 body) × (20 ≤ length body) × (own ≡ order)
-enhanced_body type.Section order own body rest number ticks captured orig e none = absurd (cc)
-enhanced_body type.Interface order own body rest number ticks captured orig e none = absurd (cc)
-enhanced_body type.ObsoletePacket order own body rest number ticks captured orig e none = absurd (cc)
-enhanced_body type.SimplePacket order own body rest number ticks captured orig e none = absurd (cc)
-enhanced_body type.Other order own body rest number ticks captured orig e none = absurd (cc)
-enhanced_body type.EnhancedPacket order own body rest number ticks captured orig e none =
-    ((cc), leb-true 20 (length body) (all_met (body_checks type.EnhancedPacket order body) none).0, (cc))
+enhanced_body BlockType.EnhancedPacket order own body rest number ticks captured orig e none =
+    ((cc), leb-true 20 (length body) (all_met (body_checks BlockType.EnhancedPacket order body) none).0, (cc))
+enhanced_body kind order own body rest number ticks captured orig e none = absurd (cc)
 
 simple_body : (kind : BlockType) (order : Order) (body rest : List ℕ) (orig : ℕ) → parts_in_body kind order body ≡ SimpleParts orig rest
     → first_failing (body_checks kind order body) ≡ None → (rest ≡ drop 4 body) × (4 ≤ length body)
-simple_body type.Section order body rest orig e none = absurd (cc)
-simple_body type.Interface order body rest orig e none = absurd (cc)
-simple_body type.ObsoletePacket order body rest orig e none = absurd (cc)
-simple_body type.EnhancedPacket order body rest orig e none = absurd (cc)
-simple_body type.Other order body rest orig e none = absurd (cc)
-simple_body type.SimplePacket order body rest orig e none =
-    ((cc), leb-true 4 (length body) (all_met (body_checks type.SimplePacket order body) none).0)
+simple_body BlockType.SimplePacket order body rest orig e none =
+    ((cc), leb-true 4 (length body) (all_met (body_checks BlockType.SimplePacket order body) none).0)
+simple_body kind order body rest orig e none = absurd (cc)
 
 rows_after : (b : Bool) (fault : Fault) (rows : List (Bool × Fault)) → first_failing ((b, fault) ∷ rows) ≡ None → first_failing rows ≡ None
 rows_after true fault rows none = none
@@ -146,49 +115,15 @@ rows_after false fault rows none = (cc)
 pub body_passes : (frame : Frame) (block : List ℕ) → first_failing (block_checks frame block) ≡ None → first_failing (body_checks frame.block_type frame.order (body_in frame block)) ≡ None
 body_passes frame block none = rows_after _ _ (body_checks frame.block_type frame.order (body_in frame block)) none
 
--- bytes of what is left of a body, as bytes of the block
-record LiesIn (frame : Frame) (block rest : List ℕ) (skip at count : ℕ) : Type 0 where
-  same : take count (drop (8 + (skip + at)) block) ≡ take count (drop at rest)
-  within : 8 + (skip + at) + count ≤ frame.length
-
-part_lies : (frame : Frame) (block rest : List ℕ) (skip at count : ℕ) → length block ≡ frame.length → 12 ≤ frame.length
-    → rest ≡ drop skip (body_in frame block) → skip ≤ length (body_in frame block) → at + count ≤ length rest → LiesIn frame block rest skip at count
-part_lies frame block rest skip at count whole least left there upper_bound =
-    let most : length (body_in frame block) ≡ frame.length - 12 =
-    length-take-le (frame.length - 12) (drop 8 block) (omega (arith, length-drop 8 block)) in
-    let size : length rest ≡ frame.length - 12 - skip = ap length left ∙ length-drop skip (body_in frame block) ∙ ap (λ n. n - skip) most in
-    let further : drop at rest ≡ drop (skip + at) (body_in frame block) =
-    ap (drop at) left ∙ drop-drop at skip (body_in frame block) in
-    let long : length (drop (skip + at) (body_in frame block)) ≡ frame.length - 12 - (skip + at) =
-    length-drop (skip + at) (body_in frame block) ∙ ap (λ n. n - (skip + at)) most in
-    record {
-      same =
-          lies block (skip + at) (frame.length - 12) count (omega (arith, upper_bound, size, long, there, most)) (omega (arith, upper_bound, size, there, most))
-          ∙ ap (take count) (sym further);
-      within = omega (arith, upper_bound, size, there, most);
-    }
-
--- the data and the options of a packet that was found in a body are those held of the block
-record HeldLies (frame : Frame) (block rest : List ℕ) (spans : PacketSpans) : Type 0 where
-  bytes : span_bytes spans.bytes block ≡ take spans.bytes.length rest
-  bytes_within : spans.bytes.start + spans.bytes.length ≤ frame.length
-  options : span_bytes spans.options block ≡ take spans.options.length (drop (spans.options.start - spans.bytes.start) rest)
-  options_within : spans.options.start + spans.options.length ≤ frame.length
-
-held_lies : (frame : Frame) (block rest : List ℕ) (skip : ℕ) (spans : PacketSpans) → length block ≡ frame.length → 12 ≤ frame.length
-    → rest ≡ drop skip (body_in frame block) → skip ≤ length (body_in frame block) → spans.bytes.start ≡ 8 + skip → spans.bytes.length ≤ length rest
-    → spans.bytes.start ≤ spans.options.start → spans.options.start - spans.bytes.start + spans.options.length ≤ length rest → HeldLies frame block rest spans
-held_lies frame block rest skip spans whole least left there from upper_bound following room =
-    let bytes = part_lies frame block rest skip 0 spans.bytes.length whole least left there (omega (arith, upper_bound)) in
-    let options = part_lies frame block rest skip (spans.options.start - spans.bytes.start) spans.options.length whole least left there room in
-    let data_at : spans.bytes.start ≡ 8 + (skip + 0) = omega (arith, from) in
-    let options_at : spans.options.start ≡ 8 + (skip + (spans.options.start - spans.bytes.start)) = omega (arith, from, following) in
-    record {
-      bytes = ap (λ n. take spans.bytes.length (drop n block)) data_at ∙ bytes.same;
-      bytes_within = omega (arith, data_at, bytes.within);
-      options = ap (λ n. take spans.options.length (drop n block)) options_at ∙ options.same;
-      options_within = omega (arith, options_at, options.within);
-    }
+-- bytes of a part of a block, as bytes of the block
+part_lies : (block rest : List ℕ) (most start at count : ℕ) → rest ≡ take most (drop start block) → at + count ≤ length rest
+    → take count (drop (start + at) block) ≡ take count (drop at rest)
+part_lies block rest most start at count is within =
+    let size : length rest ≤ most = omega (arith, ap length is, length-take most (drop start block)) in
+    let whole : at + (most - at) ≡ most = omega arith in
+    let same : drop at rest ≡ take (most - at) (drop (start + at) block) =
+    ap (drop at) is ∙ ap (λ n. drop at (take n (drop start block))) (sym whole) ∙ drop-take at (most - at) (drop start block) ∙ ap (take (most - at)) (drop-drop at start block) in
+    sym (take-take count (most - at) (drop (start + at) block) (omega arith)) ∙ ap (take count) (sym same)
 
 -- ---- a block with a packet
 
@@ -198,7 +133,17 @@ packet_enters : (frame : Frame) (interfaces : List Described) (block rest : List
     → section_by (Some (section_of frame.order interfaces)) frame.order parts ≡ section_of frame.order interfaces
     → Enters frame interfaces block (Some spans) interfaces
 packet_enters frame interfaces block rest parts skip spans whole least is passes left there among found stays =
-    let lie = held_lies frame block rest skip spans whole least left there found.from found.there found.following found.options in
+    let most : ℕ = frame.length - 12 - skip in
+    let skipped : skip + most ≡ frame.length - 12 = omega (arith, there, length-take (frame.length - 12) (drop 8 block)) in
+    let rest_is : rest ≡ take most (drop (8 + skip) block) =
+    left ∙ ap (λ n. drop skip (take n (drop 8 block))) (sym skipped) ∙ drop-take skip most (drop 8 block) ∙ ap (take most) (drop-drop skip 8 block) in
+    let size : length rest ≤ most = omega (arith, ap length rest_is, length-take most (drop (8 + skip) block)) in
+    let f = found in
+    let further : ℕ = spans.options.start - spans.bytes.start in
+    let bytes : span_bytes spans.bytes block ≡ take spans.bytes.length rest =
+    ap (λ n. take spans.bytes.length (drop n block)) (omega (arith, f.from)) ∙ part_lies block rest most (8 + skip) 0 spans.bytes.length rest_is (omega (arith, f.there)) in
+    let options : span_bytes spans.options block ≡ take spans.options.length (drop further rest) =
+    ap (λ n. take spans.options.length (drop n block)) (omega (arith, f.from, f.following)) ∙ part_lies block rest most (8 + skip) further spans.options.length rest_is f.options in
     record {
       passes = passes;
       among = ap (λ p. first_failing (checks_among interfaces p)) (sym is) ∙ among;
@@ -206,15 +151,15 @@ packet_enters frame interfaces block rest parts skip spans whole least is passes
       packet = record {
         packet = found.packet;
         stands = ap (packet_by interfaces) (sym is) ∙ found.stands;
-        is_lent = ap₂ (held_packet frame.order interfaces spans) lie.bytes lie.options ∙ found.is_lent;
+        is_lent = ap₂ (held_packet frame.order interfaces spans) bytes options ∙ found.is_lent;
       };
-      fits = (found.whole, lie.bytes_within, found.time, lie.options_within);
+      fits = (found.whole, omega (arith, f.from, f.there, skipped), found.time, omega (arith, f.from, f.following, f.options, skipped));
       known = found.known;
     }
 
 -- what is left of the body after the fields of an enhanced packet lies in the block
 pub enhanced_room : (frame : Frame) (block : List ℕ) (b : EnhancedBlock) → length block ≡ frame.length → 12 ≤ frame.length
-    → parts_of (read.Enhanced b) ≡ parts_in frame block → block_fault frame block ≡ None → 28 + length b.rest.now ≤ frame.length
+    → parts_of (Block.Enhanced b) ≡ parts_in frame block → block_fault frame block ≡ None → 28 + length b.rest.now ≤ frame.length
 enhanced_room frame block b whole least is none =
     let passes = (block_passes frame block least (omega (arith, whole)) none).0 in
     let body = enhanced_body frame.block_type frame.order b.order (body_in frame block) b.rest.now b.interface b.ticks b.captured b.orig (sym is) (body_passes frame block passes) in
@@ -222,23 +167,23 @@ enhanced_room frame block b whole least is none =
     omega (arith, size, body.1, ap length body.0, length-drop 20 (body_in frame block), least)
 
 pub enhanced_enters : (frame : Frame) (interfaces : List Described) (block : List ℕ) (b : EnhancedBlock) (spans : PacketSpans) → length block ≡ frame.length → 12 ≤ frame.length
-    → parts_of (read.Enhanced b) ≡ parts_in frame block → block_fault frame block ≡ None
-    → IsFound (checks_among interfaces (parts_of (read.Enhanced b))) (PacketFound b.order interfaces (parts_of (read.Enhanced b)) 28 frame.length b.rest.now spans)
+    → parts_of (Block.Enhanced b) ≡ parts_in frame block → block_fault frame block ≡ None
+    → IsFound (checks_among interfaces (parts_of (Block.Enhanced b))) (PacketFound b.order interfaces (parts_of (Block.Enhanced b)) 28 frame.length b.rest.now spans)
     → Enters frame interfaces block (Some spans) interfaces
 enhanced_enters frame interfaces block b spans whole least is none found =
     let passes = (block_passes frame block least (omega (arith, whole)) none).0 in
     let body = enhanced_body frame.block_type frame.order b.order (body_in frame block) b.rest.now b.interface b.ticks b.captured b.orig (sym is) (body_passes frame block passes) in
-    let P : Order → Type 0 = λ order. PacketFound order interfaces (parts_of (read.Enhanced b)) 28 frame.length b.rest.now spans in
-    packet_enters frame interfaces block b.rest.now (parts_of (read.Enhanced b)) 20 spans whole least is passes body.0 body.1 found.0 (subst P body.2 found.1) refl
+    let P : Order → Type 0 = λ order. PacketFound order interfaces (parts_of (Block.Enhanced b)) 28 frame.length b.rest.now spans in
+    packet_enters frame interfaces block b.rest.now (parts_of (Block.Enhanced b)) 20 spans whole least is passes body.0 body.1 found.0 (subst P body.2 found.1) refl
 
 pub simple_enters : (frame : Frame) (interfaces : List Described) (block : List ℕ) (b : SimpleBlock) (spans : PacketSpans) → length block ≡ frame.length → 12 ≤ frame.length
-    → parts_of (read.Simple b) ≡ parts_in frame block → block_fault frame block ≡ None
-    → IsFound (checks_among interfaces (parts_of (read.Simple b))) ((order : Order) → PacketFound order interfaces (parts_of (read.Simple b)) 12 frame.length b.rest.now spans)
+    → parts_of (Block.Simple b) ≡ parts_in frame block → block_fault frame block ≡ None
+    → IsFound (checks_among interfaces (parts_of (Block.Simple b))) ((order : Order) → PacketFound order interfaces (parts_of (Block.Simple b)) 12 frame.length b.rest.now spans)
     → Enters frame interfaces block (Some spans) interfaces
 simple_enters frame interfaces block b spans whole least is none found =
     let passes = (block_passes frame block least (omega (arith, whole)) none).0 in
     let body = simple_body frame.block_type frame.order (body_in frame block) b.rest.now b.orig (sym is) (body_passes frame block passes) in
-    packet_enters frame interfaces block b.rest.now (parts_of (read.Simple b)) 4 spans whole least is passes body.0 body.1 found.0 (found.1 frame.order) refl
+    packet_enters frame interfaces block b.rest.now (parts_of (Block.Simple b)) 4 spans whole least is passes body.0 body.1 found.0 (found.1 frame.order) refl
 
 -- ---- a block that is refused by itself
 
@@ -248,12 +193,12 @@ Stays fault = (interfaces : List Described) → fault_among interfaces fault ≡
 
 body_stays : (kind : BlockType) (order : Order) (body : List ℕ) → AllByRecursion (λ row. Stays row.1) (body_checks kind order body)
 unfolding Stays
-body_stays type.Section order body = (λ i. refl, (λ i. refl, tt))
-body_stays type.Interface order body = (λ i. refl, tt)
-body_stays type.ObsoletePacket order body = (λ i. refl, tt)
-body_stays type.SimplePacket order body = (λ i. refl, tt)
-body_stays type.EnhancedPacket order body = (λ i. refl, tt)
-body_stays type.Other order body = tt
+body_stays BlockType.Section order body = (λ i. refl, (λ i. refl, tt))
+body_stays BlockType.Interface order body = (λ i. refl, tt)
+body_stays BlockType.ObsoletePacket order body = (λ i. refl, tt)
+body_stays BlockType.SimplePacket order body = (λ i. refl, tt)
+body_stays BlockType.EnhancedPacket order body = (λ i. refl, tt)
+body_stays BlockType.Other order body = tt
 
 block_stays : (frame : Frame) (block : List ℕ) (fault : Fault) → first_failing (block_checks frame block) ≡ Some fault → (interfaces : List Described) → fault_among interfaces fault ≡ fault
 unfolding Stays
@@ -275,12 +220,9 @@ after_room false rows fault fails = refl
 
 among_options : (interfaces : List Described) (parts : Parts) (fault : Fault) → first_failing (option_checks parts) ≡ Some fault
     → first_failing (checks_among interfaces parts) ≡ Some (if nat_lt (length interfaces) most_interfaces then fault else TooManyInterfaces)
-among_options interfaces SectionParts fault fails = (cc)
 among_options interfaces (InterfaceParts link snap order options) fault fails =
     after_room (nat_lt (length interfaces) most_interfaces) (option_checks (InterfaceParts link snap order options)) fault fails
-among_options interfaces (EnhancedParts number ticks captured orig own rest) fault fails = (cc)
-among_options interfaces (SimpleParts orig rest) fault fails = (cc)
-among_options interfaces SkippedParts fault fails = (cc)
+among_options interfaces parts fault fails = (cc)
 
 pub refused_by_itself : (frame : Frame) (interfaces : List Described) (block : List ℕ) (fault : Fault) → length block ≡ frame.length → 12 ≤ frame.length → block_fault frame block ≡ Some fault
     → IsBlockFault frame interfaces block (fault_among interfaces fault)

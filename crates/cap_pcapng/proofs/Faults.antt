@@ -1,6 +1,6 @@
 -- What holds of the faults of all checks holds of the first that fails; and which faults options
 -- have.
-use Rattle.cap_pcapng.proofs.Common.{◌≡◌, ℕ, zero, suc, Bool, true, false, List, [], ◌∷◌, ◌++◌, length, drop, Some, Result, Ok, Err, cond, subst, ◌==◌, is_some, if◌then◌else◌, AllByRecursion, first_failing, Fault, BadOption, BadTimeResolution, Order, Parts, SectionParts, InterfaceParts, EnhancedParts, SimpleParts, SkippedParts, option_checks, checks_after, first_checks, first_value, list_checks, name_checks, name_code, offset_checks, offset_code, resolution_checks, resolution_code, CodedValue, ends_at, fits_at, option_at, option_size, padded_length}
+use Rattle.cap_pcapng.proofs.Common.{◌≡◌, ℕ, zero, suc, Bool, true, false, List, [], ◌∷◌, ◌++◌, length, drop, Some, Result, Ok, Err, cond, subst, ◌==◌, is_some, AllByRecursion, first_failing, Fault, BadOption, BadTimeResolution, Order, Parts, InterfaceParts, option_checks, checks_after, first_value, list_checks, name_checks, name_code, offset_checks, offset_code, resolution_checks, resolution_code, CodedValue, ends_at, fits_at, option_at, option_size, padded_length}
 use Rattle.cap_pcapng.specs.OptionList.{options_in, options_within}
 
 -- ---- the faults of some rows
@@ -18,9 +18,9 @@ all_append : (P : Fault → Type 0) (rows more : List (Bool × Fault)) → AreAl
 all_append P [] more all others = others
 all_append P (row ∷ rows) more all others = (all.0, all_append P rows more all.1 others)
 
-all_cond : (P : Fault → Type 0) (b : Bool) (xs ys : List (Bool × Fault)) → AreAll P xs → AreAll P ys → AreAll P (cond b xs ys)
-all_cond P true xs ys x y = x
-all_cond P false xs ys x y = y
+by_either : {X : Type 0} (P : X → Type 0) (b : Bool) (x y : X) → P x → P y → P (cond b x y)
+by_either P true x y here there = here
+by_either P false x y here there = there
 
 -- ---- the options of an interface
 
@@ -30,14 +30,10 @@ IsItemOf P (Err fault) = P fault
 
 all_of_option : (P : Fault → Type 0) → P BadOption → P BadTimeResolution → (before : List CodedValue) (option : CodedValue) → AreAll P (checks_after before option)
 all_of_option P bad worse before option =
-    let offset : AreAll P (if option.code == offset_code then offset_checks option.value else []) =
-    all_cond P (option.code == offset_code) (offset_checks option.value) [] (bad, tt) tt in
-    let resolution : AreAll P (if option.code == resolution_code then resolution_checks option.value else (if option.code == offset_code then offset_checks option.value else [])) =
-    all_cond P (option.code == resolution_code) (resolution_checks option.value) (if option.code == offset_code then offset_checks option.value else []) (bad, (worse, tt)) offset in
-    all_cond P (is_some (first_value option.code before)) [] (first_checks option) tt
-    (all_cond P (option.code == name_code) (name_checks option.value)
-    (if option.code == resolution_code then resolution_checks option.value else (if option.code == offset_code then offset_checks option.value else []))
-    (bad, tt) resolution)
+    by_either (AreAll P) (is_some (first_value option.code before)) [] _ tt
+    (by_either (AreAll P) (option.code == name_code) (name_checks option.value) _ (bad, tt)
+    (by_either (AreAll P) (option.code == resolution_code) (resolution_checks option.value) _ (bad, (worse, tt))
+    (by_either (AreAll P) (option.code == offset_code) (offset_checks option.value) [] (bad, tt) tt)))
 
 all_of_list : (P : Fault → Type 0) → P BadOption → P BadTimeResolution → (before : List CodedValue) (items : List (Result CodedValue Fault)) → AllByRecursion (IsItemOf P) items
     → AreAll P (list_checks before items)
@@ -47,17 +43,12 @@ all_of_list P bad worse before (Ok option ∷ items) all =
     all_append P (checks_after before option) (list_checks (before ++ option ∷ []) items) (all_of_option P bad worse before option)
     (all_of_list P bad worse (before ++ option ∷ []) items all.1)
 
-items_cond : (P : Fault → Type 0) (b : Bool) (xs ys : List (Result CodedValue Fault)) → AllByRecursion (IsItemOf P) xs → AllByRecursion (IsItemOf P) ys
-    → AllByRecursion (IsItemOf P) (cond b xs ys)
-items_cond P true xs ys x y = x
-items_cond P false xs ys x y = y
-
 items_within : (P : Fault → Type 0) → P BadOption → (most : ℕ) (order : Order) (text : List ℕ) → AllByRecursion (IsItemOf P) (options_within most order text)
 unfolding options_within
 items_within P bad zero order text = tt
 items_within P bad (suc most) order text =
-    items_cond P (ends_at order text) [] _ tt
-    (items_cond P (fits_at order text) (Ok (option_at order text) ∷ options_within most order (drop (padded_length (option_size order text)) text)) _
+    by_either (AllByRecursion (IsItemOf P)) (ends_at order text) [] _ tt
+    (by_either (AllByRecursion (IsItemOf P)) (fits_at order text) (Ok (option_at order text) ∷ options_within most order (drop (padded_length (option_size order text)) text)) _
     (tt, items_within P bad most order (drop (padded_length (option_size order text)) text)) (bad, tt))
 
 items_in : (P : Fault → Type 0) → P BadOption → (order : Order) (text : List ℕ) → AllByRecursion (IsItemOf P) (options_in order text)
@@ -66,8 +57,5 @@ items_in P bad order text = items_within P bad (length text) order text
 
 -- a refusal of options is of one of two kinds
 pub all_of_options : (P : Fault → Type 0) → P BadOption → P BadTimeResolution → (parts : Parts) → AllByRecursion (λ row. P row.1) (option_checks parts)
-all_of_options P bad worse SectionParts = tt
 all_of_options P bad worse (InterfaceParts link snap order options) = all_of_list P bad worse [] (options_in order options) (items_in P bad order options)
-all_of_options P bad worse (EnhancedParts number ticks captured orig own rest) = tt
-all_of_options P bad worse (SimpleParts orig rest) = tt
-all_of_options P bad worse SkippedParts = tt
+all_of_options P bad worse parts = tt

@@ -1,11 +1,9 @@
 -- Options of an interface, read one after another.
-use Rattle.cap_pcapng.proofs.Common.{◌≡◌, ℕ, Bool, true, false, List, [], ◌∷◌, ◌++◌, cond, refl, sym, ap, ◌∙◌, eqb-true, Option, Some, None, Result, Ok, ◌<◌, ◌≤◌, ◌^◌, ◌-◌, nat_lt, unwrap_or, arith, is_some, if◌then◌else◌, ◌==◌, slice_index, option_copied, option_map, option_or, met_front, failing_front, first_failing, Fault, Order, checks_after, first_checks, first_value, fitting_options, list_checks, name_code, offset_code, offset_in_value, resolution_code, units_in_value, CodedValue, microseconds}
-use Rattle.std.proofs.Math.Nat.{one-le-pow}
-use Rattle.std.proofs.lemmas.List.{append_assoc}
+use Rattle.cap_pcapng.proofs.Common.{◌≡◌, ℕ, Bool, true, false, List, [], ◌∷◌, ◌++◌, cond, refl, sym, ap, ◌∙◌, eqb-true, Option, Some, None, Result, Ok, ◌<◌, ◌≤◌, ◌^◌, ◌-◌, nat_lt, unwrap_or, arith, is_some, if◌then◌else◌, ◌==◌, slice_index, option_map, option_or, met_front, failing_front, first_failing, Fault, Order, checks_after, first_checks, first_value, fitting_options, list_checks, name_code, offset_code, offset_in_value, resolution_code, units_in_value, CodedValue, microseconds}
+use Rattle.std.proofs.{Math.Nat.one-le-pow, lemmas.List.append_assoc}
 use Rattle.std.specs.Borrow.{Bor}
-use Rattle.cap_pcapng.specs.inside.Interface.{Adds, IsFound, is_found}
-use Rattle.cap_pcapng.specs.inside.InterfaceOptions.{value_for}
 use Rattle.cap_pcapng.specs.declared.interface.FoundOptions.{FoundOptions}
+use Rattle.cap_pcapng.specs.inside.Interface.{Adds, IsFound, is_found, value_for}
 
 -- what an iterator of options has left, once some were read and passed, and this was found in them
 pub record HasRead (order : Order) (all rest : List (Result CodedValue Fault)) (found : FoundOptions) : Type 0 where
@@ -47,10 +45,6 @@ IsFound-more order before o found more is adds = record {
   short = adds.short is.short;
 }
 
-is_some-copied : (name : Option (Bor (List ℕ))) → is_some (option_copied name) ≡ is_some name
-is_some-copied None = refl
-is_some-copied (Some x) = refl
-
 -- a list of checks that is empty unless a code is one of three, and then where one of its code was
 -- found
 by_code : (is_name is_resolution is_offset given name units offset : Bool) (a b c : List (Bool × Fault))
@@ -69,7 +63,7 @@ pub checks_after-found : (order : Order) (before : List CodedValue) (o : CodedVa
 checks_after-found order before o found is =
     by_code (o.code == name_code) (o.code == resolution_code) (o.code == offset_code) (is_some (first_value o.code before))
     (is_some found.name) (is_some found.units) (is_some found.offset) _ _ _
-    (λ t. ap (λ code. is_some (first_value code before)) (eqb-true o.code name_code t) ∙ sym (sym (is_some-copied found.name) ∙ ap is_some is.name))
+    (λ t. ap (λ code. is_some (first_value code before)) (eqb-true o.code name_code t) ∙ sym (sym (is_some-map (λ (x : Bor (List ℕ)). x.now) found.name) ∙ ap is_some is.name))
     (λ t. ap (λ code. is_some (first_value code before)) (eqb-true o.code resolution_code t)
     ∙ sym (ap is_some is.units ∙ is_some-map units_in_value (first_value resolution_code before)))
     (λ t. ap (λ code. is_some (first_value code before)) (eqb-true o.code offset_code t)

@@ -1,7 +1,6 @@
 -- What a list of options begins with.
 use Rattle.cap_pcapng.proofs.Common.{◌≡◌, ℕ, zero, suc, ◌+◌, ◌<◌, ◌≤◌, Bool, true, false, List, [], ◌∷◌, ◌||◌, cond, length, drop, refl, sym, ap, ap₂, ◌∙◌, ◌-◌, take, arith, lit<, ltb-false, lt-ltb, le-ltb, le-leb, eq-eqb, ne_eqb, length-drop, min, ◌≢◌, Result, Ok, Err, IsErr, lt-leb, drop_min, take_rest, nat_lt, u16_in, Fault, BadOption, Order, fitting_options, CodedValue, item_of, option_at, option_size, ends_at, fits_at, padded_length}
-use Rattle.cap_pcapng.specs.OptionList.{options_in, options_within}
-use Rattle.cap_pcapng.specs.declared.options.BlockOption.{BlockOption}
+use Rattle.cap_pcapng.specs.{OptionList.options_in, OptionList.options_within, declared.options.BlockOption.BlockOption}
 
 false_first : (a b : Bool) → (a || b) ≡ false → a ≡ false
 false_first false b is = refl
@@ -15,12 +14,6 @@ pub options_in-end : (order : Order) (text : List ℕ) → ends_at order text �
 unfolding options_in options_within
 options_in-end order [] ends = refl
 options_in-end order (b ∷ bytes) ends = rw ends refl
-
-pub options_in-misfit : (order : Order) (text : List ℕ) → ends_at order text ≡ false → fits_at order text ≡ false
-    → options_in order text ≡ Err BadOption ∷ []
-unfolding options_in options_within
-options_in-misfit order [] more misfit = (cc)
-options_in-misfit order (b ∷ bytes) more misfit = rw (more, misfit) refl
 
 -- what follows an option is shorter
 after_shorter : (order : Order) (text : List ℕ) → 4 ≤ length text → length (drop (padded_length (option_size order text)) text) + 4 ≤ length text
@@ -61,10 +54,6 @@ or_true : (a b : Bool) → b ≡ true → (a || b) ≡ true
 or_true true b is = refl
 or_true false b is = is
 
-or_false : (a b : Bool) → a ≡ false → b ≡ false → (a || b) ≡ false
-or_false true b neither nor = neither
-or_false false b neither nor = nor
-
 pub options_in-short : (order : Order) (text : List ℕ) → length text < 4 → options_in order text ≡ []
 options_in-short order text short = options_in-end order text (rw (lt-ltb (length text) 4 short) refl)
 
@@ -73,12 +62,14 @@ options_in-code_end order text code =
     options_in-end order text (or_true (nat_lt (length text) 4) _ (eq-eqb (u16_in order text 0) 0 code))
 
 pub goes_on : (order : Order) (text : List ℕ) → 4 ≤ length text → u16_in order text 0 ≢ 0 → ends_at order text ≡ false
-goes_on order text there code = or_false (nat_lt (length text) 4) _ (le-ltb (length text) 4 there) (ne_eqb (u16_in order text 0) 0 code)
+goes_on order text there code = rw (le-ltb (length text) 4 there, ne_eqb (u16_in order text 0) 0 code) refl
 
 pub options_in-past : (order : Order) (text : List ℕ) → 4 ≤ length text → u16_in order text 0 ≢ 0 → length text < option_size order text
     → options_in order text ≡ Err BadOption ∷ []
-options_in-past order text there code past =
-    options_in-misfit order text (goes_on order text there code) (lt-leb (option_size order text) (length text) past)
+unfolding options_in options_within
+options_in-past order [] there code past = absurd (omega arith)
+options_in-past order (b ∷ bytes) there code past =
+    rw (goes_on order (b ∷ bytes) there code, lt-leb (option_size order (b ∷ bytes)) (length (b ∷ bytes)) past) refl
 
 -- as the code finds the code, the value and the rest
 pub options_in-next : (order : Order) (text : List ℕ) (code len following : ℕ) → code ≡ u16_in order text 0 → len ≡ u16_in order text 2

@@ -1,9 +1,9 @@
 -- Options that were written read back.
 use Rattle.cap_pcapng.proofs.Common.{◌≡◌, ℕ, ◌+◌, ◌-◌, ◌^◌, ◌<◌, ◌≤◌, List, [], ◌∷◌, ◌++◌, length, take, drop, replicate, refl, sym, ap, ap₂, ◌∙◌, arith, append_assoc, length-append, None, Result, Ok, le-leb, unwrap_or, length-replicate, take_at, drop_at, little_bytes, first_failing, u16_in, Fault, Little, comment_code, comment_in, described_by, described_in, first_value, fitting_options, list_checks, written_interface, CodedValue, option_at, option_size, padded_length, comment_text, end_text, name_text, option_text, padded_text, resolution_text}
-use Rattle.cap_octet.specs.Number.{number_in}
-use Rattle.cap_pcapng.specs.OptionList.{options_in, options_within}
 use Rattle.cap_pcapng.proofs.Numerals.{number_at}
 use Rattle.cap_pcapng.proofs.OptionLists.{goes_on, options_in-more, options_in-none}
+use Rattle.cap_octet.specs.Number.{number_in}
+use Rattle.cap_pcapng.specs.OptionList.{options_in, options_within}
 
 length-option_text : (code : ℕ) (value : List ℕ) → length (option_text code value) ≡ padded_length (4 + length value)
 length-option_text code value = simp (length-append, length-replicate) (omega arith)

@@ -1,5 +1,5 @@
 -- What a text begins with is told by its first bytes alone: a block.
-use Rattle.cap_pcapng.proofs.Common.{◌≡◌, ℕ, ◌+◌, ◌-◌, ◌<◌, ◌≤◌, Bool, true, false, ◌&&◌, List, [], ◌∷◌, ◌++◌, length, take, drop, Option, Some, None, refl, sym, ap, ap₂, ◌∙◌, subst, arith, leb-true, le-leb, nat_le, ◌==◌, lt-leb, length-take-le, take-append-drop, take-append-le, drop-append-le, first_failing, Fault, BadBlockLength, Truncated, Order, Little, Big, all_met, failing_front, met_front, block_checks, body_checks, body_in, parts_in, parts_in_body, frame_checks, frame_in, length_in, order_in, IsBlock, Section, block_size, checks_among, frame_after, interfaces_before, order_before, parts_after, unit_fault, Frame}
+use Rattle.cap_pcapng.proofs.Common.{◌≡◌, Parts, ℕ, ◌+◌, ◌-◌, ◌<◌, ◌≤◌, Bool, true, false, ◌&&◌, List, [], ◌∷◌, ◌++◌, length, take, drop, Option, Some, None, refl, sym, ap, ap₂, ◌∙◌, arith, leb-true, le-leb, nat_le, ◌==◌, lt-leb, length-take-le, take-append-drop, take-append-le, drop-append-le, first_failing, Fault, BadBlockLength, Truncated, Order, Little, Big, all_met, failing_front, met_front, block_checks, body_checks, body_in, parts_in, parts_in_body, frame_checks, frame_in, length_in, order_in, IsBlock, Section, block_size, checks_among, frame_after, interfaces_before, order_before, parts_after, unit_fault, Frame}
 use Rattle.std.proofs.lemmas.List.{length-append, length-drop}
 use Rattle.cap_octet.proofs.Numbers.{number_in-append}
 
@@ -159,58 +159,40 @@ block_checks-following before front more enough least whole =
 pub block_size-append : (before : Option Section) (front more : List ℕ) → 12 ≤ length front → block_size before (front ++ more) ≡ block_size before front
 block_size-append before front more enough = ap (λ (f : Frame). f.length) (frame_in-append (order_before before) front more enough)
 
-pub Passes-append : (before : Option Section) (front more : List ℕ) → Passes before front → Passes before (front ++ more)
-Passes-append before front more p =
+unit_fault-append : (before : Option Section) (front more : List ℕ) → 12 ≤ length front → 12 ≤ block_size before front → block_size before front ≤ length front
+    → unit_fault before (front ++ more) ≡ unit_fault before front
+unfolding after_frame
+unit_fault-append before front more enough least whole =
     let size : length (front ++ more) ≡ length front + length more = length-append front more in
-    let same : block_size before (front ++ more) ≡ block_size before front = block_size-append before front more p.enough in
-    let enough : 12 ≤ length front = p.enough in
-    let least : 12 ≤ block_size before front = p.least in
-    let whole : block_size before front ≤ length front = p.whole in
-    record {
-      enough = omega arith;
-      framed = ap first_failing (frame_checks-append (order_before before) front more enough) ∙ p.framed;
-      least = omega arith;
-      whole = omega arith;
-      blocked = ap first_failing (block_checks-following before front more enough least whole) ∙ p.blocked;
-      among = ap (λ q. first_failing (checks_among (interfaces_before before) q)) (parts_after-append before front more enough least whole) ∙ p.among;
-    }
-
-pub Passes-front : (before : Option Section) (front more : List ℕ) → 12 ≤ length front → block_size before (front ++ more) ≤ length front
-    → Passes before (front ++ more) → Passes before front
-Passes-front before front more enough within p =
     let same : block_size before (front ++ more) ≡ block_size before front = block_size-append before front more enough in
-    let long : 12 ≤ block_size before (front ++ more) = p.least in
-    let least : 12 ≤ block_size before front = omega arith in
-    let whole : block_size before front ≤ length front = omega arith in
-    record {
-      enough = enough;
-      framed = sym (ap first_failing (frame_checks-append (order_before before) front more enough)) ∙ p.framed;
-      least = least;
-      whole = whole;
-      blocked = sym (ap first_failing (block_checks-following before front more enough least whole)) ∙ p.blocked;
-      among = sym (ap (λ q. first_failing (checks_among (interfaces_before before) q)) (parts_after-append before front more enough least whole)) ∙ p.among;
-    }
+    let there : nat_le (block_size before (front ++ more)) (length (front ++ more)) ≡ nat_le (block_size before front) (length front) =
+    le-leb (block_size before (front ++ more)) (length (front ++ more)) (omega arith) ∙ sym (le-leb (block_size before front) (length front) whole) in
+    let checks : after_frame before (front ++ more) ≡ after_frame before front =
+    ap₂ (λ (rows : List (Bool × Fault)) (q : Parts). rows ++ checks_among (interfaces_before before) q)
+    (block_checks-following before front more enough least whole) (parts_after-append before front more enough least whole) in
+    past_first before (front ++ more) (omega arith)
+    ∙ ap₂ (λ (rows rest : List (Bool × Fault)). first_failing (rows ++ rest)) (frame_checks-append (order_before before) front more enough)
+    (ap₂ (λ (b : Bool) (rows : List (Bool × Fault)). (b, Truncated) ∷ rows) there checks)
+    ∙ sym (past_first before front enough)
 
 -- a block at the front of a text
 pub IsBlock-front : (before : Option Section) (bytes more : List ℕ) → IsBlock before bytes
     → (unit_fault before (bytes ++ more) ≡ None) × (block_size before (bytes ++ more) ≡ length bytes)
 IsBlock-front before bytes more is =
     let p = passes before bytes is.passes in
-    (unit_fault-passes before (bytes ++ more) (Passes-append before bytes more p), block_size-append before bytes more p.enough ∙ sym is.whole)
+    (unit_fault-append before bytes more p.enough p.least p.whole ∙ is.passes, block_size-append before bytes more p.enough ∙ sym is.whole)
 
 -- the block at the front of a text that passes
 pub IsBlock-take : (before : Option Section) (text : List ℕ) → unit_fault before text ≡ None → IsBlock before (take (block_size before text) text)
 IsBlock-take before text none =
     let p = passes before text none in
     let front : List ℕ = take (block_size before text) text in
+    let rest : List ℕ = drop (block_size before text) text in
     let size : length front ≡ block_size before text = length-take-le (block_size before text) text p.whole in
-    let joined : front ++ drop (block_size before text) text ≡ text = take-append-drop (block_size before text) text in
-    let least : 12 ≤ block_size before text = p.least in
-    let P : List ℕ → Type 0 = λ t. Passes before t in
-    let Q : List ℕ → Type 0 = λ t. block_size before t ≤ length front in
-    let within : block_size before (front ++ drop (block_size before text) text) ≤ length front = subst Q (sym joined) (omega arith) in
-    let q = Passes-front before front (drop (block_size before text) text) (omega arith) within (subst P (sym joined) p) in
+    let joined : front ++ rest ≡ text = take-append-drop (block_size before text) text in
+    let enough : 12 ≤ length front = omega (arith, p.least) in
+    let same : block_size before text ≡ block_size before front = ap (block_size before) (sym joined) ∙ block_size-append before front rest enough in
     record {
-      passes = unit_fault-passes before front q;
-      whole = size ∙ ap (block_size before) (sym joined) ∙ block_size-append before front (drop (block_size before text) text) (omega arith);
+      passes = sym (unit_fault-append before front rest enough (omega (arith, p.least)) (omega arith)) ∙ ap (unit_fault before) joined ∙ none;
+      whole = size ∙ same;
     }

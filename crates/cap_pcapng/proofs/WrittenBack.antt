@@ -1,10 +1,10 @@
 -- Blocks that were written read back.
-use Rattle.cap_pcapng.proofs.Common.{◌≡◌, ℕ, ◌+◌, ◌-◌, ◌*◌, ◌/◌, ◌%◌, ◌^◌, ◌<◌, ◌≤◌, Bool, true, false, List, [], ◌∷◌, ◌++◌, length, take, drop, replicate, refl, sym, ap, ap₂, ◌∙◌, arith, append_assoc, length-append, Option, Some, None, le-leb, leb-true, lt-ltb, eq-eqb, lit≤, pos, ◌==◌, nat_le, slice_get, option_to_list, length-replicate, take_at, drop_at, little_bytes, all_met, met_front, first_failing, u16_in, u32_in, Fault, Truncated, Little, EnhancedParts, InterfaceParts, Parts, block_checks, body_checks, body_in, parts_in, parts_in_body, comment_in, frame_checks, frame_in, most_block, section_type, type_of_block, Captured, Described, most_interfaces, InterfaceBack, PacketBack, SectionBack, ReadsAs, written_interface, written_section, padded_length, time_by, representable_time, Section, checks_among, frame_after, interfaces_before, order_before, packet_by, section_by, unit_fault, block_text, comment_text, end_text, block_fit_checks, interface_body, name_text, packet_body, padded_text, resolution_text, Frame}
-use Rattle.cap_octet.specs.Number.{number_in}
-use Rattle.cap_octet.specs.Date.{NANOS_PER_SECOND}
+use Rattle.cap_pcapng.proofs.Common.{◌≡◌, ℕ, ◌+◌, ◌-◌, ◌*◌, ◌/◌, ◌%◌, ◌^◌, ◌<◌, ◌≤◌, false, List, [], ◌∷◌, ◌++◌, length, take, drop, replicate, refl, sym, ap, ap₂, ◌∙◌, arith, append_assoc, length-append, Some, None, le-leb, leb-true, lt-ltb, eq-eqb, lit≤, pos, ◌==◌, slice_get, option_to_list, length-replicate, take_at, drop_at, little_bytes, all_met, first_failing, u16_in, u32_in, Little, EnhancedParts, InterfaceParts, Parts, block_checks, body_checks, body_in, parts_in, parts_in_body, comment_in, frame_checks, frame_in, most_block, section_type, type_of_block, Captured, Described, most_interfaces, InterfaceBack, PacketBack, SectionBack, ReadsAs, written_interface, written_section, padded_length, time_by, representable_time, checks_among, packet_by, section_by, block_size, block_text, comment_text, end_text, block_fit_checks, interface_body, name_text, packet_body, padded_text, resolution_text, Frame}
 use Rattle.cap_pcapng.proofs.Numerals.{number_at}
 use Rattle.cap_pcapng.proofs.OptionsBack.{comment_back, options_describe, options_pass}
+use Rattle.cap_pcapng.proofs.Units.{unit_fault-passes}
 use Rattle.cap_pcapng.proofs.WrittenBlocks.{comment_text-whole, length-interface_body, length-packet_body}
+use Rattle.cap_octet.specs.{Date.NANOS_PER_SECOND, Number.number_in}
 
 -- ---- a section header
 
@@ -17,43 +17,6 @@ section_back before = record {
 }
 
 -- ---- a block of any type
-
--- the frame of a block that is no section header, after a section
-frame_told : (type size : ℕ) (text : List ℕ) → u32_in Little text 0 ≡ type → u32_in Little text 4 ≡ size → (type == section_type) ≡ false
-    → frame_in (Some Little) text ≡ record { order = Little; block_type = type_of_block type; length = size }
-frame_told type size text type_is size_is other =
-    let no_section : (u32_in Little text 0 == section_type) ≡ false = ap (λ n. n == section_type) type_is ∙ other in
-    rw (no_section, type_is, size_is) refl
-
-frame_passes : (type size : ℕ) (text : List ℕ) → u32_in Little text 0 ≡ type → u32_in Little text 4 ≡ size → (type == section_type) ≡ false
-    → 12 ≤ size → size % 4 ≡ 0 → size ≤ most_block → first_failing (frame_checks (Some Little) text) ≡ None
-frame_passes type size text type_is size_is other least whole most =
-    let no_section : (u32_in Little text 0 == section_type) ≡ false = ap (λ n. n == section_type) type_is ∙ other in
-    rw (no_section, size_is, le-leb 12 size least, eq-eqb (size % 4) 0 whole, le-leb size most_block most) refl
-
--- a table passes where each part of it does
-parts_pass : (a b : Bool) (fault : Fault) (framed blocked among : List (Bool × Fault)) → a ≡ true → first_failing framed ≡ None → b ≡ true
-    → first_failing blocked ≡ None → first_failing among ≡ None
-    → first_failing ((a, fault) ∷ (framed ++ ((b, fault) ∷ (blocked ++ among)))) ≡ None
-parts_pass a b fault framed blocked among a_is framed_is b_is blocked_is among_is =
-    rw a_is
-    (met_front framed ((b, fault) ∷ (blocked ++ among)) framed_is
-    ∙ (rw b_is (met_front blocked among blocked_is ∙ among_is)))
-
-unit_passes : (before : Option Section) (text : List ℕ) (frame : Frame) (parts : Parts) → frame_after before text ≡ frame
-    → parts_in frame text ≡ parts → length text ≡ frame.length → 12 ≤ frame.length
-    → first_failing (frame_checks (order_before before) text) ≡ None
-    → first_failing (block_checks frame text) ≡ None
-    → first_failing (checks_among (interfaces_before before) parts) ≡ None
-    → unit_fault before text ≡ None
-unit_passes before text frame parts frame_is parts_is size least framed blocked among =
-    parts_pass (nat_le 12 (length text)) (nat_le (frame_after before text).length (length text)) Truncated
-    (frame_checks (order_before before) text) (block_checks (frame_after before text) text)
-    (checks_among (interfaces_before before) (parts_in (frame_after before text) text))
-    (le-leb 12 (length text) (omega arith)) framed
-    (le-leb (frame_after before text).length (length text) (omega (arith, ap (λ (f : Frame). f.length) frame_is)))
-    (ap (λ (f : Frame). first_failing (block_checks f text)) frame_is ∙ blocked)
-    (ap (λ (p : Parts). first_failing (checks_among (interfaces_before before) p)) (ap (λ (f : Frame). parts_in f text) frame_is ∙ parts_is) ∙ among)
 
 abbrev pub written_frame : ℕ → List ℕ → Frame
 written_frame type body = record { order = Little; block_type = type_of_block type; length = 12 + length body }
@@ -74,9 +37,10 @@ block_written type body upper_bound other whole most =
     let type_is : u32_in Little text 0 ≡ type =
     number_at 4 text 0 type (little_bytes 4 size ++ body ++ little_bytes 4 size) refl upper_bound in
     let size_is : u32_in Little text 4 ≡ size = number_at 4 text 4 size (body ++ little_bytes 4 size) refl (omega arith) in
+    let no_section : (u32_in Little text 0 == section_type) ≡ false = ap (λ n. n == section_type) type_is ∙ other in
     record {
-      exact = frame_told type size text type_is size_is other;
-      framed = frame_passes type size text type_is size_is other (omega arith) (omega arith) most;
+      exact = rw (no_section, type_is, size_is) refl;
+      framed = rw (no_section, size_is, le-leb 12 size (omega arith), eq-eqb (size % 4) 0 (omega arith), le-leb size most_block most) refl;
       size = simp length-append (omega arith);
       ends = number_at 4 text (size - 4) size []
           (ap (λ n. drop n text) (omega arith) ∙ drop_at (little_bytes 4 type ++ little_bytes 4 size ++ body) (little_bytes 4 size) (8 + length body) (omega arith))
@@ -98,20 +62,24 @@ block_reads interfaces type body w passes among =
     let found : parts_in (frame_in (Some Little) text) text ≡ parts = ap (λ (f : Frame). parts_in f text) w.exact ∙ parts_are in
     let blocked : first_failing (block_checks (written_frame type body) text) ≡ None =
     rw (eq-eqb _ _ w.ends) (ap (λ t. first_failing (body_checks (type_of_block type) Little t)) w.between ∙ passes) in
+    let size_is : block_size (Some (written_section interfaces)) text ≡ 12 + length body = ap (λ (f : Frame). f.length) w.exact in
     record {
       is_block = record {
-        passes =
-            unit_passes (Some (written_section interfaces)) text (written_frame type body) parts w.exact parts_are w.size (omega arith) w.framed blocked among;
-        whole = w.size ∙ sym (ap (λ (f : Frame). f.length) w.exact);
+        passes = unit_fault-passes (Some (written_section interfaces)) text (record {
+          enough = omega (arith, w.size);
+          framed = w.framed;
+          least = omega (arith, size_is);
+          whole = omega (arith, size_is, w.size);
+          blocked = ap (λ (f : Frame). first_failing (block_checks f text)) w.exact ∙ blocked;
+          among = ap (λ (p : Parts). first_failing (checks_among interfaces p)) found ∙ among;
+        });
+        whole = w.size ∙ sym size_is;
       };
       declares = ap₂ (λ o q. section_by (Some (written_section interfaces)) o q) (ap (λ (f : Frame). f.order) w.exact) found;
       holds = ap (λ q. option_to_list (packet_by interfaces q)) found;
     }
 
 -- ---- a packet
-
-same_time : (time : ℕ) → time / 2 ^ 32 * 4294967296 + time % 2 ^ 32 ≡ time
-same_time time = omega arith
 
 pub packet_parts : (number : ℕ) (p : Captured) → number < 2 ^ 32 → p.time < 2 ^ 63 → p.orig < 2 ^ 32 → length p.bytes < 2 ^ 32
     → parts_in_body (type_of_block 6) Little (packet_body number p) ≡ EnhancedParts number p.time (length p.bytes) p.orig Little (padded_text p.bytes ++ comment_text p.comment)
@@ -122,7 +90,8 @@ packet_parts number p number_fits time_fits orig_fits upper_bound =
     let low_is : u32_in Little body 8 ≡ p.time % 2 ^ 32 = number_at 4 body 8 (p.time % 2 ^ 32) (drop 12 body) refl (omega arith) in
     let captured_is : u32_in Little body 12 ≡ length p.bytes = number_at 4 body 12 (length p.bytes) (drop 16 body) refl upper_bound in
     let orig_is : u32_in Little body 16 ≡ p.orig = number_at 4 body 16 p.orig (drop 20 body) refl orig_fits in
-    rw (number_is, high_is, low_is, captured_is, orig_is, same_time p.time) refl
+    let time_is : p.time / 2 ^ 32 * 4294967296 + p.time % 2 ^ 32 ≡ p.time = omega arith in
+    rw (number_is, high_is, low_is, captured_is, orig_is, time_is) refl
 
 -- nanoseconds are the time itself
 nanoseconds_back : (time : ℕ) → time < 2 ^ 63 → representable_time time NANOS_PER_SECOND (pos 0) ≡ Some time
@@ -156,12 +125,10 @@ packet_held : (interfaces : List Described) (number : ℕ) (p : Captured) → sl
 packet_held interfaces number p known upper_bound short =
     rw (known, nanoseconds_back p.time upper_bound, data_back p.bytes (comment_text p.comment), comment_after p.bytes p.comment short) refl
 
-fits_told : (p : Captured) → first_failing (block_fit_checks p) ≡ None → 32 + padded_length (length p.bytes) + length (comment_text p.comment) ≤ most_block
-fits_told p fits = leb-true (32 + padded_length (length p.bytes) + length (comment_text p.comment)) most_block (all_met (block_fit_checks p) fits).0
-
 pub packet_back : PacketBack
 packet_back interfaces number p known number_fits time_fits orig_fits short fits =
-    let most : 32 + padded_length (length p.bytes) + length (comment_text p.comment) ≤ most_block = fits_told p fits in
+    let most : 32 + padded_length (length p.bytes) + length (comment_text p.comment) ≤ most_block =
+    leb-true (32 + padded_length (length p.bytes) + length (comment_text p.comment)) most_block (all_met (block_fit_checks p) fits).0 in
     let whole : length (comment_text p.comment) % 4 ≡ 0 = comment_text-whole p.comment in
     let body : List ℕ = packet_body number p in
     let size : length body ≡ 20 + padded_length (length p.bytes) + length (comment_text p.comment) = length-packet_body number p in

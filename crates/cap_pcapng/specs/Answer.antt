@@ -1,7 +1,6 @@
 -- What a reader returns: a value if all checks pass, else the fault of the first that fails.
 use Rattle.std.specs.Prelude.{◌≡◌, Bool, List, Some, None, Result, Ok, Err}
-use Rattle.cap_octet.specs.Checks.{first_failing}
-use Rattle.cap_octet.specs.declared.fault.Fault.{Fault}
+use Rattle.cap_octet.specs.{Checks.first_failing, declared.fault.Fault.Fault}
 
 -- A reader returned a value of which `Holds` is true, and all checks pass; or it returned the fault
 -- of the first check that fails.

@@ -1,21 +1,13 @@
 -- The bodies of blocks: their checks, in order, and their parts (draft-ietf-opsawg-pcapng, "Block
 -- Types").
 use Rattle.std.specs.Prelude.{ℕ, ◌+◌, ◌-◌, ◌*◌, ◌==◌, ◌&&◌, ◌||◌, if◌then◌else◌, min, Bool, false, List, [], ◌∷◌, ◌++◌, length, take, drop, nat_le, Option}
-use Rattle.cap_octet.specs.Checks.{first_failing}
-use Rattle.cap_octet.specs.Number.{u16_in, u32_in}
-use Rattle.cap_octet.specs.declared.fault.Fault.{Fault}
+use Rattle.cap_octet.specs.{Checks.first_failing, Number.u16_in, Number.u32_in, declared.fault.Fault.Fault}
 use Rattle.cap_octet.specs.declared.fault.Fault.TheVariants.{BadVersion, BadBlockLength, BadBody, ObsoletePacketBlock, Truncated}
 use Rattle.cap_octet.specs.declared.number.Order.{Order}
 use Rattle.cap_pcapng.specs.Interface.{IsDescribed}
-use Rattle.cap_pcapng.specs.InterfaceOptions.{list_checks}
-use Rattle.cap_pcapng.specs.OptionList.{options_in}
-use Rattle.cap_pcapng.specs.Padding.{padded_length}
-use Rattle.cap_pcapng.specs.declared.blocks.Block.{Block}
-use Rattle.cap_pcapng.specs.declared.blocks.Block.TheVariants as a
-use Rattle.cap_pcapng.specs.declared.blocks.InterfaceBlock.{InterfaceBlock}
-use Rattle.cap_pcapng.specs.declared.frames.BlockType.{BlockType}
-use Rattle.cap_pcapng.specs.declared.frames.BlockType.TheVariants as type
-use Rattle.cap_pcapng.specs.declared.frames.Frame.{Frame}
+use Rattle.cap_pcapng.specs.{InterfaceOptions.list_checks, OptionList.options_in, Padding.padded_length}
+use Rattle.cap_pcapng.specs.declared.blocks.{Block.Block, InterfaceBlock.InterfaceBlock}
+use Rattle.cap_pcapng.specs.declared.frames.{BlockType.BlockType, Frame.Frame}
 
 -- the body of the block that a text begins with: the bytes between its two total lengths
 abbrev pub body_in : Frame → List ℕ → List ℕ
@@ -26,7 +18,7 @@ body_in frame text = take (frame.length - 12) (drop 8 text)
 -- the checks of a body, in order: that it is long enough for its type, and a section's version; an
 -- obsolete packet block passes none
 abbrev pub body_checks : BlockType → Order → List ℕ → List (Bool × Fault)
-body_checks type.Section order body =
+body_checks BlockType.Section order body =
     (nat_le 16 (length body), BadBody)
     ∷ (
       (u16_in order body 4 == 1)
@@ -34,11 +26,11 @@ body_checks type.Section order body =
       BadVersion,
     )
     ∷ []
-body_checks type.Interface order body = (nat_le 8 (length body), BadBody) ∷ []
-body_checks type.ObsoletePacket order body = (false, ObsoletePacketBlock) ∷ []
-body_checks type.SimplePacket order body = (nat_le 4 (length body), BadBody) ∷ []
-body_checks type.EnhancedPacket order body = (nat_le 20 (length body), BadBody) ∷ []
-body_checks type.Other order body = []
+body_checks BlockType.Interface order body = (nat_le 8 (length body), BadBody) ∷ []
+body_checks BlockType.ObsoletePacket order body = (false, ObsoletePacketBlock) ∷ []
+body_checks BlockType.SimplePacket order body = (nat_le 4 (length body), BadBody) ∷ []
+body_checks BlockType.EnhancedPacket order body = (nat_le 20 (length body), BadBody) ∷ []
+body_checks BlockType.Other order body = []
 
 -- the checks of a whole block, on a text that begins with it, in order: that its second total
 -- length is the first, and those of its body; not those of options or of the interfaces before it
@@ -77,11 +69,11 @@ pub data Parts : Type 0 where
 
 -- the parts in the body of a block of this type
 abbrev pub parts_in_body : BlockType → Order → List ℕ → Parts
-parts_in_body type.Section order body = SectionParts
-parts_in_body type.Interface order body =
+parts_in_body BlockType.Section order body = SectionParts
+parts_in_body BlockType.Interface order body =
     InterfaceParts (u16_in order body 0) (u32_in order body 4) order (drop 8 body)
-parts_in_body type.SimplePacket order body = SimpleParts (u32_in order body 0) (drop 4 body)
-parts_in_body type.EnhancedPacket order body =
+parts_in_body BlockType.SimplePacket order body = SimpleParts (u32_in order body 0) (drop 4 body)
+parts_in_body BlockType.EnhancedPacket order body =
     EnhancedParts (u32_in order body 0) (u32_in order body 4 * 4294967296 + u32_in order body 8)
     (u32_in order body 12) (u32_in order body 16) order (drop 20 body)
 parts_in_body kind order body = SkippedParts
@@ -97,15 +89,15 @@ parts_of_interface b =
 
 -- the parts of a block that was read, without places in memory
 abbrev pub parts_of : Block → Parts
-parts_of a.Section = SectionParts
-parts_of (a.Interface b) = parts_of_interface b
-parts_of (a.Enhanced b) = EnhancedParts b.interface b.ticks b.captured b.orig b.order b.rest.now
-parts_of (a.Simple b) = SimpleParts b.orig b.rest.now
-parts_of a.Skipped = SkippedParts
+parts_of Block.Section = SectionParts
+parts_of (Block.Interface b) = parts_of_interface b
+parts_of (Block.Enhanced b) = EnhancedParts b.interface b.ticks b.captured b.orig b.order b.rest.now
+parts_of (Block.Simple b) = SimpleParts b.orig b.rest.now
+parts_of Block.Skipped = SkippedParts
 
 -- if the block is an interface description, its interface is the one that its options describe
 abbrev pub IsDescribedIfAny : Block → Type 0
-IsDescribedIfAny (a.Interface b) = IsDescribed b
+IsDescribedIfAny (Block.Interface b) = IsDescribed b
 IsDescribedIfAny block = Unit {0}
 
 -- ---- all checks of a block by itself

@@ -1,8 +1,7 @@
 -- The comment of a packet (draft-ietf-opsawg-pcapng, option opt_comment).
 use Rattle.std.specs.Prelude.{ℕ, List, [], unwrap_or}
 use Rattle.cap_octet.specs.declared.number.Order.{Order}
-use Rattle.cap_pcapng.specs.InterfaceOptions.{first_value, fitting_options}
-use Rattle.cap_pcapng.specs.OptionList.{options_in}
+use Rattle.cap_pcapng.specs.{InterfaceOptions.first_value, InterfaceOptions.fitting_options, OptionList.options_in}
 
 -- the code of a comment
 abbrev pub comment_code : ℕ

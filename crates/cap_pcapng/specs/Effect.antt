@@ -1,21 +1,13 @@
 -- The effect of a block: its packet, and the interfaces of its section after it.
+use Rattle.std.specs.{List.slice_get, Option.option_map}
 use Rattle.std.specs.Prelude.{◌≡◌, ℕ, ◌+◌, ◌-◌, length, ◌^◌, ◌<◌, ◌≤◌, ◌⊎◌, Bool, false, List, [], ◌∷◌, ◌++◌, take, drop, Option, None, Some, true, is_some}
-use Rattle.std.specs.List.{slice_get}
-use Rattle.std.specs.Option.{option_map}
-use Rattle.cap_octet.specs.Checks.{first_failing}
-use Rattle.cap_octet.specs.Packet.{Captured}
-use Rattle.cap_octet.specs.declared.fault.Fault.{Fault}
-use Rattle.cap_octet.specs.declared.number.Order.{Order}
+use Rattle.cap_octet.specs.{Checks.first_failing, Packet.Captured}
+use Rattle.cap_octet.specs.declared.{fault.Fault.Fault, number.Order.Order}
 use Rattle.cap_pcapng.specs.Block.{Parts, InterfaceParts, EnhancedParts, SimpleParts, block_checks, parts_in}
-use Rattle.cap_pcapng.specs.Comment.{comment_in}
-use Rattle.cap_pcapng.specs.Interface.{Described, description_of}
-use Rattle.cap_pcapng.specs.Padding.{padded_length}
+use Rattle.cap_pcapng.specs.{Comment.comment_in, Interface.Described, Interface.description_of, Padding.padded_length}
 use Rattle.cap_pcapng.specs.Unit.{Section, checks_among, packet_by, packet_of, section_by}
+use Rattle.cap_pcapng.specs.declared.effect.{BlockEffect.BlockEffect, PacketSpans.PacketSpans, Span.Span}
 use Rattle.cap_pcapng.specs.declared.frames.Frame.{Frame}
-use Rattle.cap_pcapng.specs.declared.effect.BlockEffect.{BlockEffect}
-use Rattle.cap_pcapng.specs.declared.effect.BlockEffect.TheVariants as effect
-use Rattle.cap_pcapng.specs.declared.effect.PacketSpans.{PacketSpans}
-use Rattle.cap_pcapng.specs.declared.effect.Span.{Span}
 
 -- the bytes of a text that a span has
 abbrev pub span_bytes : Span → List ℕ → List ℕ
@@ -95,13 +87,13 @@ pub record Enters (frame : Frame) (interfaces : List Described) (block : List �
 
 -- the place of a block's packet, by the block's effect; None if it has no packet
 abbrev pub packet_in_effect : BlockEffect → Option PacketSpans
-packet_in_effect (effect.Packet spans) = Some spans
+packet_in_effect (BlockEffect.Packet spans) = Some spans
 packet_in_effect other = None
 
 -- the interfaces of the section after a block, by the block's effect
 abbrev pub interfaces_after : BlockEffect → List Described → List Described
-interfaces_after effect.Section interfaces = []
-interfaces_after (effect.Interface i) interfaces = interfaces ++ description_of i ∷ []
+interfaces_after BlockEffect.Section interfaces = []
+interfaces_after (BlockEffect.Interface i) interfaces = interfaces ++ description_of i ∷ []
 interfaces_after other interfaces = interfaces
 
 -- a block passed all of its checks after those of its frame, and has this effect
@@ -111,7 +103,7 @@ HasEffect frame interfaces block does =
 
 -- if the block has a packet, its spans are as the block states
 abbrev pub LiesAsSaid : Parts → BlockEffect → Type 0
-LiesAsSaid parts (effect.Packet spans) = LieAsSaid parts spans
+LiesAsSaid parts (BlockEffect.Packet spans) = LieAsSaid parts spans
 LiesAsSaid parts other = Unit {0}
 
 -- the first check that a block fails after those of its frame: one of its own, or else one of those

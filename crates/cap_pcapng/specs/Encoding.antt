@@ -1,13 +1,9 @@
 -- Blocks as they are written, all of them little-endian.
 use Rattle.std.specs.Prelude.{ℕ, ◌+◌, ◌-◌, ◌/◌, ◌%◌, ◌^◌, Bool, List, [], ◌∷◌, ◌++◌, length, replicate, nat_le}
 use Rattle.byteorder.specs.Endian.{little_bytes}
-use Rattle.cap_octet.specs.Packet.{Captured}
-use Rattle.cap_octet.specs.declared.fault.Fault.{Fault}
-use Rattle.cap_octet.specs.declared.fault.Fault.TheVariants.{TooLong}
-use Rattle.cap_pcapng.specs.Comment.{comment_code}
-use Rattle.cap_pcapng.specs.Frame.{byte_order_magic, most_block, section_type}
-use Rattle.cap_pcapng.specs.InterfaceOptions.{name_code, resolution_code}
-use Rattle.cap_pcapng.specs.Padding.{padded_length}
+use Rattle.cap_octet.specs.{Packet.Captured, declared.fault.Fault.Fault, declared.fault.Fault.TheVariants.TooLong}
+use Rattle.cap_pcapng.specs.{Comment.comment_code, Frame.byte_order_magic, Frame.most_block, Frame.section_type}
+use Rattle.cap_pcapng.specs.{InterfaceOptions.name_code, InterfaceOptions.resolution_code, Padding.padded_length}
 
 -- type, total length, body, total length
 abbrev pub block_text : (type : ℕ) → (body : List ℕ) → List ℕ

@@ -1,15 +1,10 @@
 -- The frame of every block: its first 12 bytes, and their checks, in order
 -- (draft-ietf-opsawg-pcapng, "General Block Structure" and "Section Header Block").
 use Rattle.std.specs.Prelude.{ℕ, ◌%◌, ◌==◌, ◌&&◌, ◌||◌, not, if◌then◌else◌, Bool, List, [], ◌∷◌, nat_le, Option, Some, None, is_some, unwrap_or}
-use Rattle.cap_octet.specs.Checks.{first_failing}
-use Rattle.cap_octet.specs.Number.{u32_in}
-use Rattle.cap_octet.specs.declared.fault.Fault.{Fault}
+use Rattle.cap_octet.specs.{Checks.first_failing, Number.u32_in, declared.fault.Fault.Fault}
 use Rattle.cap_octet.specs.declared.fault.Fault.TheVariants.{NotACaptureFile, BadByteOrderMagic, BadBlockLength, TooLong}
-use Rattle.cap_octet.specs.declared.number.Order.{Order}
-use Rattle.cap_octet.specs.declared.number.Order.TheVariants.{Little, Big}
-use Rattle.cap_pcapng.specs.declared.frames.BlockType.{BlockType}
-use Rattle.cap_pcapng.specs.declared.frames.BlockType.TheVariants as block
-use Rattle.cap_pcapng.specs.declared.frames.Frame.{Frame}
+use Rattle.cap_octet.specs.declared.number.Order.{Order, TheVariants.Little, TheVariants.Big}
+use Rattle.cap_pcapng.specs.declared.frames.{BlockType.BlockType, Frame.Frame}
 
 -- the most bytes that a block may have
 abbrev pub most_block : ℕ
@@ -26,11 +21,11 @@ byte_order_magic = 0x1a2b3c4d
 -- the type of a block that isn't a section header, by the number in its first four bytes
 abbrev pub type_of_block : ℕ → BlockType
 type_of_block number =
-    if number == 1 then block.Interface
-    else (if number == 2 then block.ObsoletePacket
-    else (if number == 3 then block.SimplePacket
-    else (if number == 6 then block.EnhancedPacket
-    else block.Other)))
+    if number == 1 then BlockType.Interface
+    else (if number == 2 then BlockType.ObsoletePacket
+    else (if number == 3 then BlockType.SimplePacket
+    else (if number == 6 then BlockType.EnhancedPacket
+    else BlockType.Other)))
 
 -- whether a text begins with the type of a section header
 abbrev pub is_section : List ℕ → Bool
@@ -51,7 +46,7 @@ order_in section text = unwrap_or (if is_section text then magic_order text else
 -- the type of the block that a text begins with
 abbrev pub type_in : Option Order → List ℕ → BlockType
 type_in section text =
-    if is_section text then block.Section else type_of_block (u32_in (order_in section text) text 0)
+    if is_section text then BlockType.Section else type_of_block (u32_in (order_in section text) text 0)
 
 -- the total length
 abbrev pub length_in : Option Order → List ℕ → ℕ

@@ -1,13 +1,11 @@
 -- An interface by its values, the interfaces that a section may have, and the one that the options
 -- of a block describe.
-use Rattle.std.specs.Prelude.{◌≡◌, ◌≤◌, ℕ, length, All, ℤ, pos, List, [], unwrap_or}
 use Rattle.std.specs.Option.{option_map_or}
+use Rattle.std.specs.Prelude.{◌≡◌, ◌≤◌, ℕ, length, All, ℤ, pos, List, [], unwrap_or}
 use Rattle.cap_octet.specs.declared.number.Order.{Order}
 use Rattle.cap_pcapng.specs.InterfaceOptions.{first_value, fitting_options, name_code, offset_code, offset_in_value, resolution_code, units_in_value}
-use Rattle.cap_pcapng.specs.OptionList.{CodedValue, options_in}
-use Rattle.cap_pcapng.specs.Time.{microseconds}
-use Rattle.cap_pcapng.specs.declared.blocks.InterfaceBlock.{InterfaceBlock}
-use Rattle.cap_pcapng.specs.declared.interface.Interface.{Interface}
+use Rattle.cap_pcapng.specs.{OptionList.CodedValue, OptionList.options_in, Time.microseconds}
+use Rattle.cap_pcapng.specs.declared.{blocks.InterfaceBlock.InterfaceBlock, interface.Interface.Interface}
 
 -- an interface without the place of its name in memory
 pub record Described : Type 0 where

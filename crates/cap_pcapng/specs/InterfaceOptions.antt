@@ -1,13 +1,11 @@
 -- The options of an interface description block: their checks, in order, and what they say
 -- (draft-ietf-opsawg-pcapng, "Interface Description Block").
-use Rattle.std.specs.Prelude.{ℕ, ◌==◌, if◌then◌else◌, Bool, false, ℤ, List, [], ◌∷◌, ◌++◌, length, slice_index, nat_le, Option, Some, None, is_some, Result, Ok, Err}
 use Rattle.std.specs.Int.{cast_signed, w64}
+use Rattle.std.specs.Prelude.{ℕ, ◌==◌, if◌then◌else◌, Bool, false, ℤ, List, [], ◌∷◌, ◌++◌, length, slice_index, nat_le, Option, Some, None, is_some, Result, Ok, Err}
 use Rattle.cap_octet.specs.Number.{number_in}
-use Rattle.cap_octet.specs.declared.fault.Fault.{Fault}
-use Rattle.cap_octet.specs.declared.fault.Fault.TheVariants.{BadOption, BadTimeResolution}
+use Rattle.cap_octet.specs.declared.fault.Fault.{Fault, TheVariants.BadOption, TheVariants.BadTimeResolution}
 use Rattle.cap_octet.specs.declared.number.Order.{Order}
-use Rattle.cap_pcapng.specs.OptionList.{CodedValue}
-use Rattle.cap_pcapng.specs.Time.{is_resolution, units_per_second}
+use Rattle.cap_pcapng.specs.{OptionList.CodedValue, Time.is_resolution, Time.units_per_second}
 
 -- the codes of the options that are looked at
 abbrev pub name_code : ℕ

@@ -1,13 +1,11 @@
 -- What is written of an interface and of a packet reads back as they are.
-use Rattle.std.specs.Prelude.{◌≡◌, ℕ, ◌^◌, ◌<◌, ◌≤◌, pos, List, [], ◌∷◌, ◌++◌, length, Option, Some, None}
 use Rattle.std.specs.List.{slice_get}
+use Rattle.std.specs.Prelude.{◌≡◌, ℕ, ◌^◌, ◌<◌, ◌≤◌, pos, List, [], ◌∷◌, ◌++◌, length, Option, Some, None}
 use Rattle.cap_octet.specs.Checks.{first_failing}
-use Rattle.cap_octet.specs.Date.{NANOS_PER_SECOND}
-use Rattle.cap_octet.specs.Packet.{Captured}
-use Rattle.cap_octet.specs.declared.number.Order.TheVariants.{Little}
+use Rattle.cap_octet.specs.{Date.NANOS_PER_SECOND, Packet.Captured, declared.number.Order.TheVariants.Little}
+use Rattle.cap_pcapng.specs.Encoding.{block_fit_checks, interface_text, packet_block, section_text}
 use Rattle.cap_pcapng.specs.Interface.{Described, most_interfaces}
 use Rattle.cap_pcapng.specs.Unit.{IsBlock, Section, packets_in, section_after}
-use Rattle.cap_pcapng.specs.Encoding.{block_fit_checks, interface_text, packet_block, section_text}
 
 -- These bytes are one block, after which the section is this, and they hold these packets.
 pub record ReadsAs (before : Option Section) (bytes : List ℕ) (after : Section)

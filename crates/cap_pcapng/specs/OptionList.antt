@@ -1,12 +1,9 @@
 -- Options: codes and values, one after another (draft-ietf-opsawg-pcapng, "Options").
 use Rattle.std.specs.Prelude.{ℕ, zero, suc, ◌+◌, ◌==◌, ◌||◌, if◌then◌else◌, Bool, List, [], ◌∷◌, length, drop, take, nat_le, nat_lt, Result, Ok, Err}
 use Rattle.cap_octet.specs.Number.{u16_in}
-use Rattle.cap_octet.specs.declared.fault.Fault.{Fault}
-use Rattle.cap_octet.specs.declared.fault.Fault.TheVariants.{BadOption}
-use Rattle.cap_octet.specs.declared.number.Order.{Order}
+use Rattle.cap_octet.specs.declared.{fault.Fault.Fault, fault.Fault.TheVariants.BadOption, number.Order.Order}
 use Rattle.cap_pcapng.specs.Padding.{padded_length}
-use Rattle.cap_pcapng.specs.declared.options.BlockOption.{BlockOption}
-use Rattle.cap_pcapng.specs.declared.options.Options.{Options}
+use Rattle.cap_pcapng.specs.declared.options.{BlockOption.BlockOption, Options.Options}
 
 -- an option without the place of its value in memory
 pub record CodedValue : Type 0 where

@@ -1,20 +1,15 @@
 -- A block after the blocks in front of it: all of its checks, in order, what it declares, and its
 -- packet.
-use Rattle.std.specs.Prelude.{◌≡◌, ℕ, Bool, List, [], ◌∷◌, ◌++◌, length, nat_le, nat_lt, take, drop, Option, None, is_some, unwrap_or}
 use Rattle.std.specs.List.{slice_get}
 use Rattle.std.specs.Option.{option_and_then, option_map, option_map_or, option_to_list}
-use Rattle.cap_octet.specs.Checks.{first_failing}
-use Rattle.cap_octet.specs.Packet.{Captured}
-use Rattle.cap_octet.specs.declared.fault.Fault.{Fault}
+use Rattle.std.specs.Prelude.{◌≡◌, ℕ, Bool, List, [], ◌∷◌, ◌++◌, length, nat_le, nat_lt, take, drop, Option, None, is_some, unwrap_or}
+use Rattle.cap_octet.specs.{Checks.first_failing, Packet.Captured, declared.fault.Fault.Fault}
 use Rattle.cap_octet.specs.declared.fault.Fault.TheVariants.{Truncated, UnknownInterface, TimeOutOfRange, TooManyInterfaces}
 use Rattle.cap_octet.specs.declared.number.Order.{Order}
 use Rattle.cap_pcapng.specs.Block.{Parts, SectionParts, InterfaceParts, EnhancedParts, SimpleParts, block_checks, data_checks, option_checks, parts_in, simple_captured}
-use Rattle.cap_pcapng.specs.Comment.{comment_in}
-use Rattle.cap_pcapng.specs.Frame.{frame_checks, frame_in}
+use Rattle.cap_pcapng.specs.{Comment.comment_in, Frame.frame_checks, Frame.frame_in}
 use Rattle.cap_pcapng.specs.Interface.{Described, described_in, most_interfaces}
-use Rattle.cap_pcapng.specs.Padding.{padded_length}
-use Rattle.cap_pcapng.specs.Time.{representable_time}
-use Rattle.cap_pcapng.specs.declared.frames.Frame.{Frame}
+use Rattle.cap_pcapng.specs.{Padding.padded_length, Time.representable_time, declared.frames.Frame.Frame}
 
 -- the declarations of a section so far: its byte order, and its interfaces by their numbers
 pub record Section : Type 0 where

@@ -1,8 +1,7 @@
 //! How the ticks of an interface become times.
-ghost use Rattle.std.specs.Prelude.{◌≡◌, ◌<◌, ◌^◌, if◌then◌else◌, IfOk};
 ghost use Rattle.std.specs.Option.{ok_or};
-ghost use Rattle.cap_pcapng.specs.Time.{is_resolution, time_by};
-ghost use Rattle.cap_pcapng.specs.Time.{representable_time, units_per_second};
+ghost use Rattle.std.specs.Prelude.{◌≡◌, ◌<◌, ◌^◌, if◌then◌else◌, IfOk};
+ghost use Rattle.cap_pcapng.specs.Time.{is_resolution, time_by, representable_time, units_per_second};
 
 use cap_octet::Fault;
 use cap_octet::date::{NANOS_PER_SECOND, TIME_END};

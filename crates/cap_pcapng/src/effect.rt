@@ -1,12 +1,10 @@
 //! What a block does among the interfaces of its section: it begins a section, adds an interface or
 //! has a packet; with the checks of it that need these interfaces.
 ghost use Rattle.std.specs.Prelude.{◌≡◌, ◌+◌, ◌≤◌, IfOk, IfErr, length};
-ghost use Rattle.cap_pcapng.specs.Answer.{ChecksGive};
-ghost use Rattle.cap_pcapng.specs.Block.{parts_in, parts_of};
-ghost use Rattle.cap_pcapng.specs.Effect.{HasEffect, IsBlockFault, LiesAsSaid};
-ghost use Rattle.cap_pcapng.specs.inside.Effect.{PacketFound, fault_among};
-ghost use Rattle.cap_pcapng.specs.Effect.{span_bytes};
+ghost use Rattle.cap_pcapng.specs.{Answer.ChecksGive, Block.parts_in, Block.parts_of};
+ghost use Rattle.cap_pcapng.specs.Effect.{HasEffect, IsBlockFault, LiesAsSaid, span_bytes};
 ghost use Rattle.cap_pcapng.specs.Unit.{checks_among};
+ghost use Rattle.cap_pcapng.specs.inside.Effect.{PacketFound, fault_among};
 ghost use Rattle.cap_pcapng.specs.declared.blocks.Block.TheVariants as a;
 
 use crate::blocks::{Block, EnhancedBlock, SimpleBlock};
@@ -82,8 +80,7 @@ impl PacketSpans {
 
 /// The interfaces of a section by their numbers.
 pub trait Interfaces {
-    ghost use Rattle.std.specs.Prelude.{List, slice_get};
-    ghost use Rattle.std.specs.Option.{option_map};
+    ghost use Rattle.std.specs.{Option.option_map, Prelude.List, Prelude.slice_get};
     ghost use Rattle.cap_pcapng.specs.Interface.{Described, description_of};
 
     /// The interfaces, from number 0 on.

@@ -1,8 +1,7 @@
 //! Interface description blocks: an interface, and the options that describe it.
 ghost use Rattle.std.specs.Prelude.{◌≡◌, ◌≤◌, ◌++◌, if◌then◌else◌, [], length, IfOk};
-ghost use Rattle.cap_pcapng.specs.InterfaceOptions.{name_checks, offset_checks, offset_in_value};
-ghost use Rattle.cap_pcapng.specs.InterfaceOptions.{resolution_checks, units_in_value};
 ghost use Rattle.cap_pcapng.specs.Answer.{ChecksGive};
+ghost use Rattle.cap_pcapng.specs.InterfaceOptions.{name_checks, offset_checks, offset_in_value, resolution_checks, units_in_value};
 
 use crate::blocks::InterfaceBlock;
 use crate::clock::{Clock, units_per_second};
@@ -92,9 +91,9 @@ fn offset_in_value(order: Order, value: &[u8]) -> Result<i64, Fault>
 }
 
 impl<'a> FoundOptions<'a> {
-    ghost use Rattle.cap_pcapng.specs.inside.Interface.{Adds, IsFound, is_found};
     ghost use Rattle.cap_pcapng.specs.InterfaceOptions.{first_checks, fitting_options, list_checks};
     ghost use Rattle.cap_pcapng.specs.OptionList.{coded_value, options_left};
+    ghost use Rattle.cap_pcapng.specs.inside.Interface.{Adds, IsFound, is_found};
 
     /// Adds the value of one more option, or returns the first check that it fails. If an option is
     /// repeated, only the first one is checked and counts. Options of other codes are ignored.
@@ -134,8 +133,7 @@ impl<'a> FoundOptions<'a> {
 }
 
 impl<'a> InterfaceBlock<'a> {
-    ghost use Rattle.cap_pcapng.specs.Block.{body_checks, option_checks, parts_in_body};
-    ghost use Rattle.cap_pcapng.specs.Block.{parts_of_interface};
+    ghost use Rattle.cap_pcapng.specs.Block.{body_checks, option_checks, parts_in_body, parts_of_interface};
     ghost use Rattle.cap_pcapng.specs.Interface.{IsDescribed};
     ghost use Rattle.cap_pcapng.specs.declared.frames.BlockType.TheVariants as kind;
 

@@ -82,8 +82,7 @@ impl<A: Allocator> Model for Table<A> {
 }
 
 impl<A: Allocator> Table<A> {
-    ghost use Rattle.std.specs.Prelude.{IfErr, OnErr, slice_get};
-    ghost use Rattle.std.specs.Option.{option_map};
+    ghost use Rattle.std.specs.{Option.option_map, Prelude.IfErr, Prelude.OnErr, Prelude.slice_get};
     ghost use Rattle.cap_pcapng.specs.Interface.{FitSection, description_of, most_interfaces};
 
     /// A table without interfaces. It takes no memory.

@@ -3,9 +3,8 @@ pub use Rattle.std.proofs.Common.{◌≡◌, ◌≢◌, ℕ, zero, suc, ◌+◌,
 pub use Rattle.std.proofs.lemmas.Bool.{cases_order, eq-eqb, eqb-true}
 pub use Rattle.std.proofs.lemmas.Grind.{get_or_after_one, common_steps}
 pub use Rattle.std.proofs.lemmas.List.{get_or_append_left, get_or-append_right, get_or-set_other, get_or-set_same, length-set, drop-drop, drop-append-le, get_or_default, take-append-le, take_all}
-pub use Rattle.std.specs.Option.{IsSome, option_copied, option_copied_mut}
 pub use Rattle.std.proofs.lemmas.Option.{get_or_from_slice_get, slice_get-get_or}
-pub use Rattle.cap_window.specs.declared.links.Links.{Links}
-pub use Rattle.cap_window.specs.declared.mark.Mark.{Mark}
-pub use Rattle.cap_window.specs.inside.Index.{IsHung, IsIndex, IsPutOnTop, IsSoundIndex, IsMarkTree, Empty, Topped, but, every, marks_with_bit, has_hash, hash_of, link_by_bit, links_at, mark_at, mark_bit, IsOnTop, HasNoMark}
+pub use Rattle.std.specs.Option.{IsSome, option_copied, option_copied_mut}
 pub use Rattle.cap_window.specs.Marks.{last, is_same_mark, has_same}
+pub use Rattle.cap_window.specs.declared.{links.Links.Links, mark.Mark.Mark}
+pub use Rattle.cap_window.specs.inside.Index.{Agrees, IsHung, IsIndex, IsOnTop, IsPutOnTop, IsSameOutside, IsSoundIndex, IsWay, Ends, Goes, Lacks, hash_of, link_by_bit, links_at, mark_at, mark_bit}

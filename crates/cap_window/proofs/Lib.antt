@@ -1,5 +1,4 @@
 pub mod Common
 pub mod Indexes
 pub mod Marks
-pub mod Searching
 pub mod Trees

@@ -1,12 +1,8 @@
 -- Marks in a window.
-use Rattle.cap_window.proofs.Common.{Links, IsSome, option_copied, ◌≡◌, ◌↔◌, ℕ, ◌+◌, ◌-◌, ◌≤◌, ◌==◌, Bool, List, [], ◌∷◌, ◌++◌, length, drop, sym, ap, ◌∙◌, arith, length-append, length-drop, IsTrue, Bor, Option, Some, None, rules, drop-drop, drop-append-le, Mark, is_same_mark, has_same, last}
+use Rattle.cap_window.proofs.Common.{refl, IsSome, option_copied, ◌≡◌, ◌↔◌, ℕ, ◌+◌, ◌-◌, ◌≤◌, ◌==◌, Bool, List, [], ◌∷◌, ◌++◌, length, drop, sym, ap, ◌∙◌, arith, length-append, length-drop, IsTrue, Bor, Option, Some, None, drop-drop, drop-append-le, Mark, is_same_mark, has_same, last}
 use Rattle.std.proofs.lemmas.Bool.Decides.{Decides-and, Decides-eqb, Decides-like}
-use Rattle.std.proofs.lemmas.List.Folds.{list_any_at}
-use Rattle.std.proofs.lemmas.Map.Views.{Contains-from_any}
-use Rattle.std.proofs.lemmas.Slice.Eq.{bytes_eq-Decides}
-use Rattle.std.specs.Bool.{Decides, one_answer}
-use Rattle.std.specs.List.{Contains}
-use Rattle.std.specs.Str.{bytes_eq}
+use Rattle.std.proofs.lemmas.{List.Folds.list_any_at, Map.Views.Contains-from_any, Slice.Eq.bytes_eq-Decides}
+use Rattle.std.specs.{Bool.Decides, Bool.one_answer, List.Contains, Str.bytes_eq}
 
 abbrev with_digest : ℕ → List ℕ → Mark
 with_digest length digest = record { length = length; digest = digest }
@@ -43,11 +39,7 @@ last-last n ms m =
     ∙ drop-drop (length (drop k ms ++ m ∷ []) - n) k (ms ++ m ∷ [])
     ∙ ap (λ (j : ℕ). drop j (ms ++ m ∷ [])) sum
 
--- what is got at a place that there is
-pub mark_is_there : (o : Option (Bor Mark)) (x : Mark) → option_copied o ≡ Some x → IsSome o
-mark_is_there (Some r) x e = search rules
-mark_is_there None x e = absurd cc
-
-pub links_are_there : (o : Option (Bor Links)) (x : Links) → option_copied o ≡ Some x → IsSome o
-links_are_there (Some r) x e = search rules
-links_are_there None x e = absurd cc
+-- there is what is got at a place of a list
+pub is_there : {T : Type 0} (o : Option (Bor T)) (x : T) → option_copied o ≡ Some x → IsSome o
+is_there (Some r) x e = refl
+is_there None x e = absurd cc

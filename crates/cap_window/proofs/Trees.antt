@@ -1,114 +1,116 @@
--- What holds of trees of marks, and of the index that they are.
-use Rattle.cap_window.proofs.Common.{◌≡◌, ◌≢◌, ℕ, ◌+◌, ◌-◌, ◌^◌, ◌<◌, ◌≤◌, ◌⊎◌, inl, inr, Bool, true, false, not, ◌&&◌, List, length, refl, sym, ap, ◌∙◌, subst, arith, IsTrue, min, set, cases_order, is_same_mark, get_or-set_other, get_or-set_same, IsOnTop, IsPutOnTop, IsMarkTree, Empty, Topped, HasNoMark, every, marks_with_bit, but, mark_bit, link_by_bit, links_at, mark_at, Links, Mark}
-use Rattle.cap_window.proofs.Marks.{is_same-Decides}
-
--- ---- tests
-
-pub both : (a b : Bool) → (a && b) ≡ true → (a ≡ true) × (b ≡ true)
-both true b e = (refl, e)
-both false b e = absurd (let h : false ≡ true = e in cc)
-
-pub join : (a b : Bool) → a ≡ true → b ≡ true → (a && b) ≡ true
-join a b p q = rw (p, q) refl
-
-pub not-true : (b : Bool) → not b ≡ true → b ≡ true → ⊥
-not-true true e h = cc
-not-true false e h = cc
-
-pub true-not : (b : Bool) → (b ≡ true → ⊥) → not b ≡ true
-true-not true never = absurd (never refl)
-true-not false never = refl
+-- The ways of searches, as marks and links change.
+use Rattle.cap_window.proofs.Common.{◌≡◌, ◌≢◌, ℕ, zero, suc, ◌+◌, ◌-◌, ◌^◌, ◌<◌, ◌≤◌, ◌⊎◌, inl, inr, Bool, true, false, not, List, [], ◌∷◌, ◌++◌, length, refl, sym, ap, ◌∙◌, arith, min, set, cases_order, get_or_append_left, length-append, get_or-set_other, get_or-set_same, IsWay, Ends, Goes, Agrees, Lacks, IsHung, IsOnTop, IsPutOnTop, IsSameOutside, mark_bit, link_by_bit, links_at, mark_at, Links, Mark}
 
 below_or : (a b : ℕ) → (a < b) ⊎ (b ≤ a)
 below_or a b = elim (cases_order a b) [ inl e ↦ inr (omega arith) | inr (inl lt) ↦ inl lt | inr (inr gt) ↦ inr (omega arith) ]
 
-pub half-class : (class : Mark → Bool) (depth : ℕ) (bit : Bool) (m : Mark) → IsTrue (marks_with_bit class depth bit m) → IsTrue (class m)
-half-class class depth true m is = (both (class m) (mark_bit m depth) is).0
-half-class class depth false m is = (both (class m) (not (mark_bit m depth)) is).0
+pub agrees_itself : {mask depth : ℕ} (m : Mark) → Agrees mask depth m m
+agrees_itself m = record { hash = refl; bits = λ i lt. refl }
 
--- a mark of one half is none of the other
-pub half-bit : (class : Mark → Bool) (depth : ℕ) (bit : Bool) (m : Mark) → IsTrue (marks_with_bit class depth bit m) → mark_bit m depth ≡ bit
-half-bit class depth true m is = (both (class m) (mark_bit m depth) is).1
-half-bit class depth false m is = unset (mark_bit m depth) (both (class m) (not (mark_bit m depth)) is).1
+agrees_above : {mask depth : ℕ} {e m : Mark} → Agrees mask (depth + 1) e m → Agrees mask depth e m
+agrees_above a = record { hash = a.hash; bits = λ i lt. a.bits i (omega arith) }
+
+agrees_on : {mask depth : ℕ} {e m n : Mark} → Agrees mask depth e m → Agrees mask depth m n → Agrees mask depth e n
+agrees_on a b = record { hash = b.hash ∙ a.hash; bits = λ i lt. b.bits i lt ∙ a.bits i lt }
+
+agrees_back : {mask depth : ℕ} {e m : Mark} → Agrees mask depth e m → Agrees mask depth m e
+agrees_back a = record { hash = sym a.hash; bits = λ i lt. sym (a.bits i lt) }
+
+agrees_more : {mask depth : ℕ} {e m : Mark} → Agrees mask depth e m → mark_bit m depth ≡ mark_bit e depth → Agrees mask (depth + 1) e m
+agrees_more {depth = depth} a bit = record {
+  hash = a.hash;
+  bits = λ i lt. elim (below_or i depth) [
+    | inl less ↦ a.bits i less
+    | inr last ↦ (let same : i ≡ depth = omega arith in rw same bit)
+  ];
+}
+
+module _ {mask : ℕ} {ms : List Mark} {ls : List Links} {e : Mark} where
+  pub least : {depth limit d : ℕ} → IsWay mask ms ls e depth limit d → 1 ≤ d
+  least (Ends past none) = omega arith
+  least (Goes within step agrees none below) = step
+
+  -- at the end of a way all marks were passed
+  pub ended : {depth limit d : ℕ} → IsWay mask ms ls e depth limit d → limit < d → Lacks ms e limit → Lacks ms e 0
+  ended (Ends past none) far = none
+  ended (Goes within step agrees none below) far = absurd (omega arith)
+
+  -- from a later mark, if e isn't among those between
+  pub raised : {depth limit d : ℕ} (limit' d' : ℕ) → IsWay mask ms ls e depth limit d → (Lacks ms e limit' → Lacks ms e limit)
+      → (d ≤ limit → (limit' - d' ≡ limit - d) × (d' ≤ limit') × (1 ≤ d')) → (limit < d → limit' < d') → IsWay mask ms ls e depth limit' d'
+  raised limit' d' (Ends past none) up near far = Ends (far past) (λ lacks. none (up lacks))
+  raised limit' d' (Goes within step agrees none below) up near far =
+      let same = near within in
+      Goes same.1 same.2 (rw same.0 agrees) (rw same.0 (λ lacks. none (up lacks))) (rw same.0 below)
+
+-- the first mark of a way
+pub record HasTop (mask : ℕ) (ms : List Mark) (ls : List Links) (e : Mark) (depth limit top : ℕ) : Type 0 where
+  pub agrees : Agrees mask depth e (mark_at ms top)
+  pub none : Lacks ms e limit → Lacks ms e (top + 1)
+  pub below : IsWay mask ms ls e (depth + 1) top (link_by_bit (links_at ls top) (mark_bit e depth))
+
+pub top_of : {mask : ℕ} {ms : List Mark} {ls : List Links} {e : Mark} {depth limit d : ℕ} → IsWay mask ms ls e depth limit d → d ≤ limit → HasTop mask ms ls e depth limit (limit - d)
+top_of (Ends past none) within = absurd (omega arith)
+top_of (Goes within step agrees none below) _ = record { agrees = agrees; none = none; below = below }
+
+-- e isn't at the top
+pub past_top : {mask : ℕ} {ms : List Mark} {ls : List Links} {e : Mark} {depth limit top : ℕ} → HasTop mask ms ls e depth limit top → mark_at ms top ≢ e
+    → Lacks ms e limit → Lacks ms e top
+past_top {top = top} t other lacks j low high = elim (below_or top j) [
+  | inl above ↦ t.none lacks j (omega arith) high
+  | inr here ↦ (let same : j ≡ top = omega arith in rw same other)
+]
+
+-- links of marks that agree with e alone matter
+pub relinked : {mask : ℕ} {ms : List Mark} {ls : List Links} {e : Mark} {depth limit d : ℕ} (ls' : List Links) → IsWay mask ms ls e depth limit d
+    → ((j : ℕ) → j < limit → Agrees mask depth e (mark_at ms j) → links_at ls' j ≡ links_at ls j) → IsWay mask ms ls' e depth limit d
+relinked ls' (Ends past none) same = Ends past none
+relinked ls' (Goes within step agrees none below) same =
+    Goes within step agrees none (rw (same _ (omega arith) agrees) (relinked ls' below (λ j less is. same j (omega arith) (agrees_above is))))
+
+-- one mark more
+lacks_appended : {e : Mark} {limit from : ℕ} (ms : List Mark) (m : Mark) → limit ≤ length ms → (Lacks ms e limit → Lacks ms e from)
+    → Lacks (ms ++ m ∷ []) e limit → Lacks (ms ++ m ∷ []) e from
+lacks_appended {limit = limit} ms m upper_bound none lacks j low high = elim (below_or j limit) [
+  | inl less ↦ λ equal. none
+      (λ i above within equal'. lacks i above (omega (arith, length-append ms (m ∷ []))) (get_or_append_left ms (m ∷ []) _ i within ∙ equal'))
+      j low (omega arith) (sym (get_or_append_left ms (m ∷ []) _ j (omega arith)) ∙ equal)
+  | inr above ↦ lacks j above high
+]
+
+pub appended : {mask : ℕ} {ms : List Mark} {ls : List Links} {e : Mark} {depth limit d : ℕ} (m : Mark) (l : Links) → length ls ≡ length ms → limit ≤ length ms
+    → IsWay mask ms ls e depth limit d → IsWay mask (ms ++ m ∷ []) (ls ++ l ∷ []) e depth limit d
+appended m l long upper_bound (Ends past none) = Ends past (lacks_appended _ m upper_bound none)
+appended {ms = ms} {ls = ls} {limit = limit} {d = d} m l long upper_bound (Goes within step agrees none below) =
+    let mark = get_or_append_left ms (m ∷ []) (record { length = 0; digest = [] }) (limit - d) (omega arith) in
+    let link = get_or_append_left ls (l ∷ []) (record { zeros = 0; ones = 0 }) (limit - d) (omega arith) in
+    Goes within step (rw mark agrees) (lacks_appended _ m upper_bound none) (rw link (appended m l long (omega arith) below))
+
+-- the oldest mark goes
+lacks_dropped : {e : Mark} {limit from : ℕ} (ms : List Mark) (m : Mark) (less k : ℕ) → limit ≡ less + 1 → from ≤ k + 1
+    → (Lacks (m ∷ ms) e limit → Lacks (m ∷ ms) e from) → Lacks ms e less → Lacks ms e k
+lacks_dropped {e = e} {limit = limit} ms m less k one le none lacks j low high = none up (suc j) (omega arith) (omega arith)
   where
-    unset : (b : Bool) → not b ≡ true → b ≡ false
-    unset true e = cc
-    unset false e = refl
+    up : Lacks (m ∷ ms) e limit
+    up zero above within = absurd (omega arith)
+    up (suc i) above within = lacks i (omega arith) (omega arith)
 
-pub in_half : (class : Mark → Bool) (depth : ℕ) (bit : Bool) (m : Mark) → IsTrue (class m) → mark_bit m depth ≡ bit → IsTrue (marks_with_bit class depth bit m)
-in_half class depth true m is bit = join (class m) (mark_bit m depth) is bit
-in_half class depth false m is bit = join (class m) (not (mark_bit m depth)) is (ap not bit)
-
--- ---- trees
-
--- other marks may be wanted, as long as those of the class were wanted before
-pub rewanted : (ms : List Mark) (ls : List Links) (class wanted wanted' : Mark → Bool) (depth limit d : ℕ) → IsMarkTree ms ls class wanted depth limit d
-    → ((m : Mark) → IsTrue (class m) → IsTrue (wanted' m) → IsTrue (wanted m)) → IsMarkTree ms ls class wanted' depth limit d
-rewanted ms ls class wanted wanted' depth limit d (Empty _ _ _ _ _ past none) less =
-    Empty class wanted' depth limit d past (λ j low high is want. none j low high is (less (mark_at ms j) is want))
-rewanted ms ls class wanted wanted' depth limit d (Topped _ _ _ _ _ top place step belongs none below) less =
-    Topped class wanted' depth limit d top place step belongs (λ j low high is want. none j low high is (less (mark_at ms j) is want))
-    (λ bit. rewanted ms ls (marks_with_bit class depth bit) (but wanted (mark_at ms top)) (but wanted' (mark_at ms top)) (depth + 1) top (link_by_bit (links_at ls top) bit) (below bit)
-    (λ m is want. (let w = both (wanted' m) (not (is_same_mark m (mark_at ms top))) want in
-    join (wanted m) (not (is_same_mark m (mark_at ms top))) (less m (half-class class depth bit m is) w.0) w.1)))
-
--- marks below the limit and links of the class alone matter
-pub reframed : (ms ms' : List Mark) (ls ls' : List Links) (class wanted : Mark → Bool) (depth limit d : ℕ) → IsMarkTree ms ls class wanted depth limit d
-    → ((j : ℕ) → j < limit → mark_at ms' j ≡ mark_at ms j)
-    → ((j : ℕ) → j < limit → IsTrue (class (mark_at ms j)) → links_at ls' j ≡ links_at ls j)
-    → IsMarkTree ms' ls' class wanted depth limit d
-reframed ms ms' ls ls' class wanted depth limit d (Empty _ _ _ _ _ past none) marks links =
-    Empty class wanted depth limit d past
-    (λ j low high is want. none j low high (subst (λ (m : Mark). IsTrue (class m)) (marks j high) is) (subst (λ (m : Mark). IsTrue (wanted m)) (marks j high) want))
-reframed ms ms' ls ls' class wanted depth limit d (Topped _ _ _ _ _ top place step belongs none below) marks links =
-    let within : top < limit = omega arith in
-    let mark : mark_at ms' top ≡ mark_at ms top = marks top within in
-    let link : links_at ls' top ≡ links_at ls top = links top within belongs in
-    Topped class wanted depth limit d top place step (subst (λ (m : Mark). IsTrue (class m)) (sym mark) belongs)
-    (λ j low high is want. none j low high (subst (λ (m : Mark). IsTrue (class m)) (marks j high) is) (subst (λ (m : Mark). IsTrue (wanted m)) (marks j high) want))
-    (λ bit. subst (λ (l : Links). IsMarkTree ms' ls' (marks_with_bit class depth bit) (but wanted (mark_at ms' top)) (depth + 1) top (link_by_bit l bit)) (sym link)
-    (subst (λ (m : Mark). IsMarkTree ms' ls' (marks_with_bit class depth bit) (but wanted m) (depth + 1) top (link_by_bit (links_at ls top) bit)) (sym mark)
-    (reframed ms ms' ls ls' (marks_with_bit class depth bit) (but wanted (mark_at ms top)) (depth + 1) top (link_by_bit (links_at ls top) bit) (below bit)
-    (λ j less. marks j (omega arith))
-    (λ j less is. links j (omega arith) (half-class class depth bit (mark_at ms j) is)))))
-
--- no mark of it lies between the limit and a later one
-pub raised : (ms : List Mark) (ls : List Links) (class wanted : Mark → Bool) (depth limit d limit' d' : ℕ) → IsMarkTree ms ls class wanted depth limit d
-    → limit ≤ limit' → HasNoMark ms class wanted limit limit' → (d ≤ limit → limit' + d ≡ limit + d') → (limit < d → limit' < d')
-    → IsMarkTree ms ls class wanted depth limit' d'
-raised ms ls class wanted depth limit d limit' d' (Empty _ _ _ _ _ past none) more apart near far =
-    Empty class wanted depth limit' d' (far past)
-    (λ j low high is want. elim (below_or j limit) [ inl less ↦ none j low less is want | inr above ↦ apart j above high is want ])
-raised ms ls class wanted depth limit d limit' d' (Topped _ _ _ _ _ top place step belongs none below) more apart near far =
-    let same : limit' + d ≡ limit + d' = near (omega arith) in
-    Topped class wanted depth limit' d' top (omega arith) (omega arith) belongs
-    (λ j low high is want. elim (below_or j limit) [ inl less ↦ none j low less is want | inr above ↦ apart j above high is want ])
-    below
+pub dropped : {mask : ℕ} {m : Mark} {ms : List Mark} {l : Links} {ls : List Links} {e : Mark} {depth limit d : ℕ} (less : ℕ) → limit ≡ less + 1
+    → IsWay mask (m ∷ ms) (l ∷ ls) e depth limit d → IsWay mask ms ls e depth less d
+dropped {m = m} less one (Ends past none) = Ends (omega arith) (lacks_dropped _ m less 0 one (omega arith) none)
+dropped {m = m} {limit = limit} {d = d} less one (Goes within step agrees none below) = elim (below_or less d) [
+  | inl first ↦ Ends first (lacks_dropped _ m less 0 one (omega arith) none)
+  | inr more ↦ (let same : limit - d ≡ suc (less - d) = omega arith in
+      Goes more step (rw same at agrees) (lacks_dropped _ m less (less - d + 1) one (omega arith) none) (rw same at (dropped (less - d) (omega arith) below)))
+]
 
 -- ---- the newest mark is placed
 
--- links outside a class up to a place are the same
-abbrev pub IsSameOutside : List Mark → (old new : List Links) → (Mark → Bool) → ℕ → Type 0
-IsSameOutside ms old new class place = (j : ℕ) → (j ≤ place → IsTrue (class (mark_at ms j)) → ⊥) → links_at new j ≡ links_at old j
-
--- The mark at `place` gets to the top of the tree of a class, whose top before is d places below
+-- The mark at `place` gets to the top of the tree of its bits, whose top before is d places below
 -- it. Once it has its links, and so those below, all are placed.
-pub record IsPlacing (ms : List Mark) (start now : List Links) (first : Mark → Bool) (newest depth place d : ℕ) : Type 0 where
-  pub class : Mark → Bool
-  pub wanted : Mark → Bool
-  pub belongs : IsTrue (class (mark_at ms place))
-  pub tree : IsMarkTree ms now class (but wanted (mark_at ms place)) depth place d
-  pub finish : (done : List Links) → IsSameOutside ms now done class place → IsOnTop ms done class wanted depth place → IsPutOnTop ms start done first newest
-
-pub placing_first : (ms : List Mark) (ls : List Links) (class : Mark → Bool) (newest d : ℕ) → IsTrue (class (mark_at ms newest))
-    → IsMarkTree ms ls class (but every (mark_at ms newest)) 0 newest d → IsPlacing ms ls ls class newest 0 newest d
-placing_first ms ls class newest d belongs tree = record {
-  class = class;
-  wanted = every;
-  belongs = belongs;
-  tree = tree;
-  finish = λ done same below. record { below = below; others = λ j never. same j (λ _ is. never is) };
-}
+pub record IsPlacing (mask : ℕ) (ms : List Mark) (start now : List Links) (newest depth place d : ℕ) : Type 0 where
+  pub tree : IsHung mask ms now depth place d
+  pub finish : (done : List Links) → IsSameOutside mask ms now done depth place → IsOnTop mask ms done depth place → IsPutOnTop mask ms start done newest
 
 set_other : (ls : List Links) (place j : ℕ) (l : Links) → j ≢ place → links_at (set ls place l) j ≡ links_at ls j
 set_other ls place j l other = get_or-set_other ls place j l (record { zeros = 0; ones = 0 }) other
@@ -116,133 +118,78 @@ set_other ls place j l other = get_or-set_other ls place j l (record { zeros = 0
 set_same : (ls : List Links) (place : ℕ) (l : Links) → place < length ls → links_at (set ls place l) place ≡ l
 set_same ls place l within = get_or-set_same ls place l (record { zeros = 0; ones = 0 }) within
 
-outside_set : (ms : List Mark) (ls : List Links) (class : Mark → Bool) (place : ℕ) (l : Links) → IsTrue (class (mark_at ms place)) → IsSameOutside ms ls (set ls place l) class place
-outside_set ms ls class place l belongs j never =
-    set_other ls place j l (λ e. never (omega arith) (subst (λ (i : ℕ). IsTrue (class (mark_at ms i))) (sym e) belongs))
+pub step_at : {mask : ℕ} {ms : List Mark} {start now : List Links} {newest depth place d : ℕ} → IsPlacing mask ms start now newest depth place d → 1 ≤ d
+step_at {ms = ms} {place = place} p = least (p.tree (mark_at ms place) (agrees_itself (mark_at ms place)))
 
--- there is none below
-pub placing_end : (ms : List Mark) (start now : List Links) (first : Mark → Bool) (newest depth place d : ℕ) (l : Links)
-    → IsPlacing ms start now first newest depth place d → place < d → place < length now → l.zeros ≡ d → l.ones ≡ d
-    → IsPutOnTop ms start (set now place l) first newest
-placing_end ms start now first newest depth place d l p past within zeros ones =
-    p.finish (set now place l) (outside_set ms now p.class place l p.belongs)
-    (λ bit. Empty (marks_with_bit p.class depth bit) (but p.wanted (mark_at ms place)) (depth + 1) place _
-    (rw (set_same now place l within) (far bit))
-    (λ j low high is want. none_in p.class (but p.wanted (mark_at ms place)) depth place d p.tree past j high (half-class p.class depth bit (mark_at ms j) is) want))
-  where
-    far : (bit : Bool) → place < link_by_bit l bit
-    far true = omega arith
-    far false = omega arith
+module _ {mask : ℕ} {ms : List Mark} {start now : List Links} {newest depth place d : ℕ} (p : IsPlacing mask ms start now newest depth place d) (l : Links) where
+  outside_set : IsSameOutside mask ms now (set now place l) depth place
+  outside_set j never = set_other now place j l (λ e. never (omega arith) (rw e (agrees_itself (mark_at ms place))))
 
-    none_in : (class wanted : Mark → Bool) (depth limit d : ℕ) → IsMarkTree ms now class wanted depth limit d → limit < d
-        → (j : ℕ) → j < limit → IsTrue (class (mark_at ms j)) → IsTrue (wanted (mark_at ms j)) → ⊥
-    none_in class wanted depth limit d (Empty _ _ _ _ _ _ none) less j high is want = none j (omega arith) high is want
-    none_in class wanted depth limit d (Topped _ _ _ _ _ top at step belongs none below) less j high is want = absurd (omega arith)
+  -- there is none below
+  pub placing_end : place < d → place < length now → l.zeros ≡ d → l.ones ≡ d → IsPutOnTop mask ms start (set now place l) newest
+  placing_end past within zeros ones =
+      p.finish (set now place l) outside_set
+      (λ e agrees. Ends (rw (set_same now place l within) (far (mark_bit e depth))) (ended (p.tree e agrees) past))
+    where
+      far : (bit : Bool) → place < link_by_bit l bit
+      far true = omega arith
+      far false = omega arith
 
--- what hangs below a mark that is d places below the limit
-record HasTop (ms : List Mark) (ls : List Links) (class wanted : Mark → Bool) (depth limit top : ℕ) : Type 0 where
-  belongs : IsTrue (class (mark_at ms top))
-  none : HasNoMark ms class wanted (top + 1) limit
-  below : IsOnTop ms ls class wanted depth top
+  -- the tree of one bit below the top becomes one below the mark that takes its place, if the top is none of it
+  moved : {e : Mark} (done : List Links) (d' : ℕ) → HasTop mask ms now e depth place (place - d) → d ≤ place → place + 1 < 2 ^ 32
+      → ((j : ℕ) → j < place - d → Agrees mask (depth + 1) e (mark_at ms j) → links_at done j ≡ links_at now j)
+      → (Lacks ms e place → mark_at ms (place - d) ≢ e)
+      → d' ≡ min (link_by_bit (links_at now (place - d)) (mark_bit e depth) + d) (2 ^ 32 - 1) → IsWay mask ms done e (depth + 1) place d'
+  moved done d' t within upper_bound links other reach =
+      let step = step_at p in
+      raised place d' (relinked done t.below links) (λ lacks. past_top t (other lacks) lacks) (λ near. (omega arith, omega arith, omega arith)) (λ far. omega arith)
 
-top_of : (ms : List Mark) (ls : List Links) (class wanted : Mark → Bool) (depth limit d top : ℕ) → IsMarkTree ms ls class wanted depth limit d → limit ≡ top + d
-    → HasTop ms ls class wanted depth limit top
-top_of ms ls class wanted depth limit d top (Empty _ _ _ _ _ past none) place = absurd (omega arith)
-top_of ms ls class wanted depth limit d top (Topped _ _ _ _ _ there at step belongs none below) place =
-    let same : there ≡ top = omega arith in
-    subst (λ (i : ℕ). HasTop ms ls class wanted depth limit i) same (record { belongs = belongs; none = none; below = below })
+  -- the mark that is taken the place of is equal
+  pub placing_equal : d ≤ place → place < length now → place < length ms → place + 1 < 2 ^ 32 → mark_at ms place ≡ mark_at ms (place - d)
+      → ((bit : Bool) → link_by_bit l bit ≡ min (link_by_bit (links_at now (place - d)) bit + d) (2 ^ 32 - 1)) → IsPutOnTop mask ms start (set now place l) newest
+  placing_equal within inside there upper_bound equal reach =
+      let step = step_at p in
+      p.finish (set now place l) outside_set
+      (λ e agrees. rw (set_same now place l inside)
+      (moved (set now place l) _ (top_of (p.tree e agrees) within) within upper_bound (λ j less is. set_other now place j l (λ at. omega arith))
+      (λ lacks is. lacks place (omega arith) there (equal ∙ is)) (reach (mark_bit e depth))))
 
-step_of : (ms : List Mark) (ls : List Links) (class wanted : Mark → Bool) (depth limit d : ℕ) → IsMarkTree ms ls class wanted depth limit d → 1 ≤ d
-step_of ms ls class wanted depth limit d (Empty _ _ _ _ _ past none) = omega arith
-step_of ms ls class wanted depth limit d (Topped _ _ _ _ _ there at step belongs none below) = step
+  -- the mark that is taken the place of goes down by one bit
+  pub placing_next : (bit : Bool) → d ≤ place → place < length now → place + 1 < 2 ^ 32 → bit ≡ mark_bit (mark_at ms (place - d)) depth → link_by_bit l bit ≡ d
+      → link_by_bit l (not bit) ≡ min (link_by_bit (links_at now (place - d)) (not bit) + d) (2 ^ 32 - 1)
+      → IsPlacing mask ms start (set now place l) newest (depth + 1) (place - d) (link_by_bit (links_at now (place - d)) bit)
+  placing_next bit within inside upper_bound is_bit to other =
+      let step = step_at p in
+      let top_agrees = (top_of (p.tree (mark_at ms place) (agrees_itself (mark_at ms place))) within).agrees in
+      record {
+        tree = λ e agrees. (let same : bit ≡ mark_bit e depth = is_bit ∙ agrees.bits depth (omega arith) in
+            rw same (relinked (set now place l) (top_of (p.tree e (agrees_on (agrees_above agrees) (agrees_back top_agrees))) within).below
+            (λ j less is. set_other now place j l (λ at. omega arith))));
+        finish = λ done same below.
+            (let here : links_at done place ≡ l = same place (λ le is. omega arith) ∙ set_same now place l inside in
+            p.finish done (λ j never. same j (λ le is. never (omega arith) (agrees_on top_agrees (agrees_above is))) ∙ outside_set j never)
+            (λ e agrees. elim (side (mark_bit e depth) bit) [
+              | inl e_bit ↦ (let t = top_of (p.tree e agrees) within in
+                  let more = agrees_more t.agrees (sym is_bit ∙ sym e_bit) in
+                  rw (here, e_bit, to) (Goes within step more t.none (below e more)))
+              | inr e_other ↦ (let t = top_of (p.tree e agrees) within in
+                  rw (here, e_other, other, ← e_other)
+                  (moved done _ t within upper_bound
+                  (λ j less is. same j (λ le half_is. not_both bit (is_bit ∙ sym (half_is.bits depth (omega arith)) ∙ is.bits depth (omega arith) ∙ e_other))
+                  ∙ set_other now place j l (λ at. omega arith))
+                  (λ lacks equal. not_both bit (is_bit ∙ ap (λ (x : Mark). mark_bit x depth) equal ∙ e_other)) refl))
+            ]));
+      }
+    where
+      side : (a b : Bool) → (a ≡ b) ⊎ (a ≡ not b)
+      side true true = inl refl
+      side true false = inr refl
+      side false true = inr refl
+      side false false = inl refl
 
--- the tree of one bit below the top becomes one below the mark that takes its place, where the top
--- is none of it
-moved : (ms : List Mark) (now done : List Links) (class wanted : Mark → Bool) (depth place top d d' : ℕ) (bit : Bool)
-    → HasTop ms now class (but wanted (mark_at ms place)) depth place top → place ≡ top + d → place + 1 < 2 ^ 32
-    → ((j : ℕ) → j < top → IsTrue (marks_with_bit class depth bit (mark_at ms j)) → links_at done j ≡ links_at now j)
-    → ((m : Mark) → IsTrue (marks_with_bit class depth bit m) → IsTrue (but wanted (mark_at ms place) m) → m ≢ mark_at ms top)
-    → d' ≡ min (link_by_bit (links_at now top) bit + d) (2 ^ 32 - 1)
-    → IsMarkTree ms done (marks_with_bit class depth bit) (but wanted (mark_at ms place)) (depth + 1) place d'
-moved ms now done class wanted depth place top d d' bit t at upper_bound links other reach =
-    let q = but wanted (mark_at ms place) in
-    let e = link_by_bit (links_at now top) bit in
-    let framed : IsMarkTree ms done (marks_with_bit class depth bit) (but q (mark_at ms top)) (depth + 1) top e =
-    reframed ms ms now done (marks_with_bit class depth bit) (but q (mark_at ms top)) (depth + 1) top e (t.below bit) (λ j less. refl) links in
-    let wide : IsMarkTree ms done (marks_with_bit class depth bit) q (depth + 1) top e =
-    rewanted ms done (marks_with_bit class depth bit) (but q (mark_at ms top)) q (depth + 1) top e framed
-    (λ m is want. join (q m) (not (is_same_mark m (mark_at ms top))) want (true-not (is_same_mark m (mark_at ms top)) (λ same. other m is want ((is_same-Decides m (mark_at ms top)).0 same)))) in
-    raised ms done (marks_with_bit class depth bit) q (depth + 1) top e place d' wide (omega arith)
-    (λ j low high is want. elim (below_or top j) [
-      | inl above ↦ t.none j (omega arith) high (half-class class depth bit (mark_at ms j) is) want
-      | inr here ↦ (let same : j ≡ top = omega arith in other (mark_at ms j) is want (ap (mark_at ms) same))
-    ])
-    (λ near. omega arith)
-    (λ far. omega arith)
-
--- the mark that is taken the place of is equal
-pub placing_equal : (ms : List Mark) (start now : List Links) (first : Mark → Bool) (newest depth place d top : ℕ) (l : Links)
-    → IsPlacing ms start now first newest depth place d → place ≡ top + d → place < length now → place + 1 < 2 ^ 32
-    → mark_at ms place ≡ mark_at ms top
-    → ((bit : Bool) → link_by_bit l bit ≡ min (link_by_bit (links_at now top) bit + d) (2 ^ 32 - 1))
-    → IsPutOnTop ms start (set now place l) first newest
-placing_equal ms start now first newest depth place d top l p at within upper_bound equal reach =
-    let step = step_of ms now p.class (but p.wanted (mark_at ms place)) depth place d p.tree in
-    let t = top_of ms now p.class (but p.wanted (mark_at ms place)) depth place d top p.tree at in
-    p.finish (set now place l) (outside_set ms now p.class place l p.belongs)
-    (λ bit. moved ms now (set now place l) p.class p.wanted depth place top d _ bit t at upper_bound
-    (λ j less is. set_other now place j l (λ e. omega arith))
-    (λ m is want same. not-true (is_same_mark m (mark_at ms place)) (both (p.wanted m) (not (is_same_mark m (mark_at ms place))) want).1
-    ((is_same-Decides m (mark_at ms place)).1 (same ∙ sym equal)))
-    (rw (set_same now place l within) (reach bit)))
-
-side : (a b : Bool) → (a ≡ b) ⊎ (a ≡ not b)
-side true true = inl refl
-side true false = inr refl
-side false true = inr refl
-side false false = inl refl
-
-not_both : (b : Bool) → b ≡ not b → ⊥
-not_both true e = cc
-not_both false e = cc
-
--- the mark that is taken the place of goes down by one bit
-pub placing_next : (ms : List Mark) (start now : List Links) (first : Mark → Bool) (newest depth place d top : ℕ) (bit : Bool) (l : Links)
-    → IsPlacing ms start now first newest depth place d → place ≡ top + d → place < length now → place + 1 < 2 ^ 32
-    → bit ≡ mark_bit (mark_at ms top) depth → link_by_bit l bit ≡ d
-    → link_by_bit l (not bit) ≡ min (link_by_bit (links_at now top) (not bit) + d) (2 ^ 32 - 1)
-    → IsPlacing ms start (set now place l) first newest (depth + 1) top (link_by_bit (links_at now top) bit)
-placing_next ms start now first newest depth place d top bit l p at within upper_bound is_bit to other =
-    let q = but p.wanted (mark_at ms place) in
-    let step = step_of ms now p.class q depth place d p.tree in
-    let t = top_of ms now p.class q depth place d top p.tree at in
-    let new = set now place l in
-    let lower : IsTrue (marks_with_bit p.class depth bit (mark_at ms top)) = in_half p.class depth bit (mark_at ms top) t.belongs (sym is_bit) in
-    record {
-      class = marks_with_bit p.class depth bit;
-      wanted = q;
-      belongs = lower;
-      tree = reframed ms ms now new (marks_with_bit p.class depth bit) (but q (mark_at ms top)) (depth + 1) top (link_by_bit (links_at now top) bit) (t.below bit)
-          (λ j less. refl) (λ j less is. set_other now place j l (λ e. omega arith));
-      finish = λ done same below.
-          (let here : links_at done place ≡ l = same place (λ le _. omega arith) ∙ set_same now place l within in
-          p.finish done
-          (λ j never. same j (λ le is. never (omega arith) (half-class p.class depth bit (mark_at ms j) is)) ∙ outside_set ms now p.class place l p.belongs j never)
-          (λ c. elim (side c bit) [
-            | inl e ↦ subst (λ (b : Bool). IsMarkTree ms done (marks_with_bit p.class depth b) q (depth + 1) place (link_by_bit (links_at done place) b)) (sym e)
-                (rw (here, to) (Topped (marks_with_bit p.class depth bit) q (depth + 1) place d top at step lower
-                (λ j low high is want. t.none j low high (half-class p.class depth bit (mark_at ms j) is) want) below))
-            | inr e ↦ subst (λ (b : Bool). IsMarkTree ms done (marks_with_bit p.class depth b) q (depth + 1) place (link_by_bit (links_at done place) b)) (sym e)
-                (moved ms now done p.class p.wanted depth place top d _ (not bit) t at upper_bound
-                (λ j less is. same j (λ le half_is. not_both bit (sym (half-bit p.class depth bit (mark_at ms j) half_is) ∙ half-bit p.class depth (not bit) (mark_at ms j) is))
-                ∙ set_other now place j l (λ e'. omega arith))
-                (λ m is want equal. not_both bit (is_bit ∙ ap (λ (x : Mark). mark_bit x depth) (sym equal) ∙ half-bit p.class depth (not bit) m is))
-                (rw (here, other) refl))
-          ]));
-    }
-
-pub step_at : (ms : List Mark) (start now : List Links) (first : Mark → Bool) (newest depth place d : ℕ) → IsPlacing ms start now first newest depth place d → 1 ≤ d
-step_at ms start now first newest depth place d p = step_of ms now p.class (but p.wanted (mark_at ms place)) depth place d p.tree
+      not_both : (b : Bool) → b ≡ not b → ⊥
+      not_both true e = cc
+      not_both false e = cc
 
 pub after_links : (old new : Links) (d : ℕ) → new.zeros ≡ min (old.zeros + d) (2 ^ 32 - 1) → new.ones ≡ min (old.ones + d) (2 ^ 32 - 1)
     → (bit : Bool) → link_by_bit new bit ≡ min (link_by_bit old bit + d) (2 ^ 32 - 1)

@@ -1,7 +1,6 @@
 -- What is compared of packets.
+use Rattle.std.specs.{Cmp.Lexicographic.pointwise, List.list_any}
 use Rattle.std.specs.Prelude.{ℕ, ◌-◌, ◌==◌, ◌&&◌, Bool, List, length, drop, nat_eq}
-use Rattle.std.specs.Cmp.Lexicographic.{pointwise}
-use Rattle.std.specs.List.{list_any}
 use Rattle.md5.specs.Md5.{md5}
 use Rattle.cap_window.specs.declared.mark.Mark.{Mark}
 

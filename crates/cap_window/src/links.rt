@@ -1,8 +1,7 @@
 //! The trees of the index: how the marks of one hash hang together, and how the newest comes on
 //! top.
-ghost use Rattle.std.specs.Prelude.{◌≡◌, ◌-◌, ◌<◌, ◌^◌, Bool, length};
+ghost use Rattle.std.specs.Prelude.{◌≡◌, ℕ, ◌-◌, ◌<◌, ◌^◌, length};
 ghost use Rattle.cap_window.specs.inside.Index.{IsHung, IsPutOnTop, mark_bit};
-ghost use Rattle.cap_window.specs.declared.mark.Mark.{Mark};
 
 use crate::mark::{Mark, is_same_mark};
 use circular_buffer::HeapCircularBuffer;
@@ -79,6 +78,7 @@ pub fn mark_bit(mark: &Mark, depth: u32) -> bool
 /// places before it, by new links. The mark whose place it takes goes down by its own bits and
 /// takes another's place, and so on, until there is no tree below. A mark that is equal to the one
 /// that takes its place drops out of the tree, and ends this too.
+#[tactic(auto, using(std::proofs::lemmas::Grind::common_steps, std::proofs::lemmas::Option::gets))]
 pub fn place_newest<A: Allocator>(
     marks: &HeapCircularBuffer<Mark, A>,
     links: &mut HeapCircularBuffer<Links, A>,
@@ -86,13 +86,13 @@ pub fn place_newest<A: Allocator>(
 )
     requires upper_bound { length marks.now.items < 2 ^ 32 }
     requires long { length links.old.items ≡ length marks.now.items }
-    requires hung { 0 < length marks.now.items → (class : Mark → Bool)
-        × IsHung marks.now.items links.old.items class (length marks.now.items - 1) step }
+    requires hung { 0 < length marks.now.items → (mask : ℕ)
+        × IsHung mask marks.now.items links.old.items 0 (length marks.now.items - 1) step }
     ensures long { length links.new.items ≡ length marks.now.items }
     ensures capacity { links.new.capacity ≡ links.old.capacity }
-    ensures placed { 0 < length marks.now.items → (class : Mark → Bool)
-        → IsHung marks.now.items links.old.items class (length marks.now.items - 1) step
-        → IsPutOnTop marks.now.items links.old.items links.new.items class
+    ensures placed { 0 < length marks.now.items → (mask : ℕ)
+        → IsHung mask marks.now.items links.old.items 0 (length marks.now.items - 1) step
+        → IsPutOnTop mask marks.now.items links.old.items links.new.items
         (length marks.now.items - 1) }
 {
     if marks.is_empty() {

@@ -33,8 +33,7 @@ pub struct Window<A: Allocator> {
 }
 
 impl<A: Allocator> Model for Window<A> {
-    ghost use Rattle.cap_window.specs.inside.Index.{IsSoundIndex};
-    ghost use Rattle.cap_window.specs.View.{WindowView, window};
+    ghost use Rattle.cap_window.specs.{View.WindowView, View.window, inside.Index.IsSoundIndex};
 
     ghost Value = { WindowView };
 
@@ -45,11 +44,9 @@ impl<A: Allocator> Model for Window<A> {
 }
 
 impl<A: Allocator> Window<A> {
-    ghost use Rattle.std.specs.Prelude.{◌≡◌, ◌+◌, ◌^◌, ◌<◌, ◌↔◌, [], ◌∷◌, ◌++◌, length, IsTrue};
-    ghost use Rattle.std.specs.Prelude.{IfOk};
     ghost use Rattle.std.specs.List.{Contains};
-    ghost use Rattle.cap_window.specs.Marks.{last, mark_of};
-    ghost use Rattle.cap_window.specs.View.{window};
+    ghost use Rattle.std.specs.Prelude.{◌≡◌, ◌+◌, ◌^◌, ◌<◌, ◌↔◌, [], ◌∷◌, ◌++◌, length, IsTrue, IfOk};
+    ghost use Rattle.cap_window.specs.{Marks.last, Marks.mark_of, View.window};
 
     /// A window for `capacity` packets' marks. It takes all its memory here: 28 bytes for each,
     /// and 4 for each of its heads, which are as many, rounded up to a power of two, and 2^20 at
@@ -91,6 +88,7 @@ impl<A: Allocator> Window<A> {
 
     /// Whether an equal mark is in the window. If so, it is in the tree of this mark's hash, at the
     /// place where the way down by this mark's bits meets it.
+    #[tactic(auto, using(std::proofs::lemmas::Option::gets))]
     fn contains(&self, mark: &Mark) -> bool
         ensures { IsTrue result ↔ Contains self.now.marks mark.now }
     {

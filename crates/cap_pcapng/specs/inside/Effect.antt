@@ -1,17 +1,13 @@
 -- Helpers next to specs/Effect, for the crate's own functions and proofs.
-use Rattle.std.specs.Prelude.{◌≡◌, ℕ, ◌+◌, ◌-◌, ◌^◌, ◌<◌, ◌≤◌, ◌⊎◌, List, length, take, drop, None, Some, true, is_some, if◌then◌else◌, nat_lt}
 use Rattle.std.specs.List.{slice_get}
-use Rattle.cap_octet.specs.Checks.{first_failing}
-use Rattle.cap_octet.specs.Packet.{Captured}
-use Rattle.cap_octet.specs.declared.fault.Fault.{Fault}
+use Rattle.std.specs.Prelude.{◌≡◌, ℕ, ◌+◌, ◌-◌, ◌^◌, ◌<◌, ◌≤◌, ◌⊎◌, List, length, take, drop, None, Some, true, is_some, if◌then◌else◌, nat_lt}
+use Rattle.cap_octet.specs.{Checks.first_failing, Packet.Captured, declared.fault.Fault.Fault}
 use Rattle.cap_octet.specs.declared.fault.Fault.TheVariants.{BadOption, BadTimeResolution, NoMemory, TooManyInterfaces}
 use Rattle.cap_octet.specs.declared.number.Order.{Order}
 use Rattle.cap_pcapng.specs.Block.{Parts, block_checks, parts_in}
-use Rattle.cap_pcapng.specs.Interface.{Described, most_interfaces}
-use Rattle.cap_pcapng.specs.Unit.{checks_among, packet_by}
-use Rattle.cap_pcapng.specs.declared.frames.Frame.{Frame}
-use Rattle.cap_pcapng.specs.declared.effect.PacketSpans.{PacketSpans}
 use Rattle.cap_pcapng.specs.Effect.{is_interface, held_packet, IsBlockFault, LieAsSaid}
+use Rattle.cap_pcapng.specs.{Interface.Described, Interface.most_interfaces, Unit.checks_among, Unit.packet_by}
+use Rattle.cap_pcapng.specs.declared.{effect.PacketSpans.PacketSpans, frames.Frame.Frame}
 
 -- The place of the packet of a block of this size: its data begin at `start` in the block and are
 -- the first bytes of what is left of the body (`rest`), in which its options lie too.

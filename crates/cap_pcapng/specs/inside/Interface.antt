@@ -1,11 +1,13 @@
 -- The options found while an interface's options are read, one after another.
-use Rattle.std.specs.Prelude.{◌≡◌, ◌≤◌, ℕ, length, IfSome, ◌==◌, if◌then◌else◌, Bool, false, List, is_some}
 use Rattle.std.specs.Option.{option_map, option_copied, option_or}
+use Rattle.std.specs.Prelude.{◌≡◌, ◌≤◌, ℕ, length, IfSome, ◌==◌, if◌then◌else◌, Bool, false, List, Option, Some, None, is_some}
 use Rattle.cap_octet.specs.declared.number.Order.{Order}
 use Rattle.cap_pcapng.specs.InterfaceOptions.{first_value, name_code, offset_code, offset_in_value, resolution_code, units_in_value}
-use Rattle.cap_pcapng.specs.inside.InterfaceOptions.{value_for}
-use Rattle.cap_pcapng.specs.OptionList.{CodedValue}
-use Rattle.cap_pcapng.specs.declared.interface.FoundOptions.{FoundOptions}
+use Rattle.cap_pcapng.specs.{OptionList.CodedValue, declared.interface.FoundOptions.FoundOptions}
+
+-- the value of an option, if it has this code
+abbrev pub value_for : ℕ → CodedValue → Option (List ℕ)
+value_for code option = if option.code == code then Some option.value else None
 
 -- a name that was found is short enough
 abbrev pub HasShortName : FoundOptions → Type 0

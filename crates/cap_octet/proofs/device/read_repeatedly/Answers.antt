@@ -1,5 +1,5 @@
 use Rattle.std.proofs.Common.{rules, ◌∙◌, arith}
-use Rattle.cap_octet.proofs.Reading.{Takes-again, Takes-nothing, told-again}
+use Rattle.cap_octet.proofs.Reading.{Takes-following, Takes-nothing, told-again}
 use Rattle.cap_octet.proofs.device.read_repeatedly.Goals as goal
 
 pub loop-count-preserved : goal.loop-count-preserved
@@ -10,7 +10,7 @@ loop-count-preserved g c = record {
   failed = search rules;
   told = λ exact. told-again _ _ _ _ _ c.in_ok-n.n _ _ (c.in_ok-n.ensures.exact exact) c.in_ok-n.ensures.counted (c.loop-count.invariant.told exact);
   sure = c.in_ok-n.ensures.sure ∙ c.loop-count.invariant.sure;
-  exact = λ exact. Takes-again _ _ _ _ c.loop-count.count _ c.in_ok-n.n _ _ (c.loop-count.invariant.exact exact) (c.in_ok-n.ensures.exact exact) (omega arith) (omega arith);
+  exact = λ exact. Takes-following _ _ _ _ c.loop-count.count _ c.in_ok-n.n _ _ (c.loop-count.invariant.exact exact) (c.in_ok-n.ensures.exact exact).taken (omega arith) (omega arith);
 }
 
 pub returns-then-n-eq0-clause-exact : goal.returns-then-n-eq0-clause-exact

@@ -1,5 +1,4 @@
-use Rattle.std.proofs.Common.{arith, ℕ}
-use Rattle.std.proofs.lemmas.List.{length-take}
+use Rattle.std.proofs.{Common.arith, Common.ℕ, lemmas.List.length-take}
 use Rattle.cap_octet.proofs.Reading.{written-again}
 use Rattle.cap_octet.proofs.device.write_all.Goals as goal
 

@@ -1,6 +1,5 @@
-use Rattle.std.proofs.Common.{[], ℕ, List, arith}
+use Rattle.std.proofs.{Common.[], Common.ℕ, Common.List, Common.arith, lemmas.List.Folds.length-flat_map-take}
 use Rattle.std.specs.Borrow.{Bor}
-use Rattle.std.proofs.lemmas.List.Folds.{length-flat_map-take}
 use Rattle.cap_octet.proofs.Writing.{parts-stop-at}
 use Rattle.cap_octet.proofs.device.write_all_parts.Goals as goal
 

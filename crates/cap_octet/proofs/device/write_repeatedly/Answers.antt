@@ -1,5 +1,4 @@
-use Rattle.std.proofs.Common.{rules, ℕ, ◌∙◌, arith}
-use Rattle.std.proofs.lemmas.List.{length-take}
+use Rattle.std.proofs.{Common.rules, Common.ℕ, Common.◌∙◌, Common.arith, lemmas.List.length-take}
 use Rattle.cap_octet.proofs.Reading.{written-again}
 use Rattle.cap_octet.proofs.device.write_repeatedly.Goals as goal
 

@@ -1,6 +1,6 @@
 use Rattle.cap_octet.proofs.Common.{◌≡◌, ◌∙◌, sym, Some, None, ◌==◌, ◌+◌, take, drop, position, take_rest, decimal_value, fraction_nanoseconds}
-use Rattle.cap_octet.specs.Seconds.{duration_value}
 use Rattle.cap_octet.proofs.Spans.{duration_of_parts_in_u64}
+use Rattle.cap_octet.specs.Seconds.{duration_value}
 use Rattle.cap_octet.proofs.seconds.span_of.Goals as goal
 
 pub returns-in-None : goal.returns-in-None

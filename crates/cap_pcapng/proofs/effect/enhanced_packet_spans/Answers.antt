@@ -10,15 +10,6 @@ returns g c =
     (known_interface c.get.result description_of c.in-Some.interface _ c.in-Some.is c.get.ensures) c.in_ok-data.ensures.0
     (sym c.in_ok-time.was ∙ c.time_at.ensures.answer) c.in_ok-time.ensures.in_range c.options.ensures.rest refl)
 
-pub returns-in_default : goal.returns-in_default
-returns-in_default g c = grind arith
-
-pub returns-in_err-data : goal.returns-in_err-data
-returns-in_err-data g c = grind arith
-
-pub returns-in_err-time : goal.returns-in_err-time
-returns-in_err-time g c = grind arith
-
 pub overflow_cast-options : goal.overflow_cast-options
 overflow_cast-options g c = omega (arith, ap length c.options.ensures.rest, length-drop {A = ℕ})
 

@@ -1,7 +1,6 @@
 use Rattle.cap_pcapng.proofs.Common.{◌≡◌, ◌++◌, ◌-◌, ℕ, List, ap, arith, drop, IfErr, IfOk, take, Option, None, Some, subst, body_checks, body_in, option_checks, parts_in_body, Fault}
+use Rattle.cap_pcapng.proofs.{Judged.judged-fault, Judged.judged-passes, WholeBlocks.block_fault-body}
 use Rattle.cap_pcapng.specs.declared.blocks.Block.{Block}
-use Rattle.cap_pcapng.proofs.Judged.{judged-fault, judged-passes}
-use Rattle.cap_pcapng.proofs.WholeBlocks.{block_fault-body}
 use Rattle.cap_pcapng.proofs.read.block.Goals as goal
 
 pub returns-clause-refused : goal.returns-clause-refused
@@ -13,18 +12,6 @@ returns-clause-refused c =
     let P : Option Fault → Type 0 = λ o. IfErr c.read_body.result (λ (fault : Fault). o ≡ Some fault) in
     subst P (block_fault-body frame c.args.bytes.now body (omega arith) (omega arith) (omega arith) is)
     (judged-fault (body_checks frame.block_type frame.order body ++ option_checks (parts_in_body frame.block_type frame.order body)) c.read_body.result _ c.read_body.ensures.parts)
-
-pub returns-then-size-lt12-clause-refused : goal.returns-then-size-lt12-clause-refused
-returns-then-size-lt12-clause-refused c = grind arith
-
-pub returns-then-bytes-size-clause-refused : goal.returns-then-bytes-size-clause-refused
-returns-then-bytes-size-clause-refused c = grind arith
-
-pub returns-then-u32_at-frame-clause-refused : goal.returns-then-u32_at-frame-clause-refused
-returns-then-u32_at-frame-clause-refused c = grind arith
-
-pub returns-clause-parts : goal.returns-clause-parts
-returns-clause-parts c = grind arith
 
 pub returns-clause-passes : goal.returns-clause-passes
 returns-clause-passes c =

@@ -1,31 +1,10 @@
-use Rattle.cap_window.proofs.Common.{[], ◌≡◌, ◌==◌, ◌∙◌, ℕ, zero, suc, true, false, ◌-◌, ◌<◌, sym, ap, refl, arith, rules, length, not, Some, None, Option, MutBor, length-set, get_or_from_slice_get, slice_get-get_or, IsSome, option_copied, option_copied_mut, Links, mark_bit, links_at, mark_at}
-use Rattle.cap_window.proofs.Marks.{links_are_there, mark_is_there}
-use Rattle.cap_window.proofs.Trees.{after_links, placing_first, placing_end, placing_equal, placing_next, step_at}
+use Rattle.cap_window.proofs.Common.{◌≡◌, ◌==◌, ◌∙◌, ℕ, zero, suc, true, false, ◌-◌, ◌<◌, sym, ap, refl, arith, length, not, length-set, get_or_from_slice_get, option_copied, mark_bit, links_at, mark_at}
+use Rattle.cap_window.proofs.Trees.{after_links, placing_end, placing_equal, placing_next, step_at}
 use Rattle.cap_window.proofs.links.place_newest.Goals as goal
 
 nonzero : (n : ℕ) → (n == 0) ≡ false → 0 < n
 nonzero zero e = absurd (let never : true ≡ false = e in cc)
 nonzero (suc n) e = omega arith
-
-is_there : (o : Option (MutBor Links)) (x : Links) → option_copied_mut o ≡ Some x → IsSome o
-is_there (Some r) x e = search rules
-is_there None x e = absurd cc
-
-pub unwrap-above-requires : goal.unwrap-above-requires
-unwrap-above-requires g c =
-    mark_is_there _ _ (c.get.ensures ∙ slice_get-get_or c.args.marks.now.items c.loop-step.place (record { length = 0; digest = [] }) (omega (arith, c.len.ensures.len)))
-
-pub unwrap-below-requires : goal.unwrap-below-requires
-unwrap-below-requires g c =
-    mark_is_there _ _ (c.get-in-loop-step.ensures ∙ slice_get-get_or c.args.marks.now.items (c.loop-step.place - c.loop-step.step) (record { length = 0; digest = [] }) (omega (arith, c.len.ensures.len)))
-
-pub unwrap-requires : goal.unwrap-requires
-unwrap-requires g c =
-    links_are_there _ _ (c.get-in-loop-step-2.ensures ∙ slice_get-get_or c.loop-step.links.items (c.loop-step.place - c.loop-step.step) (record { zeros = 0; ones = 0 }) (omega (arith, c.len.ensures.len)))
-
-pub unwrap-requires-then-is_same_mark : goal.unwrap-requires-then-is_same_mark
-unwrap-requires-then-is_same_mark g c =
-    is_there _ _ (c.get_mut.follows ∙ slice_get-get_or c.loop-step.links.items c.loop-step.place (record { zeros = 0; ones = 0 }) (omega (arith, c.len.ensures.len)))
 
 pub loop-step-init : goal.loop-step-init
 loop-step-init g c =
@@ -34,12 +13,12 @@ loop-step-init g c =
       long = c.requires.long;
       capacity = refl;
       counted = omega (arith, c.len.ensures.len);
-      placing = λ class hung. (let place : c.len.result - 1 ≡ length c.args.marks.now.items - 1 = omega (arith, c.len.ensures.len) in
-          rw place (placing_first _ _ class _ _ hung.belongs hung.tree));
+      placing = λ mask hung. (let place : c.len.result - 1 ≡ length c.args.marks.now.items - 1 = omega (arith, c.len.ensures.len) in
+          rw place (record { tree = hung; finish = λ done same below. record { below = below; others = same } }));
     }
 
 pub returns-then-is_same_mark-clause-placed : goal.returns-then-is_same_mark-clause-placed
-returns-then-is_same_mark-clause-placed g c = λ some class hung.
+returns-then-is_same_mark-clause-placed g c = λ some mask hung.
     let marks = c.args.marks.now.items in
     let place = c.loop-step.place in
     let top = place - c.loop-step.step in
@@ -49,14 +28,9 @@ returns-then-is_same_mark-clause-placed g c = λ some class hung.
     get_or_from_slice_get marks top c.unwrap-below.result.now _ (sym c.get-in-loop-step.ensures ∙ ap option_copied c.unwrap-below.ensures) in
     let under : links_at c.loop-step.links.items top ≡ c.unwrap.result.now =
     get_or_from_slice_get c.loop-step.links.items top c.unwrap.result.now _ (sym c.get-in-loop-step-2.ensures ∙ ap option_copied c.unwrap.ensures) in
-    placing_equal marks c.args.links.now.items c.loop-step.links.items class (length marks - 1) c.loop-step.depth place c.loop-step.step top c.plus_step.result
-    (c.loop-step.invariant.placing class hung) (omega arith) (omega arith) (omega arith)
+    placing_equal (c.loop-step.invariant.placing mask hung) c.plus_step.result (omega arith) (omega arith) (omega arith) (omega arith)
     (above ∙ c.is_same_mark.ensures.0 c.if-is_same_mark.true ∙ sym below)
     (rw under (after_links c.unwrap.result.now c.plus_step.result c.loop-step.step c.plus_step.ensures.zeros c.plus_step.ensures.ones))
-
-pub unwrap-requires-in-loop-step : goal.unwrap-requires-in-loop-step
-unwrap-requires-in-loop-step g c =
-    is_there _ _ (c.get_mut-in-loop-step.follows ∙ slice_get-get_or c.loop-step.links.items c.loop-step.place (record { zeros = 0; ones = 0 }) (omega arith))
 
 pub loop-step-preserved : goal.loop-step-preserved
 loop-step-preserved g c =
@@ -68,16 +42,14 @@ loop-step-preserved g c =
     let under : links_at c.loop-step.links.items top ≡ c.unwrap.result.now =
     get_or_from_slice_get c.loop-step.links.items top c.unwrap.result.now _ (sym c.get-in-loop-step-2.ensures ∙ ap option_copied c.unwrap.ensures) in
     let bit = c.mark_bit-bit.result in
-    let step = step_at _ _ _ _ _ _ _ _ (c.loop-step.invariant.placing (c.requires.hung (omega arith)).0 (c.requires.hung (omega arith)).1) in
+    let step = step_at (c.loop-step.invariant.placing (c.requires.hung (omega arith)).0 (c.requires.hung (omega arith)).1) in
     record {
       long = length-set c.loop-step.links.items place c.with_link.result ∙ c.loop-step.invariant.long;
       capacity = c.loop-step.invariant.capacity;
       counted = omega (arith, step);
-      placing = λ class hung.
-          (let p = c.loop-step.invariant.placing class hung in
-          rw (c.link.ensures, ← under)
-          (placing_next marks c.args.links.now.items c.loop-step.links.items class (length marks - 1) c.loop-step.depth place c.loop-step.step top bit c.with_link.result
-          p (omega arith) (omega arith) (omega arith)
+      placing = λ mask hung.
+          (rw (c.link.ensures, ← under)
+          (placing_next (c.loop-step.invariant.placing mask hung) c.with_link.result bit (omega arith) (omega arith) (omega arith)
           (c.mark_bit-bit.ensures ∙ ap (λ m. mark_bit m c.loop-step.depth) (sym below))
           c.with_link.ensures.bit
           (c.with_link.ensures.other ∙ rw under (after_links c.unwrap.result.now c.plus_step-in-loop-step.result c.loop-step.step c.plus_step-in-loop-step.ensures.zeros c.plus_step-in-loop-step.ensures.ones (not bit)))));
@@ -85,16 +57,9 @@ loop-step-preserved g c =
 
 pub loop-step-smaller : goal.loop-step-smaller
 loop-step-smaller g c =
-    let step = step_at _ _ _ _ _ _ _ _ (c.loop-step.invariant.placing (c.requires.hung (omega arith)).0 (c.requires.hung (omega arith)).1) in
+    let step = step_at (c.loop-step.invariant.placing (c.requires.hung (omega arith)).0 (c.requires.hung (omega arith)).1) in
     omega (arith, step)
 
-pub unwrap-requires-2 : goal.unwrap-requires-2
-unwrap-requires-2 g c =
-    is_there _ _ (c.get_mut-2.follows ∙ slice_get-get_or c.loop-step.links.items c.loop-step.place (record { zeros = 0; ones = 0 }) (omega arith))
-
 pub returns-clause-placed : goal.returns-clause-placed
-returns-clause-placed g c = λ some class hung.
-    let marks = c.args.marks.now.items in
-    placing_end marks c.args.links.now.items c.loop-step.links.items class (length marks - 1) c.loop-step.depth c.loop-step.place c.loop-step.step
-    (record { zeros = c.loop-step.step; ones = c.loop-step.step })
-    (c.loop-step.invariant.placing class hung) (omega arith) (omega arith) refl refl
+returns-clause-placed g c = λ some mask hung.
+    placing_end (c.loop-step.invariant.placing mask hung) (record { zeros = c.loop-step.step; ones = c.loop-step.step }) (omega arith) (omega arith) refl refl

@@ -1,5 +1,5 @@
 -- The mark at `place` takes the place of one `step` places before it.
-use Rattle.cap_window.proofs.Common.{◌≡◌, ◌+◌, ◌-◌, ◌<◌, Bool, length, Mark, IsHung}
+use Rattle.cap_window.proofs.Common.{◌≡◌, ℕ, ◌+◌, ◌-◌, ◌<◌, length, IsHung}
 use Rattle.cap_window.proofs.Trees.{IsPlacing}
 use Rattle.cap_window.proofs.links.place_newest.Given as goal
 
@@ -11,6 +11,6 @@ invariant-loop-step g l = record {
   long : length l.links.items ≡ length l.marks.items;
   capacity : l.links.capacity ≡ l.fn.links.capacity;
   counted : l.depth + l.place < length l.marks.items;
-  placing : (class : Mark → Bool) → IsHung l.marks.items l.fn.links.items class (length l.marks.items - 1) l.fn.step
-      → IsPlacing l.marks.items l.fn.links.items l.links.items class (length l.marks.items - 1) l.depth l.place l.step;
+  placing : (mask : ℕ) → IsHung mask l.marks.items l.fn.links.items 0 (length l.marks.items - 1) l.fn.step
+      → IsPlacing mask l.marks.items l.fn.links.items l.links.items (length l.marks.items - 1) l.depth l.place l.step;
 }

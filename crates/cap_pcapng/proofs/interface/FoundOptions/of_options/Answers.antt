@@ -1,5 +1,4 @@
-use Rattle.std.proofs.Common.{◌≡◌, ◌∷◌, ◌∙◌, ap, Ok}
-use Rattle.std.proofs.lemmas.Result.{err_from_is_err_and}
+use Rattle.std.proofs.{Common.◌≡◌, Common.◌∷◌, Common.◌∙◌, Common.ap, Common.Ok, lemmas.Result.err_from_is_err_and}
 use Rattle.cap_pcapng.specs.OptionList.{coded_value, item_of, options_left}
 use Rattle.cap_pcapng.proofs.InterfaceLists.{HasRead-more, HasRead-refused}
 use Rattle.cap_pcapng.proofs.interface.FoundOptions.of_options.Goals as goal

@@ -1,7 +1,7 @@
 use Rattle.cap_pcapng.proofs.Common.{◌≡◌, [], ◌∷◌, ◌∙◌, ap, sym, rules, IsErr, unwrap_or, comment_code, first_value, fitting_options, item_of, options_left}
 use Rattle.cap_pcapng.proofs.OptionLists.{misfit-fitting_options}
-use Rattle.cap_pcapng.proofs.options.Options.comment.Goals as goal
 use Rattle.cap_pcapng.proofs.options.Options.comment.Goals.{in_default, in_default-2}
+use Rattle.cap_pcapng.proofs.options.Options.comment.Goals as goal
 
 pub returns-clause-value : goal.returns-clause-value
 returns-clause-value c =

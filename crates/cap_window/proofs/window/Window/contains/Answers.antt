@@ -1,6 +1,5 @@
-use Rattle.cap_window.proofs.Common.{common_steps, [], arith, refl, ◌≡◌, ◌∙◌, ap, sym, get_or, ◌-◌, ◌<◌, ◌≤◌, length, get_or_default, get_or_from_slice_get, slice_get-get_or, option_copied, hash_of, links_at, mark_at}
-use Rattle.cap_window.proofs.Marks.{links_are_there, mark_is_there}
-use Rattle.cap_window.proofs.Searching.{searched_first, searched_next, searched_step, searched_all}
+use Rattle.cap_window.proofs.Common.{[], arith, refl, ◌≡◌, ◌∙◌, ap, sym, get_or, ◌-◌, ◌<◌, ◌≤◌, length, get_or_default, get_or_from_slice_get, slice_get-get_or, option_copied, links_at, mark_at}
+use Rattle.cap_window.proofs.{Marks.is_there, Trees.ended, Trees.least, Trees.past_top, Trees.top_of}
 use Rattle.cap_window.proofs.window.Window.contains.Goals as goal
 
 pub loop-step-init : goal.loop-step-init
@@ -9,11 +8,11 @@ loop-step-init g c =
     let inside : c.hash_of-hash.result < length c.self.inside.heads.items = omega (arith, c.self.invariant.wide) in
     let head : c.index.result.now ≡ get_or c.self.inside.heads.items c.hash_of-hash.result 0 = c.index.ensures ∙ get_or_default _ _ _ 0 inside in
     rw (head, c.len-limit.ensures.len, c.hash_of-hash.ensures.value)
-    (searched_first w.mask w.marks.items w.links.items c.args.mark.now _ (c.self.invariant.index.trees (hash_of w.mask c.args.mark.now) (rw c.hash_of-hash.ensures.value at inside)))
+    (record { way = c.self.invariant.index.trees c.args.mark.now; lacks = λ j low high. absurd (omega arith); within = omega arith })
 
 pub returns-then-is_same_mark : goal.returns-then-is_same_mark
 returns-then-is_same_mark g c =
-    let step = searched_step _ _ _ _ _ _ c.loop-step.invariant in
+    let step = least c.loop-step.invariant.way in
     let inside : c.loop-step.limit - c.loop-step.step < length c.self.inside.marks.items = omega (arith, c.loop-step.invariant.within, step) in
     let is : get_or c.self.inside.marks.items (c.loop-step.limit - c.loop-step.step) c.args.mark.now ≡ c.unwrap.result.now =
     get_or_from_slice_get c.self.inside.marks.items (c.loop-step.limit - c.loop-step.step) c.unwrap.result.now c.args.mark.now (sym c.get.ensures ∙ ap option_copied c.unwrap.ensures) in
@@ -21,7 +20,7 @@ returns-then-is_same_mark g c =
     rw (← c.self.view_is) ((λ _. (c.loop-step.limit - c.loop-step.step, inside, is ∙ equal)), (λ _. refl))
 
 pub loop-step-smaller : goal.loop-step-smaller
-loop-step-smaller g c = let step = searched_step _ _ _ _ _ _ c.loop-step.invariant in omega (arith, step)
+loop-step-smaller g c = let step = least c.loop-step.invariant.way in omega (arith, step)
 
 pub loop-step-preserved : goal.loop-step-preserved
 loop-step-preserved g c =
@@ -31,16 +30,20 @@ loop-step-preserved g c =
     get_or_from_slice_get w.marks.items top c.unwrap.result.now _ (sym c.get.ensures ∙ ap option_copied c.unwrap.ensures) in
     let links : links_at w.links.items top ≡ c.unwrap-in-loop-step.result.now =
     get_or_from_slice_get w.links.items top c.unwrap-in-loop-step.result.now _ (sym c.get-in-loop-step.ensures ∙ ap option_copied c.unwrap-in-loop-step.ensures) in
-    rw (c.link-step.ensures, c.mark_bit.ensures, ← links)
-    (searched_next w.marks.items w.links.items c.args.mark.now c.loop-step.depth c.loop-step.limit c.loop-step.step c.loop-step.invariant c.loop-step-test.true
-    (λ equal. let yes = c.is_same_mark.ensures.1 (sym here ∙ equal) in let never = c.if-is_same_mark.false in cc))
+    let t = top_of c.loop-step.invariant.way c.loop-step-test.true in
+    let step = least c.loop-step.invariant.way in
+    rw (c.link-step.ensures, c.mark_bit.ensures, ← links) (record {
+      way = t.below;
+      lacks = past_top t (λ equal. let yes = c.is_same_mark.ensures.1 (sym here ∙ equal) in let never = c.if-is_same_mark.false in cc) c.loop-step.invariant.lacks;
+      within = omega (arith, c.loop-step.invariant.within);
+    })
 
 pub returns : goal.returns
 returns g c =
     let ms = c.self.inside.marks.items in
-    let none = searched_all ms c.self.inside.links.items c.args.mark.now c.loop-step.depth c.loop-step.limit c.loop-step.step c.loop-step.invariant c.loop-step-test.false in
+    let none = ended c.loop-step.invariant.way c.loop-step-test.false c.loop-step.invariant.lacks in
     rw (← c.self.view_is)
-    ((λ is. absurd cc), (λ has. absurd (none has.0 has.1 (get_or_default ms has.0 _ c.args.mark.now has.1 ∙ has.2))))
+    ((λ is. absurd cc), (λ has. absurd (none has.0 (omega arith) has.1 (get_or_default ms has.0 _ c.args.mark.now has.1 ∙ has.2))))
 
 pub overflow_sub-step : goal.overflow_sub-step
 overflow_sub-step g c =
@@ -52,19 +55,6 @@ overflow_sub-step g c =
 
 pub unwrap-requires : goal.unwrap-requires
 unwrap-requires g c =
-    let step = searched_step _ _ _ _ _ _ c.loop-step.invariant in
-    mark_is_there _ _ (c.get.ensures ∙ slice_get-get_or c.self.inside.marks.items (c.loop-step.limit - c.loop-step.step) (record { length = 0; digest = [] }) (omega (arith, c.loop-step.invariant.within, step)))
+    let step = least c.loop-step.invariant.way in
+    is_there _ _ (c.get.ensures ∙ slice_get-get_or c.self.inside.marks.items (c.loop-step.limit - c.loop-step.step) (record { length = 0; digest = [] }) (omega (arith, c.loop-step.invariant.within, step)))
 
-pub unwrap-requires-in-loop-step : goal.unwrap-requires-in-loop-step
-unwrap-requires-in-loop-step g c =
-    let step = searched_step _ _ _ _ _ _ c.loop-step.invariant in
-    links_are_there _ _ (c.get-in-loop-step.ensures ∙ slice_get-get_or c.self.inside.links.items (c.loop-step.limit - c.loop-step.step) (record { zeros = 0; ones = 0 }) (omega (arith, c.loop-step.invariant.within, step, c.self.invariant.index.long)))
-
-pub overflow_sub-limit : goal.overflow_sub-limit
-overflow_sub-limit g c = grind (arith, common_steps)
-
-pub overflow_add-depth : goal.overflow_add-depth
-overflow_add-depth g c = grind (arith, common_steps)
-
-pub overflow_add-step : goal.overflow_add-step
-overflow_add-step g c = grind (arith, common_steps)

@@ -1,9 +1,15 @@
--- What is left to search.
-use Rattle.cap_window.proofs.Searching.{IsSearched}
+-- What is left to search: the mark is nowhere from `limit` on.
+use Rattle.cap_window.proofs.Common.{◌+◌, ◌≤◌, length, IsWay, Lacks}
 use Rattle.cap_window.proofs.window.Window.contains.Given as goal
 
 abbrev pub decreases-loop-step : goal.decreases-loop-step
 decreases-loop-step g l = l.limit
 
 abbrev pub invariant-loop-step : goal.invariant-loop-step
-invariant-loop-step g l = IsSearched l.self-inside.marks.items l.self-inside.links.items l.mark l.depth l.limit l.step
+invariant-loop-step g l =
+    let w = l.self-inside in
+    record {
+      way : IsWay w.mask w.marks.items w.links.items l.mark l.depth l.limit l.step;
+      lacks : Lacks w.marks.items l.mark l.limit;
+      within : l.depth + l.limit ≤ length w.marks.items;
+    }

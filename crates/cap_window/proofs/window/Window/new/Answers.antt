@@ -1,5 +1,4 @@
-use Rattle.std.proofs.Common.{arith}
-use Rattle.std.proofs.lemmas.Grind.{common_steps}
+use Rattle.std.proofs.{Common.arith, lemmas.Grind.common_steps}
 use Rattle.cap_window.proofs.Indexes.{sound_new}
 use Rattle.cap_window.proofs.window.Window.new.Goals as goal
 

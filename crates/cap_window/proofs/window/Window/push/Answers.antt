@@ -1,4 +1,4 @@
-use Rattle.cap_window.proofs.Common.{common_steps, arith, refl, ◌≡◌, ◌∙◌, get_or, set, ◌+◌, ◌-◌, ◌<◌, ◌≤◌, length, take, drop, ◌++◌, List, ℕ, ap, get_or_default, take-append-le, take_all, has_hash, hash_of, Links}
+use Rattle.cap_window.proofs.Common.{arith, refl, ◌≡◌, ◌∙◌, get_or, set, ◌+◌, ◌-◌, ◌<◌, ◌≤◌, length, take, drop, ◌++◌, List, ℕ, ap, get_or_default, take-append-le, take_all, hash_of, Links}
 use Rattle.cap_window.proofs.Indexes.{IsLowered, sound_hung, sound_push}
 use Rattle.cap_window.proofs.window.Window.push.Goals as goal
 
@@ -28,7 +28,7 @@ invariant_of-self g c =
     (rw c.push_back.ensures.items at kept) c.renumber-self-inside.ensures.bounds.1 c.renumber-self-inside.ensures.room
     (rw c.push_back.ensures.items at c.place_newest.ensures.long)
     (λ some. let placed = rw (c.push_back.ensures.items, c.push_back-2.ensures.items) at c.place_newest.ensures.placed in
-    placed some (has_hash w.mask (hash_of w.mask c.args.mark))
+    placed some w.mask
     (rw head (sound_hung w.mask w.marks.items w.marks.capacity w.links.items w.links.capacity w.heads.items w.newest c.args.mark l' c.self.invariant some))))
 
 pub place_newest-requires-clause-hung : goal.place_newest-requires-clause-hung
@@ -40,7 +40,7 @@ place_newest-requires-clause-hung g c = λ some.
     let newest : ℕ = w.newest + 1 - get_or w.heads.items (hash_of w.mask c.args.mark) 0 in
     let l' : Links = record { zeros = newest; ones = newest } in
     rw (c.push_back.ensures.items, c.push_back-2.ensures.items, head) (
-      has_hash w.mask (hash_of w.mask c.args.mark),
+      w.mask,
       sound_hung w.mask w.marks.items w.marks.capacity w.links.items w.links.capacity w.heads.items w.newest c.args.mark l' c.self.invariant (rw c.push_back.ensures.items at some),
     )
 
@@ -51,18 +51,3 @@ overflow_sub-step g c =
     let head : c.index.result.now ≡ get_or heads c.hash_of-hash.result 0 = c.index.ensures ∙ get_or_default _ _ _ 0 inside in
     let small : get_or heads c.hash_of-hash.result 0 ≤ c.self.inside.newest = c.self.invariant.index.small c.hash_of-hash.result inside in
     omega (arith, head, small)
-
-pub returns : goal.returns
-returns g c = grind (arith, common_steps)
-
-pub overflow_cast-len : goal.overflow_cast-len
-overflow_cast-len g c = grind (arith, common_steps)
-
-pub place_newest-requires-clause-long : goal.place_newest-requires-clause-long
-place_newest-requires-clause-long g c = grind (arith, common_steps)
-
-pub place_newest-requires-clause-upper_bound : goal.place_newest-requires-clause-upper_bound
-place_newest-requires-clause-upper_bound g c = grind (arith, common_steps)
-
-pub renumber-self-inside-requires : goal.renumber-self-inside-requires
-renumber-self-inside-requires g c = grind (arith, common_steps)
