@@ -31,21 +31,15 @@ groups_below form groups each =
 pub reads_below : (form : Group) (text : List ℕ) (joined : JoinedGroups) → ReadsGroups form text (Some joined) → joined.value < base_of form ^ joined.count
 reads_below form text joined r = rw (r.3, r.4) (groups_below form r.0 r.1.each)
 
-one_digit : (base n d power more : ℕ) → (n * base + d) * power + more ≡ n * (power * base) + ((0 * base + d) * power + more)
-one_digit base n d power more = omega arith
-
 -- digits after a number
 number_after : (base n : ℕ) (digits : List ℕ) → number_from_digits_after base n digits ≡ n * base ^ length digits + number_from_digits base digits
 number_after base n [] = rw pow-zero (omega arith)
 number_after base n (d ∷ digits) =
-    rw (number_after base (n * base + d) digits, number_after base (0 * base + d) digits, pow-suc) (one_digit base n d (base ^ length digits) (number_from_digits base digits))
-
-one_zero : (base n power : ℕ) → (n * base + 0) * power ≡ n * (power * base)
-one_zero base n power = omega arith
+    rw (number_after base (n * base + d) digits, number_after base (0 * base + d) digits, pow-suc) (omega arith)
 
 zeros_after : (base n k : ℕ) → number_from_digits_after base n (replicate k 0) ≡ n * base ^ k
 zeros_after base n zero = rw pow-zero (omega arith)
-zeros_after base n (suc k) = rw (zeros_after base (n * base + 0) k, pow-suc) (one_zero base n (base ^ k))
+zeros_after base n (suc k) = rw (zeros_after base (n * base + 0) k, pow-suc) (omega arith)
 
 -- a number with zeros after it
 pub number_zeros : (base k : ℕ) (digits : List ℕ) → number_from_digits base (digits ++ replicate k 0) ≡ number_from_digits base digits * base ^ k
@@ -57,10 +51,7 @@ number_between base k digits others =
     number_after_append base 0 digits (replicate k 0 ++ others)
     ∙ number_after_append base (number_from_digits base digits) (replicate k 0) others
     ∙ number_after base (number_from_digits_after base (number_from_digits base digits) (replicate k 0)) others
-    ∙ rw (zeros_after base (number_from_digits base digits) k, pow-add) (power_split (number_from_digits base digits) (base ^ k) (base ^ length others) (number_from_digits base others))
-  where
-    power_split : (n p q more : ℕ) → n * p * q + more ≡ n * (p * q) + more
-    power_split n p q more = omega arith
+    ∙ rw (zeros_after base (number_from_digits base digits) k, pow-add) (omega arith)
 
 -- eight groups fit, with those left out between the first and the last
 pub ends_fit : (first count last last_count : ℕ) → first < 65536 ^ count → last < 65536 ^ last_count → count + last_count ≤ 7 → first * 65536 ^ (8 - count) + last < 2 ^ 128
@@ -70,10 +61,7 @@ ends_fit first count last last_count below last_below upper_bound =
     let eight : count + (8 - count) ≡ 8 = omega arith in
     let all : 65536 ^ (count + (8 - count)) ≡ 2 ^ 128 = ap (λ k. 65536 ^ k) eight in
     let room : 65536 ^ last_count ≤ 65536 ^ (8 - count) = pow-le-pow_right (lit< tt) (omega arith) in
-    room_left first last (65536 ^ (8 - count)) (2 ^ 128) (omega arith) (omega arith)
-  where
-    room_left : (m n p top : ℕ) → (m + 1) * p ≤ top → n < p → m * p + n < top
-    room_left m n p top h k = omega arith
+    omega arith
 
 pub ends_value : (form : Group) (first last : List (List ℕ)) → length first + length last ≤ 7
     → number_from_digits 65536 (group_values form first) * 65536 ^ (8 - length first) + number_from_digits 65536 (group_values form last)

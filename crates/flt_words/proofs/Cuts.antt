@@ -15,11 +15,12 @@ first_after c (b ∷ front) back lacks =
     let parts = or_parts (b == c) (has c front) lacks in
     rw (parts.0, first_after c front back parts.1) (omega arith)
 
+pub digit_differs : (c radix d : ℕ) → radix ≤ digit_value c → digit_value d < radix → (d == c) ≡ false
+digit_differs c radix d high low = differs d c (λ e. let small : digit_value c < radix = subst (λ x. digit_value x < radix) e low in omega arith)
+
 pub digits_lack : (c radix : ℕ) (digits : List ℕ) → radix ≤ digit_value c → AllDigits radix digits → has c digits ≡ false
 digits_lack c radix [] high all = refl
-digits_lack c radix (d ∷ digits) high all =
-    let other : d ≢ c = λ e. let low : digit_value c < radix = subst (λ x. digit_value x < radix) e all.0 in omega arith in
-    rw (differs d c other) (digits_lack c radix digits high all.1)
+digits_lack c radix (d ∷ digits) high all = rw (digit_differs c radix d high all.0) (digits_lack c radix digits high all.1)
 
 ltb_is : (m n : ℕ) → m < n → nat_lt m n ≡ true
 ltb_is m n h = grind (arith, nat_tests)

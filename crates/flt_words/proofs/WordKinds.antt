@@ -1,5 +1,5 @@
 -- The colons, points and dashes of the kinds of words.
-use Rattle.flt_words.proofs.Common.{◌≡◌, ℕ, ◌≤◌, List, [], ◌∷◌, ◌++◌, length, refl, ap, ◌∙◌, arith, Bool, true, false, ◌==◌, cond, lit≤, None, Some, digit_value, AllByRecursion, join_with_byte, Group, TokenKind, AreGroups, IsDotted, IsGroup, IsIp6, IsMac, separator_of, shortened, whole, has, IsNumber, IsRange, decimal, octal, hexadecimal, capital_hexadecimal, joined, keyword_of, Spells, keyword, number, dotted, range, mac, ip6}
+use Rattle.flt_words.proofs.Common.{◌≡◌, ℕ, ◌≤◌, List, [], ◌∷◌, ◌++◌, length, refl, ap, ◌∙◌, arith, Bool, true, false, ◌==◌, cond, lit<, lit≤, Some, digit_value, AllByRecursion, AllDigits, join_with_byte, Group, TokenKind, AreGroups, IsDotted, IsGroup, IsIp6, IsMac, separator_of, shortened, whole, has, IsNumber, IsRange, decimal, octal, hexadecimal, capital_hexadecimal, joined, keyword_of, Spells, keyword, number, dotted, range, mac, ip6}
 use Rattle.std.proofs.Math.Bool.{or-true}
 use Rattle.std.proofs.lemmas.List.Folds.{list_any-append}
 use Rattle.flt_words.specs.declared.address.Group.TheVariants as group
@@ -7,21 +7,19 @@ use Rattle.flt_words.proofs.Cuts.{digits_lack, same}
 use Rattle.flt_words.proofs.Ranges.{decimal_lacks}
 use Rattle.flt_words.proofs.Tables.{keyword_is_plain}
 
--- a byte that is no hexadecimal digit, nor the x that stands in front of them
-record IsSign (c : ℕ) : Type 0 where
-  high : 16 ≤ digit_value c
-  not_zero : (48 == c) ≡ false
-  not_x : (120 == c) ≡ false
-  not_capital_x : (88 == c) ≡ false
+digits_of_more : (radix : ℕ) (digits : List ℕ) → radix ≤ 36 → AllDigits radix digits → AllDigits 36 digits
+digits_of_more radix [] few all = tt
+digits_of_more radix (d ∷ digits) few all = (omega (arith, all.0), digits_of_more radix digits few all.1)
 
-colon : IsSign 58
-colon = record { high = lit≤ tt; not_zero = refl; not_x = refl; not_capital_x = refl }
+-- the digits of a number are letters and digits, the x among them too
+number_digits : {word : List ℕ} {n : ℕ} → IsNumber word n → AllDigits 36 word
+number_digits (decimal {word} w) = digits_of_more 10 word (lit≤ tt) w.writes.numeral.1
+number_digits (octal {digits} w) = (lit< tt, digits_of_more 8 digits (lit≤ tt) w.numeral.1)
+number_digits (hexadecimal {digits} w) = (lit< tt, (lit< tt, digits_of_more 16 digits (lit≤ tt) w.numeral.1))
+number_digits (capital_hexadecimal {digits} w) = (lit< tt, (lit< tt, digits_of_more 16 digits (lit≤ tt) w.numeral.1))
 
-point : IsSign 46
-point = record { high = lit≤ tt; not_zero = refl; not_x = refl; not_capital_x = refl }
-
-dash : IsSign 45
-dash = record { high = lit≤ tt; not_zero = refl; not_x = refl; not_capital_x = refl }
+number_lacks : {word : List ℕ} {n : ℕ} (c : ℕ) → 36 ≤ digit_value c → IsNumber word n → has c word ≡ false
+number_lacks {word} c sign w = digits_lack c 36 word sign (number_digits w)
 
 lacks_more : (b c : ℕ) (text : List ℕ) → (b == c) ≡ false → has c text ≡ false → has c (b ∷ text) ≡ false
 lacks_more b c text other lacks = rw (other, lacks) refl
@@ -32,15 +30,9 @@ lacks_append c front back v w = list_any-append (λ b. b == c) front back ∙ rw
 has_append : (c : ℕ) (front back : List ℕ) → has c back ≡ true → has c (front ++ back) ≡ true
 has_append c front back w = list_any-append (λ b. b == c) front back ∙ rw w (or-true (has c front))
 
-number_lacks : {word : List ℕ} {n : ℕ} (c : ℕ) → IsSign c → IsNumber word n → has c word ≡ false
-number_lacks c sign (decimal w) = decimal_lacks c (omega (arith, sign.high)) w
-number_lacks c sign (octal {digits} w) = lacks_more 48 c digits sign.not_zero (digits_lack c 8 digits (omega (arith, sign.high)) w.numeral.1)
-number_lacks c sign (hexadecimal {digits} w) = lacks_more 48 c (120 ∷ digits) sign.not_zero (lacks_more 120 c digits sign.not_x (digits_lack c 16 digits sign.high w.numeral.1))
-number_lacks c sign (capital_hexadecimal {digits} w) = lacks_more 48 c (88 ∷ digits) sign.not_zero (lacks_more 88 c digits sign.not_capital_x (digits_lack c 16 digits sign.high w.numeral.1))
-
-range_lacks : {word : List ℕ} {first last : ℕ} (c : ℕ) → IsSign c → (45 == c) ≡ false → IsRange word first last → has c word ≡ false
+range_lacks : {word : List ℕ} {first last : ℕ} (c : ℕ) → 36 ≤ digit_value c → (45 == c) ≡ false → IsRange word first last → has c word ≡ false
 range_lacks c sign other (joined {front} {back} v w) =
-    lacks_append c front (45 ∷ back) (decimal_lacks c (omega (arith, sign.high)) v) (lacks_more 45 c back other (decimal_lacks c (omega (arith, sign.high)) w))
+    lacks_append c front (45 ∷ back) (decimal_lacks c (omega arith) v) (lacks_more 45 c back other (decimal_lacks c (omega arith) w))
 
 has_first : (c : ℕ) (text : List ℕ) → has c (c ∷ text) ≡ true
 has_first c text = rw (same c) refl
@@ -48,11 +40,11 @@ has_first c text = rw (same c) refl
 range_has : {word : List ℕ} {first last : ℕ} → IsRange word first last → has 45 word ≡ true
 range_has (joined {front} {back} v w) = has_append 45 front (45 ∷ back) (has_first 45 back)
 
-joined_lacks : (c : ℕ) (groups : List (List ℕ)) → IsSign c → (46 == c) ≡ false → AllByRecursion (IsGroup group.Octet) groups → has c (join_with_byte 46 groups) ≡ false
+joined_lacks : (c : ℕ) (groups : List (List ℕ)) → 36 ≤ digit_value c → (46 == c) ≡ false → AllByRecursion (IsGroup group.Octet) groups → has c (join_with_byte 46 groups) ≡ false
 joined_lacks c [] sign other each = refl
-joined_lacks c (g ∷ []) sign other each = decimal_lacks c (omega (arith, sign.high)) each.0.1
+joined_lacks c (g ∷ []) sign other each = decimal_lacks c (omega arith) each.0.1
 joined_lacks c (g ∷ h ∷ groups) sign other each =
-    lacks_append c g (46 ∷ join_with_byte 46 (h ∷ groups)) (decimal_lacks c (omega (arith, sign.high)) each.0.1) (lacks_more 46 c (join_with_byte 46 (h ∷ groups)) other (joined_lacks c (h ∷ groups) sign other each.1))
+    lacks_append c g (46 ∷ join_with_byte 46 (h ∷ groups)) (decimal_lacks c (omega arith) each.0.1) (lacks_more 46 c (join_with_byte 46 (h ∷ groups)) other (joined_lacks c (h ∷ groups) sign other each.1))
 
 joined_has : (c : ℕ) (groups : List (List ℕ)) → 2 ≤ length groups → has c (join_with_byte c groups) ≡ true
 joined_has c [] two = absurd (omega arith)
@@ -62,7 +54,7 @@ joined_has c (g ∷ h ∷ groups) two = has_append c g (c ∷ join_with_byte c (
 groups_have : {form : Group} {text : List ℕ} {groups : List (List ℕ)} → AreGroups form text groups → 2 ≤ length groups → has (separator_of form) text ≡ true
 groups_have {form} {text} {groups} are two = ap (has (separator_of form)) are.joined ∙ joined_has (separator_of form) groups two
 
-dotted_lacks : {word : List ℕ} {address parts : ℕ} (c : ℕ) → IsSign c → (46 == c) ≡ false → IsDotted word address parts → has c word ≡ false
+dotted_lacks : {word : List ℕ} {address parts : ℕ} (c : ℕ) → 36 ≤ digit_value c → (46 == c) ≡ false → IsDotted word address parts → has c word ≡ false
 dotted_lacks c sign other d = ap (has c) d.are.joined ∙ joined_lacks c d.groups sign other d.are.each
 
 ip6_has : {word : List ℕ} {address : ℕ} → IsIp6 word address → has 58 word ≡ true
@@ -72,18 +64,6 @@ ip6_has (shortened {front} {back} ends) = has_append 58 front (58 ∷ 58 ∷ bac
 -- the greatest of the signs that a word has
 abbrev pub sign_of : List ℕ → ℕ
 sign_of word = cond (has 58 word) 3 (cond (has 46 word) 2 (cond (has 45 word) 1 0))
-
-pub colon_sign : (word : List ℕ) → has 58 word ≡ true → sign_of word ≡ 3
-colon_sign word colon = rw colon refl
-
-pub point_sign : (word : List ℕ) → has 58 word ≡ false → has 46 word ≡ true → sign_of word ≡ 2
-point_sign word colon point = rw (colon, point) refl
-
-pub dash_sign : (word : List ℕ) → has 58 word ≡ false → has 46 word ≡ false → has 45 word ≡ true → sign_of word ≡ 1
-dash_sign word colon point dash = rw (colon, point, dash) refl
-
-pub no_sign : (word : List ℕ) → has 58 word ≡ false → has 46 word ≡ false → has 45 word ≡ false → sign_of word ≡ 0
-no_sign word colon point dash = rw (colon, point, dash) refl
 
 unfoldable pub kind_sign : {word : List ℕ} {kind : TokenKind} → Spells word kind → ℕ
 kind_sign (keyword {word} w) = cond (has 45 word) 1 0
@@ -97,11 +77,11 @@ kind_sign (ip6 w) = 3
 pub sign_is : {word : List ℕ} {kind : TokenKind} (s : Spells word kind) → sign_of word ≡ kind_sign s
 unfolding kind_sign
 sign_is {word} {kind} (keyword w) = let plain = keyword_is_plain word kind w in rw (plain.no_colon, plain.no_point) refl
-sign_is {word} {kind} (number w) = no_sign word (number_lacks 58 colon w) (number_lacks 46 point w) (number_lacks 45 dash w)
-sign_is {word} {kind} (range w) = dash_sign word (range_lacks 58 colon refl w) (range_lacks 46 point refl w) (range_has w)
-sign_is {word} {kind} (dotted w) = point_sign word (dotted_lacks 58 colon refl w) (groups_have w.are w.at_least_two)
-sign_is {word} {kind} (mac w) = colon_sign word (groups_have w.are (omega (arith, w.six)))
-sign_is {word} {kind} (ip6 w) = colon_sign word (ip6_has w)
+sign_is (number w) = rw (number_lacks 58 (lit≤ tt) w, number_lacks 46 (lit≤ tt) w, number_lacks 45 (lit≤ tt) w) refl
+sign_is (range w) = rw (range_lacks 58 (lit≤ tt) refl w, range_lacks 46 (lit≤ tt) refl w, range_has w) refl
+sign_is (dotted w) = rw (dotted_lacks 58 (lit≤ tt) refl w, groups_have w.are w.at_least_two) refl
+sign_is (mac w) = rw (groups_have w.are (omega (arith, w.six))) refl
+sign_is (ip6 w) = rw (ip6_has w) refl
 
 -- a keyword has a dash at most
 at_most_one : (b : Bool) → cond b 1 0 ≤ 1
@@ -111,29 +91,3 @@ at_most_one false = lit≤ tt
 pub keyword_low : (word : List ℕ) (kind : TokenKind) → keyword_of word ≡ Some kind → sign_of word ≤ 1
 unfolding kind_sign
 keyword_low word kind w = omega (arith, sign_is (keyword w), at_most_one (has 45 word))
-
--- what a word with a sign may stand for
-pub only_addresses : {word : List ℕ} → sign_of word ≡ 3 → ((a : ℕ) → IsMac word a → ⊥) → ((a : ℕ) → IsIp6 word a → ⊥) → (kind : TokenKind) → Spells word kind → ⊥
-unfolding kind_sign
-only_addresses {word} e no_mac no_ip6 kind (keyword w) = absurd (omega (arith, keyword_low word kind w))
-only_addresses e no_mac no_ip6 kind (mac w) = no_mac _ w
-only_addresses e no_mac no_ip6 kind (ip6 w) = no_ip6 _ w
-only_addresses e no_mac no_ip6 kind s = absurd (omega (arith, sign_is s))
-
-pub only_dotted : {word : List ℕ} → sign_of word ≡ 2 → ((a parts : ℕ) → IsDotted word a parts → ⊥) → (kind : TokenKind) → Spells word kind → ⊥
-unfolding kind_sign
-only_dotted {word} e none kind (keyword w) = absurd (omega (arith, keyword_low word kind w))
-only_dotted e none kind (dotted w) = none _ _ w
-only_dotted e none kind s = absurd (omega (arith, sign_is s))
-
-pub only_range : {word : List ℕ} → sign_of word ≡ 1 → keyword_of word ≡ None → ((numbers : ℕ × ℕ) → IsRange word numbers.0 numbers.1 → ⊥) → (kind : TokenKind) → Spells word kind → ⊥
-unfolding kind_sign
-only_range e no_name none kind (keyword w) = cc
-only_range e no_name none kind (range {word} {first} {last} w) = none (first, last) w
-only_range e no_name none kind s = absurd (omega (arith, sign_is s))
-
-pub only_plain : {word : List ℕ} → sign_of word ≡ 0 → keyword_of word ≡ None → ((n : ℕ) → IsNumber word n → ⊥) → (kind : TokenKind) → Spells word kind → ⊥
-unfolding kind_sign
-only_plain e no_keyword none kind (keyword w) = cc
-only_plain e no_keyword none kind (number w) = none _ w
-only_plain e no_keyword none kind s = absurd (omega (arith, sign_is s))

@@ -50,12 +50,12 @@ fn first_word_len(inside: bool, rest: &[u8]) -> usize
     requires { starts_word inside (slice_index rest.now 0) ≡ true }
     ensures { IsLongest inside rest.now result }
 {
-    let mut len = 0;
-    for (i, byte) in rest.iter().enumerate() {
-        if !within_word(inside, *byte) {
+    let mut len = 1;
+    for i in 1..rest.len() {
+        if !within_word(inside, rest[i]) {
             break;
         }
-        if starts_word(inside, *byte) {
+        if starts_word(inside, rest[i]) {
             len = i + 1;
         }
     }

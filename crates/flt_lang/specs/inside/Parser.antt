@@ -1,5 +1,5 @@
 -- The parser's steps over plain lists: the frames and the nodes are listed latest first.
-use Rattle.std.specs.Prelude.{◌≡◌, ◌⊎◌, ℕ, suc, zero, ◌+◌, ◌-◌, ◌<◌, List, [], ◌∷◌, Option, Some, None, nat_le, length, if◌then◌else◌, option_and_then}
+use Rattle.std.specs.Prelude.{◌≡◌, ◌⊎◌, ℕ, suc, zero, ◌+◌, ◌-◌, ◌<◌, List, [], ◌∷◌, Option, Some, None, Result, Err, IfErr, IfOk, nat_le, length, if◌then◌else◌, option_and_then}
 use Rattle.flt_words.specs.declared.fault.ExprFault.{ExprFault}
 use Rattle.flt_words.specs.declared.fault.ExprFault.TheVariants as expr_fault
 use Rattle.flt_words.specs.declared.token.Protocol.{Protocol}
@@ -355,3 +355,15 @@ nodes_of_tokens (t ∷ ts) = run (t ∷ ts) 0 [] None []
 -- why the readers stop: the tokens have no tree, or an allocation failed
 abbrev pub IsReadFault : ExprFault → Type 0
 IsReadFault fault = (fault ≡ expr_fault.NotAnExpression) ⊎ (fault ≡ expr_fault.Memory)
+
+-- what the readers return where the definition gives `given`: that, made of what they return, or
+-- why they stop, which is that there is no tree only if nothing is given
+pub record Reads {A B : Type 0} (given : Option B) (made : A → B)
+    (result : Result A ExprFault) : Type 0 where
+  pub ok : IfOk result (λ a. given ≡ Some (made a))
+  pub none : result ≡ Err expr_fault.NotAnExpression → given ≡ None
+  pub err : IfErr result IsReadFault
+
+-- the same of a step, after which the reader is as it is here
+abbrev pub ReadsStep : Option Begun → ReaderState → Result (ℕ × Option Operand) ExprFault → Type 0
+ReadsStep given reader result = Reads given (λ r. (r.0, (reader.frames, r.1, reader.nodes))) result

@@ -1,11 +1,12 @@
 -- How qualifiers and values are read off the tokens.
-use Rattle.std.specs.Prelude.{ℕ, List, ◌∷◌, drop, Option, Some, None, Bool, true, false, if◌then◌else◌}
+use Rattle.std.specs.Prelude.{◌≡◌, ◌≤◌, length, ℕ, List, ◌∷◌, drop, Option, Some, None, Bool, true, false, if◌then◌else◌}
 use Rattle.flt_words.specs.declared.token.Protocol.{Protocol}
 use Rattle.flt_words.specs.declared.token.Side.{Side}
 use Rattle.flt_words.specs.declared.token.Side.TheVariants.{Source, Destination}
 use Rattle.flt_words.specs.declared.token.ValueType.{ValueType}
 use Rattle.flt_words.specs.declared.token.Join.{Join}
 use Rattle.flt_words.specs.declared.token.Operator.TheVariants.{Divide}
+use Rattle.flt_words.specs.declared.token.Token.{Token}
 use Rattle.flt_words.specs.declared.token.TokenKind.{TokenKind}
 use Rattle.flt_words.specs.declared.token.TokenKind.TheVariants as token
 use Rattle.flt_ast.specs.declared.qualifiers.Direction.{Direction}
@@ -15,6 +16,7 @@ use Rattle.flt_ast.specs.declared.value.NetMask.{NetMask}
 use Rattle.flt_ast.specs.declared.value.NetMask.TheVariants as mask
 use Rattle.flt_ast.specs.declared.value.Value.{Value}
 use Rattle.flt_ast.specs.declared.value.Value.TheVariants as value
+use Rattle.flt_lang.specs.Grammar.{kinds_of}
 
 -- the protocol with which tokens begin, if they do, and the tokens after it
 abbrev pub protocol_of : List TokenKind → Option Protocol × List TokenKind
@@ -85,3 +87,11 @@ starts_value (token.Ip6 a ∷ ts) = true
 starts_value (token.Mac a ∷ ts) = true
 starts_value (token.Range a b ∷ ts) = true
 starts_value _ = false
+
+-- a reader takes from tokens what the definition gives: its value, by as many of them as leave
+-- the same rest
+pub record Takes {A : Type 0} (given : A × List TokenKind) (tokens : List Token)
+    (taken : A × ℕ) : Type 0 where
+  pub value : taken.0 ≡ given.0
+  pub rest : kinds_of (drop taken.1 tokens) ≡ given.1
+  pub within : taken.1 ≤ length tokens
