@@ -1,10 +1,10 @@
 -- Groups of digits, and the parts of a text between separators.
 use Rattle.flt_words.proofs.Common.{◌≡◌, ℕ, ◌^◌, ◌<◌, ◌≤◌, List, [], ◌∷◌, ◌++◌, length, refl, sym, ap, ◌∙◌, arith, false, ◌==◌, Result, Ok, Err, lit<, lit≤, MatchOption, pow-le-pow_right, nat_tests, digits_value-lt, AllByRecursion, join_with_byte, slice_split, AllDigits, IsNumeral, digits_value, Group, WordFault, AreGroups, IsGroup, group_value, separator_of, base_of, WritesNumber, is_word_sized, FindsMeaning, has}
+use Rattle.flt_words.proofs.Numbers.{digits_lack, same}
 use Rattle.std.proofs.lemmas.Bool.{or_parts}
 use Rattle.std.specs.Result.{result_ok}
 use Rattle.flt_words.specs.declared.address.Group.TheVariants as group
 use Rattle.flt_words.specs.declared.number.WordFault.TheVariants as fault
-use Rattle.flt_words.proofs.Cuts.{digits_lack, same}
 
 not_small : (n : ℕ) → n < 2 ^ 32 → is_word_sized n ≡ false → ⊥
 not_small n small large = grind (arith, nat_tests)

@@ -1,6 +1,6 @@
 -- The longest piece at the front of a text.
 use Rattle.flt_words.proofs.Common.{◌≡◌, ℕ, ◌+◌, ◌-◌, ◌<◌, ◌≤◌, ◌≢◌, suc, zero, List, [], ◌∷◌, below_more, length, get_or, take, refl, sym, ap, ◌∙◌, arith, Bool, true, false, length-take-le, Some, None, lit<, lit≤, subst, ⊎_elim, cases_lt, false≢true, get_or-take, TokenKind, starts_word, within_word, symbol_of, IsLongest, IsPiece, IsWordPiece, symbol, word}
-use Rattle.flt_words.proofs.Symbols.{symbol_piece}
+use Rattle.flt_words.proofs.Tables.{symbol_piece}
 
 -- what the loop over a word's bytes finds out, up to where it stops
 pub record IsScanned (inside : Bool) (rest : List ℕ) (len stop : ℕ) : Type 0 where

@@ -11,6 +11,7 @@ use crate::token::TokenKind;
 /// What the word at a place of a text means: the kind of its token. An error, E3 or E4, names the
 /// place, which counts bytes of the text from 1. Since a word is of one kind at most, the order of
 /// the readers doesn't matter: those of the most frequent words come first.
+#[tactic(auto, using(crate::proofs::OneKind::meanings))]
 pub(crate) fn word_kind_at(place: u32, word: &[u8]) -> Result<TokenKind, ExprFault>
     ensures { WordMeans place word.now result }
 {

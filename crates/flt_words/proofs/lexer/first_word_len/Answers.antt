@@ -1,8 +1,8 @@
 -- The loop's steps.
 use Rattle.std.proofs.Common.{◌+◌, arith, sym, ◌∙◌, subst}
 use Rattle.flt_words.proofs.Pieces.{IsScanned, begins_some, longest_word, scanned_between, scanned_end, scanned_first}
-use Rattle.flt_words.proofs.lexer.first_word_len.Goals as goal
 use Rattle.flt_words.proofs.lexer.first_word_len.Goals.{then-starts_word, else-starts_word}
+use Rattle.flt_words.proofs.lexer.first_word_len.Goals as goal
 
 pub loop-i-init : goal.loop-i-init
 loop-i-init c = scanned_first c.requires

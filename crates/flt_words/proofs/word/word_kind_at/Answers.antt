@@ -12,28 +12,13 @@ nothing no_number no_dotted no_keyword no_mac no_ip6 no_range kind (range {first
 nothing no_number no_dotted no_keyword no_mac no_ip6 no_range kind (mac w) = no_mac _ w
 nothing no_number no_dotted no_keyword no_mac no_ip6 no_range kind (ip6 w) = no_ip6 _ w
 
-pub returns-in-Ok : goal.returns-in-Ok
-returns-in-Ok c = known (number c.in-Ok.ensures.0) c.in-Ok.ensures.1
-
 pub returns-in-Err-TooLarge : goal.returns-in-Err-TooLarge
 returns-in-Err-TooLarge c = let large = rw c.in-Err-TooLarge.field-0-is at c.in-Err-TooLarge.ensures in too_large (number large.1) large.2
-
-pub returns-in-Some : goal.returns-in-Some
-returns-in-Some c = known (dotted c.in-Some.ensures) refl
 
 pub returns-in-Some-keyword_of : goal.returns-in-Some-keyword_of
 returns-in-Some-keyword_of c =
     let found = sym c.keyword_of.ensures ∙ c.in-Some-keyword_of.is in
     known (keyword found) (keyword_is_plain c.args.word.now c.in-Some-keyword_of.kind found).fitting
-
-pub returns-in-Some-parse_mac : goal.returns-in-Some-parse_mac
-returns-in-Some-parse_mac c = known (mac c.in-Some-parse_mac.ensures) refl
-
-pub returns-in-Some-parse_ip6 : goal.returns-in-Some-parse_ip6
-returns-in-Some-parse_ip6 c = known (ip6 c.in-Some-parse_ip6.ensures) refl
-
-pub returns-in-Ok-parse_range : goal.returns-in-Ok-parse_range
-returns-in-Ok-parse_range c = known (range c.in-Ok-parse_range.ensures.0) c.in-Ok-parse_range.ensures.1
 
 pub returns-in-Err-TooLarge-parse_range : goal.returns-in-Err-TooLarge-parse_range
 returns-in-Err-TooLarge-parse_range c =
