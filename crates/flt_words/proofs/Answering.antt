@@ -1,5 +1,5 @@
 -- Answers for a word: one reading's as another's, and two answers as one.
-use Rattle.flt_words.proofs.Common.{◌≡◌, Bool, true, false, ◌&&◌, refl, Result, Ok, Err, WordFault, FindsMeaning, both_known}
+use Rattle.flt_words.proofs.Common.{Bool, ◌&&◌, refl, Result, Ok, Err, WordFault, FindsMeaning, both_known}
 use Rattle.std.proofs.Math.Bool.{and-false}
 use Rattle.flt_words.specs.declared.number.WordFault.TheVariants as fault
 

@@ -1,7 +1,6 @@
 pub mod Common
 pub mod Answering
 pub mod Numbers
-pub mod Groups
 pub mod AddressValues
 pub mod DoubleColons
 pub mod Tables

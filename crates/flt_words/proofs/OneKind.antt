@@ -1,6 +1,6 @@
 -- A word stands for one thing at most, as its colons, points and dashes tell.
 use Rattle.flt_words.proofs.AddressValues.{same_groups}
-use Rattle.flt_words.proofs.Common.{◌≡◌, ℕ, ◌≤◌, List, [], ◌∷◌, ◌++◌, length, refl, ap, ◌∙◌, arith, Bool, true, false, ◌==◌, cond, lit<, lit≤, Some, digit_value, AllByRecursion, AllDigits, join_with_byte, Group, TokenKind, AreGroups, IsDotted, IsGroup, IsIp6, IsMac, separator_of, shortened, whole, has, IsNumber, IsRange, decimal, octal, hexadecimal, capital_hexadecimal, joined, keyword_of, Spells, known, keyword, number, dotted, range, mac, ip6, ◌<◌, sym, nat_lt, get_or, ◌+◌, ◌-◌, replicate, nat_tests, number_from_digits, AreIp6Ends, IsWhole, IsWholeIp6, group_values, WritesNumber}
+use Rattle.flt_words.proofs.Common.{◌≡◌, ℕ, ◌≤◌, List, [], ◌∷◌, ◌++◌, length, refl, ap, ◌∙◌, arith, Bool, true, false, ◌==◌, cond, lit<, lit≤, Some, digit_value, AllByRecursion, AllDigits, join_with_byte, Group, TokenKind, AreGroups, IsDotted, IsGroup, IsIp6, IsMac, separator_of, shortened, whole, has, IsNumber, IsRange, decimal, octal, hexadecimal, capital_hexadecimal, joined, keyword_of, Spells, known, keyword, number, dotted, range, mac, ip6, ◌<◌, sym, nat_lt, get_or, ◌+◌, ◌-◌, replicate, nat_tests, number_from_digits, AreIp6Ends, IsWholeAddress, IsWholeIp6, group_values, WritesNumber}
 use Rattle.flt_words.proofs.DoubleColons.{double_between, ends_from_ip6, no_double_colon, none_before_first}
 use Rattle.flt_words.proofs.Numbers.{decimal_lacks, digits_lack, same, same_number, same_range}
 use Rattle.flt_words.proofs.Tables.{keyword_is_plain}
@@ -99,7 +99,7 @@ same_dotted v w =
     let same = same_groups v.are w.are in
     (v.value ∙ ap (λ gs. number_from_digits 256 (group_values group.Octet gs ++ replicate (4 - length gs) 0)) same ∙ sym w.value, v.count ∙ ap length same ∙ sym w.count)
 
-same_whole : {form : Group} {base many a b : ℕ} {word : List ℕ} → IsWhole form base many word a → IsWhole form base many word b → a ≡ b
+same_whole : {form : Group} {base many a b : ℕ} {word : List ℕ} → IsWholeAddress form base many word a → IsWholeAddress form base many word b → a ≡ b
 same_whole {form} {base} v w = v.value ∙ ap (λ gs. number_from_digits base (group_values form gs)) (same_groups v.are w.are) ∙ sym w.value
 
 same_ends : {front back : List ℕ} {a b : ℕ} → AreIp6Ends front back a → AreIp6Ends front back b → a ≡ b

@@ -1,7 +1,6 @@
 -- What holds of each entry of a table holds of what is looked up; and brackets stand in the tokens
 -- of brackets alone.
-use Rattle.flt_words.proofs.Common.{◌≡◌, ℕ, List, [], ◌∷◌, refl, subst, Bool, true, false, ◌&&◌, not, ◌==◌, eqb-true, cond, Option, Some, get_or, nat_lt, bytes_eq-Decides, list_all, bytes_eq, TokenKind, has, Spellings, keyword_of, look_up, fits, ◌<◌, ◌≤◌, count_by, length, codes, arith, lit≤, is_ascii_alphanumeric, is_blank, starts_word, symbol_of, suc, take, sym, ap, ◌∙◌, Ok, false≢true, within_word, IsToken, IsWordPiece, PieceMeans, symbol_meaning, word_meaning, Spells, keyword, known}
-use Rattle.std.proofs.lemmas.Bool.{and_parts, not-true, or_parts, ltb-true}
+use Rattle.flt_words.proofs.Common.{◌≡◌, ℕ, List, [], ◌∷◌, refl, subst, Bool, true, false, ◌&&◌, not, ◌==◌, eqb-true, cond, Option, Some, get_or, nat_lt, bytes_eq-Decides, list_all, bytes_eq, TokenKind, has, Spellings, keyword_of, look_up, fits, ◌<◌, ◌≤◌, count_by, length, codes, arith, lit≤, is_ascii_alphanumeric, is_blank, starts_word, symbol_of, suc, take, sym, ap, ◌∙◌, Ok, false≢true, within_word, IsToken, IsWordPiece, PieceMeans, symbol_meaning, word_meaning, Spells, keyword, known, and_parts, not-true, or_parts, ltb-true}
 use Rattle.flt_words.specs.Spellings.{keywords, symbols}
 use Rattle.flt_words.specs.declared.token.TokenKind.TheVariants as token
 

@@ -7,8 +7,7 @@ use Rattle.flt_words.specs.{Numbers.WritesDecimal, declared.address.Group.Group}
 -- what joins groups of a form: a point, or a colon
 abbrev pub separator_of : Group → ℕ
 separator_of Group.Octet = 46
-separator_of Group.Byte = 58
-separator_of Group.Quad = 58
+separator_of _ = 58
 
 -- digits of a group's form: decimal up to 255 without leading zeros, one or two hexadecimal, one to
 -- four hexadecimal
@@ -20,8 +19,7 @@ IsGroup Group.Quad digits = IsNumeral 16 digits × (length digits ≤ 4)
 -- the number that the digits of a group write
 abbrev pub group_value : Group → List ℕ → ℕ
 group_value Group.Octet digits = digits_value 10 digits
-group_value Group.Byte digits = digits_value 16 digits
-group_value Group.Quad digits = digits_value 16 digits
+group_value _ digits = digits_value 16 digits
 
 -- the numbers that the digits of groups write, in turn
 abbrev pub group_values : Group → List (List ℕ) → List ℕ
@@ -43,7 +41,8 @@ pub record IsDotted (word : List ℕ) (address parts : ℕ) : Type 0 where
       ≡ number_from_digits 256 (group_values Group.Octet groups ++ replicate (4 - length groups) 0)
 
 -- the word is this many groups of a form, and the address the number that they write in a base
-pub record IsWhole (form : Group) (base many : ℕ) (word : List ℕ) (address : ℕ) : Type 0 where
+pub record IsWholeAddress (form : Group) (base many : ℕ) (word : List ℕ)
+    (address : ℕ) : Type 0 where
   pub groups : List (List ℕ)
   pub are : AreGroups form word groups
   pub all : length groups ≡ many
@@ -51,11 +50,11 @@ pub record IsWhole (form : Group) (base many : ℕ) (word : List ℕ) (address :
 
 -- the word is the six bytes of a MAC address
 abbrev pub IsMac : List ℕ → ℕ → Type 0
-IsMac word address = IsWhole Group.Byte 256 6 word address
+IsMac word address = IsWholeAddress Group.Byte 256 6 word address
 
 -- the word is the eight groups of an IPv6 address
 abbrev pub IsWholeIp6 : List ℕ → ℕ → Type 0
-IsWholeIp6 word address = IsWhole Group.Quad 65536 8 word address
+IsWholeIp6 word address = IsWholeAddress Group.Quad 65536 8 word address
 
 -- the two texts are at most seven groups of an IPv6 address together, and those left out between
 -- them are 0

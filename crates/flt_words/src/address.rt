@@ -2,7 +2,8 @@
 
 ghost use Rattle.std.specs.Prelude.{◌≡◌, ◌≤◌, ◌<◌, ◌+◌, ◌*◌, ◌^◌, ℕ, MatchOption, length};
 ghost use Rattle.std.specs.Str.Parse.{IsNumeral, digits_value};
-ghost use Rattle.flt_words.specs.Addresses.{AreIp6Ends, IsDotted, IsGroup, IsIp6, IsMac, IsWhole};
+ghost use Rattle.flt_words.specs.Addresses.{AreIp6Ends, IsDotted, IsGroup, IsIp6, IsMac};
+ghost use Rattle.flt_words.specs.Addresses.{IsWholeAddress};
 ghost use Rattle.flt_words.specs.Addresses.{group_value, separator_of};
 ghost use Rattle.flt_words.specs.declared.address.Group.TheVariants.{Octet};
 ghost use Rattle.flt_words.specs.inside.Addresses.{FindsAddress, IsDoubleColon, ReadsGroups};
@@ -143,7 +144,7 @@ pub(crate) fn parse_dotted(word: &[u8]) -> Option<(u32, u8)>
 /// Reads a word as this many groups, eight at most, the first the highest. `None` for other words.
 fn parse_whole(form: Group, many: u32, word: &[u8]) -> Option<u128>
     requires { many ≤ 8 }
-    ensures { FindsAddress (IsWhole form (base_of form) many word.now) result }
+    ensures { FindsAddress (IsWholeAddress form (base_of form) many word.now) result }
 {
     let joined = parse_groups(form, word)?;
     if joined.count != many {

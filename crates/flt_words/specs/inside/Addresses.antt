@@ -7,9 +7,8 @@ use Rattle.flt_words.specs.declared.address.{Group.Group, JoinedGroups.JoinedGro
 
 -- the base in which groups of a form are digits: a group's number is below it
 abbrev pub base_of : Group → ℕ
-base_of Group.Octet = 256
-base_of Group.Byte = 256
 base_of Group.Quad = 65536
+base_of _ = 256
 
 -- what a reader of addresses returns: one of which this holds, or none if it holds of no address
 abbrev pub FindsAddress : (ℕ → Type 0) → Option ℕ → Type 0

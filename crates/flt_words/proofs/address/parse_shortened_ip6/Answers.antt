@@ -1,6 +1,5 @@
 -- The groups left out are zeros after the first.
-use Rattle.std.proofs.Common.{arith, length, ap}
-use Rattle.flt_words.specs.declared.address.Group.{Group}
+use Rattle.flt_words.proofs.Common.{arith, length, ap, Group}
 use Rattle.flt_words.proofs.AddressValues.{ends_fit, ends_value, reads_below, same_groups}
 use Rattle.flt_words.proofs.address.parse_shortened_ip6.Goals as goal
 

@@ -1,5 +1,5 @@
 -- A word that no reader takes means nothing.
-use Rattle.flt_words.proofs.Common.{◌≡◌, ℕ, List, None, refl, sym, ◌∙◌, TokenKind, IsDotted, IsIp6, IsMac, IsNumber, IsRange, Spells, keyword, number, dotted, range, mac, ip6, keyword_of, known, too_large, unknown}
+use Rattle.flt_words.proofs.Common.{◌≡◌, ℕ, List, None, sym, ◌∙◌, TokenKind, IsDotted, IsIp6, IsMac, IsNumber, IsRange, Spells, keyword, number, dotted, range, mac, ip6, keyword_of, known, too_large, unknown}
 use Rattle.flt_words.proofs.Tables.{keyword_is_plain}
 use Rattle.flt_words.proofs.word.word_kind_at.Goals as goal
 
