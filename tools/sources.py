@@ -131,9 +131,9 @@ class Sources:
         if file is None or name not in file.types:
             raise LookupError(f"{crate} has no {'.'.join(rest)}")
         key = file.key(name)
-        if variants:
-            return {variant: (*key, variant) for variant, _ in file.variants(file.types[name])}
-        return {name: key, "": key}
+        is_enum = file.types[name].kind == "enum"
+        own = {variant: (*key, variant) for variant, _ in file.variants(file.types[name])} if is_enum else {}
+        return own if variants else {name: {"": key, **own} if own else key, "": key}
 
     def resolved(self, file, path, depth=0):
         """The item of a Rust path that begins in this file, or None."""

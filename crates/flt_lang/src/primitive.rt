@@ -2,15 +2,15 @@
 //! the qualifiers before them. Each reader of these begins at the first of its tokens, takes as many
 //! as it can, and returns what it read and how many tokens that is.
 
-ghost use Rattle.std.specs.Prelude.{◌≡◌, ◌∷◌, ◌⊎◌, List, IsTrue, IfSome, IfNone};
-ghost use Rattle.std.specs.Prelude.{Some, None, length, slice_get, drop, ◌<◌, ◌≤◌};
+ghost use Rattle.std.specs.Prelude.{◌≡◌, ◌∷◌, ◌⊎◌, List, IsTrue, IfSome, IfNone, Some, None};
+ghost use Rattle.std.specs.Prelude.{length, slice_get, drop, ◌<◌, ◌≤◌};
 ghost use Rattle.flt_words.specs.declared.token.TokenKind.{TokenKind};
 ghost use Rattle.flt_ast.specs.declared.qualifiers.Qualifiers.{Qualifiers};
 ghost use Rattle.flt_lang.specs.Grammar.{stands_alone, is_accessor, has_casts, kinds_of};
-ghost use Rattle.flt_lang.specs.inside.Values.{qualifiers_of, protocol_of, direction_of, type_of};
-ghost use Rattle.flt_lang.specs.inside.Values.{is_opposite, both_of, Takes};
-ghost use Rattle.flt_lang.specs.inside.Values.{mask_of, prefix_of, value_of};
 ghost use Rattle.flt_lang.specs.inside.Parser.{protocol_role, valued_of};
+ghost use Rattle.flt_lang.specs.inside.Values.{qualifiers_of, protocol_of, direction_of, type_of};
+ghost use Rattle.flt_lang.specs.inside.Values.{is_opposite, both_of, Takes, mask_of, prefix_of};
+ghost use Rattle.flt_lang.specs.inside.Values.{value_of};
 
 use flt_ast::{Direction, Dotted, NetMask, Qualifiers, Value};
 use flt_words::{Cast, Join, Operator, Protocol, Side, Token, TokenKind, ValueType};
@@ -196,7 +196,7 @@ fn value_from(first: TokenKind, rest: &[Token]) -> Option<(Value, usize)>
 
 /// The value with which tokens begin, with the mask after it, and how many tokens it takes: 3 at
 /// most. `None` if they begin with none.
-#[tactic(auto, using(crate::proofs::Fronts::value_found, crate::proofs::Fronts::no_value_found))]
+#[tactic(auto, using(crate::proofs::Stepping::found_value, crate::proofs::Stepping::no_value))]
 pub fn read_value(tokens: &[Token]) -> Option<(Value, usize)>
     ensures some { IfSome result (λ r.
         value_of (kinds_of tokens.now) ≡ Some (r.0, kinds_of (drop r.1 tokens.now))) }

@@ -4,19 +4,17 @@
 ghost use Rattle.std.specs.Prelude.{◌≡◌, ◌≤◌, ◌<◌, ◌∷◌, [], IfErr, IfNone, IfOk, IfSome};
 ghost use Rattle.std.specs.Prelude.{MatchOption, OnOk, length, reverse, List, Some, None, Err};
 ghost use Rattle.std.specs.Prelude.{drop};
-ghost use Rattle.flt_lang.specs.inside.Parser.{IsLoose, precedence, operand_precedence};
-ghost use Rattle.flt_lang.specs.inside.Parser.{begin_at, protocol_begins, protocol_role};
-ghost use Rattle.flt_lang.specs.inside.Parser.{number_primitive, sized_of, primitive, bare_of};
-ghost use Rattle.flt_lang.specs.inside.Parser.{one_node, with_frames, IsReadFault, Reads, ReadsStep, as_number};
-ghost use Rattle.flt_lang.specs.inside.Parser.{as_truth, as_sort, prefix_mask, fill_frame};
-ghost use Rattle.flt_lang.specs.inside.Parser.{reduce, after_operator, after_load, accessor_size};
+ghost use Rattle.flt_lang.specs.Grammar.{kinds_of};
+ghost use Rattle.flt_lang.specs.inside.Parser.{IsLoose, precedence, operand_precedence, begin_at};
+ghost use Rattle.flt_lang.specs.inside.Parser.{protocol_begins, protocol_role, number_primitive};
+ghost use Rattle.flt_lang.specs.inside.Parser.{sized_of, primitive, bare_of, one_node, with_frames};
+ghost use Rattle.flt_lang.specs.inside.Parser.{IsReadFault, Reads, ReadsStep, as_number, as_truth};
+ghost use Rattle.flt_lang.specs.inside.Parser.{as_sort, prefix_mask, fill_frame, reduce};
+ghost use Rattle.flt_lang.specs.inside.Parser.{after_operator, after_load, accessor_size};
 ghost use Rattle.flt_lang.specs.inside.Parser.{after_close, after_token_at, number_with_prefix};
 ghost use Rattle.flt_lang.specs.inside.Parser.{after_operand, run, finish, nodes_of_tokens};
-ghost use Rattle.flt_ast.specs.Nodes.{tree_of};
-ghost use Rattle.flt_ast.specs.inside.Nodes.{IsTree};
+ghost use Rattle.flt_ast.specs.{Nodes.tree_of, declared.node.Node.Node, inside.Nodes.IsTree};
 ghost use Rattle.flt_words.specs.declared.token.TokenKind.{TokenKind};
-ghost use Rattle.flt_ast.specs.declared.node.Node.{Node};
-ghost use Rattle.flt_lang.specs.Grammar.{kinds_of};
 
 use crate::frame::{Frame, Operand, Sort, operand_precedence, token_precedence};
 use crate::primitive::{
@@ -183,10 +181,9 @@ impl<A: Allocator> Reader<A> {
 
     /// Lets a frame wait for the operand after it: `not`, a sign or `(`. No operand is complete.
     fn shift_prefix(&mut self, frame: Frame) -> Result<(usize, Option<Operand>), ExprFault>
-        ensures ok { IfOk result (λ r. r ≡ (0, None)) }
-        ensures frames { IfOk result (λ _. self.new.frames ≡ frame ∷ self.old.frames) }
-        ensures nodes { IfOk result (λ _. self.new.nodes ≡ self.old.nodes) }
-        ensures err { IfErr result (λ fault. fault ≡ ExprFault.Memory) }
+        ensures reads { ReadsStep (Some (0, (frame ∷ self.old.frames, None, self.old.nodes)))
+            self.new result }
+        ensures used { IfOk result (λ r. r.0 ≡ 0) }
     {
         self.push_frame(frame)?;
         Ok((0, None))
@@ -194,10 +191,10 @@ impl<A: Allocator> Reader<A> {
 
     /// Writes a number that is one token and one node, `len` or a name.
     fn write_number_word(&mut self, node: Node) -> Result<(usize, Option<Operand>), ExprFault>
-        ensures ok { IfOk result (λ r. r ≡ (0, Some Operand.Number)) }
-        ensures frames { IfOk result (λ _. self.new.frames ≡ self.old.frames) }
-        ensures nodes { IfOk result (λ _. self.new.nodes ≡ node ∷ self.old.nodes) }
-        ensures err { IfErr result (λ fault. fault ≡ ExprFault.Memory) }
+        ensures reads { ReadsStep
+            (Some (0, (self.old.frames, Some Operand.Number, node ∷ self.old.nodes)))
+            self.new result }
+        ensures used { IfOk result (λ r. r.0 ≡ 0) }
     {
         self.push_node(node)?;
         Ok((0, Some(Operand::Number)))
@@ -209,8 +206,8 @@ impl<A: Allocator> Reader<A> {
         &mut self,
         read: Option<(Node, usize)>,
     ) -> Result<(usize, Option<Operand>), ExprFault>
-        ensures reads { ReadsStep (with_frames self.old.frames (one_node self.old.nodes read)) self.new
-            result }
+        ensures reads { ReadsStep (with_frames self.old.frames (one_node self.old.nodes read))
+            self.new result }
         ensures used { IfOk result (λ r. IfSome read (λ node. r.0 ≡ node.1)) }
     {
         let Some((node, more)) = read else {
