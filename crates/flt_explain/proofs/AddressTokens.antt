@@ -114,7 +114,7 @@ mac_for a small =
       stands = mac {address = a} (record {
         groups = map hex_byte (half_bytes q ++ half_bytes r);
         are = record { joined = refl; each = each in_bytes (half_bytes q ++ half_bytes r) below };
-        six = refl;
+        all = refl;
         value = six_bytes a q r _ _ _ _ _ _ refl refl (three_bytes q (omega arith)) (three_bytes r (omega arith)) ∙ ap (number_from_digits 256) (sym (values in_bytes (half_bytes q ++ half_bytes r) below));
       });
       fit = refl;
@@ -173,7 +173,7 @@ ip6_for a small =
       stands = ip6 {address = a} (whole (record {
         groups = map (digits 16 false) (half_groups q ++ half_groups r);
         are = record { joined = all_joined a; each = each in_quads (half_groups q ++ half_groups r) below };
-        eight = refl;
+        all = refl;
         value = eight_groups a q r _ _ _ _ _ _ _ _ refl refl (four_groups q (omega arith)) (four_groups r (omega arith)) ∙ ap (number_from_digits 65536) (sym (values in_quads (half_groups q ++ half_groups r) below));
       }));
       fit = refl;

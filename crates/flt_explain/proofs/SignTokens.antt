@@ -4,7 +4,7 @@ use Rattle.flt_words.specs.declared.token.Comparison.TheVariants as comparison
 use Rattle.flt_words.specs.declared.token.Operator.TheVariants as operator
 use Rattle.flt_words.specs.declared.token.TokenKind.TheVariants as token
 use Rattle.flt_words.specs.Spellings.{symbols}
-use Rattle.flt_words.proofs.Symbols.{symbol_piece}
+use Rattle.flt_words.proofs.Tables.{symbol_piece}
 
 -- what may follow a token that leaves a gap where it can
 pub data End (inside : Bool) : ℕ → Type 0 where

@@ -5,7 +5,7 @@ use Rattle.std.proofs.lemmas.List.Sums.{sum_by-append}
 use Rattle.flt_words.specs.declared.token.Operator.TheVariants as operator
 use Rattle.flt_words.specs.declared.token.TokenKind.TheVariants as token
 use Rattle.flt_words.specs.Tokens.TokensFrom.{at_end, blank, token as one_more}
-use Rattle.flt_words.proofs.BracketCounts.{closings, openings, token_has}
+use Rattle.flt_words.proofs.Tables.{closings, openings, token_has}
 use Rattle.flt_explain.proofs.WordPieces.{word_token}
 use Rattle.flt_explain.proofs.SignTokens.{End, Ends, goes_on, no_more, word_ends, sign_token, single_token, colon_token}
 use Rattle.flt_explain.proofs.SignTokens as signs

@@ -97,9 +97,9 @@ module _ (inside : Bool) (place : ℕ) (word more : List ℕ) (kind : TokenKind)
   scanned : IsScanned inside (word ++ more) (length word) (length word)
   scanned = record {
     so_far = omega arith;
-    some = λ h. h;
+    some = part.some;
     within = λ k below. ap (within_word inside) (here k below) ∙ byte_at (λ b. within_word inside b ≡ true) word k part.within below;
-    ends = λ some. ap (starts_word inside) (here (length word - 1) (omega arith)) ∙ part.ends;
+    ends = ap (starts_word inside) (here (length word - 1) (omega (arith, part.some))) ∙ part.ends;
     later = λ k low high. absurd (omega arith);
   }
 

@@ -12,7 +12,7 @@ use Rattle.flt_words.specs.Numbers.IsNumber.{decimal as decimal_number}
 use Rattle.flt_words.specs.Numbers.IsRange.{joined as dashed}
 use Rattle.flt_words.specs.Spellings.{keywords}
 use Rattle.flt_words.specs.Words.Spells.{number, range}
-use Rattle.flt_words.proofs.Digits.{fits as word_sized}
+use Rattle.flt_words.proofs.Numbers.{fits as word_sized}
 use Rattle.flt_explain.proofs.WordPieces.{IsPart, part_of_digits, part_of_keyword, part_join}
 
 pub record IsWordFor (inside : Bool) (word : List ℕ) (kind : TokenKind) : Type 0 where

@@ -10,7 +10,7 @@ use Rattle.flt_words.specs.Spellings.{keywords, symbols}
 use Rattle.flt_words.specs.Tokens.TokensFrom.{at_end, blank, refused, token as one_more}
 use Rattle.flt_words.specs.Words.Spells.{number, dotted, range}
 use Rattle.flt_words.proofs.AddressValues.{ends_fit, number_between, number_zeros}
-use Rattle.flt_words.proofs.Groups.{small_hexadecimal}
+use Rattle.flt_words.proofs.AddressValues.{small_hexadecimal}
 
 -- a token of a table
 table_test : TokenKind → Bool
@@ -68,7 +68,7 @@ dotted_small {word} {a} {p} d =
 mac_small : {word : List ℕ} {a : ℕ} → IsMac word a → a < 2 ^ 48
 mac_small {word} {a} m =
     let below = all_below 256 16 (λ digits. IsNumeral 16 digits × (length digits ≤ 2)) m.groups m.are.each (λ g is. small_hexadecimal g 2 is.0.1 is.1) in
-    let all : 256 ^ length m.groups ≡ 2 ^ 48 = ap (λ k. 256 ^ k) m.six in
+    let all : 256 ^ length m.groups ≡ 2 ^ 48 = ap (λ k. 256 ^ k) m.all in
     omega (arith, m.value)
 
 -- an IPv6 address
@@ -88,7 +88,7 @@ ends_small {front} {back} {a} e =
 ip6_small : {word : List ℕ} {a : ℕ} → IsIp6 word a → a < 2 ^ 128
 ip6_small {word} {a} (whole w) =
     let below = quads_small w.groups w.are.each in
-    let all : 65536 ^ length w.groups ≡ 2 ^ 128 = ap (λ k. 65536 ^ k) w.eight in
+    let all : 65536 ^ length w.groups ≡ 2 ^ 128 = ap (λ k. 65536 ^ k) w.all in
     omega (arith, w.value)
 ip6_small (shortened ends) = ends_small ends
 

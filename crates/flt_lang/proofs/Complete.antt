@@ -1,15 +1,14 @@
 -- What the grammar reads, the machine reads.
-use Rattle.flt_lang.proofs.Common.{◌≡◌, ◌≢◌, ℕ, ◌+◌, ◌<◌, ◌≤◌, List, [], ◌∷◌, refl, sym, ap, ◌∙◌, subst, ◌⊎◌, inl, inr, ⊎_elim, arith, Option, Some, None, true, lit≤, Protocol, Operator, Divide, Join, TokenKind, Value, Node, Frame, Operand, NumberTree, literal, TruthTree, bare, Expression, no_mask, prefix, dotted_mask, ReadsValue, number, dotted, ip6, ip6_prefix, mac, range, level, is_accessor, stands_alone, has_casts, Number, of_literal, of_len, of_name, enclosed, of_load, of_sized_load, minus, single, chain, Truth, of_check, of_cast, of_protocol_cast, of_sized, of_valued, of_bare, relation, denial, enclosed_truth, term, terms, IsReadAs, no_tokens, all_tokens, ◌>>=◌, precedence, operand_precedence, token_precedence, next_precedence, as_number, as_truth, fill_frame, run, nodes_of_tokens, enclosed_operand, number_with_prefix, next_of, after_operand, IsLoose, number_onto, truth_onto, expr_onto}
-use Rattle.flt_words.specs.declared.token.Comparison.{Comparison}
-use Rattle.flt_words.specs.declared.token.Cast.{Cast}
+use Rattle.flt_lang.proofs.Common.{◌≡◌, ◌≢◌, ℕ, ◌+◌, ◌<◌, ◌≤◌, List, [], ◌∷◌, refl, sym, ap, ◌∙◌, subst, ◌⊎◌, inl, inr, ⊎_elim, arith, Option, Some, None, true, lit≤, Protocol, Operator, Divide, Join, TokenKind, Value, Node, Frame, Operand, NumberTree, literal, TruthTree, bare, Expression, no_mask, prefix, dotted_mask, ReadsValue, number, dotted, ip6, ip6_prefix, mac, range, level, is_accessor, stands_alone, has_casts, Number, of_literal, of_len, of_name, enclosed, of_load, of_sized_load, minus, single, chain, Truth, of_check, of_cast, of_protocol_cast, of_sized, of_valued, of_bare, relation, denial, enclosed_truth, term, terms, IsReadAs, no_tokens, all_tokens, ◌>>=◌, precedence, operand_precedence, token_precedence, next_precedence, as_number, as_truth, as_sort, fill_frame, run, nodes_of_tokens, enclosed_operand, number_with_prefix, next_of, after_operand, IsLoose, number_onto, truth_onto, expr_onto}
+use Rattle.flt_lang.proofs.Reducing.{le_true, le_false, reduce_stays}
+use Rattle.flt_lang.proofs.Valued.{IsNoMask, no_mask_at, plain_runs, value_runs, valued_runs}
+use Rattle.flt_lang.proofs.ValuesBack.{level_small}
+use Rattle.flt_words.specs.declared.token.{Cast.Cast, Comparison.Comparison}
 use Rattle.flt_words.specs.declared.token.TokenKind.TheVariants as token
 use Rattle.flt_ast.specs.declared.node.Node.TheVariants as node
 use Rattle.flt_lang.specs.declared.frame.Frame.TheVariants as frame
 use Rattle.flt_lang.specs.declared.frame.Operand.TheVariants as operand
-use Rattle.flt_lang.proofs.Reducing.{le_true, le_false, reduce_stays}
-use Rattle.flt_lang.proofs.ValuesBack.{level_small}
-use Rattle.flt_lang.proofs.Valued.{valued_runs}
-use Rattle.flt_lang.proofs.Bare.{value_runs, IsNoMask, no_mask_at, plain_runs}
+use Rattle.flt_lang.specs.declared.frame.Sort.{Sort}
 
 -- a frame as tight as a division has no room for one
 tight_operand : (f : Frame) (fs : List Frame) → precedence f ≤ 1 → operand_precedence (f ∷ fs) < 1
@@ -59,29 +58,20 @@ join_step j ts fs x d e h truth =
 
 -- the machine comes from the tokens ts with nothing read to rest with an operand that is the
 -- number, or the truth
-record ReadsNumber (ts : List TokenKind) (fs : List Frame) (d : List Node) (e : List Node) (rest : List TokenKind) : Type 0 where
+record Reaches (s : Sort) (ts : List TokenKind) (fs : List Frame) (d : List Node) (e : List Node) (rest : List TokenKind) : Type 0 where
   operand : Operand
   nodes : List Node
   runs : run ts 0 fs None d ≡ run rest 0 fs (Some operand) nodes
-  is_number : as_number operand nodes ≡ Some e
-
-record ReadsTruth (ts : List TokenKind) (fs : List Frame) (d : List Node) (e : List Node) (rest : List TokenKind) : Type 0 where
-  operand : Operand
-  nodes : List Node
-  runs : run ts 0 fs None d ≡ run rest 0 fs (Some operand) nodes
-  is_truth : as_truth operand nodes ≡ Some e
+  value : as_sort s operand nodes ≡ Some e
 
 close_step : (ts : List TokenKind) (fs : List Frame) (x : Operand) (d : List Node) → run (token.Close ∷ ts) 0 (frame.Open ∷ fs) (Some x) d ≡ run ts 0 fs (Some (enclosed_operand x)) d
 close_step ts fs (operand.Plain n) d = refl
 close_step ts fs _ d = refl
 
-enclosed_number : (x : Operand) (d : List Node) → as_number (enclosed_operand x) d ≡ as_number x d
-enclosed_number (operand.Plain n) d = refl
-enclosed_number _ d = refl
-
-enclosed_as_truth : (x : Operand) (d : List Node) → as_truth (enclosed_operand x) d ≡ as_truth x d
-enclosed_as_truth (operand.Plain n) d = refl
-enclosed_as_truth _ d = refl
+enclosed_value : (s : Sort) (x : Operand) (d : List Node) → as_sort s (enclosed_operand x) d ≡ as_sort s x d
+enclosed_value Sort.Number (operand.Plain n) d = refl
+enclosed_value Sort.Truth (operand.Plain n) d = refl
+enclosed_value _ _ d = refl
 
 bracket_step : (p : Protocol) (ts : List TokenKind) (fs : List Frame) (x : Operand) (d e : List Node) → as_number x d ≡ Some e → run (token.CloseBracket ∷ ts) 0 (frame.Load p ∷ fs) (Some x) d ≡ run ts 0 fs (Some operand.Number) (node.Load p 1 ∷ e)
 bracket_step p ts fs x d e is_num = rw (no_prefix_at token.CloseBracket ts x tt, is_num)
@@ -124,7 +114,7 @@ prefix_step : (n m : ℕ) (ts : List TokenKind) (fs : List Frame) (d : List Node
 prefix_step n m ts fs d h = rw (le_true 1 (operand_precedence fs) h)
 
 -- a number and a length after it, read as a value
-as_prefix : (o : Operator) (ts mid rest : List TokenKind) (fs : List Frame) (d e nodes : List Node) (x : Operand) (b : NumberTree) → run ts 0 fs None d ≡ run (token.Operator o ∷ mid) 0 fs (Some x) nodes → as_number x nodes ≡ Some e → Number (level o) mid b rest → 1 ≤ operand_precedence fs → IsPrefix o mid x → ReadsNumber ts fs d (node.Apply o ∷ number_onto b e) rest
+as_prefix : (o : Operator) (ts mid rest : List TokenKind) (fs : List Frame) (d e nodes : List Node) (x : Operand) (b : NumberTree) → run ts 0 fs None d ≡ run (token.Operator o ∷ mid) 0 fs (Some x) nodes → as_number x nodes ≡ Some e → Number (level o) mid b rest → 1 ≤ operand_precedence fs → IsPrefix o mid x → Reaches Sort.Number ts fs d (node.Apply o ∷ number_onto b e) rest
 as_prefix o ts mid rest fs d e nodes x b runs is_num right roomy is =
     let unary : level o ≡ 0 = ap level is.divides in
     let lit = literal_first right is.len_of is.rest unary is.tokens in
@@ -136,36 +126,36 @@ as_prefix o ts mid rest fs d e nodes x b runs is_num right roomy is =
       operand = operand.Either is.number (Some is.len_of);
       nodes = nodes;
       runs = runs ∙ here ∙ prefix_step is.number is.len_of is.rest fs nodes roomy ∙ there;
-      is_number = cc (front, whole, is.divides);
+      value = cc (front, whole, is.divides);
     }
 
-reads_number : {k : ℕ} {ts rest : List TokenKind} {a : NumberTree} → Number k ts a rest → (fs : List Frame) (d : List Node) → k ≤ operand_precedence fs → k ≤ next_precedence rest → IsNoMask rest → ReadsNumber ts fs d (number_onto a d) rest
-reads_number (of_literal {n = n} {rest = rest}) fs d roomy reaches unmasked = record { operand = operand.Plain n; nodes = d; runs = plain_runs n rest fs d unmasked; is_number = refl }
-reads_number of_len fs d roomy reaches unmasked = record { operand = operand.Number; nodes = node.Len ∷ d; runs = refl; is_number = refl }
-reads_number of_name fs d roomy reaches unmasked = record { operand = operand.Number; nodes = node.Named _ ∷ d; runs = refl; is_number = refl }
+reads_number : {k : ℕ} {ts rest : List TokenKind} {a : NumberTree} → Number k ts a rest → (fs : List Frame) (d : List Node) → k ≤ operand_precedence fs → k ≤ next_precedence rest → IsNoMask rest → Reaches Sort.Number ts fs d (number_onto a d) rest
+reads_number (of_literal {n = n} {rest = rest}) fs d roomy reaches unmasked = record { operand = operand.Plain n; nodes = d; runs = plain_runs n rest fs d unmasked; value = refl }
+reads_number of_len fs d roomy reaches unmasked = record { operand = operand.Number; nodes = node.Len ∷ d; runs = refl; value = refl }
+reads_number of_name fs d roomy reaches unmasked = record { operand = operand.Number; nodes = node.Named _ ∷ d; runs = refl; value = refl }
 reads_number (enclosed {rest = rest} inner) fs d roomy reaches unmasked =
     let r = reads_number inner (frame.Open ∷ fs) d (lit≤ tt) (lit≤ tt) tt in
-    record { operand = enclosed_operand r.operand; nodes = r.nodes; runs = r.runs ∙ close_step rest fs r.operand r.nodes; is_number = enclosed_number r.operand r.nodes ∙ r.is_number }
+    record { operand = enclosed_operand r.operand; nodes = r.nodes; runs = r.runs ∙ close_step rest fs r.operand r.nodes; value = enclosed_value Sort.Number r.operand r.nodes ∙ r.value }
 reads_number (of_load {p = p} {ts = ts} {rest = rest} accessor inner) fs d roomy reaches unmasked =
     let r = reads_number inner (frame.Load p ∷ fs) d (lit≤ tt) (lit≤ tt) tt in
-    record { operand = operand.Number; nodes = _; runs = load_step p ts fs d accessor ∙ r.runs ∙ bracket_step p rest fs r.operand r.nodes _ r.is_number; is_number = refl }
+    record { operand = operand.Number; nodes = _; runs = load_step p ts fs d accessor ∙ r.runs ∙ bracket_step p rest fs r.operand r.nodes _ r.value; value = refl }
 reads_number (of_sized_load {p = p} {n = n} {ts = ts} {rest = rest} accessor inner) fs d roomy reaches unmasked =
     let r = reads_number inner (frame.Load p ∷ fs) d (lit≤ tt) (lit≤ tt) tt in
-    record { operand = operand.Number; nodes = _; runs = load_step p ts fs d accessor ∙ r.runs ∙ colon_step p n rest fs r.operand r.nodes _ r.is_number; is_number = refl }
+    record { operand = operand.Number; nodes = _; runs = load_step p ts fs d accessor ∙ r.runs ∙ colon_step p n rest fs r.operand r.nodes _ r.value; value = refl }
 reads_number (minus inner) fs d roomy reaches unmasked =
     let r = reads_number inner (frame.Negate ∷ fs) d (lit≤ tt) reaches unmasked in
-    record { operand = operand.Number; nodes = _; runs = r.runs ∙ take_frame frame.Negate fs _ _ _ _ _ reaches (rw r.is_number refl) refl; is_number = refl }
+    record { operand = operand.Number; nodes = _; runs = r.runs ∙ take_frame frame.Negate fs _ _ _ _ _ reaches (rw r.value refl) refl; value = refl }
 reads_number (single inner) fs d roomy reaches unmasked = reads_number inner fs d (omega arith) (omega arith) unmasked
 reads_number (chain {k = k} {ts = ts} {mid = mid} {rest = rest} {a = a} {b = b} {o = o} left at_level right) fs d roomy reaches unmasked =
     let l = reads_number left fs d roomy (omega arith) tt in
     let r = reads_number right (frame.Apply o ∷ fs) (number_onto a d) (omega arith) (omega arith) unmasked in
     ⊎_elim
-    (λ is. as_prefix o ts mid rest fs d (number_onto a d) l.nodes l.operand b l.runs l.is_number (subst (λ i. Number i mid b rest) (sym at_level) right) (omega arith) is)
+    (λ is. as_prefix o ts mid rest fs d (number_onto a d) l.nodes l.operand b l.runs l.value (subst (λ i. Number i mid b rest) (sym at_level) right) (omega arith) is)
     (λ other. record {
       operand = operand.Number;
       nodes = node.Apply o ∷ number_onto b (number_onto a d);
-      runs = l.runs ∙ operator_step o mid fs l.operand l.nodes (number_onto a d) (omega arith) l.is_number other ∙ r.runs ∙ take_frame (frame.Apply o) fs r.operand operand.Number r.nodes (node.Apply o ∷ number_onto b (number_onto a d)) rest (omega arith) (rw r.is_number refl) refl;
-      is_number = refl;
+      runs = l.runs ∙ operator_step o mid fs l.operand l.nodes (number_onto a d) (omega arith) l.value other ∙ r.runs ∙ take_frame (frame.Apply o) fs r.operand operand.Number r.nodes (node.Apply o ∷ number_onto b (number_onto a d)) rest (omega arith) (rw r.value refl) refl;
+      value = refl;
     })
     (prefix_or_not o mid l.operand)
 
@@ -185,12 +175,12 @@ cast_runs p c rest fs d is = rw is refl
 not_step : (ts : List TokenKind) (fs : List Frame) (d : List Node) → 6 ≤ operand_precedence fs → run (token.Not ∷ ts) 0 fs None d ≡ run ts 0 (frame.Not ∷ fs) None d
 not_step ts fs d h = rw (le_true 6 (operand_precedence fs) h)
 
-whole_truth : {ts rest : List TokenKind} {fs : List Frame} {d e : List Node} → run ts 0 fs None d ≡ run rest 0 fs (Some operand.Truth) e → ReadsTruth ts fs d e rest
-whole_truth runs = record { operand = operand.Truth; nodes = _; runs = runs; is_truth = refl }
+whole_truth : {ts rest : List TokenKind} {fs : List Frame} {d e : List Node} → run ts 0 fs None d ≡ run rest 0 fs (Some operand.Truth) e → Reaches Sort.Truth ts fs d e rest
+whole_truth runs = record { operand = operand.Truth; nodes = _; runs = runs; value = refl }
 
-reads_bare : {ts rest : List TokenKind} {v : Value} → ReadsValue ts v rest → (fs : List Frame) (d : List Node) → 6 ≤ operand_precedence fs → 6 ≤ next_precedence rest → ReadsTruth ts fs d (truth_onto (bare v) d) rest
-reads_bare (number {n = n} {rest = rest} no_mask) fs d roomy reaches = record { operand = operand.Plain n; nodes = d; runs = plain_runs n rest fs d (no_mask_at rest (omega arith)); is_truth = refl }
-reads_bare (number {n = n} {rest = rest} (prefix {m = m})) fs d roomy reaches = record { operand = operand.Either n (Some m); nodes = d; runs = prefix_step n m rest fs d (omega arith); is_truth = refl }
+reads_bare : {ts rest : List TokenKind} {v : Value} → ReadsValue ts v rest → (fs : List Frame) (d : List Node) → 6 ≤ operand_precedence fs → 6 ≤ next_precedence rest → Reaches Sort.Truth ts fs d (truth_onto (bare v) d) rest
+reads_bare (number {n = n} {rest = rest} no_mask) fs d roomy reaches = record { operand = operand.Plain n; nodes = d; runs = plain_runs n rest fs d (no_mask_at rest (omega arith)); value = refl }
+reads_bare (number {n = n} {rest = rest} (prefix {m = m})) fs d roomy reaches = record { operand = operand.Either n (Some m); nodes = d; runs = prefix_step n m rest fs d (omega arith); value = refl }
 reads_bare (number dotted_mask) fs d roomy reaches = whole_truth (value_runs (number dotted_mask) refl fs d reaches)
 reads_bare (dotted m) fs d roomy reaches = whole_truth (value_runs (dotted m) refl fs d reaches)
 reads_bare ip6 fs d roomy reaches = whole_truth (value_runs ip6 refl fs d reaches)
@@ -198,7 +188,7 @@ reads_bare ip6_prefix fs d roomy reaches = whole_truth (value_runs ip6_prefix re
 reads_bare mac fs d roomy reaches = whole_truth (value_runs mac refl fs d reaches)
 reads_bare range fs d roomy reaches = whole_truth (value_runs range refl fs d reaches)
 
-reads_truth : {k : ℕ} {ts rest : List TokenKind} {a : TruthTree} → Truth k ts a rest → (fs : List Frame) (d : List Node) → k + 6 ≤ operand_precedence fs → k + 6 ≤ next_precedence rest → ReadsTruth ts fs d (truth_onto a d) rest
+reads_truth : {k : ℕ} {ts rest : List TokenKind} {a : TruthTree} → Truth k ts a rest → (fs : List Frame) (d : List Node) → k + 6 ≤ operand_precedence fs → k + 6 ≤ next_precedence rest → Reaches Sort.Truth ts fs d (truth_onto a d) rest
 reads_truth (of_check {p = p} {rest = rest} is) fs d roomy reaches = whole_truth (check_runs p rest fs d is reaches)
 reads_truth of_cast fs d roomy reaches = whole_truth refl
 reads_truth (of_protocol_cast {p = p} {c = c} {rest = rest} is) fs d roomy reaches = whole_truth (cast_runs p c rest fs d is)
@@ -211,15 +201,15 @@ reads_truth (relation {c = c} {mid = mid} {rest = rest} {a = a} {b = b} left rig
     record {
       operand = operand.Truth;
       nodes = node.Compare c ∷ number_onto b (number_onto a d);
-      runs = l.runs ∙ comparison_step c mid fs l.operand l.nodes (number_onto a d) roomy l.is_number ∙ r.runs ∙ take_frame (frame.Compare c) fs r.operand operand.Truth r.nodes (node.Compare c ∷ number_onto b (number_onto a d)) rest (omega arith) (rw r.is_number refl) refl;
-      is_truth = refl;
+      runs = l.runs ∙ comparison_step c mid fs l.operand l.nodes (number_onto a d) roomy l.value ∙ r.runs ∙ take_frame (frame.Compare c) fs r.operand operand.Truth r.nodes (node.Compare c ∷ number_onto b (number_onto a d)) rest (omega arith) (rw r.value refl) refl;
+      value = refl;
     }
 reads_truth (denial {ts = ts} {rest = rest} {a = a} inner) fs d roomy reaches =
     let r = reads_truth inner (frame.Not ∷ fs) d (lit≤ tt) reaches in
-    record { operand = operand.Truth; nodes = node.Not ∷ truth_onto a d; runs = not_step ts fs d roomy ∙ r.runs ∙ take_frame frame.Not fs r.operand operand.Truth r.nodes (node.Not ∷ truth_onto a d) rest reaches (rw r.is_truth refl) refl; is_truth = refl }
+    record { operand = operand.Truth; nodes = node.Not ∷ truth_onto a d; runs = not_step ts fs d roomy ∙ r.runs ∙ take_frame frame.Not fs r.operand operand.Truth r.nodes (node.Not ∷ truth_onto a d) rest reaches (rw r.value refl) refl; value = refl }
 reads_truth (enclosed_truth {rest = rest} inner) fs d roomy reaches =
     let r = reads_truth inner (frame.Open ∷ fs) d (lit≤ tt) (lit≤ tt) in
-    record { operand = enclosed_operand r.operand; nodes = r.nodes; runs = r.runs ∙ close_step rest fs r.operand r.nodes; is_truth = enclosed_as_truth r.operand r.nodes ∙ r.is_truth }
+    record { operand = enclosed_operand r.operand; nodes = r.nodes; runs = r.runs ∙ close_step rest fs r.operand r.nodes; value = enclosed_value Sort.Truth r.operand r.nodes ∙ r.value }
 reads_truth (term inner) fs d roomy reaches = reads_truth inner fs d (omega arith) (omega arith)
 reads_truth (terms {mid = mid} {rest = rest} {a = a} {b = b} {j = j} left right) fs d roomy reaches =
     let l = reads_truth left fs d roomy (lit≤ tt) in
@@ -227,8 +217,8 @@ reads_truth (terms {mid = mid} {rest = rest} {a = a} {b = b} {j = j} left right)
     record {
       operand = operand.Truth;
       nodes = node.Join j ∷ truth_onto b (truth_onto a d);
-      runs = l.runs ∙ join_step j mid fs l.operand l.nodes (truth_onto a d) roomy l.is_truth ∙ r.runs ∙ take_frame (frame.Join j) fs r.operand operand.Truth r.nodes (node.Join j ∷ truth_onto b (truth_onto a d)) rest reaches (rw r.is_truth refl) refl;
-      is_truth = refl;
+      runs = l.runs ∙ join_step j mid fs l.operand l.nodes (truth_onto a d) roomy l.value ∙ r.runs ∙ take_frame (frame.Join j) fs r.operand operand.Truth r.nodes (node.Join j ∷ truth_onto b (truth_onto a d)) rest reaches (rw r.value refl) refl;
+      value = refl;
     }
 
 -- the machine reads each expression, and gives the nodes of its tree
@@ -236,8 +226,8 @@ pub complete : {tokens : List TokenKind} {tree : Expression} → IsReadAs tokens
 complete no_tokens = refl
 complete (all_tokens {ts = []} reads) =
     let r = reads_truth reads [] [] (lit≤ tt) (lit≤ tt) in
-    let no = r.runs ∙ r.is_truth in
+    let no = r.runs ∙ r.value in
     cc
 complete (all_tokens {ts = t ∷ ts} reads) =
     let r = reads_truth reads [] [] (lit≤ tt) (lit≤ tt) in
-    r.runs ∙ r.is_truth
+    r.runs ∙ r.value

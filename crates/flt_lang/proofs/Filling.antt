@@ -1,6 +1,85 @@
--- The nodes of a tree whose values inherit, and of one that is completed.
-use Rattle.flt_lang.proofs.Common.{◌≡◌, List, [], refl, sym, ap, ◌∙◌, map, Qualifiers, Node, NumberTree, load, negated, applied, TruthTree, compared, denied, joined, Expression, empty, truth, number_nodes, truth_nodes, expr_nodes, tree_of, tree_back, IsTree, latest, with_inherited, complete, only_host, expr_inherited, fill_expression, completed_node, inherited_nodes}
+-- A fault of some node is a fault of some primitive; and the nodes and faults of a tree whose
+-- values inherit, and of one that is completed.
+use Rattle.flt_lang.proofs.Common.{◌≡◌, ℕ, List, [], ◌∷◌, refl, sym, ap, ◌∙◌, Bool, true, false, not, ◌||◌, list_any, Protocol, Operator, Node, NumberTree, literal, len, named, load, negated, applied, TruthTree, check, cast, sized, bare, valued, qualified, compared, denied, joined, Expression, empty, truth, number_nodes, truth_nodes, expr_nodes, is_size, has_wrong_size, is_misfit, is_out_of_range, has_bits_past_mask, any_primitive, some_primitive, tree_fault, is_misfit_node, is_out_of_range_node, has_bits_past_mask_node, nodes_fault, map, Qualifiers, tree_of, tree_back, IsTree, latest, with_inherited, complete, only_host, expr_inherited, fill_expression, completed_node, inherited_nodes, ◌&&◌, is_some, Option, Some, None, unwrap_or, Direction, Value, fit_of, is_misfit_fit, is_proto, is_either, type_or_host, completed_qualifiers, is_unfilled, first_fault, fill_fault, IsResolved, or_parts, or_from, Join}
+use Rattle.std.proofs.Math.Bool.{or_assoc, or-false}
+use Rattle.flt_ast.specs.declared.node.Node.TheVariants as node
+use Rattle.flt_ast.specs.declared.qualifiers.Direction.TheVariants as direction
 
+-- neither a denial nor a chain
+abbrev is_primitive : TruthTree → Bool
+is_primitive (denied a) = false
+is_primitive (joined j a b) = false
+is_primitive _ = true
+
+-- a test of nodes and one of primitives say the same
+record Agrees (g : Node → Bool) (f : TruthTree → Bool) : Type 0 where
+  primitives : (a : TruthTree) (rest : List Node) → is_primitive a ≡ true → list_any g (truth_nodes a rest) ≡ (f a || list_any g rest)
+  denials : g node.Not ≡ false
+  joins : (j : Join) → g (node.Join j) ≡ false
+
+any_nodes : (g : Node → Bool) (f : TruthTree → Bool) → Agrees g f → (a : TruthTree) (rest : List Node) → list_any g (truth_nodes a rest) ≡ (any_primitive f a || list_any g rest)
+any_nodes g f s (check p) rest = s.primitives (check p) rest refl
+any_nodes g f s (cast p c) rest = s.primitives (cast p c) rest refl
+any_nodes g f s (sized z n) rest = s.primitives (sized z n) rest refl
+any_nodes g f s (bare v) rest = s.primitives (bare v) rest refl
+any_nodes g f s (valued q v) rest = s.primitives (valued q v) rest refl
+any_nodes g f s (qualified q v) rest = s.primitives (qualified q v) rest refl
+any_nodes g f s (compared c a b) rest = s.primitives (compared c a b) rest refl
+any_nodes g f s (denied a) rest = any_nodes g f s a (node.Not ∷ rest) ∙ rw s.denials refl
+any_nodes g f s (joined j a b) rest =
+    any_nodes g f s a (truth_nodes b (node.Join j ∷ rest)) ∙ ap (λ r. any_primitive f a || r) (any_nodes g f s b (node.Join j ∷ rest) ∙ rw (s.joins j) refl) ∙ sym (or_assoc (any_primitive f a) (any_primitive f b) (list_any g rest))
+
+some_node : (g : Node → Bool) (f : TruthTree → Bool) → Agrees g f → (e : Expression) → list_any g (expr_nodes e) ≡ some_primitive f e
+some_node g f s empty = refl
+some_node g f s (truth a) = any_nodes g f s a [] ∙ or-false (any_primitive f a)
+
+-- no number has a fault
+number_free : (g : Node → Bool) → ((n : ℕ) → g (node.Literal n) ≡ false) → ((n : ℕ) → g (node.Named n) ≡ false) → g node.Len ≡ false → ((p : Protocol) (z : ℕ) → g (node.Load p z) ≡ false) → g node.Negate ≡ false → ((o : Operator) → g (node.Apply o) ≡ false) → (a : NumberTree) (rest : List Node) → list_any g (number_nodes a rest) ≡ list_any g rest
+number_free g l v m p n o (literal k) rest = rw (l k) refl
+number_free g l v m p n o len rest = rw m refl
+number_free g l v m p n o (named k) rest = rw (v k) refl
+number_free g l v m p n o (load q z a) rest = number_free g l v m p n o a (node.Load q z ∷ rest) ∙ rw (p q z) refl
+number_free g l v m p n o (negated a) rest = number_free g l v m p n o a (node.Negate ∷ rest) ∙ rw n refl
+number_free g l v m p n o (applied i a b) rest = number_free g l v m p n o a (number_nodes b (node.Apply i ∷ rest)) ∙ number_free g l v m p n o b (node.Apply i ∷ rest) ∙ rw (o i) refl
+
+misfit_primitive : (a : TruthTree) (rest : List Node) → is_primitive a ≡ true → list_any is_misfit_node (truth_nodes a rest) ≡ (is_misfit a || list_any is_misfit_node rest)
+misfit_primitive (compared c a b) rest h =
+    number_free is_misfit_node (λ _. refl) (λ _. refl) refl (λ _ _. refl) refl (λ _. refl) a (number_nodes b (node.Compare c ∷ rest)) ∙ number_free is_misfit_node (λ _. refl) (λ _. refl) refl (λ _ _. refl) refl (λ _. refl) b (node.Compare c ∷ rest)
+misfit_primitive (denied a) rest h = cc
+misfit_primitive (joined j a b) rest h = cc
+misfit_primitive _ rest h = refl
+
+past_primitive : (a : TruthTree) (rest : List Node) → is_primitive a ≡ true → list_any has_bits_past_mask_node (truth_nodes a rest) ≡ (has_bits_past_mask a || list_any has_bits_past_mask_node rest)
+past_primitive (compared c a b) rest h =
+    number_free has_bits_past_mask_node (λ _. refl) (λ _. refl) refl (λ _ _. refl) refl (λ _. refl) a (number_nodes b (node.Compare c ∷ rest)) ∙ number_free has_bits_past_mask_node (λ _. refl) (λ _. refl) refl (λ _ _. refl) refl (λ _. refl) b (node.Compare c ∷ rest)
+past_primitive (denied a) rest h = cc
+past_primitive (joined j a b) rest h = cc
+past_primitive _ rest h = refl
+
+-- the sizes of accessors
+number_sizes : (a : NumberTree) (rest : List Node) → list_any is_out_of_range_node (number_nodes a rest) ≡ (has_wrong_size a || list_any is_out_of_range_node rest)
+number_sizes (load p s a) rest = number_sizes a (node.Load p s ∷ rest) ∙ sym (or_assoc (has_wrong_size a) (not (is_size s)) (list_any is_out_of_range_node rest))
+number_sizes (negated a) rest = number_sizes a (node.Negate ∷ rest)
+number_sizes (applied o a b) rest =
+    number_sizes a (number_nodes b (node.Apply o ∷ rest)) ∙ ap (λ r. has_wrong_size a || r) (number_sizes b (node.Apply o ∷ rest)) ∙ sym (or_assoc (has_wrong_size a) (has_wrong_size b) (list_any is_out_of_range_node rest))
+number_sizes _ rest = refl
+
+range_primitive : (a : TruthTree) (rest : List Node) → is_primitive a ≡ true → list_any is_out_of_range_node (truth_nodes a rest) ≡ (is_out_of_range a || list_any is_out_of_range_node rest)
+range_primitive (compared c a b) rest h =
+    number_sizes a (number_nodes b (node.Compare c ∷ rest)) ∙ ap (λ r. has_wrong_size a || r) (number_sizes b (node.Compare c ∷ rest)) ∙ sym (or_assoc (has_wrong_size a) (has_wrong_size b) (list_any is_out_of_range_node rest))
+range_primitive (denied a) rest h = cc
+range_primitive (joined j a b) rest h = cc
+range_primitive _ rest h = refl
+
+-- the fault of the nodes is that of the tree
+pub fault_is : (e : Expression) → nodes_fault (expr_nodes e) ≡ tree_fault e
+fault_is e =
+    let misfits = some_node is_misfit_node is_misfit (record { primitives = misfit_primitive; denials = refl; joins = λ _. refl }) e in
+    let ranges = some_node is_out_of_range_node is_out_of_range (record { primitives = range_primitive; denials = refl; joins = λ _. refl }) e in
+    let pasts = some_node has_bits_past_mask_node has_bits_past_mask (record { primitives = past_primitive; denials = refl; joins = λ _. refl }) e in
+    rw (misfits, ranges, pasts) refl
+
+-- the nodes of a filled tree
 number_inherited : (a : NumberTree) (q : Qualifiers) (rest : List Node) → inherited_nodes q (number_nodes a rest) ≡ number_nodes a (inherited_nodes q rest)
 number_inherited (load p s a) q rest = number_inherited a q _
 number_inherited (negated a) q rest = number_inherited a q _
@@ -46,3 +125,54 @@ nodes_are_tree e news same = rw same (ap expr_nodes (tree_back e))
 
 pub tree_is : (e : Expression) (news : List Node) → news ≡ expr_nodes e → tree_of news ≡ e
 tree_is e news same = ap tree_of same ∙ tree_back e
+
+-- the faults of a filled tree
+-- what holds of no primitive holds of none of the completed tree
+completed_keeps : (f : TruthTree → Bool) → ((q : Qualifiers) (v : Value) → f (valued q v) ≡ false → f (qualified (completed_qualifiers q) v) ≡ false) → (a : TruthTree) → any_primitive f a ≡ false → any_primitive f (complete a) ≡ false
+completed_keeps f keeps (valued q v) h = keeps q v h
+completed_keeps f keeps (denied a) h = completed_keeps f keeps a h
+completed_keeps f keeps (joined j a b) h =
+    let (left, right) = or_parts (any_primitive f a) (any_primitive f b) h in
+    or_from (any_primitive f (complete a)) (any_primitive f (complete b)) (completed_keeps f keeps a left) (completed_keeps f keeps b right)
+completed_keeps f keeps _ h = h
+
+filled_keeps : (f : TruthTree → Bool) → ((q : Qualifiers) (v : Value) → f (valued q v) ≡ false → f (qualified (completed_qualifiers q) v) ≡ false) → (e : Expression) → some_primitive f (expr_inherited e) ≡ false → some_primitive f (fill_expression e) ≡ false
+filled_keeps f keeps empty h = h
+filled_keeps f keeps (truth a) h = completed_keeps f keeps (with_inherited only_host a) h
+
+-- no direction that is written is one that is filled in
+undirected : (x t : Bool) (d : Option Direction) → (x || t && is_some d) ≡ false → (x || t && not (is_either (unwrap_or d (direction.Both Join.Or)))) ≡ false
+undirected x t None h = h
+undirected true t (Some d) h = cc
+undirected false true (Some d) h = cc
+undirected false false (Some d) h = refl
+
+-- no bare value is left
+none_bare : (q : Qualifiers) (a : TruthTree) → any_primitive is_unfilled (complete (with_inherited q a)) ≡ false
+none_bare q (denied a) = none_bare q a
+none_bare q (joined j a b) = or_from _ _ (none_bare q a) (none_bare (latest q a) b)
+none_bare q _ = refl
+
+none_bare_of : (e : Expression) → some_primitive is_unfilled (fill_expression e) ≡ false
+none_bare_of empty = refl
+none_bare_of (truth a) = none_bare only_host a
+
+-- where there is no first fault there is none
+no_fault : (m r p : Bool) → first_fault m r p ≡ None → (m ≡ false) × (r ≡ false) × (p ≡ false)
+no_fault false false false h = (refl, refl, refl)
+no_fault _ _ _ h = cc
+
+pub filled_resolved : (e : Expression) → fill_fault e ≡ None → IsResolved (fill_expression e)
+filled_resolved e h =
+    let (m, r, p) = no_fault (some_primitive is_misfit (expr_inherited e)) (some_primitive is_out_of_range (expr_inherited e)) (some_primitive has_bits_past_mask (expr_inherited e)) h in
+    record {
+      is_filled = none_bare_of e;
+      fits = filled_keeps is_misfit (λ q v h. undirected (is_misfit_fit (fit_of (type_or_host q) v q.protocol)) (is_proto (type_or_host q)) q.direction h) e m;
+      in_range = filled_keeps is_out_of_range (λ q v h. h) e r;
+      in_mask = filled_keeps has_bits_past_mask (λ q v h. h) e p;
+    }
+
+-- the fault that the loops find
+pub found_fault : (items mid : List Node) (e : Expression) → IsTree items → tree_of items ≡ e → mid ≡ inherited_nodes only_host items → nodes_fault mid ≡ fill_fault e
+found_fault items mid e whole is inherits =
+    ap nodes_fault (inherited_whole items mid whole inherits) ∙ fault_is (expr_inherited (tree_of items)) ∙ ap fill_fault is

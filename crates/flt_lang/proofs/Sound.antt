@@ -1,11 +1,100 @@
--- What the machine reads, the grammar reads.
-use Rattle.flt_lang.proofs.Common.{◌≡◌, ℕ, suc, zero, ◌+◌, ◌≤◌, inl, List, [], ◌∷◌, refl, sym, ap, ◌∙◌, subst, arith, Option, Some, None, Bool, true, false, nat_le, if◌then◌else◌, lit≤, zero-le, leb-true, Divide, TokenKind, Node, Frame, Operand, literal, load, Expression, empty, truth, no_mask, prefix, number, level, Number, of_literal, enclosed, of_load, of_sized_load, single, chain, Truth, of_bare, enclosed_truth, term, IsReadAs, no_tokens, all_tokens, ◌>>=◌, operand_precedence, token_precedence, next_precedence, as_number, as_truth, reduce, Begun, after_token, begin, whole, finish, run, nodes_of_tokens, enclosed_operand, next_of, after_operand, truth_onto, expr_onto}
+-- What the machine reads, the grammar reads: where an operand begins, and after one; so the machine
+-- gives the nodes of the tree, or there is none.
+use Rattle.flt_lang.proofs.Common.{◌≡◌, ℕ, suc, zero, ◌-◌, length, drop, inl, List, [], ◌∷◌, refl, sym, ap, ◌∙◌, subst, Option, Some, None, true, nat_le, zero-le, Protocol, Subtract, TokenKind, Value, Qualifiers, Node, Frame, Operand, len, named, TruthTree, check, cast, sized, bare, valued, is_written, qualifiers_of, value_of, is_accessor, stands_alone, has_casts, of_len, of_name, Truth, of_check, of_cast, of_protocol_cast, of_sized, of_valued, of_bare, truth_onto, operand_precedence, Begun, begin, valued_of, valued_or, check_of, primitive, bare_of, with_frames, ◌+◌, ◌≤◌, arith, Bool, false, if◌then◌else◌, lit≤, leb-true, Divide, literal, load, Expression, empty, truth, no_mask, prefix, number, level, Number, of_literal, enclosed, of_load, of_sized_load, single, chain, enclosed_truth, term, IsReadAs, no_tokens, all_tokens, ◌>>=◌, token_precedence, next_precedence, as_number, as_truth, reduce, after_token, whole, finish, run, nodes_of_tokens, enclosed_operand, next_of, after_operand, expr_onto, reverse, expr_nodes, tree_of, tree_back, IsTree, expr_turned}
+use Rattle.flt_lang.proofs.Stacked.{some_first, some_then, Stacked, Following, widened, either_number, either_truth, Between, number_between, truth_between, chain_of, reduce_sound, loosened}
+use Rattle.flt_lang.proofs.Valued.{left_after, qualifiers_sound, side_written, value_left, value_sound}
+use Rattle.flt_lang.proofs.ValuesBack.{carried}
+use Rattle.flt_words.specs.declared.token.Size.{Size}
+use Rattle.flt_lang.proofs.Complete.{complete}
 use Rattle.flt_words.specs.declared.token.TokenKind.TheVariants as token
 use Rattle.flt_ast.specs.declared.node.Node.TheVariants as node
 use Rattle.flt_lang.specs.declared.frame.Frame.TheVariants as frame
 use Rattle.flt_lang.specs.declared.frame.Operand.TheVariants as operand
-use Rattle.flt_lang.proofs.Stacked.{some_first, some_then, widened, either_number, either_truth, Between, Following, number_between, truth_between, chain_of, reduce_sound, loosened}
-use Rattle.flt_lang.proofs.Begins.{left, SoFar, After, begun, begin_sound}
+
+-- what is read so far, with or without an operand
+abbrev pub SoFar : Option Operand → List Frame → List Node → List TokenKind → List TokenKind → Type 0
+SoFar None fs d start here = Stacked fs d start here
+SoFar (Some x) fs d start here = Following 1 fs x d start here
+
+-- it holds after a step
+abbrev pub After : Begun → List TokenKind → List TokenKind → Type 0
+After r start ts = SoFar r.1.1 r.1.0 r.1.2 start (drop r.0 ts)
+
+pub begun : (ts start : List TokenKind) (r s : Begun) → After r start ts → ◌≡◌ {A = Option Begun} (Some r) (Some s) → After s start ts
+begun ts start r s b same = carried (λ r. After r start ts) b same
+
+-- a whole truth
+truth_begun : (t : TokenKind) (ts : List TokenKind) (fs : List Frame) (d : List Node) (start : List TokenKind) (r : Begun) (k : ℕ) (n : Node) (a : TruthTree) → Stacked fs d start (t ∷ ts) → Truth 0 (t ∷ ts) a (drop k ts) → n ∷ d ≡ truth_onto a d → ◌≡◌ {A = Option Begun} (Some (k, (fs, Some operand.Truth, n ∷ d))) (Some r) → After r start ts
+truth_begun t ts fs d start r k n a stacked reads nodes h =
+    begun ts start (k, (fs, Some operand.Truth, n ∷ d)) r (d, (t ∷ ts), stacked, (a, inl reads, nodes)) h
+
+check_sound : (t : TokenKind) (ts : List TokenKind) (fs : List Frame) (d : List Node) (start : List TokenKind) (r : Begun) → Stacked fs d start (t ∷ ts) → with_frames fs (check_of (t ∷ ts) d) ≡ Some r → After r start ts
+check_sound (token.Protocol p) ts fs d start r stacked h =
+    let (w, checked, is) = some_first (check_of (token.Protocol p ∷ ts) d) (λ r. Some (r.0, (fs, r.1, r.2))) r h in
+    let (allowed, is_w) = some_then (stands_alone p) (Some (0, Some operand.Truth, node.Check p ∷ d)) w checked in
+    truth_begun (token.Protocol p) ts fs d start r 0 (node.Check p) (check p) stacked (of_check allowed) refl (ap (with_frames fs) is_w ∙ is)
+check_sound _ ts fs d start r stacked h = cc
+
+valued_sound : (t : TokenKind) (ts : List TokenKind) (fs : List Frame) (d : List Node) (start : List TokenKind) (q : Qualifiers × Value × ℕ) → Stacked fs d start (t ∷ ts) → is_written (qualifiers_of (t ∷ ts)).0 ≡ true → valued_of (t ∷ ts) ≡ Some q → SoFar (Some operand.Truth) fs (node.Valued q.0 q.1 ∷ d) start (drop q.2 ts)
+valued_sound t ts fs d start q stacked w h =
+    let (v, value_is, is) = some_first (value_of (qualifiers_of (t ∷ ts)).1) (λ r. Some ((qualifiers_of (t ∷ ts)).0, r.0, length (t ∷ ts) - length r.1 - 1)) q h in
+    let P : Qualifiers × Value × ℕ → Type 0 = λ q. SoFar (Some operand.Truth) fs (node.Valued q.0 q.1 ∷ d) start (drop q.2 ts) in
+    let reads_qualifiers = qualifiers_sound (t ∷ ts) in
+    let reads_value = value_sound (qualifiers_of (t ∷ ts)).1 v value_is in
+    let rest_is = left_after t ts (qualifiers_of (t ∷ ts)).1 v.1 (qualifiers_of (t ∷ ts)).0 v.0 reads_qualifiers reads_value in
+    let reads : Truth 0 (t ∷ ts) (valued (qualifiers_of (t ∷ ts)).0 v.0) (drop (length (t ∷ ts) - length v.1 - 1) ts) = subst (λ us. Truth 0 (t ∷ ts) (valued (qualifiers_of (t ∷ ts)).0 v.0) us) (sym rest_is) (of_valued reads_qualifiers w reads_value) in
+    carried P (d, (t ∷ ts), stacked, (valued (qualifiers_of (t ∷ ts)).0 v.0, inl reads, refl)) is
+
+primitive_or : (t : TokenKind) (ts : List TokenKind) (fs : List Frame) (d : List Node) (start : List TokenKind) (r : Begun) (o : Option (Qualifiers × Value × ℕ)) → valued_of (t ∷ ts) ≡ o → Stacked fs d start (t ∷ ts) → is_written (qualifiers_of (t ∷ ts)).0 ≡ true → with_frames fs (valued_or o (t ∷ ts) d) ≡ Some r → After r start ts
+primitive_or t ts fs d start r None e stacked w h = check_sound t ts fs d start r stacked h
+primitive_or t ts fs d start r (Some q) e stacked w h = begun ts start (q.2, (fs, Some operand.Truth, node.Valued q.0 q.1 ∷ d)) r (valued_sound t ts fs d start q stacked w e) h
+
+primitive_sound : (t : TokenKind) (ts : List TokenKind) (fs : List Frame) (d : List Node) (start : List TokenKind) (r : Begun) → Stacked fs d start (t ∷ ts) → is_written (qualifiers_of (t ∷ ts)).0 ≡ true → with_frames fs (primitive (t ∷ ts) d) ≡ Some r → After r start ts
+primitive_sound t ts fs d start r stacked w h = primitive_or t ts fs d start r (valued_of (t ∷ ts)) refl stacked w h
+
+bare_sound : (t : TokenKind) (ts : List TokenKind) (fs : List Frame) (d : List Node) (start : List TokenKind) (r : Begun) → Stacked fs d start (t ∷ ts) → with_frames fs (bare_of (t ∷ ts) d) ≡ Some r → After r start ts
+bare_sound t ts fs d start r stacked h =
+    let (w, found, is) = some_first (bare_of (t ∷ ts) d) (λ r. Some (r.0, (fs, r.1, r.2))) r h in
+    let (v, value_is, is_w) = some_first (value_of (t ∷ ts)) (λ r. Some (length (t ∷ ts) - length r.1 - 1, Some operand.Truth, node.Bare r.0 ∷ d)) w found in
+    let reads_value = value_sound (t ∷ ts) v value_is in
+    let rest_is = value_left t ts v.1 v.0 reads_value in
+    let reads : Truth 0 (t ∷ ts) (bare v.0) (drop (length (t ∷ ts) - length v.1 - 1) ts) = subst (λ us. Truth 0 (t ∷ ts) (bare v.0) us) (sym rest_is) (of_bare reads_value) in
+    truth_begun t ts fs d start r (length (t ∷ ts) - length v.1 - 1) (node.Bare v.0) (bare v.0) stacked reads refl (ap (with_frames fs) is_w ∙ is)
+
+protocol_sound : (p : Protocol) (ts : List TokenKind) (fs : List Frame) (d : List Node) (start : List TokenKind) (r : Begun) → Stacked fs d start (token.Protocol p ∷ ts) → begin (token.Protocol p ∷ ts) fs d ≡ Some r → After r start ts
+protocol_sound p (token.OpenBracket ∷ ts) fs d start r stacked h =
+    let (allowed, is) = some_then (is_accessor p) (Some (1, (frame.Load p ∷ fs, None, d))) r h in
+    begun (token.OpenBracket ∷ ts) start (1, (frame.Load p ∷ fs, None, d)) r (allowed, stacked) is
+protocol_sound p (token.Cast c ∷ ts) fs d start r stacked h =
+    let (allowed, is) = some_then (has_casts p) (Some (1, (fs, Some operand.Truth, node.Cast (Some p) c ∷ d))) r h in
+    truth_begun (token.Protocol p) (token.Cast c ∷ ts) fs d start r 1 (node.Cast (Some p) c) (cast (Some p) c) stacked (of_protocol_cast allowed) refl is
+protocol_sound p ts fs d start r stacked h = primitive_sound (token.Protocol p) ts fs d start r stacked refl h
+
+number_sound : (n : ℕ) (ts : List TokenKind) (fs : List Frame) (d : List Node) (start : List TokenKind) (r : Begun) → Stacked fs d start (token.Number n ∷ ts) → begin (token.Number n ∷ ts) fs d ≡ Some r → After r start ts
+number_sound n (token.Mask ∷ token.Dotted a p ∷ ts) fs d start r stacked h = bare_sound (token.Number n) (token.Mask ∷ token.Dotted a p ∷ ts) fs d start r stacked h
+number_sound n ts fs d start r stacked h = begun ts start (0, (fs, Some (operand.Plain n), d)) r (d, (token.Number n ∷ ts), stacked, (refl, refl)) h
+
+sized_sound : (s : Size) (ts : List TokenKind) (fs : List Frame) (d : List Node) (start : List TokenKind) (r : Begun) → Stacked fs d start (token.Size s ∷ ts) → begin (token.Size s ∷ ts) fs d ≡ Some r → After r start ts
+sized_sound s (token.Number n ∷ ts) fs d start r stacked h = truth_begun (token.Size s) (token.Number n ∷ ts) fs d start r 1 (node.Sized s n) (sized s n) stacked of_sized refl h
+sized_sound s _ fs d start r stacked h = cc
+
+pub begin_sound : (t : TokenKind) (ts : List TokenKind) (fs : List Frame) (d : List Node) (start : List TokenKind) (r : Begun) → Stacked fs d start (t ∷ ts) → begin (t ∷ ts) fs d ≡ Some r → After r start ts
+begin_sound (token.Protocol p) ts fs d start r stacked h = protocol_sound p ts fs d start r stacked h
+begin_sound (token.Side s) ts fs d start r stacked h = primitive_sound (token.Side s) ts fs d start r stacked (side_written s ts) h
+begin_sound (token.ValueType k) ts fs d start r stacked h = primitive_sound (token.ValueType k) ts fs d start r stacked refl h
+begin_sound (token.Cast c) ts fs d start r stacked h = truth_begun (token.Cast c) ts fs d start r 0 (node.Cast None c) (cast None c) stacked of_cast refl h
+begin_sound (token.Size s) ts fs d start r stacked h = sized_sound s ts fs d start r stacked h
+begin_sound (token.Number n) ts fs d start r stacked h = number_sound n ts fs d start r stacked h
+begin_sound (token.Dotted a p) ts fs d start r stacked h = bare_sound (token.Dotted a p) ts fs d start r stacked h
+begin_sound (token.Ip6 a) ts fs d start r stacked h = bare_sound (token.Ip6 a) ts fs d start r stacked h
+begin_sound (token.Mac a) ts fs d start r stacked h = bare_sound (token.Mac a) ts fs d start r stacked h
+begin_sound (token.Range a b) ts fs d start r stacked h = bare_sound (token.Range a b) ts fs d start r stacked h
+begin_sound token.Len ts fs d start r stacked h = begun ts start (0, (fs, Some operand.Number, node.Len ∷ d)) r (d, (token.Len ∷ ts), stacked, (0, len, zero-le, zero-le, zero-le, of_len, refl)) h
+begin_sound (token.Name n) ts fs d start r stacked h = begun ts start (0, (fs, Some operand.Number, node.Named n ∷ d)) r (d, (token.Name n ∷ ts), stacked, (0, named n, zero-le, zero-le, zero-le, of_name, refl)) h
+begin_sound token.Not ts fs d start r stacked h = begun ts start (0, (frame.Not ∷ fs, None, d)) r stacked (some_then (nat_le 6 (operand_precedence fs)) (Some (0, (frame.Not ∷ fs, None, d))) r h).1
+begin_sound (token.Operator Subtract) ts fs d start r stacked h = begun ts start (0, (frame.Negate ∷ fs, None, d)) r stacked h
+begin_sound token.Open ts fs d start r stacked h = begun ts start (0, (frame.Open ∷ fs, None, d)) r stacked h
+begin_sound _ ts fs d start r stacked h = cc
 
 -- an operand in parentheses
 enclosed_between : (m r q : ℕ) (x : Operand) (d e : List Node) (mid rest : List TokenKind) → Between m r x d e mid (token.Close ∷ rest) → Between 1 q (enclosed_operand x) d e (token.Open ∷ mid) rest
@@ -93,7 +182,7 @@ finish_sound fs (Some x) d start out (e, mid, stacked, between) h =
     let (r, settles, is_whole) = some_first (reduce 8 fs x d) (λ r. whole r.0 r.1 r.2) out h in
     whole_sound r.0 r.1 r.2 start out (reduce_sound 8 fs x d start [] r (e, mid, stacked, loosened 8 (operand_precedence fs) x e d mid [] (lit≤ tt) between) settles) is_whole
 
-run_sound : (ts : List TokenKind) (k : ℕ) (fs : List Frame) (x : Option Operand) (d : List Node) (start : List TokenKind) (out : List Node) → SoFar x fs d start (left ts k) → run ts k fs x d ≡ Some out → Found start out
+run_sound : (ts : List TokenKind) (k : ℕ) (fs : List Frame) (x : Option Operand) (d : List Node) (start : List TokenKind) (out : List Node) → SoFar x fs d start (drop k ts) → run ts k fs x d ≡ Some out → Found start out
 run_sound [] zero fs x d start out b h = finish_sound fs x d start out b h
 run_sound [] (suc k) fs x d start out b h = finish_sound fs x d start out b h
 run_sound (t ∷ ts) (suc k) fs x d start out b h = run_sound ts k fs x d start out b h
@@ -108,3 +197,24 @@ run_sound (t ∷ ts) zero fs (Some x) d start out b h =
 pub sound : (tokens : List TokenKind) (out : List Node) → nodes_of_tokens tokens ≡ Some out → Found tokens out
 sound [] out h = (empty, no_tokens, cc)
 sound (t ∷ ts) out h = run_sound (t ∷ ts) 0 [] None [] (t ∷ ts) out (refl, refl) h
+
+-- where the machine fails there is no tree
+pub no_tree : (tokens : List TokenKind) → nodes_of_tokens tokens ≡ None → (tree : Expression) → IsReadAs tokens tree → ⊥
+no_tree tokens h tree reads = let e = complete reads in cc
+
+-- where it gives nodes, they are those of a tree
+tree_found : (tokens : List TokenKind) (nodes : List Node) → nodes_of_tokens tokens ≡ Some nodes → (tree : Expression) × IsReadAs tokens tree × (reverse nodes ≡ expr_nodes tree)
+tree_found tokens nodes h =
+    let (tree, reads, same) = sound tokens nodes h in
+    (tree, reads, ap reverse same ∙ expr_turned tree)
+
+pub found_is_tree : (tokens : List TokenKind) (nodes : List Node) → nodes_of_tokens tokens ≡ Some nodes → IsTree (reverse nodes)
+found_is_tree tokens nodes h =
+    let (tree, reads, same) = tree_found tokens nodes h in
+    rw same (ap expr_nodes (tree_back tree))
+
+pub found_reads : (tokens : List TokenKind) (nodes : List Node) → nodes_of_tokens tokens ≡ Some nodes → IsReadAs tokens (tree_of (reverse nodes))
+found_reads tokens nodes h =
+    let (tree, reads, same) = tree_found tokens nodes h in
+    let is : tree ≡ tree_of (reverse nodes) = sym (tree_back tree) ∙ ap tree_of (sym same) in
+    subst (IsReadAs tokens) is reads

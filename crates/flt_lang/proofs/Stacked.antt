@@ -1,13 +1,12 @@
 -- What the parser keeps stands for the tokens before: each frame for its left side, the operand for
 -- a number or a truth.
-use Rattle.flt_lang.proofs.Common.{◌≡◌, ℕ, suc, zero, ◌+◌, ◌≤◌, ◌⊎◌, inl, inr, ⊎_elim, List, [], ◌∷◌, refl, sym, ap, ◌∙◌, subst, arith, Option, Some, None, Bool, true, false, nat_le, if◌then◌else◌, lit≤, zero-le, leb-true, Subtract, Divide, TokenKind, Node, Frame, Operand, NumberTree, literal, negated, applied, TruthTree, bare, compared, denied, joined, no_mask, number, level, is_accessor, Number, of_literal, minus, single, chain, Truth, of_bare, relation, denial, term, terms, ◌>>=◌, precedence, operand_precedence, prefix_mask, as_number, as_truth, Read, fill_frame, Reduced, reduce, number_onto, truth_onto}
+use Rattle.flt_lang.proofs.Common.{◌≡◌, ℕ, suc, zero, ◌+◌, ◌≤◌, ◌⊎◌, inl, inr, ⊎_elim, List, [], ◌∷◌, refl, sym, ap, ◌∙◌, subst, arith, Option, Some, None, Bool, true, false, nat_le, if◌then◌else◌, lit≤, zero-le, leb-true, Subtract, Divide, TokenKind, Node, Frame, Operand, NumberTree, literal, negated, applied, TruthTree, bare, compared, denied, joined, no_mask, number, level, is_accessor, Number, of_literal, minus, single, chain, Truth, of_bare, relation, denial, term, terms, ◌>>=◌, precedence, operand_precedence, prefix_mask, as_number, as_truth, Read, fill_frame, Reduced, reduce, number_onto, truth_onto, Value}
+use Rattle.flt_lang.proofs.ValuesBack.{carried, level_small}
 use Rattle.std.proofs.str.Laws.{order}
 use Rattle.flt_words.specs.declared.token.TokenKind.TheVariants as token
-use Rattle.flt_ast.specs.declared.value.Value.TheVariants as value
 use Rattle.flt_ast.specs.declared.node.Node.TheVariants as node
 use Rattle.flt_lang.specs.declared.frame.Frame.TheVariants as frame
 use Rattle.flt_lang.specs.declared.frame.Operand.TheVariants as operand
-use Rattle.flt_lang.proofs.ValuesBack.{level_small}
 
 -- a chain of steps that succeeds has a first step that does
 pub some_first : {A B : Type 0} (o : Option A) (f : A → Option B) (z : B) → (o >>= f) ≡ Some z → (w : A) × (o ≡ Some w) × (f w ≡ Some z)
@@ -45,7 +44,7 @@ either_number n None = literal n
 either_number n (Some m) = applied Divide (literal n) (literal m)
 
 abbrev pub either_truth : ℕ → Option ℕ → TruthTree
-either_truth n m = bare (value.Number n (prefix_mask m))
+either_truth n m = bare (Value.Number n (prefix_mask m))
 
 -- an operand between two places: a number no looser than m and than there is room for, or a truth,
 -- which is a chain only where both allow it
@@ -98,10 +97,7 @@ abbrev pub Following : ℕ → List Frame → Operand → List Node → List Tok
 Following m fs x e start rest = (d : List Node) × (mid : List TokenKind) × Stacked fs d start mid × Between m (operand_precedence fs) x d e mid rest
 
 moved : (m : ℕ) (fs : List Frame) (start rest : List TokenKind) (y z : Operand) (g h : List Node) → Following m fs y g start rest → ◌≡◌ {A = Option Read} (Some (y, g)) (Some (z, h)) → Following m fs z h start rest
-moved m fs start rest y z g h b same =
-    let P : Read → Type 0 = λ r. Following m fs r.0 r.1 start rest in
-    let pairs : ◌≡◌ {A = Read} (y, g) (z, h) = cc in
-    subst P pairs b
+moved m fs start rest y z g h b same = carried (λ (r : Read). Following m fs r.0 r.1 start rest) b same
 
 -- a frame with its operand is an operand
 fill_sound : (m : ℕ) (f : Frame) (fs : List Frame) (x y : Operand) (e g : List Node) (start rest : List TokenKind) → precedence f ≤ m → Following m (f ∷ fs) x e start rest → fill_frame f x e ≡ Some (y, g) → Following m fs y g start rest
@@ -134,16 +130,10 @@ reduce_one : (m : ℕ) (f : Frame) (fs : List Frame) (x : Operand) (e : List Nod
 reduce_one m f fs x e start rest s true is_tight b others h =
     let (r, filled, settles) = some_first (fill_frame f x e) (λ r. reduce m fs r.0 r.1) s h in
     others r.0 r.1 (fill_sound m f fs x r.0 e r.1 start rest (leb-true _ _ is_tight) b filled) settles
-reduce_one m f fs x e start rest s false is_loose b others h =
-    let P : Reduced → Type 0 = λ s. Following m s.0 s.1 s.2 start rest in
-    let same : ◌≡◌ {A = Reduced} (f ∷ fs, x, e) s = cc in
-    subst P same b
+reduce_one m f fs x e start rest s false is_loose b others h = carried (λ (s : Reduced). Following m s.0 s.1 s.2 start rest) b h
 
 pub reduce_sound : (m : ℕ) (fs : List Frame) (x : Operand) (e : List Node) (start rest : List TokenKind) (s : Reduced) → Following m fs x e start rest → reduce m fs x e ≡ Some s → Following m s.0 s.1 s.2 start rest
-reduce_sound m [] x e start rest s b reduced =
-    let P : Reduced → Type 0 = λ s. Following m s.0 s.1 s.2 start rest in
-    let same : ◌≡◌ {A = Reduced} ([], x, e) s = cc in
-    subst P same b
+reduce_sound m [] x e start rest s b reduced = carried (λ (s : Reduced). Following m s.0 s.1 s.2 start rest) b reduced
 reduce_sound m (f ∷ fs) x e start rest s b reduced =
     reduce_one m f fs x e start rest s (nat_le (precedence f) m) refl b (λ y g c h. reduce_sound m fs y g start rest s c h) reduced
 

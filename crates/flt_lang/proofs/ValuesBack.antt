@@ -1,8 +1,12 @@
 -- What stands before a value, and the value, are read from the left as far as they go.
-use Rattle.flt_lang.proofs.Common.{◌≡◌, ◌≤◌, List, ◌∷◌, refl, arith, lit≤, Option, Some, None, Bool, true, Protocol, Operator, Side, Source, Destination, ValueType, TokenKind, Direction, Qualifiers, NetMask, Value, ReadsProtocol, no_protocol, protocol, ReadsDirection, no_direction, one_side, ReadsType, no_type, of_type, ReadsQualifiers, qualifiers, ReadsMask, no_mask, ReadsValue, number, dotted, ip6, starts_value, protocol_of, direction_of, type_of, qualifiers_of, mask_of, value_of, level, next_precedence}
+use Rattle.flt_lang.proofs.Common.{◌≡◌, ◌≤◌, List, ◌∷◌, refl, subst, arith, lit≤, Option, Some, None, Bool, true, Protocol, Operator, Side, Source, Destination, ValueType, TokenKind, Direction, Qualifiers, NetMask, Value, ReadsProtocol, no_protocol, protocol, ReadsDirection, no_direction, one_side, ReadsType, no_type, of_type, ReadsQualifiers, qualifiers, ReadsMask, no_mask, ReadsValue, number, dotted, ip6, starts_value, protocol_of, direction_of, type_of, qualifiers_of, mask_of, value_of, level, next_precedence}
 use Rattle.flt_words.specs.declared.token.Operator.TheVariants as operator
 use Rattle.flt_words.specs.declared.token.TokenKind.TheVariants as token
 use Rattle.flt_ast.specs.declared.qualifiers.Direction.TheVariants as direction
+
+-- what holds of the value of an option holds of that of an equal one
+pub carried : {A : Type 0} (P : A → Type 0) {r s : A} → P r → ◌≡◌ {A = Option A} (Some r) (Some s) → P s
+carried P {r} {s} holds same = let one : r ≡ s = cc in subst P one holds
 
 pub level_small : (o : Operator) → level o ≤ 3
 level_small operator.Multiply = lit≤ tt

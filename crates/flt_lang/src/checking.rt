@@ -1,8 +1,7 @@
 //! Checks whether code can be made of an expression: the last step before the compiler.
 
 ghost use Rattle.std.specs.Prelude.{◌≡◌, IfOk, IfErr, Some, None};
-ghost use Rattle.flt_ast.specs.Resolved.{IsResolved};
-ghost use Rattle.flt_ast.specs.Checks.{check_fault};
+ghost use Rattle.flt_ast.specs.{Checks.check_fault, Resolved.IsResolved};
 
 use crate::counts;
 use flt_ast::{Checked, Expr};

@@ -5,13 +5,12 @@
 //! contract is about the tree. The public ones, of a checked expression, are last.
 
 ghost use Rattle.std.specs.Prelude.{◌≡◌, ◌≤◌, ◌*◌, ◌^◌, sum_by, fold, false};
-ghost use Rattle.flt_ast.specs.Counts.{tests_of, nodes_of, words_of, bound_of};
-ghost use Rattle.flt_ast.specs.Counts.{node_tests, node_size};
-ghost use Rattle.flt_ast.specs.inside.Heights.{climb};
-ghost use Rattle.flt_ast.specs.Resolved.{some_primitive};
 ghost use Rattle.flt_ast.specs.Checks.{divides_by_zero};
-ghost use Rattle.flt_ast.specs.inside.Checks.{is_division_node, is_zero_node};
-ghost use Rattle.flt_ast.specs.inside.Checks.{some_zero_divisor};
+ghost use Rattle.flt_ast.specs.Counts.{tests_of, nodes_of, words_of, bound_of, node_tests};
+ghost use Rattle.flt_ast.specs.Counts.{node_size};
+ghost use Rattle.flt_ast.specs.Resolved.{some_primitive};
+ghost use Rattle.flt_ast.specs.inside.Checks.{is_division_node, is_zero_node, some_zero_divisor};
+ghost use Rattle.flt_ast.specs.inside.Heights.{climb};
 
 use flt_ast::{Checked, Expr, Node};
 use flt_words::Operator;
@@ -115,7 +114,7 @@ pub(crate) fn words_in<A: Allocator>(expr: &Expr<A>) -> usize
 }
 
 /// Whether some divisor of an expression is the number 0, as it is written.
-#[tactic(auto, using(crate::proofs::Dividing::zero_whole))]
+#[tactic(auto, using(crate::proofs::Counting::zero_whole))]
 pub(crate) fn divides_by_zero<A: Allocator>(expr: &Expr<A>) -> bool
     ensures { result ≡ some_primitive divides_by_zero expr.now }
 {

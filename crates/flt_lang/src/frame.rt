@@ -18,8 +18,7 @@
 ghost use Rattle.std.specs.Prelude.{◌≡◌, reverse};
 ghost use Rattle.flt_lang.specs.Grammar.{level};
 ghost use Rattle.flt_lang.specs.inside.Parser.{precedence, operand_precedence, token_precedence};
-ghost use Rattle.flt_lang.specs.inside.Parser.{enclosed_operand};
-ghost use Rattle.flt_lang.specs.inside.Parser.{sort_of, node_of};
+ghost use Rattle.flt_lang.specs.inside.Parser.{enclosed_operand, sort_of, node_of};
 
 use flt_ast::Node;
 use flt_words::{Comparison, Join, Operator, Protocol, TokenKind};

@@ -2,8 +2,9 @@
 //! to 100 tokens `not` and `-` in a row, as docs/FILTER.md has it.
 
 ghost use Rattle.std.specs.Prelude.{◌≡◌, ◌↔◌, IsTrue};
+ghost use Rattle.std.specs.List.{list_all};
 ghost use Rattle.flt_lang.specs.Nesting.{is_opening, is_closing, is_prefix_operator, HasDeepFront};
-ghost use Rattle.flt_lang.specs.Nesting.{HasLongPrefix, IsTooDeep};
+ghost use Rattle.flt_lang.specs.Nesting.{BeginsWithLongPrefix, HasLongPrefix, IsTooDeep};
 
 use flt_words::{Operator, Token, TokenKind};
 
@@ -64,18 +65,26 @@ fn has_deep_front(tokens: &[Token]) -> bool
     false
 }
 
+/// Whether each token is `not` or `-`.
+fn are_prefix_operators(tokens: &[Token]) -> bool
+    ensures { result ≡ list_all is_prefix_operator tokens.now }
+{
+    tokens.iter().all(is_prefix_operator)
+}
+
+/// Whether tokens begin with over 100 tokens `not` and `-`.
+fn begins_with_long_prefix(tokens: &[Token]) -> bool
+    ensures { IsTrue result ↔ BeginsWithLongPrefix tokens.now }
+{
+    tokens.len() > 100 && are_prefix_operators(&tokens[..101])
+}
+
 /// Whether over 100 tokens `not` and `-` follow one another.
 fn has_long_prefix(tokens: &[Token]) -> bool
     ensures { IsTrue result ↔ HasLongPrefix tokens.now }
 {
-    let mut run: usize = 0;
-    for token in tokens {
-        run = if is_prefix_operator(token) {
-            run + 1
-        } else {
-            0
-        };
-        if run > 100 {
+    for i in 0..tokens.len() {
+        if begins_with_long_prefix(&tokens[i..]) {
             return true;
         }
     }

@@ -3,8 +3,7 @@
 ghost use Rattle.std.specs.Prelude.{◌≡◌, ◌↔◌, ◌⊎◌, Err, IfOk, IfErr};
 ghost use Rattle.flt_ast.specs.Tree.{Expression};
 ghost use Rattle.flt_lang.specs.Grammar.{IsReadAs, kinds_of};
-ghost use Rattle.flt_lang.specs.inside.Parser.{IsReadFault};
-ghost use Rattle.flt_lang.specs.Nesting.{IsTooDeep};
+ghost use Rattle.flt_lang.specs.{Nesting.IsTooDeep, inside.Parser.IsReadFault};
 
 use crate::nesting::is_nested_too_deep;
 use crate::reader::Reader;
@@ -32,7 +31,7 @@ pub fn parse<A: Allocator + Clone>(alloc: A, tokens: &[Token]) -> Result<Expr<A>
 }
 
 /// The tree of tokens, however deep they nest; `NotAnExpression` if they have none.
-#[tactic(auto, using(crate::proofs::Parsing::no_tree))]
+#[tactic(auto, using(crate::proofs::Sound::no_tree))]
 fn read_tree<A: Allocator + Clone>(alloc: A, tokens: &[Token]) -> Result<Expr<A>, ExprFault>
     ensures ok { IfOk result (λ tree. IsReadAs (kinds_of tokens.now) tree) }
     ensures none { result ≡ Err ExprFault.NotAnExpression

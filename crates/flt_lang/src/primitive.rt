@@ -2,15 +2,15 @@
 //! the qualifiers before them. Each reader of these begins at the first of its tokens, takes as many
 //! as it can, and returns what it read and how many tokens that is.
 
-ghost use Rattle.std.specs.Prelude.{◌≡◌, ◌∷◌, ◌⊎◌, List, IsTrue, IfSome, IfNone};
-ghost use Rattle.std.specs.Prelude.{Some, None, length, slice_get, drop, ◌<◌, ◌≤◌};
+ghost use Rattle.std.specs.Prelude.{◌≡◌, ◌∷◌, ◌⊎◌, List, IsTrue, IfSome, IfNone, Some, None};
+ghost use Rattle.std.specs.Prelude.{length, slice_get, drop, ◌<◌, ◌≤◌};
 ghost use Rattle.flt_words.specs.declared.token.TokenKind.{TokenKind};
 ghost use Rattle.flt_ast.specs.declared.qualifiers.Qualifiers.{Qualifiers};
 ghost use Rattle.flt_lang.specs.Grammar.{stands_alone, is_accessor, has_casts, kinds_of};
-ghost use Rattle.flt_lang.specs.inside.Values.{qualifiers_of, protocol_of, direction_of, type_of};
-ghost use Rattle.flt_lang.specs.inside.Values.{is_opposite, both_of};
-ghost use Rattle.flt_lang.specs.inside.Values.{mask_of, prefix_of, value_of};
 ghost use Rattle.flt_lang.specs.inside.Parser.{protocol_role, valued_of};
+ghost use Rattle.flt_lang.specs.inside.Values.{qualifiers_of, protocol_of, direction_of, type_of};
+ghost use Rattle.flt_lang.specs.inside.Values.{is_opposite, both_of, Takes, mask_of, prefix_of};
+ghost use Rattle.flt_lang.specs.inside.Values.{value_of};
 
 use flt_ast::{Direction, Dotted, NetMask, Qualifiers, Value};
 use flt_words::{Cast, Join, Operator, Protocol, Side, Token, TokenKind, ValueType};
@@ -68,9 +68,7 @@ pub fn has_casts(protocol: Protocol) -> bool
 
 /// The protocol with which tokens begin, and how many tokens it takes: 1, or 0 if there is none.
 fn read_protocol(tokens: &[Token]) -> (Option<Protocol>, usize)
-    ensures value { result.0 ≡ (protocol_of (kinds_of tokens.now)).0 }
-    ensures rest { kinds_of (drop result.1 tokens.now) ≡ (protocol_of (kinds_of tokens.now)).1 }
-    ensures within { result.1 ≤ length tokens.now }
+    ensures { Takes (protocol_of (kinds_of tokens.now)) tokens.now result }
 {
     match kind_at(tokens, 0) {
         Some(TokenKind::Protocol(protocol)) => (Some(protocol), 1),
@@ -103,9 +101,7 @@ fn read_both_sides(tokens: &[Token]) -> Option<Join>
 
 /// The direction with which tokens begin, and how many tokens it takes: 3, 1, or 0.
 fn read_direction(tokens: &[Token]) -> (Option<Direction>, usize)
-    ensures value { result.0 ≡ (direction_of (kinds_of tokens.now)).0 }
-    ensures rest { kinds_of (drop result.1 tokens.now) ≡ (direction_of (kinds_of tokens.now)).1 }
-    ensures within { result.1 ≤ length tokens.now }
+    ensures { Takes (direction_of (kinds_of tokens.now)) tokens.now result }
 {
     if let Some(join) = read_both_sides(tokens) {
         return (Some(Direction::Both(join)), 3);
@@ -118,9 +114,7 @@ fn read_direction(tokens: &[Token]) -> (Option<Direction>, usize)
 
 /// The type with which tokens begin, and how many tokens it takes: 1 or 0.
 fn read_type(tokens: &[Token]) -> (Option<ValueType>, usize)
-    ensures value { result.0 ≡ (type_of (kinds_of tokens.now)).0 }
-    ensures rest { kinds_of (drop result.1 tokens.now) ≡ (type_of (kinds_of tokens.now)).1 }
-    ensures within { result.1 ≤ length tokens.now }
+    ensures { Takes (type_of (kinds_of tokens.now)) tokens.now result }
 {
     match kind_at(tokens, 0) {
         Some(TokenKind::ValueType(value_type)) => (Some(value_type), 1),
@@ -131,9 +125,7 @@ fn read_type(tokens: &[Token]) -> (Option<ValueType>, usize)
 /// The qualifiers with which tokens begin, in their order, and how many tokens they take: 5 at
 /// most.
 fn read_qualifiers(tokens: &[Token]) -> (Qualifiers, usize)
-    ensures qualifiers { result.0 ≡ (qualifiers_of (kinds_of tokens.now)).0 }
-    ensures rest { kinds_of (drop result.1 tokens.now) ≡ (qualifiers_of (kinds_of tokens.now)).1 }
-    ensures within { result.1 ≤ length tokens.now }
+    ensures { Takes (qualifiers_of (kinds_of tokens.now)) tokens.now result }
 {
     let (protocol, first) = read_protocol(tokens);
     let (direction, second) = read_direction(&tokens[first..]);
@@ -149,9 +141,7 @@ fn read_qualifiers(tokens: &[Token]) -> (Qualifiers, usize)
 /// What follows the address of a network: `/ N` or `mask D`, if tokens begin with it, and how many
 /// tokens it takes: 2 or 0.
 fn read_mask(tokens: &[Token]) -> (NetMask, usize)
-    ensures value { result.0 ≡ (mask_of (kinds_of tokens.now)).0 }
-    ensures rest { kinds_of (drop result.1 tokens.now) ≡ (mask_of (kinds_of tokens.now)).1 }
-    ensures within { result.1 ≤ length tokens.now }
+    ensures { Takes (mask_of (kinds_of tokens.now)) tokens.now result }
 {
     match (kind_at(tokens, 0), kind_at(tokens, 1)) {
         (Some(TokenKind::Operator(Operator::Divide)), Some(TokenKind::Number(len))) => {
@@ -167,9 +157,7 @@ fn read_mask(tokens: &[Token]) -> (NetMask, usize)
 /// The length of a prefix of IPv6, the `N` of `/ N`, if tokens begin with it, and how many tokens
 /// it takes: 2 or 0.
 fn read_prefix_len(tokens: &[Token]) -> (Option<u32>, usize)
-    ensures value { result.0 ≡ (prefix_of (kinds_of tokens.now)).0 }
-    ensures rest { kinds_of (drop result.1 tokens.now) ≡ (prefix_of (kinds_of tokens.now)).1 }
-    ensures within { result.1 ≤ length tokens.now }
+    ensures { Takes (prefix_of (kinds_of tokens.now)) tokens.now result }
 {
     match (kind_at(tokens, 0), kind_at(tokens, 1)) {
         (Some(TokenKind::Operator(Operator::Divide)), Some(TokenKind::Number(len))) => {
@@ -208,7 +196,7 @@ fn value_from(first: TokenKind, rest: &[Token]) -> Option<(Value, usize)>
 
 /// The value with which tokens begin, with the mask after it, and how many tokens it takes: 3 at
 /// most. `None` if they begin with none.
-#[tactic(auto, using(crate::proofs::Fronts::value_found, crate::proofs::Fronts::no_value_found))]
+#[tactic(auto, using(crate::proofs::Stepping::found_value, crate::proofs::Stepping::no_value))]
 pub fn read_value(tokens: &[Token]) -> Option<(Value, usize)>
     ensures some { IfSome result (λ r.
         value_of (kinds_of tokens.now) ≡ Some (r.0, kinds_of (drop r.1 tokens.now))) }

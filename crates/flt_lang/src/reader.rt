@@ -4,19 +4,17 @@
 ghost use Rattle.std.specs.Prelude.{◌≡◌, ◌≤◌, ◌<◌, ◌∷◌, [], IfErr, IfNone, IfOk, IfSome};
 ghost use Rattle.std.specs.Prelude.{MatchOption, OnOk, length, reverse, List, Some, None, Err};
 ghost use Rattle.std.specs.Prelude.{drop};
-ghost use Rattle.flt_lang.specs.inside.Parser.{IsLoose, precedence, operand_precedence};
-ghost use Rattle.flt_lang.specs.inside.Parser.{begin_at, protocol_begins, protocol_role};
-ghost use Rattle.flt_lang.specs.inside.Parser.{number_primitive, sized_of, primitive, bare_of};
-ghost use Rattle.flt_lang.specs.inside.Parser.{one_node, with_frames, IsReadFault, as_number};
-ghost use Rattle.flt_lang.specs.inside.Parser.{as_truth, as_sort, prefix_mask, fill_frame};
-ghost use Rattle.flt_lang.specs.inside.Parser.{reduce, after_operator, after_load, accessor_size};
+ghost use Rattle.flt_lang.specs.Grammar.{kinds_of};
+ghost use Rattle.flt_lang.specs.inside.Parser.{IsLoose, precedence, operand_precedence, begin_at};
+ghost use Rattle.flt_lang.specs.inside.Parser.{protocol_begins, protocol_role, number_primitive};
+ghost use Rattle.flt_lang.specs.inside.Parser.{sized_of, primitive, bare_of, one_node, with_frames};
+ghost use Rattle.flt_lang.specs.inside.Parser.{IsReadFault, Reads, ReadsStep, as_number, as_truth};
+ghost use Rattle.flt_lang.specs.inside.Parser.{as_sort, prefix_mask, fill_frame, reduce};
+ghost use Rattle.flt_lang.specs.inside.Parser.{after_operator, after_load, accessor_size};
 ghost use Rattle.flt_lang.specs.inside.Parser.{after_close, after_token_at, number_with_prefix};
 ghost use Rattle.flt_lang.specs.inside.Parser.{after_operand, run, finish, nodes_of_tokens};
-ghost use Rattle.flt_ast.specs.Nodes.{tree_of};
-ghost use Rattle.flt_ast.specs.inside.Nodes.{IsTree};
+ghost use Rattle.flt_ast.specs.{Nodes.tree_of, declared.node.Node.Node, inside.Nodes.IsTree};
 ghost use Rattle.flt_words.specs.declared.token.TokenKind.{TokenKind};
-ghost use Rattle.flt_ast.specs.declared.node.Node.{Node};
-ghost use Rattle.flt_lang.specs.Grammar.{kinds_of};
 
 use crate::frame::{Frame, Operand, Sort, operand_precedence, token_precedence};
 use crate::primitive::{
@@ -154,13 +152,9 @@ impl<A: Allocator> Reader<A> {
         tokens: &[Token],
     ) -> Result<(usize, Option<Operand>), ExprFault>
         requires { 0 < length tokens.now }
-        ensures ok { IfOk result (λ r.
-            begin_at first (kinds_of tokens.now) self.old.frames self.old.nodes
-            ≡ Some (r.0, (self.new.frames, r.1, self.new.nodes))) }
+        ensures reads { ReadsStep
+            (begin_at first (kinds_of tokens.now) self.old.frames self.old.nodes) self.new result }
         ensures within { IfOk result (λ r. r.0 < length tokens.now) }
-        ensures none { result ≡ Err ExprFault.NotAnExpression
-            → begin_at first (kinds_of tokens.now) self.old.frames self.old.nodes ≡ None }
-        ensures err { IfErr result IsReadFault }
     {
         match first {
             TokenKind::Protocol(protocol) => self.begin_with_protocol(protocol, tokens),
@@ -187,10 +181,9 @@ impl<A: Allocator> Reader<A> {
 
     /// Lets a frame wait for the operand after it: `not`, a sign or `(`. No operand is complete.
     fn shift_prefix(&mut self, frame: Frame) -> Result<(usize, Option<Operand>), ExprFault>
-        ensures ok { IfOk result (λ r. r ≡ (0, None)) }
-        ensures frames { IfOk result (λ _. self.new.frames ≡ frame ∷ self.old.frames) }
-        ensures nodes { IfOk result (λ _. self.new.nodes ≡ self.old.nodes) }
-        ensures err { IfErr result (λ fault. fault ≡ ExprFault.Memory) }
+        ensures reads { ReadsStep (Some (0, (frame ∷ self.old.frames, None, self.old.nodes)))
+            self.new result }
+        ensures used { IfOk result (λ r. r.0 ≡ 0) }
     {
         self.push_frame(frame)?;
         Ok((0, None))
@@ -198,10 +191,10 @@ impl<A: Allocator> Reader<A> {
 
     /// Writes a number that is one token and one node, `len` or a name.
     fn write_number_word(&mut self, node: Node) -> Result<(usize, Option<Operand>), ExprFault>
-        ensures ok { IfOk result (λ r. r ≡ (0, Some Operand.Number)) }
-        ensures frames { IfOk result (λ _. self.new.frames ≡ self.old.frames) }
-        ensures nodes { IfOk result (λ _. self.new.nodes ≡ node ∷ self.old.nodes) }
-        ensures err { IfErr result (λ fault. fault ≡ ExprFault.Memory) }
+        ensures reads { ReadsStep
+            (Some (0, (self.old.frames, Some Operand.Number, node ∷ self.old.nodes)))
+            self.new result }
+        ensures used { IfOk result (λ r. r.0 ≡ 0) }
     {
         self.push_node(node)?;
         Ok((0, Some(Operand::Number)))
@@ -213,12 +206,9 @@ impl<A: Allocator> Reader<A> {
         &mut self,
         read: Option<(Node, usize)>,
     ) -> Result<(usize, Option<Operand>), ExprFault>
-        ensures ok { IfOk result (λ r. with_frames self.old.frames (one_node self.old.nodes read)
-            ≡ Some (r.0, (self.new.frames, r.1, self.new.nodes))) }
+        ensures reads { ReadsStep (with_frames self.old.frames (one_node self.old.nodes read))
+            self.new result }
         ensures used { IfOk result (λ r. IfSome read (λ node. r.0 ≡ node.1)) }
-        ensures none { result ≡ Err ExprFault.NotAnExpression
-            → with_frames self.old.frames (one_node self.old.nodes read) ≡ None }
-        ensures err { IfErr result IsReadFault }
     {
         let Some((node, more)) = read else {
             return Err(ExprFault::NotAnExpression);
@@ -236,15 +226,9 @@ impl<A: Allocator> Reader<A> {
         protocol: Protocol,
         tokens: &[Token],
     ) -> Result<(usize, Option<Operand>), ExprFault>
-        ensures ok { IfOk result (λ r. protocol_begins protocol
-            (protocol_role (kinds_of tokens.now)) (kinds_of tokens.now)
-            self.old.frames self.old.nodes
-            ≡ Some (r.0, (self.new.frames, r.1, self.new.nodes))) }
+        ensures reads { ReadsStep (protocol_begins protocol (protocol_role (kinds_of tokens.now))
+            (kinds_of tokens.now) self.old.frames self.old.nodes) self.new result }
         ensures within { IfOk result (λ r. r.0 < length tokens.now) }
-        ensures none { result ≡ Err ExprFault.NotAnExpression
-            → protocol_begins protocol (protocol_role (kinds_of tokens.now)) (kinds_of tokens.now)
-            self.old.frames self.old.nodes ≡ None }
-        ensures err { IfErr result IsReadFault }
     {
         match protocol_role(tokens) {
             ProtocolRole::Bracket if is_accessor(protocol) => {
@@ -262,14 +246,10 @@ impl<A: Allocator> Reader<A> {
     /// Reads a number, which may become either sort, or a network's number with `mask D`, which is
     /// a truth. `NotAnExpression` where tokens don't begin with a number.
     fn begin_number(&mut self, tokens: &[Token]) -> Result<(usize, Option<Operand>), ExprFault>
-        ensures ok { IfOk result (λ r.
-            with_frames self.old.frames (number_primitive (kinds_of tokens.now) self.old.nodes)
-            ≡ Some (r.0, (self.new.frames, r.1, self.new.nodes))) }
+        ensures reads { ReadsStep
+            (with_frames self.old.frames (number_primitive (kinds_of tokens.now) self.old.nodes))
+            self.new result }
         ensures within { IfOk result (λ r. r.0 < length tokens.now) }
-        ensures none { result ≡ Err ExprFault.NotAnExpression
-            → with_frames self.old.frames (number_primitive (kinds_of tokens.now) self.old.nodes)
-            ≡ None }
-        ensures err { IfErr result IsReadFault }
     {
         match (kind_at(tokens, 0), kind_at(tokens, 1), kind_at(tokens, 2)) {
             (Some(TokenKind::Number(_)), Some(TokenKind::Mask), Some(TokenKind::Dotted { .. })) =>
@@ -284,11 +264,8 @@ impl<A: Allocator> Reader<A> {
     /// Makes an operand a number: adds its nodes after the others, unless it has them already.
     /// `NotAnExpression` for a truth.
     fn write_number(&mut self, operand: Operand) -> Result<(), ExprFault>
-        ensures ok { OnOk result (as_number operand self.old.nodes ≡ Some self.new.nodes) }
+        ensures reads { Reads (as_number operand self.old.nodes) (λ _. self.new.nodes) result }
         ensures frames { OnOk result (self.new.frames ≡ self.old.frames) }
-        ensures none { result ≡ Err ExprFault.NotAnExpression
-            → as_number operand self.old.nodes ≡ None }
-        ensures err { IfErr result IsReadFault }
     {
         match operand {
             Operand::Number => Ok(()),
@@ -307,11 +284,8 @@ impl<A: Allocator> Reader<A> {
     /// Makes an operand a truth: adds its node after the others, unless it has it already.
     /// `NotAnExpression` for what can only be a number.
     fn write_truth(&mut self, operand: Operand) -> Result<(), ExprFault>
-        ensures ok { OnOk result (as_truth operand self.old.nodes ≡ Some self.new.nodes) }
+        ensures reads { Reads (as_truth operand self.old.nodes) (λ _. self.new.nodes) result }
         ensures frames { OnOk result (self.new.frames ≡ self.old.frames) }
-        ensures none { result ≡ Err ExprFault.NotAnExpression
-            → as_truth operand self.old.nodes ≡ None }
-        ensures err { IfErr result IsReadFault }
     {
         match operand {
             Operand::Truth => Ok(()),
@@ -328,11 +302,8 @@ impl<A: Allocator> Reader<A> {
     /// Makes an operand one of this sort, by `write_truth` or `write_number`, with errors as of
     /// these.
     fn write_operand(&mut self, sort: Sort, operand: Operand) -> Result<(), ExprFault>
-        ensures ok { OnOk result (as_sort sort operand self.old.nodes ≡ Some self.new.nodes) }
+        ensures reads { Reads (as_sort sort operand self.old.nodes) (λ _. self.new.nodes) result }
         ensures frames { OnOk result (self.new.frames ≡ self.old.frames) }
-        ensures none { result ≡ Err ExprFault.NotAnExpression
-            → as_sort sort operand self.old.nodes ≡ None }
-        ensures err { IfErr result IsReadFault }
     {
         match sort {
             Sort::Truth => self.write_truth(operand),
@@ -344,12 +315,9 @@ impl<A: Allocator> Reader<A> {
     /// after it. Returns the operand that the two are together. `NotAnExpression` for `(` and
     /// accessors, which only their closing token completes, and for an operand of the other sort.
     fn fill_frame(&mut self, frame: Frame, operand: Operand) -> Result<Operand, ExprFault>
-        ensures ok { IfOk result (λ x.
-            fill_frame frame operand self.old.nodes ≡ Some (x, self.new.nodes)) }
+        ensures reads { Reads (fill_frame frame operand self.old.nodes)
+            (λ x. (x, self.new.nodes)) result }
         ensures frames { IfOk result (λ _. self.new.frames ≡ self.old.frames) }
-        ensures none { result ≡ Err ExprFault.NotAnExpression
-            → fill_frame frame operand self.old.nodes ≡ None }
-        ensures err { IfErr result IsReadFault }
     {
         let Some((node, whole)) = frame.node() else {
             return Err(ExprFault::NotAnExpression);
@@ -364,11 +332,8 @@ impl<A: Allocator> Reader<A> {
     /// them can't be completed, as in `fill_frame`.
     #[tactic(auto, using(crate::proofs::Reducing::reducing))]
     fn reduce(&mut self, operand: Operand, limit: u8) -> Result<Operand, ExprFault>
-        ensures ok { IfOk result (λ x. reduce limit self.old.frames operand self.old.nodes
-            ≡ Some (self.new.frames, x, self.new.nodes)) }
-        ensures none { result ≡ Err ExprFault.NotAnExpression
-            → reduce limit self.old.frames operand self.old.nodes ≡ None }
-        ensures err { IfErr result IsReadFault }
+        ensures reads { Reads (reduce limit self.old.frames operand self.old.nodes)
+            (λ x. (self.new.frames, x, self.new.nodes)) result }
     {
         let mut operand = operand;
         while let Some(frame) = self.pop_tight_frame(limit) {
@@ -385,12 +350,9 @@ impl<A: Allocator> Reader<A> {
         frame: Frame,
         operand: Operand,
     ) -> Result<(usize, Option<Operand>), ExprFault>
-        ensures ok { IfOk result (λ r. after_operator frame self.old.frames operand self.old.nodes
-            ≡ Some (r.0, (self.new.frames, r.1, self.new.nodes))) }
+        ensures reads { ReadsStep (after_operator frame self.old.frames operand self.old.nodes)
+            self.new result }
         ensures used { IfOk result (λ r. r.0 ≡ 0) }
-        ensures none { result ≡ Err ExprFault.NotAnExpression
-            → after_operator frame self.old.frames operand self.old.nodes ≡ None }
-        ensures err { IfErr result IsReadFault }
     {
         if self.operand_precedence() < frame.precedence() {
             return Err(ExprFault::NotAnExpression);
@@ -403,12 +365,9 @@ impl<A: Allocator> Reader<A> {
     /// Closes a parenthesis: `NotAnExpression` if the latest frame isn't one, or no frame waits.
     /// A plain number in it, even one with `/ N`, may still become either sort.
     fn close_parenthesis(&mut self, operand: Operand) -> Result<(usize, Option<Operand>), ExprFault>
-        ensures ok { IfOk result (λ r. after_close self.old.frames operand self.old.nodes
-            ≡ Some (r.0, (self.new.frames, r.1, self.new.nodes))) }
+        ensures reads { ReadsStep (after_close self.old.frames operand self.old.nodes) self.new
+            result }
         ensures used { IfOk result (λ r. r.0 ≡ 0) }
-        ensures none { result ≡ Err ExprFault.NotAnExpression
-            → after_close self.old.frames operand self.old.nodes ≡ None }
-        ensures err { IfErr result IsReadFault }
     {
         match self.pop_frame() {
             Some(Frame::Open) => Ok((0, Some(operand.in_parentheses()))),
@@ -425,12 +384,9 @@ impl<A: Allocator> Reader<A> {
         more: usize,
         size: u32,
     ) -> Result<(usize, Option<Operand>), ExprFault>
-        ensures ok { IfOk result (λ r. after_load more size self.old.frames operand self.old.nodes
-            ≡ Some (r.0, (self.new.frames, r.1, self.new.nodes))) }
+        ensures reads { ReadsStep (after_load more size self.old.frames operand self.old.nodes)
+            self.new result }
         ensures used { IfOk result (λ r. r.0 ≡ more) }
-        ensures none { result ≡ Err ExprFault.NotAnExpression
-            → after_load more size self.old.frames operand self.old.nodes ≡ None }
-        ensures err { IfErr result IsReadFault }
     {
         match self.pop_frame() {
             Some(Frame::Load(protocol)) => {
@@ -454,14 +410,9 @@ impl<A: Allocator> Reader<A> {
         first: TokenKind,
         rest: &[Token],
     ) -> Result<(usize, Option<Operand>), ExprFault>
-        ensures ok { IfOk result (λ r.
-            after_token_at first (kinds_of rest.now) self.old.frames operand self.old.nodes
-            ≡ Some (r.0, (self.new.frames, r.1, self.new.nodes))) }
+        ensures reads { ReadsStep (after_token_at first (kinds_of rest.now) self.old.frames operand
+            self.old.nodes) self.new result }
         ensures within { IfOk result (λ r. r.0 ≤ length rest.now) }
-        ensures none { result ≡ Err ExprFault.NotAnExpression
-            → after_token_at first (kinds_of rest.now) self.old.frames operand self.old.nodes
-            ≡ None }
-        ensures err { IfErr result IsReadFault }
     {
         match first {
             TokenKind::Operator(operator) => self.shift_operator(Frame::Apply(operator), operand),
@@ -491,14 +442,9 @@ impl<A: Allocator> Reader<A> {
         first: TokenKind,
         rest: &[Token],
     ) -> Result<(usize, Option<Operand>), ExprFault>
-        ensures ok { IfOk result (λ r.
-            after_operand (first ∷ kinds_of rest.now) self.old.frames operand self.old.nodes
-            ≡ Some (r.0, (self.new.frames, r.1, self.new.nodes))) }
+        ensures reads { ReadsStep (after_operand (first ∷ kinds_of rest.now) self.old.frames operand
+            self.old.nodes) self.new result }
         ensures within { IfOk result (λ r. r.0 ≤ length rest.now) }
-        ensures none { result ≡ Err ExprFault.NotAnExpression
-            → after_operand (first ∷ kinds_of rest.now) self.old.frames operand self.old.nodes
-            ≡ None }
-        ensures err { IfErr result IsReadFault }
     {
         // If the latest frame doesn't take a quotient (precedence 1), as in `6 * 10/8`, the `/`
         // is an operator after what that frame makes of the number.
@@ -551,11 +497,8 @@ impl<A: Allocator> Reader<A> {
     /// wait are completed, and one truth has to be left. `NotAnExpression` if none is, or what can
     /// only be a number, if a frame can't be completed, or a parenthesis or bracket is open.
     fn finish(&mut self, operand: Option<Operand>) -> Result<(), ExprFault>
-        ensures ok { OnOk result (finish operand self.old.frames self.old.nodes
-            ≡ Some self.new.nodes) }
-        ensures none { result ≡ Err ExprFault.NotAnExpression
-            → finish operand self.old.frames self.old.nodes ≡ None }
-        ensures err { IfErr result IsReadFault }
+        ensures reads { Reads (finish operand self.old.frames self.old.nodes)
+            (λ _. self.new.nodes) result }
     {
         let Some(read) = operand else {
             return Err(ExprFault::NotAnExpression);
@@ -573,10 +516,7 @@ impl<A: Allocator> Reader<A> {
     pub fn read(&mut self, tokens: &[Token]) -> Result<(), ExprFault>
         requires frames { self.old.frames ≡ [] }
         requires nodes { self.old.nodes ≡ [] }
-        ensures ok { OnOk result (nodes_of_tokens (kinds_of tokens.now) ≡ Some self.new.nodes) }
-        ensures none { result ≡ Err ExprFault.NotAnExpression
-            → nodes_of_tokens (kinds_of tokens.now) ≡ None }
-        ensures err { IfErr result IsReadFault }
+        ensures reads { Reads (nodes_of_tokens (kinds_of tokens.now)) (λ _. self.new.nodes) result }
     {
         if tokens.is_empty() {
             return Ok(());

@@ -1,13 +1,11 @@
 //! Gives values their qualifiers: those of an earlier value, and the defaults of what is left out.
 
-ghost use Rattle.std.specs.Prelude.{◌≡◌, map, IfOk, IfErr, Some, None};
 ghost use Rattle.std.specs.List.{list_any};
-ghost use Rattle.flt_ast.specs.Filled.{fill_expression, completed_node};
-ghost use Rattle.flt_ast.specs.inside.Filled.{inherited_nodes};
-ghost use Rattle.flt_ast.specs.Filled.{only_host};
+ghost use Rattle.std.specs.Prelude.{◌≡◌, map, IfOk, IfErr, Some, None};
+ghost use Rattle.flt_ast.specs.Filled.{fill_expression, completed_node, only_host};
 ghost use Rattle.flt_ast.specs.Resolved.{fill_fault, IsResolved, is_misfit_node};
-ghost use Rattle.flt_ast.specs.inside.Resolved.{nodes_fault};
 ghost use Rattle.flt_ast.specs.Resolved.{is_out_of_range_node, has_bits_past_mask_node};
+ghost use Rattle.flt_ast.specs.inside.{Filled.inherited_nodes, Resolved.nodes_fault};
 
 use flt_ast::{Expr, Node, Qualifiers};
 use flt_words::{ExprFault, ValueType};

@@ -1,81 +1,69 @@
 -- Where two colons stand in an IPv6 address.
-use Rattle.flt_words.proofs.Common.{◌≡◌, ◌≢◌, ℕ, suc, zero, ◌+◌, ◌<◌, List, [], ◌∷◌, ◌++◌, length, get_or, take, drop, sym, ap, ◌∙◌, subst, arith, false, ◌==◌, Option, Some, None, MatchOption, add-one, length-append, drop-cons, drop-append-add, get_or-append_seam, take-append_seam, nat_tests, get_or-append-add, get_or_append_left, take-append-drop, AllByRecursion, join_with_byte, AreGroups, AreIp6Ends, IsGroup, IsIp6, IsWholeIp6, IsDoubleColon, shortened, whole, has}
-use Rattle.std.proofs.lemmas.Bool.{or_parts}
-use Rattle.flt_words.specs.declared.address.Group.TheVariants as group
-use Rattle.flt_words.proofs.Groups.{group_lacks, group_some}
+use Rattle.flt_words.proofs.Common.{◌≡◌, ◌≢◌, ℕ, suc, zero, ◌+◌, ◌<◌, List, [], ◌∷◌, ◌++◌, length, get_or, take, drop, refl, sym, ap, ◌∙◌, subst, arith, false, ◌==◌, Option, Some, None, MatchOption, add-one, length-append, drop-cons, drop-append-add, get_or-append_seam, take-append_seam, nat_tests, get_or-append-add, get_or_append_left, take-append-drop, AllByRecursion, join_with_byte, AreGroups, AreIp6Ends, IsGroup, IsIp6, IsWholeIp6, IsDoubleColon, shortened, whole, has, or_parts, Group}
+use Rattle.flt_words.proofs.AddressValues.{group_lacks, group_some}
 
 -- each colon stands before another byte
 abbrev Parted : List ℕ → Type 0
-Parted [] = Unit {0}
-Parted (b ∷ rest) = (b ≡ 58 → (get_or rest 0 0 ≢ 58) × (0 < length rest)) × Parted rest
+Parted text = (k : ℕ) → get_or text k 0 ≡ 58 → (get_or text (suc k) 0 ≢ 58) × (suc k < length text)
 
 is_not : (b : ℕ) → (b == 58) ≡ false → b ≢ 58
 is_not b h = grind (arith, nat_tests)
 
-within : (text : List ℕ) (k : ℕ) → get_or text k 0 ≡ 58 → k < length text
-within [] k h = absurd (omega arith)
-within (b ∷ text) zero h = omega arith
-within (b ∷ text) (suc k) h = omega (arith, within text k h)
-
-parted_at : (text : List ℕ) (k : ℕ) → Parted text → get_or text k 0 ≡ 58 → (get_or text (suc k) 0 ≢ 58) × (suc k < length text)
-parted_at [] k p h = absurd (omega arith)
-parted_at (b ∷ text) zero p h = let next = p.0 h in (next.0, omega (arith, next.1))
-parted_at (b ∷ text) (suc k) p h = let next = parted_at text k p.1 h in (next.0, omega (arith, next.1))
+parted_more : (b : ℕ) (text : List ℕ) → (b ≡ 58 → (get_or text 0 0 ≢ 58) × (0 < length text)) → Parted text → Parted (b ∷ text)
+parted_more b text first p zero h = let next = first h in (next.0, omega (arith, next.1))
+parted_more b text first p (suc k) h = let next = p k h in (next.0, omega (arith, next.1))
 
 parted_digits : (text : List ℕ) → has 58 text ≡ false → Parted text
-parted_digits [] lacks = tt
+parted_digits [] lacks = λ k h. absurd (omega arith)
 parted_digits (b ∷ text) lacks =
     let parts = or_parts (b == 58) (has 58 text) lacks in
-    (λ e. absurd (is_not b parts.0 e), parted_digits text parts.1)
+    parted_more b text (λ e. absurd (is_not b parts.0 e)) (parted_digits text parts.1)
 
 parted_before : (front rest : List ℕ) → has 58 front ≡ false → get_or rest 0 0 ≢ 58 → 0 < length rest → Parted rest → Parted (front ++ 58 ∷ rest)
-parted_before [] rest lacks other some p = (λ e. (other, some), p)
+parted_before [] rest lacks other some p = parted_more 58 rest (λ e. (other, some)) p
 parted_before (b ∷ front) rest lacks other some p =
     let parts = or_parts (b == 58) (has 58 front) lacks in
-    (λ e. absurd (is_not b parts.0 e), parted_before front rest parts.1 other some p)
+    parted_more b (front ++ 58 ∷ rest) (λ e. absurd (is_not b parts.0 e)) (parted_before front rest parts.1 other some p)
 
 begins_with_digit : (digits : List ℕ) → 0 < length digits → has 58 digits ≡ false → get_or digits 0 0 ≢ 58
 begins_with_digit [] some lacks = absurd (omega arith)
 begins_with_digit (b ∷ digits) some lacks = is_not b (or_parts (b == 58) (has 58 digits) lacks).0
 
-first_of_joined : (first : List ℕ) (groups : List (List ℕ)) → IsGroup group.Quad first → (get_or (join_with_byte 58 (first ∷ groups)) 0 0 ≢ 58) × (0 < length (join_with_byte 58 (first ∷ groups)))
+first_of_joined : (first : List ℕ) (groups : List (List ℕ)) → IsGroup Group.Quad first → (get_or (join_with_byte 58 (first ∷ groups)) 0 0 ≢ 58) × (0 < length (join_with_byte 58 (first ∷ groups)))
 first_of_joined first [] g =
-    let some = group_some group.Quad first g in
-    (begins_with_digit first some (group_lacks group.Quad first g), some)
+    let some = group_some Group.Quad first g in
+    (begins_with_digit first some (group_lacks Group.Quad first g), some)
 first_of_joined first (second ∷ groups) g =
-    let some = group_some group.Quad first g in
-    (rw get_or_append_left (begins_with_digit first some (group_lacks group.Quad first g)), simp length-append (omega arith))
+    let some = group_some Group.Quad first g in
+    (rw get_or_append_left (begins_with_digit first some (group_lacks Group.Quad first g)), simp length-append (omega arith))
 
-parted_joined : (groups : List (List ℕ)) → AllByRecursion (IsGroup group.Quad) groups → Parted (join_with_byte 58 groups)
-parted_joined [] each = tt
-parted_joined (g ∷ []) each = parted_digits g (group_lacks group.Quad g each.0)
+parted_joined : (groups : List (List ℕ)) → AllByRecursion (IsGroup Group.Quad) groups → Parted (join_with_byte 58 groups)
+parted_joined [] each = parted_digits [] refl
+parted_joined (g ∷ []) each = parted_digits g (group_lacks Group.Quad g each.0)
 parted_joined (g ∷ h ∷ groups) each =
     let next = first_of_joined h groups each.1.0 in
-    parted_before g (join_with_byte 58 (h ∷ groups)) (group_lacks group.Quad g each.0) next.0 next.1 (parted_joined (h ∷ groups) each.1)
+    parted_before g (join_with_byte 58 (h ∷ groups)) (group_lacks Group.Quad g each.0) next.0 next.1 (parted_joined (h ∷ groups) each.1)
 
-parted : {text : List ℕ} {groups : List (List ℕ)} → AreGroups group.Quad text groups → Parted text
+parted : {text : List ℕ} {groups : List (List ℕ)} → AreGroups Group.Quad text groups → Parted text
 parted {text} {groups} are = subst Parted (sym are.joined) (parted_joined groups are.each)
 
 -- groups alone have no two colons in a row
-pub no_double_colon : {text : List ℕ} {groups : List (List ℕ)} (k : ℕ) → AreGroups group.Quad text groups → IsDoubleColon text k → ⊥
-no_double_colon {text} {groups} k are double = (parted_at text k (parted are) double.0).0 (rw add-one at double.1)
+pub no_double_colon : {text : List ℕ} {groups : List (List ℕ)} (k : ℕ) → AreGroups Group.Quad text groups → IsDoubleColon text k → ⊥
+no_double_colon {text} {groups} k are double = (parted are k double.0).0 (rw add-one at double.1)
 
 pub double_between : (front back : List ℕ) → IsDoubleColon (front ++ 58 ∷ 58 ∷ back) (length front)
 double_between front back = (get_or-append_seam front 58 (58 ∷ back) 0, get_or-append-add front (58 ∷ 58 ∷ back) 1 0)
 
-none_before : (front back : List ℕ) (k : ℕ) → Parted front → k < length front → IsDoubleColon (front ++ 58 ∷ 58 ∷ back) k → ⊥
-none_before front back k p below double =
+pub none_before_first : {front : List ℕ} {groups : List (List ℕ)} (back : List ℕ) → AreGroups Group.Quad front groups → (k : ℕ) → k < length front → IsDoubleColon (front ++ 58 ∷ 58 ∷ back) k → ⊥
+none_before_first {front} back are k below double =
     let at : get_or front k 0 ≡ 58 = sym (get_or_append_left front (58 ∷ 58 ∷ back) 0 k below) ∙ double.0 in
-    let next = parted_at front k p at in
+    let next = parted are k at in
     next.0 (sym (get_or_append_left front (58 ∷ 58 ∷ back) 0 (suc k) next.1) ∙ (rw add-one at double.1))
 
-pub none_before_first : {front : List ℕ} {groups : List (List ℕ)} (back : List ℕ) → AreGroups group.Quad front groups → (k : ℕ) → k < length front → IsDoubleColon (front ++ 58 ∷ 58 ∷ back) k → ⊥
-none_before_first {front} back are k below double = none_before front back k (parted are) below double
-
 -- so the first two colons follow the first groups
-pub first_double_colon : (front back : List ℕ) (groups : List (List ℕ)) (i : ℕ) → AreGroups group.Quad front groups → IsDoubleColon (front ++ 58 ∷ 58 ∷ back) i → ((k : ℕ) → k < i → IsDoubleColon (front ++ 58 ∷ 58 ∷ back) k → ⊥) → i ≡ length front
+pub first_double_colon : (front back : List ℕ) (groups : List (List ℕ)) (i : ℕ) → AreGroups Group.Quad front groups → IsDoubleColon (front ++ 58 ∷ 58 ∷ back) i → ((k : ℕ) → k < i → IsDoubleColon (front ++ 58 ∷ 58 ∷ back) k → ⊥) → i ≡ length front
 first_double_colon front back groups i are double first =
-    let not_below : i < length front → ⊥ = λ below. none_before front back i (parted are) below double in
+    let not_below : i < length front → ⊥ = λ below. none_before_first back are i below double in
     let not_above : length front < i → ⊥ = λ above. first (length front) above (double_between front back) in
     omega arith
 

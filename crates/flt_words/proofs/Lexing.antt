@@ -44,17 +44,11 @@ pub counted_more : (p : ℕ → Bool) (text : List ℕ) (at n : ℕ) → count_b
 counted_more p text at n = ap (count_by p) (take-add at n text) ∙ sum_by-append (λ b. cond (p b) 1 0) (take at text) (take n (drop at text))
 
 -- a blank is no bracket
-blank_opens_none : (b : ℕ) → is_blank b ≡ true → (b == 91) ≡ false
-blank_opens_none b h = grind (arith, nat_tests)
+blank_differs : (b c : ℕ) → is_blank b ≡ true → is_blank c ≡ false → (b == c) ≡ false
+blank_differs b c is other = grind (arith, nat_tests)
 
-blank_closes_none : (b : ℕ) → is_blank b ≡ true → (b == 93) ≡ false
-blank_closes_none b h = grind (arith, nat_tests)
-
-pub blank_keeps_opened : (text : List ℕ) (at : ℕ) → at < length text → is_blank (get_or text at 0) ≡ true → count_by (λ b. b == 91) (take (at + 1) text) ≡ count_by (λ b. b == 91) (take at text)
-blank_keeps_opened text at within is = count_by_more_no (λ b. b == 91) text at 0 within (blank_opens_none (get_or text at 0) is)
-
-pub blank_keeps_closed : (text : List ℕ) (at : ℕ) → at < length text → is_blank (get_or text at 0) ≡ true → count_by (λ b. b == 93) (take (at + 1) text) ≡ count_by (λ b. b == 93) (take at text)
-blank_keeps_closed text at within is = count_by_more_no (λ b. b == 93) text at 0 within (blank_closes_none (get_or text at 0) is)
+pub blank_keeps : (c : ℕ) (text : List ℕ) (at : ℕ) → is_blank c ≡ false → at < length text → is_blank (get_or text at 0) ≡ true → count_by (λ b. b == c) (take (at + 1) text) ≡ count_by (λ b. b == c) (take at text)
+blank_keeps c text at other within is = count_by_more_no (λ b. b == c) text at 0 within (blank_differs (get_or text at 0) c is other)
 
 -- the counted brackets tell whether a byte stands inside
 pub inside_at : (P : Bool → List ℕ → Type 0) (text : List ℕ) (at opened closed : ℕ) → opened ≡ count_by (λ b. b == 91) (take at text) → closed ≡ count_by (λ b. b == 93) (take at text)

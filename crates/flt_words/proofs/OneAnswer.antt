@@ -1,8 +1,7 @@
 -- A text has one answer at most.
-use Rattle.flt_words.proofs.Common.{◌≡◌, ℕ, suc, zero, ◌+◌, ◌<◌, ◌≤◌, List, [], ◌∷◌, length, get_or, take, drop, refl, sym, ap, ◌∙◌, subst, arith, Bool, true, false, Result, Ok, Err, Some, length-drop, length-take-le, get_or-drop, add-zero, Option, false≢true, nat_tests, ExprFault, Token, TokenKind, is_blank, is_inside, starts_word, symbol_of, IsLongest, IsPiece, IsRefused, IsToken, IsWordPiece, PieceMeans, Tokens, TokensFrom, before, symbol, word, bad_piece, no_piece, symbol_meaning, word_meaning, at_end, blank, refused, token, short, too_long, Spells, WordMeans, fits, known, too_large, unknown}
+use Rattle.flt_words.proofs.Common.{◌≡◌, ℕ, suc, zero, ◌+◌, ◌<◌, ◌≤◌, List, [], ◌∷◌, length, get_or, take, drop, refl, sym, ap, ◌∙◌, subst, arith, Bool, true, false, Result, Ok, Err, Some, length-drop, length-take-le, get_or-drop, add-zero, false≢true, nat_tests, ExprFault, Token, TokenKind, is_blank, is_inside, starts_word, symbol_of, IsLongest, IsPiece, IsRefused, IsToken, IsWordPiece, PieceMeans, Tokens, TokensFrom, before, symbol, word, bad_piece, no_piece, symbol_meaning, word_meaning, at_end, blank, refused, token, short, too_long, Spells, WordMeans, fits, known, too_large, unknown}
 use Rattle.flt_words.proofs.OneKind.{same_kind}
-use Rattle.flt_words.proofs.Pieces.{longest_some, taken, word_some}
-use Rattle.flt_words.proofs.Symbols.{symbol_piece}
+use Rattle.flt_words.proofs.{Pieces.longest_some, Pieces.taken, Pieces.word_some, Tables.symbol_piece}
 
 fits_apart : {word : List ℕ} {a b : TokenKind} → Spells word a → Spells word b → fits a ≡ true → fits b ≡ false → ⊥
 fits_apart v w fit no_fit = false≢true (sym no_fit ∙ ap fits (same_kind w v) ∙ fit)
@@ -25,10 +24,7 @@ same_means : {inside : Bool} {place : ℕ} {text : List ℕ} {a b : Result Token
 same_means (word_meaning v m) (word_meaning w n) = same_word m n
 same_means (word_meaning v m) (symbol_meaning found) = absurd (no_symbol v found)
 same_means (symbol_meaning found) (word_meaning v m) = absurd (no_symbol v found)
-same_means (symbol_meaning found) (symbol_meaning other) = same_found found other
-  where
-    same_found : {o : Option TokenKind} {a b : TokenKind} → o ≡ Some a → o ≡ Some b → ◌≡◌ {A = Result TokenKind ExprFault} (Ok a) (Ok b)
-    same_found e f = cc
+same_means (symbol_meaning found) (symbol_meaning other) = cc
 
 same_length : {inside : Bool} {rest : List ℕ} {m n : ℕ} → IsLongest inside rest m → IsLongest inside rest n → m ≡ n
 same_length {inside} {rest} {m} {n} v w = omega (arith, v.longest n w.in_range w.piece, w.longest m v.in_range v.piece)
@@ -38,19 +34,13 @@ same_token : {inside : Bool} {place m n : ℕ} {rest : List ℕ} {a b : TokenKin
 same_token {inside} {place} {m} {n} {rest} {a} {b} v w =
     let long = same_length v.longest w.longest in
     let means : PieceMeans inside place (take m rest) (Ok b) = subst (λ k. PieceMeans inside place (take k rest) (Ok b)) (sym long) w.means in
-    (long, ok_same (same_means v.means means))
-  where
-    ok_same : ◌≡◌ {A = Result TokenKind ExprFault} (Ok a) (Ok b) → a ≡ b
-    ok_same e = cc
-
-no_err_is_ok : {a : TokenKind} {e : ExprFault} → ◌≡◌ {A = Result TokenKind ExprFault} (Ok a) (Err e) → ⊥
-no_err_is_ok same = cc
+    (long, cc (same_means v.means means))
 
 token_or_refused : {inside : Bool} {place n : ℕ} {rest : List ℕ} {a : TokenKind} {e : ExprFault} → IsToken inside place rest a n → IsRefused inside place rest e → ⊥
 token_or_refused {inside} {place} {n} {rest} v (no_piece none) = none n v.longest.in_range v.longest.piece
 token_or_refused {inside} {place} {n} {rest} v (bad_piece {n = m} {refusal} longest means) =
     let long = same_length longest v.longest in
-    no_err_is_ok (same_means v.means (subst (λ k. PieceMeans inside place (take k rest) (Err refusal)) long means))
+    cc (same_means v.means (subst (λ k. PieceMeans inside place (take k rest) (Err refusal)) long means))
 
 same_refusal : {inside : Bool} {place : ℕ} {rest : List ℕ} {d e : ExprFault} → IsRefused inside place rest d → IsRefused inside place rest e → d ≡ e
 same_refusal (no_piece none) (no_piece other) = refl
@@ -58,15 +48,11 @@ same_refusal (no_piece none) (bad_piece {n} longest means) = absurd (none n long
 same_refusal (bad_piece {n} longest means) (no_piece none) = absurd (none n longest.in_range longest.piece)
 same_refusal {inside} {place} {rest} (bad_piece {refusal = d} longest means) (bad_piece {refusal = e} other_longest other_means) =
     let long = same_length other_longest longest in
-    err_same (same_means means (subst (λ k. PieceMeans inside place (take k rest) (Err e)) long other_means))
-  where
-    err_same : {x y : ExprFault} → ◌≡◌ {A = Result TokenKind ExprFault} (Err x) (Err y) → x ≡ y
-    err_same same = cc
+    cc (same_means means (subst (λ k. PieceMeans inside place (take k rest) (Err e)) long other_means))
 
 -- a blank begins no token
 blank_starts_none : (inside : Bool) (b : ℕ) → is_blank b ≡ true → starts_word inside b ≡ false
-blank_starts_none true b is = grind (arith, nat_tests)
-blank_starts_none false b is = grind (arith, nat_tests)
+blank_starts_none inside b is = grind (arith, nat_tests)
 
 piece_not_blank : (inside : Bool) (rest : List ℕ) (m : ℕ) → m ≤ length rest → IsPiece inside (take m rest) → is_blank (get_or rest 0 0) ≡ true → ⊥
 piece_not_blank inside rest m within (word w) is =

@@ -1,48 +1,51 @@
 -- The longest piece at the front of a text.
-use Rattle.flt_words.proofs.Common.{◌≡◌, ℕ, ◌+◌, ◌-◌, ◌<◌, ◌≤◌, suc, zero, List, [], ◌∷◌, below_more, length, get_or, take, refl, sym, ap, ◌∙◌, arith, Bool, true, false, length-take-le, Some, None, ◌⊎◌, inl, inr, subst, ⊎_elim, cases_lt, false≢true, get_or-take, TokenKind, starts_word, within_word, symbol_of, IsLongest, IsPiece, IsWordPiece, symbol, word}
-use Rattle.flt_words.proofs.Symbols.{symbol_piece}
+use Rattle.flt_words.proofs.Common.{◌≡◌, ℕ, ◌+◌, ◌-◌, ◌<◌, ◌≤◌, ◌≢◌, suc, zero, List, [], ◌∷◌, below_more, length, get_or, take, refl, sym, ap, ◌∙◌, arith, Bool, true, false, length-take-le, Some, None, lit<, lit≤, subst, ⊎_elim, cases_lt, false≢true, get_or-take, TokenKind, starts_word, within_word, symbol_of, IsLongest, IsPiece, IsWordPiece, symbol, word}
+use Rattle.flt_words.proofs.Tables.{symbol_piece}
 
 -- what the loop over a word's bytes finds out, up to where it stops
 pub record IsScanned (inside : Bool) (rest : List ℕ) (len stop : ℕ) : Type 0 where
   pub so_far : len ≤ stop
-  pub some : 0 < stop → 0 < len
+  pub some : 0 < len
   pub within : (k : ℕ) → k < stop → within_word inside (get_or rest k 0) ≡ true
-  pub ends : 0 < len → starts_word inside (get_or rest (len - 1) 0) ≡ true
+  pub ends : starts_word inside (get_or rest (len - 1) 0) ≡ true
   pub later : (k : ℕ) → len ≤ k → k < stop → starts_word inside (get_or rest k 0) ≡ false
 
 starts_at_none : (inside : Bool) → starts_word inside 0 ≡ false
 starts_at_none true = refl
 starts_at_none false = refl
 
-begins_some : (inside : Bool) (rest : List ℕ) → starts_word inside (get_or rest 0 0) ≡ true → 0 < length rest
+pub begins_some : (inside : Bool) (rest : List ℕ) → starts_word inside (get_or rest 0 0) ≡ true → 0 < length rest
 begins_some inside [] begins = absurd (false≢true (sym (starts_at_none inside) ∙ begins))
 begins_some inside (b ∷ rest) begins = omega arith
 
-starts_within : (inside : Bool) (b : ℕ) → starts_word inside b ≡ true → within_word inside b ≡ true
-starts_within inside b starts = rw starts refl
+-- its first byte
+pub scanned_first : {inside : Bool} {rest : List ℕ} → starts_word inside (get_or rest 0 0) ≡ true → IsScanned inside rest 1 1
+scanned_first {inside} {rest} starts = record {
+  so_far = lit≤ tt;
+  some = lit< tt;
+  within = below_more (λ k. within_word inside (get_or rest k 0) ≡ true) 0 (λ k none. absurd (omega arith)) (rw starts refl);
+  ends = starts;
+  later = λ k low high. absurd (omega arith);
+}
 
 -- one more byte
 pub scanned_end : {inside : Bool} {rest : List ℕ} {len i : ℕ} → IsScanned inside rest len i → within_word inside (get_or rest i 0) ≡ true → starts_word inside (get_or rest i 0) ≡ true → IsScanned inside rest (i + 1) (i + 1)
 scanned_end {inside} {rest} {len} {i} scanned within starts = record {
   so_far = omega arith;
-  some = λ h. omega arith;
+  some = omega arith;
   within = below_more (λ k. within_word inside (get_or rest k 0) ≡ true) i scanned.within within;
-  ends = λ h. let last : i + 1 - 1 ≡ i = omega arith in rw last starts;
+  ends = let last : i + 1 - 1 ≡ i = omega arith in rw last starts;
   later = λ k low high. absurd (omega arith);
 }
 
-pub scanned_between : {inside : Bool} {rest : List ℕ} {len i : ℕ} → IsScanned inside rest len i → within_word inside (get_or rest i 0) ≡ true → starts_word inside (get_or rest i 0) ≡ false → starts_word inside (get_or rest 0 0) ≡ true → IsScanned inside rest len (i + 1)
-scanned_between {inside} {rest} {len} {i} scanned within other begins = record {
+pub scanned_between : {inside : Bool} {rest : List ℕ} {len i : ℕ} → IsScanned inside rest len i → within_word inside (get_or rest i 0) ≡ true → starts_word inside (get_or rest i 0) ≡ false → IsScanned inside rest len (i + 1)
+scanned_between {inside} {rest} {len} {i} scanned within other = record {
   so_far = omega (arith, scanned.so_far);
-  some = λ h. scanned.some (some_before i refl);
+  some = scanned.some;
   within = below_more (λ k. within_word inside (get_or rest k 0) ≡ true) i scanned.within within;
   ends = scanned.ends;
   later = λ k low high. ⊎_elim (λ below. scanned.later k low below) (λ above. let here : k ≡ i = omega arith in rw here other) (cases_lt k i);
 }
-  where
-    some_before : (n : ℕ) → i ≡ n → 0 < i
-    some_before (suc n) e = omega arith
-    some_before zero e = absurd (false≢true (sym other ∙ ap (λ k. starts_word inside (get_or rest k 0)) e ∙ begins))
 
 -- a piece reads as its text does
 pub taken : (rest : List ℕ) (m i : ℕ) → i < m → get_or (take m rest) i 0 ≡ get_or rest i 0
@@ -69,14 +72,14 @@ module _ (inside : Bool) (rest : List ℕ) (len stop : ℕ) (scanned : IsScanned
   no_longer_word : (m : ℕ) → m ≤ length rest → IsWordPiece inside (take m rest) → m ≤ len
   no_longer_word m within w = ⊎_elim (λ longer. absurd (⊎_elim (λ past. past_stop m within past w) (λ here. false≢true (sym (scanned.later (m - 1) (omega arith) (omega (arith, word_some inside rest m w))) ∙ last_starts inside rest m (word_some inside rest m w) within w)) (cases_lt stop m))) (λ shorter. shorter) (cases_lt len m)
 
-  scanned_word : 0 < len → IsWordPiece inside (take len rest)
-  scanned_word some =
+  scanned_word : IsWordPiece inside (take len rest)
+  scanned_word =
       let below : len ≤ length rest = omega (arith, scanned.so_far) in
       let long : length (take len rest) ≡ len = length-take-le len rest below in
       record {
-        begins = ap (starts_word inside) (taken rest len 0 some) ∙ begins;
+        begins = ap (starts_word inside) (taken rest len 0 scanned.some) ∙ begins;
         within = λ i h. let low : i < len = omega arith in ap (within_word inside) (taken rest len i low) ∙ scanned.within i (omega (arith, scanned.so_far));
-        ends = ap (λ k. starts_word inside (get_or (take len rest) (k - 1) 0)) long ∙ ap (starts_word inside) (taken rest len (len - 1) (omega arith)) ∙ scanned.ends some;
+        ends = ap (λ k. starts_word inside (get_or (take len rest) (k - 1) 0)) long ∙ ap (starts_word inside) (taken rest len (len - 1) (omega (arith, scanned.some))) ∙ scanned.ends;
       }
 
   no_longer : (m : ℕ) → m ≤ length rest → IsPiece inside (take m rest) → m ≤ len
@@ -86,16 +89,8 @@ module _ (inside : Bool) (rest : List ℕ) (len stop : ℕ) (scanned : IsScanned
       let some : 0 < m = omega (arith, is.some, length-take-le m rest within) in
       absurd (false≢true (sym is.starts_none ∙ ap (starts_word inside) (taken rest m 0 some) ∙ begins))
 
-  -- the first byte belongs to the word
-  stop_some : (n : ℕ) → stop ≡ n → 0 < stop
-  stop_some (suc n) e = omega arith
-  stop_some zero e =
-      let nonempty : 0 < length rest = begins_some inside rest begins in
-      let other : within_word inside (get_or rest 0 0) ≡ false = ap (λ k. within_word inside (get_or rest k 0)) (sym e) ∙ stops (omega arith) in
-      absurd (false≢true (sym other ∙ starts_within inside (get_or rest 0 0) begins))
-
   pub longest_word : IsLongest inside rest len
-  longest_word = record { in_range = omega (arith, scanned.so_far); piece = word (scanned_word (scanned.some (stop_some stop refl))); longest = no_longer }
+  longest_word = record { in_range = omega (arith, scanned.so_far); piece = word scanned_word; longest = no_longer }
 
 -- where no word begins, no piece is one
 no_word : (inside : Bool) (rest : List ℕ) (m : ℕ) → starts_word inside (get_or rest 0 0) ≡ false → IsWordPiece inside (take m rest) → ⊥
@@ -103,47 +98,41 @@ no_word inside rest m other w =
     let first = taken rest m 0 (word_some inside rest m w) in
     false≢true (sym other ∙ sym (ap (starts_word inside) first) ∙ w.begins)
 
-few_bytes : (inside : Bool) (rest : List ℕ) (m : ℕ) → m ≤ length rest → starts_word inside (get_or rest 0 0) ≡ false → IsPiece inside (take m rest) → m ≤ 2
-few_bytes inside rest m within other (word w) = absurd (no_word inside rest m other w)
-few_bytes inside rest m within other (symbol {kind} found) = omega (arith, (symbol_piece inside (take m rest) kind found).upper_bound, length-take-le m rest within)
-
 some_bytes : (inside : Bool) (rest : List ℕ) (m : ℕ) → m ≤ length rest → IsPiece inside (take m rest) → 0 < m
 some_bytes inside rest m within (word w) = word_some inside rest m w
 some_bytes inside rest m within (symbol {kind} found) = omega (arith, (symbol_piece inside (take m rest) kind found).some, length-take-le m rest within)
 
-no_piece_where : (inside : Bool) (rest : List ℕ) (m : ℕ) → starts_word inside (get_or rest 0 0) ≡ false → symbol_of inside (take m rest) ≡ None → IsPiece inside (take m rest) → ⊥
-no_piece_where inside rest m other none (word w) = no_word inside rest m other w
-no_piece_where inside rest m other none (symbol found) = cc
+-- but a symbol of at most two bytes
+record IsSymbolOf (inside : Bool) (rest : List ℕ) (m : ℕ) : Type 0 where
+  some : 0 < m
+  upper_bound : m ≤ 2
+  found : symbol_of inside (take m rest) ≢ None
+
+only_symbol : {inside : Bool} {rest : List ℕ} (m : ℕ) → starts_word inside (get_or rest 0 0) ≡ false → m ≤ length rest → IsPiece inside (take m rest) → IsSymbolOf inside rest m
+only_symbol {inside} {rest} m other within (word w) = absurd (no_word inside rest m other w)
+only_symbol {inside} {rest} m other within (symbol {kind} is) = record {
+  some = some_bytes inside rest m within (symbol is);
+  upper_bound = omega (arith, (symbol_piece inside (take m rest) kind is).upper_bound, length-take-le m rest within);
+  found = λ none. cc;
+}
+
+not_of : {inside : Bool} {rest : List ℕ} {m : ℕ} (n : ℕ) → (n ≤ length rest → symbol_of inside (take n rest) ≡ None) → m ≤ length rest → IsSymbolOf inside rest m → m ≢ n
+not_of {inside} {rest} n none within is same = is.found (subst (λ k. symbol_of inside (take k rest) ≡ None) (sym same) (none (omega arith)))
 
 pub longest_two : {inside : Bool} {rest : List ℕ} {kind : TokenKind} → 2 ≤ length rest → starts_word inside (get_or rest 0 0) ≡ false → symbol_of inside (take 2 rest) ≡ Some kind → IsLongest inside rest 2
-longest_two {inside} {rest} {kind} long other found = record { in_range = long; piece = symbol found; longest = λ m within piece. few_bytes inside rest m within other piece }
-
-one_or_two : (n : ℕ) → 0 < n → n ≤ 2 → (n ≡ 1) ⊎ (n ≡ 2)
-one_or_two zero some upper_bound = absurd (omega arith)
-one_or_two (suc zero) some upper_bound = inl refl
-one_or_two (suc (suc n)) some upper_bound = inr (omega arith)
-
-not_two : (inside : Bool) (rest : List ℕ) (m : ℕ) → starts_word inside (get_or rest 0 0) ≡ false → (2 ≤ length rest → symbol_of inside (take 2 rest) ≡ None) → m ≤ length rest → m ≡ 2 → IsPiece inside (take m rest) → ⊥
-not_two inside rest m other none within two piece =
-    let piece_of_two : IsPiece inside (take 2 rest) = subst (λ k. IsPiece inside (take k rest)) two piece in
-    no_piece_where inside rest 2 other (none (omega arith)) piece_of_two
-
-not_one : (inside : Bool) (rest : List ℕ) (m : ℕ) → starts_word inside (get_or rest 0 0) ≡ false → (1 ≤ length rest → symbol_of inside (take 1 rest) ≡ None) → m ≤ length rest → m ≡ 1 → IsPiece inside (take m rest) → ⊥
-not_one inside rest m other none within one piece =
-    let piece_of_one : IsPiece inside (take 1 rest) = subst (λ k. IsPiece inside (take k rest)) one piece in
-    no_piece_where inside rest 1 other (none (omega arith)) piece_of_one
+longest_two long other found = record { in_range = long; piece = symbol found; longest = λ m within piece. (only_symbol m other within piece).upper_bound }
 
 pub longest_one : {inside : Bool} {rest : List ℕ} {kind : TokenKind} → 1 ≤ length rest → starts_word inside (get_or rest 0 0) ≡ false → (2 ≤ length rest → symbol_of inside (take 2 rest) ≡ None) → symbol_of inside (take 1 rest) ≡ Some kind → IsLongest inside rest 1
-longest_one {inside} {rest} {kind} some other none found = record {
+longest_one some other none found = record {
   in_range = some;
   piece = symbol found;
-  longest = λ m within piece. ⊎_elim (λ one. omega arith) (λ two. absurd (not_two inside rest m other none within two piece)) (one_or_two m (some_bytes inside rest m within piece) (few_bytes inside rest m within other piece));
+  longest = λ m within piece. let is = only_symbol m other within piece in omega (arith, is.upper_bound, not_of 2 none within is);
 }
 
 pub no_piece_at : (inside : Bool) (rest : List ℕ) → starts_word inside (get_or rest 0 0) ≡ false → (2 ≤ length rest → symbol_of inside (take 2 rest) ≡ None) → (1 ≤ length rest → symbol_of inside (take 1 rest) ≡ None)
     → (m : ℕ) → m ≤ length rest → IsPiece inside (take m rest) → ⊥
 no_piece_at inside rest other no_two no_one m within piece =
-    ⊎_elim (λ one. not_one inside rest m other no_one within one piece) (λ two. not_two inside rest m other no_two within two piece) (one_or_two m (some_bytes inside rest m within piece) (few_bytes inside rest m within other piece))
+    let is = only_symbol m other within piece in omega (arith, is.some, is.upper_bound, not_of 1 no_one within is, not_of 2 no_two within is)
 
 -- where a word begins, the longest piece is one
 pub longest_is_word : {inside : Bool} {rest : List ℕ} {n : ℕ} → IsLongest inside rest n → starts_word inside (get_or rest 0 0) ≡ true → IsWordPiece inside (take n rest)

@@ -1,30 +1,25 @@
 -- Addresses in words: groups of digits that a separator joins.
+use Rattle.std.specs.{Int.Digits.number_from_digits, List.AllByRecursion, List.join_with_byte}
 use Rattle.std.specs.Prelude.{◌≡◌, ◌≤◌, ◌+◌, ◌-◌, ℕ, List, ◌++◌, map, length, replicate, codes}
-use Rattle.std.specs.Int.Digits.{number_from_digits}
-use Rattle.std.specs.List.{AllByRecursion, join_with_byte}
 use Rattle.std.specs.Str.Parse.{IsNumeral, digits_value}
-use Rattle.flt_words.specs.declared.address.Group.{Group}
-use Rattle.flt_words.specs.declared.address.Group.TheVariants as group
-use Rattle.flt_words.specs.Numbers.{WritesDecimal}
+use Rattle.flt_words.specs.{Numbers.WritesDecimal, declared.address.Group.Group}
 
 -- what joins groups of a form: a point, or a colon
 abbrev pub separator_of : Group → ℕ
-separator_of group.Octet = 46
-separator_of group.Byte = 58
-separator_of group.Quad = 58
+separator_of Group.Octet = 46
+separator_of _ = 58
 
 -- digits of a group's form: decimal up to 255 without leading zeros, one or two hexadecimal, one to
 -- four hexadecimal
 abbrev pub IsGroup : Group → List ℕ → Type 0
-IsGroup group.Octet digits = (n : ℕ) × WritesDecimal digits n × (n ≤ 255)
-IsGroup group.Byte digits = IsNumeral 16 digits × (length digits ≤ 2)
-IsGroup group.Quad digits = IsNumeral 16 digits × (length digits ≤ 4)
+IsGroup Group.Octet digits = (n : ℕ) × WritesDecimal digits n × (n ≤ 255)
+IsGroup Group.Byte digits = IsNumeral 16 digits × (length digits ≤ 2)
+IsGroup Group.Quad digits = IsNumeral 16 digits × (length digits ≤ 4)
 
 -- the number that the digits of a group write
 abbrev pub group_value : Group → List ℕ → ℕ
-group_value group.Octet digits = digits_value 10 digits
-group_value group.Byte digits = digits_value 16 digits
-group_value group.Quad digits = digits_value 16 digits
+group_value Group.Octet digits = digits_value 10 digits
+group_value _ digits = digits_value 16 digits
 
 -- the numbers that the digits of groups write, in turn
 abbrev pub group_values : Group → List (List ℕ) → List ℕ
@@ -38,39 +33,41 @@ pub record AreGroups (form : Group) (text : List ℕ) (groups : List (List ℕ))
 -- the word is two to four parts of an IPv4 address, the missing ones 0
 pub record IsDotted (word : List ℕ) (address parts : ℕ) : Type 0 where
   pub groups : List (List ℕ)
-  pub are : AreGroups group.Octet word groups
+  pub are : AreGroups Group.Octet word groups
   pub at_least_two : 2 ≤ length groups
   pub at_most_four : length groups ≤ 4
   pub count : parts ≡ length groups
   pub value : address
-      ≡ number_from_digits 256 (group_values group.Octet groups ++ replicate (4 - length groups) 0)
+      ≡ number_from_digits 256 (group_values Group.Octet groups ++ replicate (4 - length groups) 0)
+
+-- the word is this many groups of a form, and the address the number that they write in a base
+pub record IsWholeAddress (form : Group) (base many : ℕ) (word : List ℕ)
+    (address : ℕ) : Type 0 where
+  pub groups : List (List ℕ)
+  pub are : AreGroups form word groups
+  pub all : length groups ≡ many
+  pub value : address ≡ number_from_digits base (group_values form groups)
 
 -- the word is the six bytes of a MAC address
-pub record IsMac (word : List ℕ) (address : ℕ) : Type 0 where
-  pub groups : List (List ℕ)
-  pub are : AreGroups group.Byte word groups
-  pub six : length groups ≡ 6
-  pub value : address ≡ number_from_digits 256 (group_values group.Byte groups)
+abbrev pub IsMac : List ℕ → ℕ → Type 0
+IsMac word address = IsWholeAddress Group.Byte 256 6 word address
 
 -- the word is the eight groups of an IPv6 address
-pub record IsWholeIp6 (word : List ℕ) (address : ℕ) : Type 0 where
-  pub groups : List (List ℕ)
-  pub are : AreGroups group.Quad word groups
-  pub eight : length groups ≡ 8
-  pub value : address ≡ number_from_digits 65536 (group_values group.Quad groups)
+abbrev pub IsWholeIp6 : List ℕ → ℕ → Type 0
+IsWholeIp6 word address = IsWholeAddress Group.Quad 65536 8 word address
 
 -- the two texts are at most seven groups of an IPv6 address together, and those left out between
 -- them are 0
 pub record AreIp6Ends (front back : List ℕ) (address : ℕ) : Type 0 where
   pub first : List (List ℕ)
   pub last : List (List ℕ)
-  pub are_first : AreGroups group.Quad front first
-  pub are_last : AreGroups group.Quad back last
+  pub are_first : AreGroups Group.Quad front first
+  pub are_last : AreGroups Group.Quad back last
   pub at_most_seven : length first + length last ≤ 7
   pub value : address
       ≡ number_from_digits 65536
-      (group_values group.Quad first
-      ++ (replicate (8 - (length first + length last)) 0 ++ group_values group.Quad last))
+      (group_values Group.Quad first
+      ++ (replicate (8 - (length first + length last)) 0 ++ group_values Group.Quad last))
 
 -- the word is an IPv6 address, in full or with one `::` for groups left out
 pub data IsIp6 : List ℕ → ℕ → Type 0 where

@@ -1,6 +1,6 @@
 -- The characters of which tokens are made.
-use Rattle.std.specs.Prelude.{ℕ, List, Bool, ◌==◌, ◌&&◌, ◌||◌, not, nat_lt, count_by}
 use Rattle.std.specs.Char.{is_ascii_alphanumeric}
+use Rattle.std.specs.Prelude.{ℕ, List, Bool, ◌==◌, ◌&&◌, ◌||◌, not, nat_lt, count_by}
 
 -- space, tab, line feed and carriage return
 abbrev pub is_blank : ℕ → Bool

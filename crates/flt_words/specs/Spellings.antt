@@ -1,16 +1,10 @@
 -- The tokens that have a fixed spelling.
-use Rattle.std.specs.Prelude.{ℕ, List, [], ◌∷◌, Bool, ◌&&◌, Option, Some, None, codes, if◌then◌else◌}
+use Rattle.std.specs.Prelude.{ℕ, List, [], ◌∷◌, Bool, ◌&&◌, Option, Some, None, codes}
+use Rattle.std.specs.Prelude.{if◌then◌else◌}
 use Rattle.std.specs.Str.{bytes_eq}
-use Rattle.flt_words.specs.declared.token.Cast.TheVariants as cast
-use Rattle.flt_words.specs.declared.token.Comparison.TheVariants as comparison
-use Rattle.flt_words.specs.declared.token.Join.TheVariants as join
-use Rattle.flt_words.specs.declared.token.Operator.TheVariants as operator
-use Rattle.flt_words.specs.declared.token.Protocol.TheVariants as protocol
-use Rattle.flt_words.specs.declared.token.Side.TheVariants as side
-use Rattle.flt_words.specs.declared.token.Size.TheVariants as size
-use Rattle.flt_words.specs.declared.token.TokenKind.{TokenKind}
-use Rattle.flt_words.specs.declared.token.TokenKind.TheVariants as token
-use Rattle.flt_words.specs.declared.token.ValueType.TheVariants as value
+use Rattle.flt_words.specs.declared.token.{Cast.Cast, Comparison.Comparison, Join.Join}
+use Rattle.flt_words.specs.declared.token.{Operator.Operator, Protocol.Protocol, Side.Side}
+use Rattle.flt_words.specs.declared.token.{Size.Size, TokenKind.TokenKind, ValueType.ValueType}
 
 -- a table of spellings with their tokens
 abbrev pub Spellings : Type 0
@@ -24,69 +18,69 @@ look_up (entry ∷ table) piece = if bytes_eq entry.0 piece then Some entry.1 el
 -- keywords, and from `tcpflags` on the names of header fields and TCP flags with their numbers
 unfoldable pub keywords : Spellings
 keywords =
-    (codes "and", token.Join join.And)
-    ∷ (codes "or", token.Join join.Or)
-    ∷ (codes "not", token.Not)
-    ∷ (codes "host", token.ValueType value.Host)
-    ∷ (codes "net", token.ValueType value.Net)
-    ∷ (codes "port", token.ValueType value.Port)
-    ∷ (codes "portrange", token.ValueType value.PortRange)
-    ∷ (codes "proto", token.ValueType value.Proto)
-    ∷ (codes "src", token.Side side.Source)
-    ∷ (codes "dst", token.Side side.Destination)
-    ∷ (codes "ether", token.Protocol protocol.Ether)
-    ∷ (codes "ip", token.Protocol protocol.Ip)
-    ∷ (codes "ip6", token.Protocol protocol.Ip6)
-    ∷ (codes "arp", token.Protocol protocol.Arp)
-    ∷ (codes "rarp", token.Protocol protocol.Rarp)
-    ∷ (codes "tcp", token.Protocol protocol.Tcp)
-    ∷ (codes "udp", token.Protocol protocol.Udp)
-    ∷ (codes "icmp", token.Protocol protocol.Icmp)
-    ∷ (codes "icmp6", token.Protocol protocol.Icmp6)
-    ∷ (codes "mask", token.Mask)
-    ∷ (codes "len", token.Len)
-    ∷ (codes "less", token.Size size.Less)
-    ∷ (codes "greater", token.Size size.Greater)
-    ∷ (codes "broadcast", token.Cast cast.Broadcast)
-    ∷ (codes "multicast", token.Cast cast.Multicast)
-    ∷ (codes "tcpflags", token.Name 13)
-    ∷ (codes "tcp-fin", token.Name 1)
-    ∷ (codes "tcp-syn", token.Name 2)
-    ∷ (codes "tcp-rst", token.Name 4)
-    ∷ (codes "tcp-push", token.Name 8)
-    ∷ (codes "tcp-ack", token.Name 16)
-    ∷ (codes "tcp-urg", token.Name 32)
-    ∷ (codes "icmptype", token.Name 0)
-    ∷ (codes "icmpcode", token.Name 1)
+    (codes "and", TokenKind.Join Join.And)
+    ∷ (codes "or", TokenKind.Join Join.Or)
+    ∷ (codes "not", TokenKind.Not)
+    ∷ (codes "host", TokenKind.ValueType ValueType.Host)
+    ∷ (codes "net", TokenKind.ValueType ValueType.Net)
+    ∷ (codes "port", TokenKind.ValueType ValueType.Port)
+    ∷ (codes "portrange", TokenKind.ValueType ValueType.PortRange)
+    ∷ (codes "proto", TokenKind.ValueType ValueType.Proto)
+    ∷ (codes "src", TokenKind.Side Side.Source)
+    ∷ (codes "dst", TokenKind.Side Side.Destination)
+    ∷ (codes "ether", TokenKind.Protocol Protocol.Ether)
+    ∷ (codes "ip", TokenKind.Protocol Protocol.Ip)
+    ∷ (codes "ip6", TokenKind.Protocol Protocol.Ip6)
+    ∷ (codes "arp", TokenKind.Protocol Protocol.Arp)
+    ∷ (codes "rarp", TokenKind.Protocol Protocol.Rarp)
+    ∷ (codes "tcp", TokenKind.Protocol Protocol.Tcp)
+    ∷ (codes "udp", TokenKind.Protocol Protocol.Udp)
+    ∷ (codes "icmp", TokenKind.Protocol Protocol.Icmp)
+    ∷ (codes "icmp6", TokenKind.Protocol Protocol.Icmp6)
+    ∷ (codes "mask", TokenKind.Mask)
+    ∷ (codes "len", TokenKind.Len)
+    ∷ (codes "less", TokenKind.Size Size.Less)
+    ∷ (codes "greater", TokenKind.Size Size.Greater)
+    ∷ (codes "broadcast", TokenKind.Cast Cast.Broadcast)
+    ∷ (codes "multicast", TokenKind.Cast Cast.Multicast)
+    ∷ (codes "tcpflags", TokenKind.Name 13)
+    ∷ (codes "tcp-fin", TokenKind.Name 1)
+    ∷ (codes "tcp-syn", TokenKind.Name 2)
+    ∷ (codes "tcp-rst", TokenKind.Name 4)
+    ∷ (codes "tcp-push", TokenKind.Name 8)
+    ∷ (codes "tcp-ack", TokenKind.Name 16)
+    ∷ (codes "tcp-urg", TokenKind.Name 32)
+    ∷ (codes "icmptype", TokenKind.Name 0)
+    ∷ (codes "icmpcode", TokenKind.Name 1)
     ∷ []
 
 -- `&&`, `||`, `!` and `==` are other spellings of `and`, `or`, `not` and `=`
 unfoldable pub symbols : Spellings
 symbols =
-    (codes "&&", token.Join join.And)
-    ∷ (codes "||", token.Join join.Or)
-    ∷ (codes "!=", token.Comparison comparison.NotEqual)
-    ∷ (codes "==", token.Comparison comparison.Equal)
-    ∷ (codes "<=", token.Comparison comparison.AtMost)
-    ∷ (codes ">=", token.Comparison comparison.AtLeast)
-    ∷ (codes "<<", token.Operator operator.ShiftLeft)
-    ∷ (codes ">>", token.Operator operator.ShiftRight)
-    ∷ (codes "(", token.Open)
-    ∷ (codes ")", token.Close)
-    ∷ (codes "[", token.OpenBracket)
-    ∷ (codes "]", token.CloseBracket)
-    ∷ (codes "/", token.Operator operator.Divide)
-    ∷ (codes "!", token.Not)
-    ∷ (codes "=", token.Comparison comparison.Equal)
-    ∷ (codes "<", token.Comparison comparison.Less)
-    ∷ (codes ">", token.Comparison comparison.Greater)
-    ∷ (codes "+", token.Operator operator.Add)
-    ∷ (codes "-", token.Operator operator.Subtract)
-    ∷ (codes "*", token.Operator operator.Multiply)
-    ∷ (codes "&", token.Operator operator.And)
-    ∷ (codes "|", token.Operator operator.Or)
-    ∷ (codes "%", token.Operator operator.Remainder)
-    ∷ (codes "^", token.Operator operator.ExclusiveOr)
+    (codes "&&", TokenKind.Join Join.And)
+    ∷ (codes "||", TokenKind.Join Join.Or)
+    ∷ (codes "!=", TokenKind.Comparison Comparison.NotEqual)
+    ∷ (codes "==", TokenKind.Comparison Comparison.Equal)
+    ∷ (codes "<=", TokenKind.Comparison Comparison.AtMost)
+    ∷ (codes ">=", TokenKind.Comparison Comparison.AtLeast)
+    ∷ (codes "<<", TokenKind.Operator Operator.ShiftLeft)
+    ∷ (codes ">>", TokenKind.Operator Operator.ShiftRight)
+    ∷ (codes "(", TokenKind.Open)
+    ∷ (codes ")", TokenKind.Close)
+    ∷ (codes "[", TokenKind.OpenBracket)
+    ∷ (codes "]", TokenKind.CloseBracket)
+    ∷ (codes "/", TokenKind.Operator Operator.Divide)
+    ∷ (codes "!", TokenKind.Not)
+    ∷ (codes "=", TokenKind.Comparison Comparison.Equal)
+    ∷ (codes "<", TokenKind.Comparison Comparison.Less)
+    ∷ (codes ">", TokenKind.Comparison Comparison.Greater)
+    ∷ (codes "+", TokenKind.Operator Operator.Add)
+    ∷ (codes "-", TokenKind.Operator Operator.Subtract)
+    ∷ (codes "*", TokenKind.Operator Operator.Multiply)
+    ∷ (codes "&", TokenKind.Operator Operator.And)
+    ∷ (codes "|", TokenKind.Operator Operator.Or)
+    ∷ (codes "%", TokenKind.Operator Operator.Remainder)
+    ∷ (codes "^", TokenKind.Operator Operator.ExclusiveOr)
     ∷ []
 
 -- the token of the keyword or name that a word is, or none if it is neither
@@ -97,4 +91,4 @@ keyword_of word = look_up keywords word
 -- token of its own only inside brackets
 abbrev pub symbol_of : Bool → List ℕ → Option TokenKind
 symbol_of inside piece =
-    if inside && bytes_eq piece (codes ":") then Some token.Colon else look_up symbols piece
+    if inside && bytes_eq piece (codes ":") then Some TokenKind.Colon else look_up symbols piece

@@ -1,12 +1,10 @@
 -- The tokens of a text.
-use Rattle.std.specs.Prelude.{◌≡◌, ◌<◌, ◌≤◌, ◌+◌, ◌-◌, ℕ, List, [], ◌∷◌, Bool, true, false, length, take, drop, slice_index, Some, Result, Ok, Err}
-use Rattle.flt_words.specs.declared.fault.ExprFault.{ExprFault}
-use Rattle.flt_words.specs.declared.fault.ExprFault.TheVariants as fault
-use Rattle.flt_words.specs.declared.token.Token.{Token}
-use Rattle.flt_words.specs.declared.token.TokenKind.{TokenKind}
+use Rattle.std.specs.Prelude.{◌≡◌, ◌<◌, ◌≤◌, ◌+◌, ◌-◌, ℕ, List, [], ◌∷◌, Bool, true, false, length}
+use Rattle.std.specs.Prelude.{take, drop, slice_index, Some, Result, Ok, Err}
 use Rattle.flt_words.specs.Characters.{is_blank, is_inside, starts_word, within_word}
 use Rattle.flt_words.specs.Spellings.{symbol_of}
-use Rattle.flt_words.specs.Words.{WordMeans}
+use Rattle.flt_words.specs.{Words.WordMeans, declared.fault.ExprFault.ExprFault}
+use Rattle.flt_words.specs.declared.token.{Token.Token, TokenKind.TokenKind}
 
 -- the piece could be a word: it begins and ends as words do, and has only bytes that a word may
 -- have
@@ -44,7 +42,7 @@ pub record IsToken (inside : Bool) (place : ℕ) (rest : List ℕ) (kind : Token
 -- longest one is a word of no kind or has too large a number
 pub data IsRefused (inside : Bool) (place : ℕ) (rest : List ℕ) : ExprFault → Type 0 where
   no_piece : ((n : ℕ) → n ≤ length rest → IsPiece inside (take n rest) → ⊥)
-      → IsRefused inside place rest (fault.UnknownCharacter place)
+      → IsRefused inside place rest (ExprFault.UnknownCharacter place)
   bad_piece : {n : ℕ} {refusal : ExprFault} → IsLongest inside rest n
       → PieceMeans inside place (take n rest) (Err refusal) → IsRefused inside place rest refusal
 
@@ -70,6 +68,6 @@ pub data TokensFrom (text : List ℕ) : ℕ → Result (List Token) ExprFault �
 
 -- the tokens of a text of at most 65,536 bytes, or its refusal
 pub data Tokens (text : List ℕ) : Result (List Token) ExprFault → Type 0 where
-  too_long : 65536 < length text → Tokens text (Err fault.TooLong)
+  too_long : 65536 < length text → Tokens text (Err ExprFault.TooLong)
   short : {answer : Result (List Token) ExprFault} → length text ≤ 65536 → TokensFrom text 0 answer
       → Tokens text answer

@@ -1,34 +1,31 @@
 -- What a word means.
 use Rattle.std.specs.Prelude.{◌≡◌, ℕ, List, Bool, ◌&&◌, true, false, Some, Result, Ok, Err}
-use Rattle.flt_words.specs.declared.fault.ExprFault.{ExprFault}
-use Rattle.flt_words.specs.declared.fault.ExprFault.TheVariants as fault
-use Rattle.flt_words.specs.declared.token.TokenKind.{TokenKind}
-use Rattle.flt_words.specs.declared.token.TokenKind.TheVariants as token
 use Rattle.flt_words.specs.Addresses.{IsDotted, IsIp6, IsMac}
 use Rattle.flt_words.specs.Numbers.{IsNumber, IsRange, is_word_sized}
 use Rattle.flt_words.specs.Spellings.{keyword_of}
+use Rattle.flt_words.specs.declared.{fault.ExprFault.ExprFault, token.TokenKind.TokenKind}
 
 -- the word is one for a token of this kind, however large its numbers are
 pub data Spells : List ℕ → TokenKind → Type 0 where
   keyword : {word : List ℕ} {kind : TokenKind} → keyword_of word ≡ Some kind → Spells word kind
-  number : {word : List ℕ} {n : ℕ} → IsNumber word n → Spells word (token.Number n)
+  number : {word : List ℕ} {n : ℕ} → IsNumber word n → Spells word (TokenKind.Number n)
   dotted : {word : List ℕ} {address parts : ℕ} → IsDotted word address parts
-      → Spells word (token.Dotted address parts)
+      → Spells word (TokenKind.Dotted address parts)
   range : {word : List ℕ} {first last : ℕ} → IsRange word first last
-      → Spells word (token.Range first last)
-  mac : {word : List ℕ} {address : ℕ} → IsMac word address → Spells word (token.Mac address)
-  ip6 : {word : List ℕ} {address : ℕ} → IsIp6 word address → Spells word (token.Ip6 address)
+      → Spells word (TokenKind.Range first last)
+  mac : {word : List ℕ} {address : ℕ} → IsMac word address → Spells word (TokenKind.Mac address)
+  ip6 : {word : List ℕ} {address : ℕ} → IsIp6 word address → Spells word (TokenKind.Ip6 address)
 
 -- a number is below 2 ^ 32, and so are both of a range; other tokens fit always
 abbrev pub fits : TokenKind → Bool
-fits (token.Number n) = is_word_sized n
-fits (token.Range first last) = is_word_sized first && is_word_sized last
+fits (TokenKind.Number n) = is_word_sized n
+fits (TokenKind.Range first last) = is_word_sized first && is_word_sized last
 fits _ = true
 
 -- what is answered for a word at a place: the kind of its token, or why it has none
 pub data WordMeans (place : ℕ) (word : List ℕ) : Result TokenKind ExprFault → Type 0 where
   known : {kind : TokenKind} → Spells word kind → fits kind ≡ true → WordMeans place word (Ok kind)
   too_large : {kind : TokenKind} → Spells word kind → fits kind ≡ false
-      → WordMeans place word (Err (fault.NumberTooLarge place))
+      → WordMeans place word (Err (ExprFault.NumberTooLarge place))
   unknown : ((kind : TokenKind) → Spells word kind → ⊥)
-      → WordMeans place word (Err (fault.UnknownWord place))
+      → WordMeans place word (Err (ExprFault.UnknownWord place))

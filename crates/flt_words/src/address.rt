@@ -2,13 +2,12 @@
 
 ghost use Rattle.std.specs.Prelude.{◌≡◌, ◌≤◌, ◌<◌, ◌+◌, ◌*◌, ◌^◌, ℕ, MatchOption, length};
 ghost use Rattle.std.specs.Str.Parse.{IsNumeral, digits_value};
-ghost use Rattle.flt_words.specs.declared.address.Group.TheVariants.{Octet};
-ghost use Rattle.flt_words.specs.Addresses.{AreIp6Ends, IsDotted};
-ghost use Rattle.flt_words.specs.inside.Addresses.{FindsAddress, IsDoubleColon};
-ghost use Rattle.flt_words.specs.Addresses.{IsGroup};
-ghost use Rattle.flt_words.specs.Addresses.{IsIp6, IsMac, IsWholeIp6};
-ghost use Rattle.flt_words.specs.inside.Addresses.{ReadsGroups, base_of};
+ghost use Rattle.flt_words.specs.Addresses.{AreIp6Ends, IsDotted, IsGroup, IsIp6, IsMac};
+ghost use Rattle.flt_words.specs.Addresses.{IsWholeAddress};
 ghost use Rattle.flt_words.specs.Addresses.{group_value, separator_of};
+ghost use Rattle.flt_words.specs.declared.address.Group.TheVariants.{Octet};
+ghost use Rattle.flt_words.specs.inside.Addresses.{FindsAddress, IsDoubleColon, ReadsGroups};
+ghost use Rattle.flt_words.specs.inside.Addresses.{base_of};
 
 use crate::number::{parse_decimal, parse_digits};
 
@@ -142,16 +141,24 @@ pub(crate) fn parse_dotted(word: &[u8]) -> Option<(u32, u8)>
     Some((address as u32, joined.count as u8))
 }
 
+/// Reads a word as this many groups, eight at most, the first the highest. `None` for other words.
+fn parse_whole(form: Group, many: u32, word: &[u8]) -> Option<u128>
+    requires { many ≤ 8 }
+    ensures { FindsAddress (IsWholeAddress form (base_of form) many word.now) result }
+{
+    let joined = parse_groups(form, word)?;
+    if joined.count != many {
+        return None;
+    }
+    Some(joined.value)
+}
+
 /// Reads a word as a MAC address, six bytes joined by colons: 48 bits, the first byte the highest.
 /// `None` for other words.
 pub(crate) fn parse_mac(word: &[u8]) -> Option<u64>
     ensures { FindsAddress (IsMac word.now) result }
 {
-    let joined = parse_groups(Group::Byte, word)?;
-    if joined.count != 6 {
-        return None;
-    }
-    Some(joined.value as u64)
+    Some(parse_whole(Group::Byte, 6, word)? as u64)
 }
 
 /// Reads a word as an IPv6 address: eight groups, or fewer with one `::` for the rest (RFC 4291,
@@ -162,19 +169,8 @@ pub(crate) fn parse_ip6(word: &[u8]) -> Option<u128>
 {
     match find_double_colon(word) {
         Some(at) => parse_shortened_ip6(&word[..at], &word[at + 2..]),
-        None => parse_whole_ip6(word),
+        None => parse_whole(Group::Quad, 8, word),
     }
-}
-
-/// An IPv6 address of eight groups, the first the highest 16 bits; `None` for other words.
-fn parse_whole_ip6(word: &[u8]) -> Option<u128>
-    ensures { FindsAddress (IsWholeIp6 word.now) result }
-{
-    let joined = parse_groups(Group::Quad, word)?;
-    if joined.count != 8 {
-        return None;
-    }
-    Some(joined.value)
 }
 
 /// An IPv6 address by the groups before and after its `::`: seven at most, since `::` is one or

@@ -2,11 +2,8 @@
 //! function does nothing.
 
 ghost use Rattle.std.specs.Prelude.{◌≡◌, List, Result, ℕ};
-ghost use Rattle.flt_words.specs.declared.fault.ExprFault.{ExprFault};
-ghost use Rattle.flt_words.specs.declared.token.Token.{Token};
-ghost use Rattle.flt_words.specs.declared.token.TokenKind.{TokenKind};
-ghost use Rattle.flt_words.specs.Tokens.{Tokens};
-ghost use Rattle.flt_words.specs.Words.{Spells};
+ghost use Rattle.flt_words.specs.{Tokens.Tokens, Words.Spells, declared.fault.ExprFault.ExprFault};
+ghost use Rattle.flt_words.specs.declared.token.{Token.Token, TokenKind.TokenKind};
 
 /// A word is of one kind at most, and means one value of it.
 pub fn one_kind()

@@ -3,12 +3,12 @@
 //! (`spelling`), or begin no token.
 
 ghost use Rattle.std.specs.Prelude.{◌≡◌, ◌≢◌, ◌<◌, ◌+◌, ◌==◌, ◌≤◌, IfErr, IfOk, MatchOption};
-ghost use Rattle.std.specs.Prelude.{MatchResult, Ok, Err, None, Some, length};
-ghost use Rattle.std.specs.Prelude.{slice_index, take, false, true, ℕ};
+ghost use Rattle.std.specs.Prelude.{MatchResult, Ok, Err, None, Some, length, slice_index, take};
+ghost use Rattle.std.specs.Prelude.{false, true, ℕ};
 ghost use Rattle.flt_words.specs.Characters.{is_blank, starts_word, within_word};
 ghost use Rattle.flt_words.specs.Spellings.{symbol_of};
-ghost use Rattle.flt_words.specs.Tokens.{IsLongest, IsPiece, IsRefused};
-ghost use Rattle.flt_words.specs.Tokens.{IsToken, PieceMeans, Tokens};
+ghost use Rattle.flt_words.specs.Tokens.{IsLongest, IsPiece, IsRefused, IsToken, PieceMeans};
+ghost use Rattle.flt_words.specs.Tokens.{Tokens};
 
 use crate::fault::ExprFault;
 use crate::spelling::symbol_of;
@@ -50,12 +50,12 @@ fn first_word_len(inside: bool, rest: &[u8]) -> usize
     requires { starts_word inside (slice_index rest.now 0) ≡ true }
     ensures { IsLongest inside rest.now result }
 {
-    let mut len = 0;
-    for (i, byte) in rest.iter().enumerate() {
-        if !within_word(inside, *byte) {
+    let mut len = 1;
+    for i in 1..rest.len() {
+        if !within_word(inside, rest[i]) {
             break;
         }
-        if starts_word(inside, *byte) {
+        if starts_word(inside, rest[i]) {
             len = i + 1;
         }
     }

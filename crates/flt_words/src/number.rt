@@ -1,10 +1,9 @@
 //! Reads numbers in words, and ranges of two numbers. All are below 2^32.
 
 ghost use Rattle.std.specs.Prelude.{◌≡◌, ◌≤◌, ◌&&◌, ◌==◌, position};
-ghost use Rattle.flt_words.specs.Numbers.{IsNumber, IsRange, WritesNumber};
-ghost use Rattle.flt_words.specs.inside.Numbers.{FindsMeaning};
-ghost use Rattle.flt_words.specs.Numbers.{WritesDecimal, is_word_sized};
-ghost use Rattle.flt_words.specs.inside.Numbers.{both_known};
+ghost use Rattle.flt_words.specs.Numbers.{IsNumber, IsRange, WritesNumber, WritesDecimal};
+ghost use Rattle.flt_words.specs.Numbers.{is_word_sized};
+ghost use Rattle.flt_words.specs.inside.Numbers.{FindsMeaning, both_known};
 
 use cap_octet::digits::{are_digits, digits_number};
 

@@ -1,28 +1,16 @@
 -- The parser's steps over plain lists: the frames and the nodes are listed latest first.
-use Rattle.std.specs.Prelude.{◌≡◌, ◌⊎◌, ℕ, suc, zero, ◌+◌, ◌-◌, ◌<◌, List, [], ◌∷◌, Option, Some, None, nat_le, length, if◌then◌else◌, option_and_then}
+use Rattle.std.specs.Prelude.{◌≡◌, ◌⊎◌, ℕ, suc, zero, ◌+◌, ◌-◌, ◌<◌, List, [], ◌∷◌, Option, Some}
+use Rattle.std.specs.Prelude.{None, Result, Err, IfErr, IfOk, nat_le, length, if◌then◌else◌}
+use Rattle.std.specs.Prelude.{option_and_then}
 use Rattle.flt_words.specs.declared.fault.ExprFault.{ExprFault}
-use Rattle.flt_words.specs.declared.fault.ExprFault.TheVariants as expr_fault
-use Rattle.flt_words.specs.declared.token.Protocol.{Protocol}
 use Rattle.flt_words.specs.declared.token.Operator.TheVariants.{Subtract, Divide}
-use Rattle.flt_words.specs.declared.token.TokenKind.{TokenKind}
-use Rattle.flt_words.specs.declared.token.TokenKind.TheVariants as token
-use Rattle.flt_ast.specs.declared.value.NetMask.{NetMask}
-use Rattle.flt_ast.specs.declared.value.NetMask.TheVariants as mask
-use Rattle.flt_ast.specs.declared.value.Value.{Value}
-use Rattle.flt_ast.specs.declared.value.Value.TheVariants as value
-use Rattle.flt_ast.specs.declared.qualifiers.Qualifiers.{Qualifiers}
-use Rattle.flt_ast.specs.declared.node.Node.{Node}
-use Rattle.flt_ast.specs.declared.node.Node.TheVariants as node
-use Rattle.flt_lang.specs.declared.frame.Frame.{Frame}
-use Rattle.flt_lang.specs.declared.frame.Frame.TheVariants as frame
-use Rattle.flt_lang.specs.declared.primitive.ProtocolRole.{ProtocolRole}
-use Rattle.flt_lang.specs.declared.primitive.ProtocolRole.TheVariants as role
-use Rattle.flt_lang.specs.declared.frame.Operand.{Operand}
-use Rattle.flt_lang.specs.declared.frame.Operand.TheVariants as operand
-use Rattle.flt_lang.specs.declared.frame.Sort.{Sort}
-use Rattle.flt_lang.specs.declared.frame.Sort.TheVariants as sort
-use Rattle.flt_lang.specs.inside.Values.{qualifiers_of, value_of}
+use Rattle.flt_words.specs.declared.token.{Protocol.Protocol, TokenKind.TokenKind}
+use Rattle.flt_ast.specs.declared.{node.Node.Node, qualifiers.Qualifiers.Qualifiers}
+use Rattle.flt_ast.specs.declared.value.{NetMask.NetMask, Value.Value}
 use Rattle.flt_lang.specs.Grammar.{level, stands_alone, is_accessor, has_casts}
+use Rattle.flt_lang.specs.declared.frame.{Frame.Frame, Operand.Operand, Sort.Sort}
+use Rattle.flt_lang.specs.declared.primitive.ProtocolRole.{ProtocolRole}
+use Rattle.flt_lang.specs.inside.Values.{qualifiers_of, value_of}
 
 -- what the parser keeps: the frames that wait and the nodes that are written
 pub record ReaderState : Type 0 where
@@ -36,35 +24,34 @@ o >>= f = option_and_then f o
 
 -- how loosely a frame binds its operand: 0 is the tightest
 abbrev pub precedence : Frame → ℕ
-precedence frame.Negate = 0
-precedence (frame.Apply o) = level o + 1
-precedence (frame.Compare c) = 5
-precedence frame.Not = 6
-precedence (frame.Join j) = 7
-precedence frame.Open = 9
-precedence (frame.Load p) = 9
+precedence Frame.Negate = 0
+precedence (Frame.Apply o) = level o + 1
+precedence (Frame.Compare c) = 5
+precedence Frame.Not = 6
+precedence (Frame.Join j) = 7
+precedence _ = 9
 
 -- the precedence of the loosest operand that the latest frame takes; without a frame, of the
 -- loosest one that a whole expression is
 abbrev pub operand_precedence : List Frame → ℕ
 operand_precedence [] = 7
-operand_precedence (frame.Negate ∷ fs) = 0
-operand_precedence (frame.Apply o ∷ fs) = level o
-operand_precedence (frame.Compare c ∷ fs) = 4
-operand_precedence (frame.Not ∷ fs) = 6
-operand_precedence (frame.Join j ∷ fs) = 6
-operand_precedence (frame.Open ∷ fs) = 7
-operand_precedence (frame.Load p ∷ fs) = 4
+operand_precedence (Frame.Negate ∷ fs) = 0
+operand_precedence (Frame.Apply o ∷ fs) = level o
+operand_precedence (Frame.Compare c ∷ fs) = 4
+operand_precedence (Frame.Not ∷ fs) = 6
+operand_precedence (Frame.Join j ∷ fs) = 6
+operand_precedence (Frame.Open ∷ fs) = 7
+operand_precedence (Frame.Load p ∷ fs) = 4
 
 -- how loosely the next token binds the operand before it; 1 for a token that no operand may have
 -- after it
 abbrev pub token_precedence : TokenKind → ℕ
-token_precedence (token.Operator o) = level o + 1
-token_precedence (token.Comparison c) = 5
-token_precedence (token.Join j) = 7
-token_precedence token.Close = 8
-token_precedence token.CloseBracket = 8
-token_precedence token.Colon = 8
+token_precedence (TokenKind.Operator o) = level o + 1
+token_precedence (TokenKind.Comparison c) = 5
+token_precedence (TokenKind.Join j) = 7
+token_precedence TokenKind.Close = 8
+token_precedence TokenKind.CloseBracket = 8
+token_precedence TokenKind.Colon = 8
 token_precedence _ = 1
 
 -- how loosely the next token binds the operand before it; the end is as a closing one
@@ -74,29 +61,29 @@ next_precedence (t ∷ ts) = token_precedence t
 
 -- the mask of a number that means a network
 abbrev pub prefix_mask : Option ℕ → NetMask
-prefix_mask None = mask.Unwritten
-prefix_mask (Some m) = mask.Prefix m
+prefix_mask None = NetMask.Unwritten
+prefix_mask (Some m) = NetMask.Prefix m
 
 -- the nodes once the operand is taken for a number, or none if it can't be one
 abbrev pub as_number : Operand → List Node → Option (List Node)
-as_number operand.Truth d = None
-as_number operand.Number d = Some d
-as_number (operand.Plain n) d = Some (node.Literal n ∷ d)
-as_number (operand.Either n None) d = Some (node.Literal n ∷ d)
-as_number (operand.Either n (Some m)) d =
-    Some (node.Apply Divide ∷ node.Literal m ∷ node.Literal n ∷ d)
+as_number Operand.Truth d = None
+as_number Operand.Number d = Some d
+as_number (Operand.Plain n) d = Some (Node.Literal n ∷ d)
+as_number (Operand.Either n None) d = Some (Node.Literal n ∷ d)
+as_number (Operand.Either n (Some m)) d =
+    Some (Node.Apply Divide ∷ Node.Literal m ∷ Node.Literal n ∷ d)
 
 -- the nodes once the operand is taken for a truth, or none if it can't be one
 abbrev pub as_truth : Operand → List Node → Option (List Node)
-as_truth operand.Truth d = Some d
-as_truth operand.Number d = None
-as_truth (operand.Plain n) d = Some (node.Bare (value.Number n mask.Unwritten) ∷ d)
-as_truth (operand.Either n m) d = Some (node.Bare (value.Number n (prefix_mask m)) ∷ d)
+as_truth Operand.Truth d = Some d
+as_truth Operand.Number d = None
+as_truth (Operand.Plain n) d = Some (Node.Bare (Value.Number n NetMask.Unwritten) ∷ d)
+as_truth (Operand.Either n m) d = Some (Node.Bare (Value.Number n (prefix_mask m)) ∷ d)
 
 -- the nodes once the operand is taken for one of this sort, or none if it can't be
 abbrev pub as_sort : Sort → Operand → List Node → Option (List Node)
-as_sort sort.Truth x d = as_truth x d
-as_sort sort.Number x d = as_number x d
+as_sort Sort.Truth x d = as_truth x d
+as_sort Sort.Number x d = as_number x d
 
 -- an operand that is read, and the nodes so far
 abbrev pub Read : Type 0
@@ -109,23 +96,19 @@ after_node y n o = o >>= λ e. Some (y, n ∷ e)
 
 -- of which sort the operands of a frame are; `(` has either sort in it, and isn't asked
 abbrev pub sort_of : Frame → Sort
-sort_of frame.Negate = sort.Number
-sort_of (frame.Apply o) = sort.Number
-sort_of (frame.Compare c) = sort.Number
-sort_of frame.Not = sort.Truth
-sort_of (frame.Join j) = sort.Truth
-sort_of frame.Open = sort.Truth
-sort_of (frame.Load p) = sort.Number
+sort_of Frame.Not = Sort.Truth
+sort_of (Frame.Join j) = Sort.Truth
+sort_of Frame.Open = Sort.Truth
+sort_of _ = Sort.Number
 
 -- the node of a frame and the operand that it makes, or none if a token closes the frame
 abbrev pub node_of : Frame → Option (Node × Operand)
-node_of frame.Negate = Some (node.Negate, operand.Number)
-node_of (frame.Apply o) = Some (node.Apply o, operand.Number)
-node_of (frame.Compare c) = Some (node.Compare c, operand.Truth)
-node_of frame.Not = Some (node.Not, operand.Truth)
-node_of (frame.Join j) = Some (node.Join j, operand.Truth)
-node_of frame.Open = None
-node_of (frame.Load p) = None
+node_of Frame.Negate = Some (Node.Negate, Operand.Number)
+node_of (Frame.Apply o) = Some (Node.Apply o, Operand.Number)
+node_of (Frame.Compare c) = Some (Node.Compare c, Operand.Truth)
+node_of Frame.Not = Some (Node.Not, Operand.Truth)
+node_of (Frame.Join j) = Some (Node.Join j, Operand.Truth)
+node_of _ = None
 
 -- a frame is completed with its last operand: the operand that the two are together, and the nodes;
 -- none if a token closes the frame, or the operand is of the other sort
@@ -159,7 +142,7 @@ Begun = ℕ × State
 
 -- an operand once it has parentheses around it
 abbrev pub enclosed_operand : Operand → Operand
-enclosed_operand (operand.Plain n) = operand.Either n None
+enclosed_operand (Operand.Plain n) = Operand.Either n None
 enclosed_operand x = x
 
 -- a frame that waits for its right operand, after its left one of the same sort; none if the
@@ -172,35 +155,30 @@ after_operator f fs x d =
 -- the load that is the latest frame takes its index and reads `size` bytes; `more` tokens more than
 -- one are used up. None if that is another frame, or the index isn't a number
 abbrev pub after_load : ℕ → ℕ → List Frame → Operand → List Node → Option Begun
-after_load more size (frame.Load p ∷ fs) x d =
-    as_number x d >>= λ e. Some (more, (fs, Some operand.Number, node.Load p size ∷ e))
+after_load more size (Frame.Load p ∷ fs) x d =
+    as_number x d >>= λ e. Some (more, (fs, Some Operand.Number, Node.Load p size ∷ e))
 after_load more size _ x d = None
 
 -- the size of an accessor after its colon, or none if no number with `]` after it follows
 abbrev pub accessor_size : List TokenKind → Option ℕ
-accessor_size (token.Number n ∷ token.CloseBracket ∷ ts) = Some n
+accessor_size (TokenKind.Number n ∷ TokenKind.CloseBracket ∷ ts) = Some n
 accessor_size _ = None
-
--- after the colon of an accessor: it is closed, if its size and bracket are there
-abbrev pub after_sized_load : Option ℕ → List Frame → Operand → List Node → Option Begun
-after_sized_load (Some n) fs x d = after_load 2 n fs x d
-after_sized_load None fs x d = None
 
 -- the parenthesis that is the latest frame is closed; none if that is another frame
 abbrev pub after_close : List Frame → Operand → List Node → Option Begun
-after_close (frame.Open ∷ fs) x d = Some (0, (fs, Some (enclosed_operand x), d))
+after_close (Frame.Open ∷ fs) x d = Some (0, (fs, Some (enclosed_operand x), d))
 after_close _ x d = None
 
 -- the state after a token that follows an operand, by the tokens after that token too; none if
 -- no such token may stand there
 abbrev pub after_token_at : TokenKind → List TokenKind → List Frame → Operand → List Node
     → Option Begun
-after_token_at (token.Operator o) ts fs x d = after_operator (frame.Apply o) fs x d
-after_token_at (token.Comparison c) ts fs x d = after_operator (frame.Compare c) fs x d
-after_token_at (token.Join j) ts fs x d = after_operator (frame.Join j) fs x d
-after_token_at token.Close ts fs x d = after_close fs x d
-after_token_at token.CloseBracket ts fs x d = after_load 0 1 fs x d
-after_token_at token.Colon ts fs x d = after_sized_load (accessor_size ts) fs x d
+after_token_at (TokenKind.Operator o) ts fs x d = after_operator (Frame.Apply o) fs x d
+after_token_at (TokenKind.Comparison c) ts fs x d = after_operator (Frame.Compare c) fs x d
+after_token_at (TokenKind.Join j) ts fs x d = after_operator (Frame.Join j) fs x d
+after_token_at TokenKind.Close ts fs x d = after_close fs x d
+after_token_at TokenKind.CloseBracket ts fs x d = after_load 0 1 fs x d
+after_token_at TokenKind.Colon ts fs x d = accessor_size ts >>= λ n. after_load 2 n fs x d
 after_token_at _ ts fs x d = None
 
 -- the state after the next token, which follows an operand
@@ -221,14 +199,14 @@ valued_of ts =
 
 -- only a protocol, or none if it may not stand alone or there is none
 abbrev pub check_of : List TokenKind → List Node → Option Primitive
-check_of (token.Protocol p ∷ ts) d =
-    if stands_alone p then Some (0, Some operand.Truth, node.Check p ∷ d) else None
+check_of (TokenKind.Protocol p ∷ ts) d =
+    if stands_alone p then Some (0, Some Operand.Truth, Node.Check p ∷ d) else None
 check_of _ d = None
 
 -- this value with its qualifiers, or else only a protocol
 abbrev pub valued_or : Option (Qualifiers × Value × ℕ) → List TokenKind → List Node
     → Option Primitive
-valued_or (Some r) ts d = Some (r.2, Some operand.Truth, node.Valued r.0 r.1 ∷ d)
+valued_or (Some r) ts d = Some (r.2, Some Operand.Truth, Node.Valued r.0 r.1 ∷ d)
 valued_or None ts d = check_of ts d
 
 -- a value with its qualifiers, or else only a protocol
@@ -238,12 +216,12 @@ primitive ts d = valued_or (valued_of ts) ts d
 -- a value without qualifiers, or none if the tokens begin with none
 abbrev pub bare_of : List TokenKind → List Node → Option Primitive
 bare_of ts d =
-    value_of ts >>= λ r. Some (length ts - length r.1 - 1, Some operand.Truth, node.Bare r.0 ∷ d)
+    value_of ts >>= λ r. Some (length ts - length r.1 - 1, Some Operand.Truth, Node.Bare r.0 ∷ d)
 
 -- a truth that is one node, and how many tokens more than one it takes
 abbrev pub one_node : List Node → Option (Node × ℕ) → Option Primitive
 one_node d None = None
-one_node d (Some r) = Some (r.1, Some operand.Truth, r.0 ∷ d)
+one_node d (Some r) = Some (r.1, Some Operand.Truth, r.0 ∷ d)
 
 -- a primitive that was read, where these frames wait
 abbrev pub with_frames : List Frame → Option Primitive → Option Begun
@@ -251,50 +229,51 @@ with_frames fs o = o >>= λ r. Some (r.0, (fs, r.1, r.2))
 
 -- what a protocol is there for, by the token after it
 abbrev pub protocol_role : List TokenKind → ProtocolRole
-protocol_role (t ∷ token.OpenBracket ∷ ts) = role.Bracket
-protocol_role (t ∷ token.Cast c ∷ ts) = role.Cast c
-protocol_role _ = role.Other
+protocol_role (t ∷ TokenKind.OpenBracket ∷ ts) = ProtocolRole.Bracket
+protocol_role (t ∷ TokenKind.Cast c ∷ ts) = ProtocolRole.Cast c
+protocol_role _ = ProtocolRole.Other
 
 -- a protocol begins an operand: an accessor, a cast, or another primitive; none if it may not
 abbrev pub protocol_begins : Protocol → ProtocolRole → List TokenKind → List Frame → List Node
     → Option Begun
-protocol_begins p role.Bracket ts fs d =
-    if is_accessor p then Some (1, (frame.Load p ∷ fs, None, d)) else None
-protocol_begins p (role.Cast c) ts fs d =
-    if has_casts p then Some (1, (fs, Some operand.Truth, node.Cast (Some p) c ∷ d)) else None
-protocol_begins p role.Other ts fs d = with_frames fs (primitive ts d)
+protocol_begins p ProtocolRole.Bracket ts fs d =
+    if is_accessor p then Some (1, (Frame.Load p ∷ fs, None, d)) else None
+protocol_begins p (ProtocolRole.Cast c) ts fs d =
+    if has_casts p then Some (1, (fs, Some Operand.Truth, Node.Cast (Some p) c ∷ d)) else None
+protocol_begins p ProtocolRole.Other ts fs d = with_frames fs (primitive ts d)
 
 -- a number begins an operand: a network's with `mask D`, or one that may become either sort
 abbrev pub number_primitive : List TokenKind → List Node → Option Primitive
-number_primitive (token.Number n ∷ token.Mask ∷ token.Dotted a p ∷ ts) d =
-    bare_of (token.Number n ∷ token.Mask ∷ token.Dotted a p ∷ ts) d
-number_primitive (token.Number n ∷ ts) d = Some (0, Some (operand.Plain n), d)
+number_primitive (TokenKind.Number n ∷ TokenKind.Mask ∷ TokenKind.Dotted a p ∷ ts) d =
+    bare_of (TokenKind.Number n ∷ TokenKind.Mask ∷ TokenKind.Dotted a p ∷ ts) d
+number_primitive (TokenKind.Number n ∷ ts) d = Some (0, Some (Operand.Plain n), d)
 number_primitive _ d = None
 
 -- `less N` or `greater N`
 abbrev pub sized_of : List TokenKind → List Node → Option Primitive
-sized_of (token.Size s ∷ token.Number n ∷ ts) d = Some (1, Some operand.Truth, node.Sized s n ∷ d)
+sized_of (TokenKind.Size s ∷ TokenKind.Number n ∷ ts) d =
+    Some (1, Some Operand.Truth, Node.Sized s n ∷ d)
 sized_of _ d = None
 
 -- the state after the tokens at the beginning of an operand, of which this one is the first; none
 -- if none begins like this
 abbrev pub begin_at : TokenKind → List TokenKind → List Frame → List Node → Option Begun
-begin_at (token.Protocol p) ts fs d = protocol_begins p (protocol_role ts) ts fs d
-begin_at (token.Side s) ts fs d = with_frames fs (primitive ts d)
-begin_at (token.ValueType k) ts fs d = with_frames fs (primitive ts d)
-begin_at (token.Cast c) ts fs d = Some (0, (fs, Some operand.Truth, node.Cast None c ∷ d))
-begin_at (token.Size s) ts fs d = with_frames fs (sized_of ts d)
-begin_at (token.Number n) ts fs d = with_frames fs (number_primitive ts d)
-begin_at (token.Dotted a p) ts fs d = with_frames fs (bare_of ts d)
-begin_at (token.Ip6 a) ts fs d = with_frames fs (bare_of ts d)
-begin_at (token.Mac a) ts fs d = with_frames fs (bare_of ts d)
-begin_at (token.Range a b) ts fs d = with_frames fs (bare_of ts d)
-begin_at token.Len ts fs d = Some (0, (fs, Some operand.Number, node.Len ∷ d))
-begin_at (token.Name n) ts fs d = Some (0, (fs, Some operand.Number, node.Named n ∷ d))
-begin_at token.Not ts fs d =
-    if nat_le 6 (operand_precedence fs) then Some (0, (frame.Not ∷ fs, None, d)) else None
-begin_at (token.Operator Subtract) ts fs d = Some (0, (frame.Negate ∷ fs, None, d))
-begin_at token.Open ts fs d = Some (0, (frame.Open ∷ fs, None, d))
+begin_at (TokenKind.Protocol p) ts fs d = protocol_begins p (protocol_role ts) ts fs d
+begin_at (TokenKind.Side s) ts fs d = with_frames fs (primitive ts d)
+begin_at (TokenKind.ValueType k) ts fs d = with_frames fs (primitive ts d)
+begin_at (TokenKind.Cast c) ts fs d = Some (0, (fs, Some Operand.Truth, Node.Cast None c ∷ d))
+begin_at (TokenKind.Size s) ts fs d = with_frames fs (sized_of ts d)
+begin_at (TokenKind.Number n) ts fs d = with_frames fs (number_primitive ts d)
+begin_at (TokenKind.Dotted a p) ts fs d = with_frames fs (bare_of ts d)
+begin_at (TokenKind.Ip6 a) ts fs d = with_frames fs (bare_of ts d)
+begin_at (TokenKind.Mac a) ts fs d = with_frames fs (bare_of ts d)
+begin_at (TokenKind.Range a b) ts fs d = with_frames fs (bare_of ts d)
+begin_at TokenKind.Len ts fs d = Some (0, (fs, Some Operand.Number, Node.Len ∷ d))
+begin_at (TokenKind.Name n) ts fs d = Some (0, (fs, Some Operand.Number, Node.Named n ∷ d))
+begin_at TokenKind.Not ts fs d =
+    if nat_le 6 (operand_precedence fs) then Some (0, (Frame.Not ∷ fs, None, d)) else None
+begin_at (TokenKind.Operator Subtract) ts fs d = Some (0, (Frame.Negate ∷ fs, None, d))
+begin_at TokenKind.Open ts fs d = Some (0, (Frame.Open ∷ fs, None, d))
 begin_at _ ts fs d = None
 
 -- the state after the tokens at the beginning of an operand, or none if none begins
@@ -304,7 +283,8 @@ begin (t ∷ ts) fs d = begin_at t (t ∷ ts) fs d
 
 -- a plain number, and the length of a prefix that is written after it, or none if one is missing
 abbrev pub number_with_prefix : Operand → List TokenKind → Option (ℕ × ℕ)
-number_with_prefix (operand.Plain n) (token.Operator Divide ∷ token.Number m ∷ ts) = Some (n, m)
+number_with_prefix (Operand.Plain n) (TokenKind.Operator Divide ∷ TokenKind.Number m ∷ ts) =
+    Some (n, m)
 number_with_prefix _ _ = None
 
 -- the state after the token that follows an operand, and of a colon after the size and the bracket
@@ -317,7 +297,7 @@ next_of ts fs x d = reduce (next_precedence ts) fs x d >>= λ r. after_token ts 
 abbrev pub with_prefix : Option (ℕ × ℕ) → List TokenKind → List Frame → Operand → List Node
     → Option Begun
 with_prefix (Some p) ts fs x d =
-    if nat_le 1 (operand_precedence fs) then Some (1, (fs, Some (operand.Either p.0 (Some p.1)), d))
+    if nat_le 1 (operand_precedence fs) then Some (1, (fs, Some (Operand.Either p.0 (Some p.1)), d))
     else next_of ts fs x d
 with_prefix None ts fs x d = next_of ts fs x d
 
@@ -354,4 +334,16 @@ nodes_of_tokens (t ∷ ts) = run (t ∷ ts) 0 [] None []
 
 -- why the readers stop: the tokens have no tree, or an allocation failed
 abbrev pub IsReadFault : ExprFault → Type 0
-IsReadFault fault = (fault ≡ expr_fault.NotAnExpression) ⊎ (fault ≡ expr_fault.Memory)
+IsReadFault fault = (fault ≡ ExprFault.NotAnExpression) ⊎ (fault ≡ ExprFault.Memory)
+
+-- what the readers return where the definition gives `given`: that, made of what they return, or
+-- why they stop, which is that there is no tree only if nothing is given
+pub record Reads {A B : Type 0} (given : Option B) (made : A → B)
+    (result : Result A ExprFault) : Type 0 where
+  pub ok : IfOk result (λ a. given ≡ Some (made a))
+  pub none : result ≡ Err ExprFault.NotAnExpression → given ≡ None
+  pub err : IfErr result IsReadFault
+
+-- the same of a step, after which the reader is as it is here
+abbrev pub ReadsStep : Option Begun → ReaderState → Result (ℕ × Option Operand) ExprFault → Type 0
+ReadsStep given reader result = Reads given (λ r. (r.0, (reader.frames, r.1, reader.nodes))) result

@@ -1,16 +1,14 @@
 -- How an address is read group by group.
-use Rattle.std.specs.Prelude.{◌≡◌, ◌≤◌, ◌+◌, ℕ, List, length, slice_index, Option, Some, None, MatchOption}
 use Rattle.std.specs.Int.Digits.{number_from_digits}
-use Rattle.flt_words.specs.declared.address.Group.{Group}
-use Rattle.flt_words.specs.declared.address.Group.TheVariants as group
-use Rattle.flt_words.specs.declared.address.JoinedGroups.{JoinedGroups}
+use Rattle.std.specs.Prelude.{◌≡◌, ◌≤◌, ◌+◌, ℕ, List, length, slice_index, Option, Some, None}
+use Rattle.std.specs.Prelude.{MatchOption}
 use Rattle.flt_words.specs.Addresses.{group_values, AreGroups}
+use Rattle.flt_words.specs.declared.address.{Group.Group, JoinedGroups.JoinedGroups}
 
 -- the base in which groups of a form are digits: a group's number is below it
 abbrev pub base_of : Group → ℕ
-base_of group.Octet = 256
-base_of group.Byte = 256
-base_of group.Quad = 65536
+base_of Group.Quad = 65536
+base_of _ = 256
 
 -- what a reader of addresses returns: one of which this holds, or none if it holds of no address
 abbrev pub FindsAddress : (ℕ → Type 0) → Option ℕ → Type 0

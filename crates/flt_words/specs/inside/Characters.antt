@@ -1,6 +1,5 @@
 -- Characters, as words are cut.
-use Rattle.std.specs.Prelude.{ℕ, List, Bool, ◌==◌}
-use Rattle.std.specs.List.{list_any}
+use Rattle.std.specs.{List.list_any, Prelude.ℕ, Prelude.List, Prelude.Bool, Prelude.◌==◌}
 
 -- the text has the byte
 abbrev pub has : ℕ → List ℕ → Bool

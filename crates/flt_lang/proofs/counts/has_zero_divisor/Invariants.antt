@@ -1,6 +1,5 @@
 -- What is left decides.
-use Rattle.std.proofs.Common.{◌≡◌, drop, false}
-use Rattle.flt_ast.specs.inside.Checks.{some_zero_divisor}
+use Rattle.flt_lang.proofs.Common.{◌≡◌, drop, false, some_zero_divisor}
 use Rattle.flt_lang.proofs.counts.has_zero_divisor.Given as goal
 
 abbrev pub invariant-loop-next : goal.invariant-loop-next

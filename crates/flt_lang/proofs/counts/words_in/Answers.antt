@@ -1,9 +1,8 @@
 -- The greatest height is one more than the words.
 use Rattle.flt_lang.proofs.Common.{◌≡◌, ◌+◌, ap, ◌∙◌, arith, fold, words_of, climb}
-use Rattle.flt_lang.proofs.Counting.{climb_whole}
+use Rattle.flt_lang.proofs.{Counting.climb_whole, counts.words_in.Goals.After-most_waiting}
 use Rattle.flt_lang.proofs.counts.words_in.Given as given
 use Rattle.flt_lang.proofs.counts.words_in.Goals as goal
-use Rattle.flt_lang.proofs.counts.words_in.Goals.{After-most_waiting}
 
 highest_is : (g : given.Over) (c : After-most_waiting g) → c.most_waiting.result ≡ 1 + words_of c.args.expr.now
 highest_is g c =

@@ -1,7 +1,6 @@
 -- The machine gives one list of nodes.
-use Rattle.std.proofs.Common.{sym, ◌∙◌}
+use Rattle.flt_lang.proofs.Common.{sym, ◌∙◌, same_nodes}
 use Rattle.flt_lang.proofs.Complete.{complete}
-use Rattle.flt_ast.proofs.NodesBack.{same_nodes}
 use Rattle.flt_lang.proofs.laws.one_tree.Goals as goal
 
 pub returns : goal.returns

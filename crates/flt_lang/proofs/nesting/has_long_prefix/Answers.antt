@@ -1,19 +1,15 @@
--- The run is the first that gets too long, or none does.
-use Rattle.std.proofs.Common.{arith, ap, sym, ◌∙◌}
-use Rattle.std.proofs.lemmas.List.{drop_all}
-use Rattle.flt_lang.proofs.Prefixes.{found_is, gets_long, has_long_run}
+-- A long prefix begins at some token, or at none.
+use Rattle.flt_lang.proofs.Common.{◌≡◌, arith, refl, below_more, drop, length, sym, ◌∙◌, true, false, false≢true, length-drop, take_rest, BeginsWithLongPrefix}
 use Rattle.flt_lang.proofs.nesting.has_long_prefix.Goals as goal
-use Rattle.flt_lang.proofs.nesting.has_long_prefix.Goals.{then-is_prefix_operator, else-is_prefix_operator}
 
-pub returns-then-run-gt100 : goal.returns-then-run-gt100
-returns-then-run-gt100 c =
-    let ts = c.args.tokens.now in
-    elim c.if-is_prefix_operator.branch [
-      | then-is_prefix_operator w ↦ found_is ts _ (c.loop-token.invariant.same ∙ gets_long c.loop-token.run c.loop-token.token-index ts _ (omega (arith, w.run-is)) c.loop-token-test.true (sym c.is_prefix_operator.ensures ∙ w.if-is_prefix_operator.true))
-      | else-is_prefix_operator w ↦ absurd (omega (arith, w.run-is))
-    ]
+pub returns-then-begins_with_long_prefix : goal.returns-then-begins_with_long_prefix
+returns-then-begins_with_long_prefix c =
+    let found = rw take_rest at (c.begins_with_long_prefix.ensures.0 c.if-begins_with_long_prefix.true) in (λ _. (c.loop-i.i, found), λ _. refl)
+
+pub loop-i-preserved : goal.loop-i-preserved
+loop-i-preserved c = below_more (λ k. BeginsWithLongPrefix (drop k c.args.tokens.now) → ⊥) c.loop-i.i c.loop-i.invariant
+    (λ begins. false≢true (sym c.if-begins_with_long_prefix.false ∙ c.begins_with_long_prefix.ensures.1 (rw (take_rest c.args.tokens.now c.loop-i.i) begins)))
 
 pub returns : goal.returns
 returns c =
-    let ts = c.args.tokens.now in
-    found_is ts _ (c.loop-token.invariant.same ∙ ap (has_long_run c.loop-token.run) (drop_all c.loop-token.token-index ts c.loop-token-test.false))
+    (λ e. absurd (false≢true e), λ found. absurd (c.loop-i.invariant found.0 (omega (arith, length-drop found.0 c.args.tokens.now, found.1.0)) found.1))

@@ -1,10 +1,9 @@
 -- The nodes that are left are those of the filled tree.
 use Rattle.flt_lang.proofs.Common.{◌≡◌, ◌∙◌, sym, ap, subst, None, tree_of, fill_expression, fill_fault, IsResolved, nodes_fault}
-use Rattle.flt_lang.proofs.Filling.{filled_whole, nodes_are_tree, tree_is}
-use Rattle.flt_lang.proofs.FilledFaults.{found_fault, filled_resolved}
+use Rattle.flt_lang.proofs.Filling.{filled_resolved, filled_whole, found_fault, nodes_are_tree, tree_is}
+use Rattle.flt_lang.proofs.resolving.resolve.Goals.{After-complete_qualifiers}
 use Rattle.flt_lang.proofs.resolving.resolve.Given as given
 use Rattle.flt_lang.proofs.resolving.resolve.Goals as goal
-use Rattle.flt_lang.proofs.resolving.resolve.Goals.{After-complete_qualifiers}
 
 pub returns-in-Some-clause-err : goal.returns-in-Some-clause-err
 returns-in-Some-clause-err g c =

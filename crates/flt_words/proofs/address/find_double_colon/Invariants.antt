@@ -1,6 +1,5 @@
 -- No two colons stand below.
-use Rattle.std.proofs.Common.{◌+◌, ◌<◌, ℕ}
-use Rattle.flt_words.specs.inside.Addresses.{IsDoubleColon}
+use Rattle.flt_words.proofs.Common.{◌+◌, ◌<◌, ℕ, IsDoubleColon}
 use Rattle.flt_words.proofs.address.find_double_colon.Given as goal
 
 abbrev pub invariant-loop-i : goal.invariant-loop-i

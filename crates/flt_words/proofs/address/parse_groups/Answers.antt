@@ -1,12 +1,11 @@
 -- Each turn reads the next part.
+use Rattle.flt_words.proofs.AddressValues.{all_read, bad_part, each_pushed, now_pushed, parts_of, step_fits, step_small, step_value, too_many}
 use Rattle.flt_words.proofs.Common.{◌≡◌, ◌<◌, ◌==◌, length, get_or, List, ℕ, length-append, map, arith, sym, ap, ◌∙◌, rules, of_calls, length-map, Bor, IsGroup}
+use Rattle.flt_words.proofs.{Numbers.some_unless_test, address.parse_groups.Goals.In-Some}
 use Rattle.std.proofs.lemmas.Iterator.Consumers.{YieldsList-end, YieldsList-turn}
 use Rattle.std.proofs.lemmas.Iterator.Splits.{YieldsList-from_slice_split}
 use Rattle.std.specs.Slice.Iter.{split_callee}
-use Rattle.flt_words.proofs.Digits.{some_unless_test}
-use Rattle.flt_words.proofs.Reading.{all_read, bad_part, each_pushed, now_pushed, parts_of, step_fits, step_small, step_value, too_many}
 use Rattle.flt_words.proofs.address.parse_groups.Goals as goal
-use Rattle.flt_words.proofs.address.parse_groups.Goals.{In-Some}
 
 some_text : (c : In-Some) → 0 < length c.args.text.now
 some_text c = some_unless_test (length c.args.text.now) (sym c.is_empty.ensures ∙ c.if-is_empty.false)

@@ -1,6 +1,6 @@
 -- Four hexadecimal digits write a number that fits.
 use Rattle.std.proofs.Common.{arith}
-use Rattle.flt_words.proofs.Groups.{small_answer}
+use Rattle.flt_words.proofs.AddressValues.{small_answer}
 use Rattle.flt_words.proofs.address.parse_hexadecimal.Goals as goal
 
 pub returns : goal.returns

@@ -1,6 +1,5 @@
 -- The groups left out are zeros after the first.
-use Rattle.std.proofs.Common.{arith, length, ap}
-use Rattle.flt_words.specs.declared.address.Group.TheVariants as group
+use Rattle.flt_words.proofs.Common.{arith, length, ap, Group}
 use Rattle.flt_words.proofs.AddressValues.{ends_fit, ends_value, reads_below, same_groups}
 use Rattle.flt_words.proofs.address.parse_shortened_ip6.Goals as goal
 
@@ -11,14 +10,14 @@ returns-then-first-last-gt7 c = λ address ends.
     omega (arith, ends.at_most_seven, c.in_ok-first.ensures.3, c.in_ok-last.ensures.3)
 
 pub value_with_zeros-requires-clause-small : goal.value_with_zeros-requires-clause-small
-value_with_zeros-requires-clause-small c = reads_below group.Quad c.args.front.now c.in_ok-first.first c.in_ok-first.ensures
+value_with_zeros-requires-clause-small c = reads_below Group.Quad c.args.front.now c.in_ok-first.first c.in_ok-first.ensures
 
 pub overflow_add-result : goal.overflow_add-result
 overflow_add-result c =
     let first = c.in_ok-first.first in
     let last = c.in_ok-last.last in
-    let below = reads_below group.Quad c.args.front.now first c.in_ok-first.ensures in
-    let last_below = reads_below group.Quad c.args.back.now last c.in_ok-last.ensures in
+    let below = reads_below Group.Quad c.args.front.now first c.in_ok-first.ensures in
+    let last_below = reads_below Group.Quad c.args.back.now last c.in_ok-last.ensures in
     let fits = ends_fit first.value first.count last.value last.count below last_below (omega arith) in
     omega (arith, c.value_with_zeros.ensures)
 
@@ -32,5 +31,5 @@ returns c =
       are_first = first.1;
       are_last = last.1;
       at_most_seven = omega (arith, first.3, last.3);
-      value = rw (c.value_with_zeros.ensures, first.3, first.4, last.4) (ends_value group.Quad first.0 last.0 (omega (arith, first.3, last.3)));
+      value = rw (c.value_with_zeros.ensures, first.3, first.4, last.4) (ends_value Group.Quad first.0 last.0 (omega (arith, first.3, last.3)));
     }

@@ -1,7 +1,6 @@
 -- Eight groups fit.
-use Rattle.std.proofs.Common.{arith}
-use Rattle.flt_words.specs.inside.Addresses.{base_of}
-use Rattle.flt_words.proofs.Reading.{zero_fits, zero_value}
+use Rattle.flt_words.proofs.Common.{arith, base_of}
+use Rattle.flt_words.proofs.AddressValues.{zero_fits, zero_value}
 use Rattle.flt_words.proofs.address.value_with_zeros.Goals as goal
 
 pub overflow_mul-value : goal.overflow_mul-value

@@ -1,6 +1,5 @@
 -- The number with the zeros so far.
-use Rattle.std.proofs.Common.{◌≡◌, ◌*◌, ◌^◌}
-use Rattle.flt_words.specs.inside.Addresses.{base_of}
+use Rattle.flt_words.proofs.Common.{◌≡◌, ◌*◌, ◌^◌, base_of}
 use Rattle.flt_words.proofs.address.value_with_zeros.Given as goal
 
 abbrev pub invariant-loop-done : goal.invariant-loop-done

@@ -1,10 +1,10 @@
 -- The loop's steps.
-use Rattle.flt_words.proofs.Common.{◌≡◌, ◌+◌, ◌==◌, arith, sym, ◌∙◌, subst, length-drop, Err, err_from_is_err_and, common_steps, IsRefused, IsToken, Tokens, short, too_long}
-use Rattle.flt_words.proofs.BracketCounts.{closes_none, closings, openings, opens_none, token_has}
-use Rattle.flt_words.proofs.Lexing.{blank_keeps_closed, blank_keeps_opened, counted_few, counted_step, cut_blank, cut_end, cut_refused, cut_token, inside_at}
+use Rattle.flt_words.proofs.Common.{◌≡◌, ◌+◌, ◌==◌, arith, refl, sym, ◌∙◌, subst, length-drop, Err, err_from_is_err_and, IsRefused, IsToken, Tokens, short, too_long}
+use Rattle.flt_words.proofs.Lexing.{blank_keeps, counted_few, counted_step, cut_blank, cut_end, cut_refused, cut_token, inside_at}
 use Rattle.flt_words.proofs.Pieces.{longest_some}
-use Rattle.flt_words.proofs.lexer.lex.Goals as goal
+use Rattle.flt_words.proofs.Tables.{closes_none, closings, openings, opens_none, token_has}
 use Rattle.flt_words.proofs.lexer.lex.Goals.{in-OpenBracket, in-CloseBracket, in_default}
+use Rattle.flt_words.proofs.lexer.lex.Goals as goal
 
 pub returns-then-bytes-gt-LONGEST-clause-err : goal.returns-then-bytes-gt-LONGEST-clause-err
 returns-then-bytes-gt-LONGEST-clause-err g c = λ other. too_long (omega arith)
@@ -15,8 +15,8 @@ loop-at-preserved-then-is_blank g c =
     let is = sym c.is_blank.ensures ∙ c.if-is_blank.true in
     record {
       in_range = omega arith;
-      opened = c.loop-at.invariant.opened ∙ sym (blank_keeps_opened text c.loop-at.at c.loop-at-test.true is);
-      closed = c.loop-at.invariant.closed ∙ sym (blank_keeps_closed text c.loop-at.at c.loop-at-test.true is);
+      opened = c.loop-at.invariant.opened ∙ sym (blank_keeps 91 text c.loop-at.at refl c.loop-at-test.true is);
+      closed = c.loop-at.invariant.closed ∙ sym (blank_keeps 93 text c.loop-at.at refl c.loop-at-test.true is);
       opened_few = omega arith;
       closed_few = omega arith;
       cut = cut_blank c.loop-at.invariant.cut is;
@@ -63,21 +63,3 @@ loop-at-preserved g c =
 
 pub returns-clause-ok : goal.returns-clause-ok
 returns-clause-ok g c = rw (← c.as_bytes-bytes.ensures.value) (short (omega arith) (cut_end c.loop-at.invariant.cut (omega arith)))
-
-pub loop-at-init : goal.loop-at-init
-loop-at-init g c = grind (arith, common_steps)
-
-pub returns-in_err-push-clause-err : goal.returns-in_err-push-clause-err
-returns-in_err-push-clause-err g c = grind (arith, common_steps)
-
-pub returns-in_err-push-clause-too_long : goal.returns-in_err-push-clause-too_long
-returns-in_err-push-clause-too_long g c = grind (arith, common_steps)
-
-pub returns-in_err-kind-clause-too_long : goal.returns-in_err-kind-clause-too_long
-returns-in_err-kind-clause-too_long g c = grind (arith, common_steps)
-
-pub returns-clause-too_long : goal.returns-clause-too_long
-returns-clause-too_long g c = grind (arith, common_steps)
-
-pub first_token-requires : goal.first_token-requires
-first_token-requires g c = omega arith

@@ -1,8 +1,8 @@
 -- What the tests told, as the digits' number.
-use Rattle.flt_words.proofs.Common.{◌≡◌, ◌<◌, length, arith, sym, ◌∙◌, ◌==◌, false, true, digits_value, are_digits}
-use Rattle.flt_words.proofs.Digits.{does_not_fit, fits, some_from_test, some_unless_test, writes_from_test, writes_pass}
-use Rattle.flt_words.proofs.number.parse_digits.Goals as goal
+use Rattle.flt_words.proofs.Common.{◌≡◌, length, arith, sym, ◌∙◌, ◌==◌, false, true, digits_value, are_digits}
+use Rattle.flt_words.proofs.Numbers.{does_not_fit, fits, some_from_test, writes_from_tests, writes_pass}
 use Rattle.flt_words.proofs.number.parse_digits.Goals.{then-is_empty-via-then-is_empty, then-is_empty-via-else-is_empty+then-not-are_digits}
+use Rattle.flt_words.proofs.number.parse_digits.Goals as goal
 
 pub returns-then-is_empty : goal.returns-then-is_empty
 returns-then-is_empty c = λ n w. elim c.then-is_empty.branch [
@@ -17,21 +17,16 @@ returns-then-is_empty c = λ n w. elim c.then-is_empty.branch [
 
 pub returns-in-Some-2 : goal.returns-in-Some-2
 returns-in-Some-2 c =
-    let some : 0 < length c.args.digits.now = some_unless_test (length c.args.digits.now) (sym c.is_empty.ensures ∙ c.if-is_empty.false) in
-    let w = writes_from_test c.args.radix c.args.digits.now some (sym c.are_digits.ensures ∙ c.if-not-are_digits.false) in
+    let w = writes_from_tests c.args.radix c.args.digits.now (sym c.is_empty.ensures ∙ c.if-is_empty.false) (sym c.are_digits.ensures ∙ c.if-not-are_digits.false) in
     (record { numeral = w.numeral; value = sym c.in-Some.ensures.value }, fits c.in-Some.number (omega arith))
 
 -- the number is there, and too large
 pub returns-in-Some : goal.returns-in-Some
 returns-in-Some c =
-    let some : 0 < length c.args.digits.now = some_unless_test (length c.args.digits.now) (sym c.is_empty.ensures ∙ c.if-is_empty.false) in
-    let w = writes_from_test c.args.radix c.args.digits.now some (sym c.are_digits.ensures ∙ c.if-not-are_digits.false) in
-    let value = c.in-Some.ensures.value in
-    (digits_value c.args.radix c.args.digits.now, w, does_not_fit _ (omega (arith, value)))
+    let w = writes_from_tests c.args.radix c.args.digits.now (sym c.is_empty.ensures ∙ c.if-is_empty.false) (sym c.are_digits.ensures ∙ c.if-not-are_digits.false) in
+    (digits_value c.args.radix c.args.digits.now, w, does_not_fit _ (omega (arith, c.in-Some.ensures.value)))
 
 pub returns-in-None : goal.returns-in-None
 returns-in-None c =
-    let some : 0 < length c.args.digits.now = some_unless_test (length c.args.digits.now) (sym c.is_empty.ensures ∙ c.if-is_empty.false) in
-    let w = writes_from_test c.args.radix c.args.digits.now some (sym c.are_digits.ensures ∙ c.if-not-are_digits.false) in
-    let large = c.in-None.ensures.large in
-    (digits_value c.args.radix c.args.digits.now, w, does_not_fit _ (omega (arith, large)))
+    let w = writes_from_tests c.args.radix c.args.digits.now (sym c.is_empty.ensures ∙ c.if-is_empty.false) (sym c.are_digits.ensures ∙ c.if-not-are_digits.false) in
+    (digits_value c.args.radix c.args.digits.now, w, does_not_fit _ (omega (arith, c.in-None.ensures.large)))

@@ -1,9 +1,9 @@
 -- The tests on the word's front.
-use Rattle.flt_words.proofs.Common.{◌≡◌, ◌≢◌, ◌⊎◌, ◌<◌, ◌≤◌, inl, inr, length, get_or, arith, nat_tests, take_rest, is_word_sized, decimal}
 use Rattle.flt_words.proofs.Answering.{answers_along}
-use Rattle.flt_words.proofs.Radices.{hexadecimal_by_front, octal_by_front, only_decimal}
-use Rattle.flt_words.proofs.number.parse_number.Goals as goal
+use Rattle.flt_words.proofs.Common.{◌≡◌, ◌≢◌, ◌⊎◌, ◌<◌, ◌≤◌, inl, inr, length, get_or, arith, nat_tests, take_rest, is_word_sized, decimal}
+use Rattle.flt_words.proofs.Numbers.{hexadecimal_by_front, octal_by_front, only_decimal}
 use Rattle.flt_words.proofs.number.parse_number.Goals.{then-word-lt2, else-word-lt2, then-word-eq120, else-word-eq120}
+use Rattle.flt_words.proofs.number.parse_number.Goals as goal
 
 pub returns-then-word-ne48 : goal.returns-then-word-ne48
 returns-then-word-ne48 c =

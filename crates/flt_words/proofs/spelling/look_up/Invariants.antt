@@ -1,6 +1,5 @@
 -- What the rest of the table has for the piece is what the whole has.
-use Rattle.std.proofs.Common.{◌≡◌, drop, map}
-use Rattle.flt_words.specs.Spellings.{look_up}
+use Rattle.flt_words.proofs.Common.{◌≡◌, drop, map, look_up}
 use Rattle.flt_words.proofs.spelling.look_up.Given as goal
 
 abbrev pub invariant-loop-spelling : goal.invariant-loop-spelling

@@ -1,12 +1,29 @@
--- The refusals have the word's place.
-use Rattle.flt_words.specs.Words.WordMeans.{known, too_large, unknown}
+-- A word that no reader takes means nothing.
+use Rattle.flt_words.proofs.Common.{◌≡◌, ℕ, List, None, sym, ◌∙◌, TokenKind, IsDotted, IsIp6, IsMac, IsNumber, IsRange, Spells, keyword, number, dotted, range, mac, ip6, keyword_of, known, too_large, unknown}
+use Rattle.flt_words.proofs.Tables.{keyword_is_plain}
 use Rattle.flt_words.proofs.word.word_kind_at.Goals as goal
 
-pub returns-in-Ok : goal.returns-in-Ok
-returns-in-Ok c = known c.in-Ok.ensures.0 c.in-Ok.ensures.1
-
-pub returns-in-Err-Unknown : goal.returns-in-Err-Unknown
-returns-in-Err-Unknown c = unknown (rw c.in-Err-Unknown.field-0-is at c.in-Err-Unknown.ensures)
+nothing : {word : List ℕ} → ((n : ℕ) → IsNumber word n → ⊥) → ((a parts : ℕ) → IsDotted word a parts → ⊥) → keyword_of word ≡ None → ((a : ℕ) → IsMac word a → ⊥)
+    → ((a : ℕ) → IsIp6 word a → ⊥) → ((ends : ℕ × ℕ) → IsRange word ends.0 ends.1 → ⊥) → (kind : TokenKind) → Spells word kind → ⊥
+nothing no_number no_dotted no_keyword no_mac no_ip6 no_range kind (keyword w) = cc
+nothing no_number no_dotted no_keyword no_mac no_ip6 no_range kind (number w) = no_number _ w
+nothing no_number no_dotted no_keyword no_mac no_ip6 no_range kind (dotted w) = no_dotted _ _ w
+nothing no_number no_dotted no_keyword no_mac no_ip6 no_range kind (range {first} {last} w) = no_range (first, last) w
+nothing no_number no_dotted no_keyword no_mac no_ip6 no_range kind (mac w) = no_mac _ w
+nothing no_number no_dotted no_keyword no_mac no_ip6 no_range kind (ip6 w) = no_ip6 _ w
 
 pub returns-in-Err-TooLarge : goal.returns-in-Err-TooLarge
-returns-in-Err-TooLarge c = let large = rw c.in-Err-TooLarge.field-0-is at c.in-Err-TooLarge.ensures in too_large large.1 large.2
+returns-in-Err-TooLarge c = let large = rw c.in-Err-TooLarge.field-0-is at c.in-Err-TooLarge.ensures in too_large (number large.1) large.2
+
+pub returns-in-Some-keyword_of : goal.returns-in-Some-keyword_of
+returns-in-Some-keyword_of c =
+    let found = sym c.keyword_of.ensures ∙ c.in-Some-keyword_of.is in
+    known (keyword found) (keyword_is_plain c.args.word.now c.in-Some-keyword_of.kind found).fitting
+
+pub returns-in-Err-TooLarge-parse_range : goal.returns-in-Err-TooLarge-parse_range
+returns-in-Err-TooLarge-parse_range c =
+    let large = rw c.in-Err-TooLarge-parse_range.field-0-is at c.in-Err-TooLarge-parse_range.ensures in too_large (range large.1) large.2
+
+pub returns-in-Err-Unknown-parse_range : goal.returns-in-Err-Unknown-parse_range
+returns-in-Err-Unknown-parse_range c =
+    unknown (nothing (rw c.in-Err-Unknown.field-0-is at c.in-Err-Unknown.ensures) c.in_default.ensures (sym c.keyword_of.ensures ∙ c.in_default-keyword_of.is) c.in_default-parse_mac.ensures c.in_default-parse_ip6.ensures (rw c.in-Err-Unknown-parse_range.field-0-is at c.in-Err-Unknown-parse_range.ensures))

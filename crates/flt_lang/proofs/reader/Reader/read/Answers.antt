@@ -1,6 +1,5 @@
 -- A step leaves fewer tokens, which are read as all were.
-use Rattle.std.proofs.Common.{◌≤◌, length, drop, arith}
-use Rattle.std.proofs.lemmas.List.{length-drop, take_rest}
+use Rattle.flt_lang.proofs.Common.{◌≤◌, length, drop, arith, length-drop, take_rest}
 use Rattle.flt_lang.proofs.Stepping.{runs_on}
 use Rattle.flt_lang.proofs.reader.Reader.read.Goals as goal
 

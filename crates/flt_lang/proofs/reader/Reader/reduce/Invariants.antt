@@ -1,5 +1,4 @@
-use Rattle.std.proofs.Common.{◌≡◌, length}
-use Rattle.flt_lang.specs.inside.Parser.{reduce}
+use Rattle.flt_lang.proofs.Common.{◌≡◌, length, reduce}
 use Rattle.flt_lang.proofs.reader.Reader.reduce.Given as goal
 
 abbrev pub invariant-loop-frame : goal.invariant-loop-frame
