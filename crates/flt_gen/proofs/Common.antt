@@ -64,8 +64,7 @@ pub use Rattle.flt_gen.specs.declared.group.Entry.{Entry}
 pub use Rattle.flt_gen.specs.inside.Emitted.{protocols_of, relation_formula, qualified_needed, is_empty, is_idle, capture_test, last_test, needed_tests, ip6_needed, value_needed, equals, without_protocol}
 pub use Rattle.flt_gen.specs.inside.Group.{Group, no_group, entry, interval, with_member, same_type, same_protocol, same_direction, goes_with, net_numbers, member_of, group_and, larger_group, is_searched, is_address, numbers_of, several_formula, rows_formula, group_formula, or_any, or_group, truth_member, choice, grouped_formula, MOST_TOGETHER, FEWEST_RANGES}
 pub use Rattle.flt_gen.specs.Laws.{word_mask, frame_kind, carries_kind, carries}
-pub use Rattle.flt_gen.specs.inside.Steps.{Steps, Part, Joint, Meaning, meaning, with_parts, with_formula, no_steps, IsPut, IsJoined}
-pub use Rattle.flt_gen.specs.inside.Walk.{Walk, finish_formula, emit_part, emit_parts, emit_node, emit_both_nodes, or_walk, emit_nodes, start_walk, insns_of, targets, finish_truth, finish_number, with_insns, flush_members, flush_group, emit_value, emit_truth_node}
+pub use Rattle.flt_gen.specs.inside.Walk.{Walk, finish_formula, emit_node, emit_both_nodes, or_walk, emit_nodes, start_walk, insns_of, targets, finish_truth, finish_number, with_insns, flush_members, flush_group, emit_value, emit_truth_node}
 pub use Rattle.flt_gen.specs.Correct.{IsProgramOf}
 pub use Rattle.flt_words.specs.declared.token.Protocol.{Protocol}
 pub use Rattle.flt_words.specs.declared.token.Side.TheVariants.{Source, Destination}

@@ -9,7 +9,6 @@ ghost use Rattle.flt_gen.specs.inside.Round.{IsRound};
 ghost use Rattle.flt_gen.specs.inside.Walk.{emit_nodes, start_walk, insns_of};
 
 use crate::folding::folded_nodes;
-use crate::steps::Steps;
 use crate::walk::Walk;
 use cap_octet::Link;
 use flt_ast::{Checked, Node};
@@ -35,8 +34,8 @@ fn wide_code<A: Allocator + Clone>(
     ensures { IfOk result
         (λ code. code.items ≡ insns_of (emit_nodes link start_walk (reverse nodes.now))) }
 {
-    let mut walk = Walk::new(alloc.clone()?)?;
-    walk.emit_nodes(link, nodes, &mut Steps::new(alloc)?)?;
+    let mut walk = Walk::new(alloc)?;
+    walk.emit_nodes(link, nodes)?;
     Ok(walk.into_insns())
 }
 

@@ -25,7 +25,6 @@ use Rattle.flt_gen.specs.inside.Emitted.{with_accessor, qualified_needed}
 use Rattle.flt_gen.specs.inside.Group.{Group, no_group, larger_group, group_formula}
 use Rattle.flt_gen.specs.Primitives.{check_formula, cast_formula, sized_formula}
 use Rattle.flt_gen.specs.inside.Code.{plain, emit_comparison, emit_field, accessor_offset, emit_accessor, computation, takes_constant, emit_operands, Block, block, emit_formula}
-use Rattle.flt_gen.specs.inside.Steps.{Part, Leaf, Joint}
 use Rattle.flt_gen.specs.inside.ProgramCode.{emit_accessor_tests, returns_code}
 use Rattle.flt_bpf.specs.declared.operation.Operation.TheVariants.{Load, Store, Negate}
 use Rattle.flt_bpf.specs.declared.operation.Register.TheVariants.{Accumulator}
@@ -108,19 +107,6 @@ begin_operands slot c w = record w {
 -- the code of a formula is emitted
 abbrev pub finish_formula : Link → Formula → Walk → Walk
 finish_formula link f w = finish_truth (emit_formula link f w.to.yes w.to.no w.code) w
-
--- one more part of a formula, the one before those that were emitted: for an operator the right
--- operand comes next, and the left one waits
-abbrev pub emit_part : Link → Walk → Part → Walk
-emit_part link w (Leaf f) = finish_formula link f w
-emit_part link w (Joint join) = record w {
-  truths = record { join = join; to = w.to } ∷ w.truths;
-}
-
--- all parts of formulas, the latest first
-abbrev pub emit_parts : Link → Walk → List Part → Walk
-emit_parts link w [] = w
-emit_parts link w (p ∷ ps) = emit_parts link (emit_part link w p) ps
 
 -- if an or was the last node, its right operand is on its own: the left one waits for it
 abbrev pub begin_right : Pending → Walk → Walk
