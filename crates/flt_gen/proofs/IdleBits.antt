@@ -20,3 +20,9 @@ one_less (suc k) first is some l =
     let same : 1 * 2 ^ suc k % 4294967296 ≡ 2 ^ suc k = mod-eq_of_lt {n = 1 * 2 ^ suc k} {m = 4294967296} (omega arith) ∙ (let e : 1 * 2 ^ suc k ≡ 2 ^ suc k = omega arith in e) in
     let less : k ≡ suc k - 1 = omega arith in
     ap (λ j. by_last (2 ^ suc k - 1) j first is) less ∙ ap (λ n. by_last (n - 1) (suc k - 1) first is) (sym same)
+
+pub uncut : (last : ℕ) (is : List Interval) → last ≡ 0 → map (cut last) is ≡ is
+uncut last [] e = refl
+uncut last (i ∷ is) e =
+    (let same : i.high - last ≡ i.high = omega arith in ap (λ h. record { low = i.low; high = h } ∷ map (cut last) is) same)
+    ∙ ap (λ js. i ∷ js) (uncut last is e)

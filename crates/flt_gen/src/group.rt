@@ -7,6 +7,7 @@ ghost use Rattle.flt_gen.specs.inside.Intervals.{insert_ascending};
 ghost use Rattle.flt_gen.specs.inside.Group.{no_group, same_type, same_protocol, same_direction};
 ghost use Rattle.flt_gen.specs.inside.Group.{goes_with, is_masked, net_member, member_of, is_empty};
 ghost use Rattle.flt_gen.specs.inside.Group.{larger_group, is_searched, group_formula, rows_formula};
+ghost use Rattle.flt_gen.specs.inside.Group.{several_formula};
 ghost use Rattle.flt_gen.specs.inside.Group.{is_address, has_networks};
 ghost use Rattle.flt_gen.specs.inside.Group.{case_goes_with, with_case};
 ghost use Rattle.flt_gen.specs.inside.Emits.{EmitsFormula};
@@ -16,7 +17,7 @@ use crate::address::Hosts;
 use crate::cases::{Case, case_of, put_case, same_words};
 use crate::code::{Code, Targets};
 use crate::elementary::Interval;
-use crate::intervals::Room;
+use crate::intervals::{Numbers, Room};
 use crate::port::{PortTest, Ports};
 use crate::stack::Stack;
 use cap_octet::Link;
@@ -306,27 +307,42 @@ impl<A: Allocator> Group<A> {
         if !self.is_searched() {
             return code.emit_rows(link, self.entries.entries(), to);
         }
-        let (protocol, direction) = (self.qualifiers.protocol, self.qualifiers.direction);
         if !self.cases.is_empty() {
-            return code.emit_cases(link, direction, &self.cases, to);
+            return code.emit_cases(link, self.qualifiers.direction, &self.cases, to);
         }
         let has_networks = self.has_networks();
         let numbers = self.room.numbers(has_networks, self.first, &self.all)?;
-        match self.qualifiers.value_type {
+        code.emit_several(link, self.qualifiers, &numbers, to)
+    }
+}
+
+impl<A: Allocator> Code<A> {
+    /// Emits the code that looks for several numbers, with their qualifiers.
+    fn emit_several(
+        &mut self,
+        link: Link,
+        qualifiers: CompleteQualifiers,
+        numbers: &Numbers<'_>,
+        to: Targets,
+    ) -> Result<usize, AllocError>
+        ensures { EmitsFormula link
+            (several_formula link qualifiers qualifiers.value_type numbers.now) to self.old result
+            self.new }
+    {
+        let (protocol, direction) = (qualifiers.protocol, qualifiers.direction);
+        match qualifiers.value_type {
             ValueType::Host | ValueType::Net => {
-                code.emit_hosts(link, protocol, Hosts::Several(direction), &numbers, to)
+                self.emit_hosts(link, protocol, Hosts::Several(direction), numbers, to)
             }
             ValueType::Port | ValueType::PortRange => {
                 let wanted = PortTest::new(protocol, direction, Ports::Several);
-                code.emit_ports(link, wanted, &numbers, to)
+                self.emit_ports(link, wanted, numbers, to)
             }
             // No other type has members.
             _ => Ok(to.no),
         }
     }
-}
 
-impl<A: Allocator> Code<A> {
     /// Emits members one after the other, the last of the expression first.
     fn emit_rows(&mut self, link: Link, entries: &[Entry], to: Targets) -> Result<usize, AllocError>
         ensures { EmitsFormula link (rows_formula link (reverse entries.now)) to self.old result

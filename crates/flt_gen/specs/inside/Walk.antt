@@ -1,5 +1,5 @@
 -- The walk over the nodes of an expression, from the last to the first.
-use Rattle.std.specs.Prelude.{ℕ, ◌+◌, List, [], ◌∷◌, length, drop, ◌-◌, if◌then◌else◌, Bool, true, false, Option, Some, None}
+use Rattle.std.specs.Prelude.{not, ℕ, ◌+◌, List, [], ◌∷◌, length, drop, ◌-◌, if◌then◌else◌, Bool, true, false, Option, Some, None}
 use Rattle.flt_bpf.specs.declared.insn.Insn.{Insn}
 use Rattle.flt_bpf.specs.declared.operation.Operand.TheVariants.{Constant, IndexRegister}
 use Rattle.flt_words.specs.declared.token.Operator.{Operator}
@@ -175,17 +175,7 @@ emit_node link w (node.Load protocol size) = record w {
 emit_node link w node.Negate = with_insns (plain Negate 0 ∷ w.code) w
 emit_node link w (node.Apply operator) =
     begin_operands w.slot (plain (computation operator IndexRegister) 0 ∷ w.code) w
-emit_node link w (node.Check protocol) =
-    emit_truth_node link (flush_group link w) (node.Check protocol)
-emit_node link w (node.Cast protocol c) =
-    emit_truth_node link (flush_group link w) (node.Cast protocol c)
-emit_node link w (node.Sized size n) = emit_truth_node link (flush_group link w) (node.Sized size n)
-emit_node link w (node.Bare v) = emit_truth_node link (flush_group link w) (node.Bare v)
-emit_node link w (node.Valued qualifiers v) =
-    emit_truth_node link (flush_group link w) (node.Valued qualifiers v)
-emit_node link w (node.Compare comparison) =
-    emit_truth_node link (flush_group link w) (node.Compare comparison)
-emit_node link w node.Not = emit_truth_node link (flush_group link w) node.Not
+emit_node link w n = emit_truth_node link (flush_group link w) n
 
 -- an operator with a constant as its right operand, and the left one is next; none if its
 -- instruction may not have this constant
@@ -231,14 +221,9 @@ is_number_node _ = false
 
 -- a node of truths, except values with all their qualifiers and for joins
 abbrev pub is_truth_node : Node → Bool
-is_truth_node (node.Check protocol) = true
-is_truth_node (node.Cast protocol c) = true
-is_truth_node (node.Sized size n) = true
-is_truth_node (node.Bare v) = true
-is_truth_node (node.Valued qualifiers v) = true
-is_truth_node (node.Compare comparison) = true
-is_truth_node node.Not = true
-is_truth_node _ = false
+is_truth_node (node.Qualified q v) = false
+is_truth_node (node.Join join) = false
+is_truth_node n = not (is_number_node n)
 
 -- the two returns are there, and nothing waits
 abbrev pub start_walk : Walk

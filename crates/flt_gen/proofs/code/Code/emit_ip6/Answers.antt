@@ -1,5 +1,5 @@
 -- The frames' test in front of the words of both sides.
-use Rattle.flt_gen.proofs.Common.{◌+◌, ◌∙◌, sym, ap, ap₂, subst, List, Elementary, Block, kind_test}
+use Rattle.flt_gen.proofs.Common.{ℕ, ◌+◌, ◌∙◌, sym, ap, ap₂, subst, List, Elementary, Block, kind_test}
 use Rattle.flt_gen.specs.declared.elementary.FrameKind.TheVariants as kind
 use Rattle.flt_gen.specs.Primitives.{ip6_tests}
 use Rattle.flt_gen.specs.inside.Code.{emit_formula, emit_elementary}
@@ -11,7 +11,7 @@ pub returns : goal.returns
 returns g c =
     let a = c.args in
     let r = c.emit_elementary in
-    let tests = λ at. ip6_tests a.prefix a.address at in
+    let tests : ℕ → List Elementary = λ at. ip6_tests a.prefix a.address at in
     let code : List Elementary → List Elementary → Block = λ s t. emit_formula a.link (needed_sides a.direction s t) a.to.yes a.to.no a.self.now in
     let start = sym c.network_offset-start.ensures.place in
     let source = ap (λ x. tests (x + 8)) start ∙ sym c.ip6_tests-source.ensures in
