@@ -1,15 +1,12 @@
 -- The group that waits is emitted as the right operand of an or.
 use Rattle.flt_gen.proofs.Common.{◌≡◌, Group, no_group, Entry, group_formula, flush_members, flush_group, List, [], ◌∷◌, Bool, false, Result, Ok, Err, refl, ap, ◌∙◌, OnOk, Or, Link, Walk, finish_formula}
 use Rattle.std.specs.declared.alloc.AllocError.{AllocError}
-use Rattle.flt_gen.specs.inside.Group.{is_empty as has_none}
-use Rattle.flt_gen.specs.inside.Walk.{begin_right}
-use Rattle.flt_gen.specs.declared.waiting.LeftTruth.{LeftTruth}
-use Rattle.flt_gen.specs.declared.waiting.Pending.{Pending}
-use Rattle.flt_gen.specs.declared.waiting.Pending.TheVariants as next
+use Rattle.flt_gen.specs.declared.waiting.{LeftTruth.LeftTruth, Pending.Pending}
+use Rattle.flt_gen.specs.inside.{Group.is_empty as has_none, Walk.begin_right}
 
 right_group : (p : Pending) (w : Walk) → (begin_right p w).group ≡ w.group
-right_group next.Nothing w = refl
-right_group next.Or w = refl
+right_group Pending.Nothing w = refl
+right_group Pending.Or w = refl
 
 some_flushed : (link : Link) (w : Walk) (es : List Entry) → has_none es ≡ false → finish_formula link (group_formula link w.group) (record w { truths = record { join = Or; to = w.to } ∷ w.truths; group = no_group }) ≡ flush_members link w es
 some_flushed link w [] e = cc

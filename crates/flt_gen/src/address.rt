@@ -3,14 +3,10 @@
 //! `.._needed` is the row without the other tests of such words.
 
 ghost use Rattle.std.specs.Prelude.{◌≡◌, ◌+◌, ◌≤◌};
-ghost use Rattle.cap_octet.specs.Link.{longest_header};
-ghost use Rattle.cap_octet.specs.declared.link.Link.{Link};
-ghost use Rattle.flt_gen.specs.Primitives.{partial_mask, net_test, address_test, address_places};
-ghost use Rattle.flt_gen.specs.Primitives.{hosts_of_kind, hosts_formula, ip6_test, ip6_tests};
-ghost use Rattle.flt_gen.specs.inside.Emitted.{is_idle, last_test, needed_tests, needed_sides};
-ghost use Rattle.flt_gen.specs.inside.Emitted.{ip6_needed};
-ghost use Rattle.flt_gen.specs.inside.Code.{emit_all};
-ghost use Rattle.flt_gen.specs.inside.Emits.{Emits, EmitsFormula};
+ghost use Rattle.cap_octet.specs.{Link.longest_header, declared.link.Link.Link};
+ghost use Rattle.flt_gen.specs.Primitives.{partial_mask, net_test, address_test, address_places, hosts_of_kind, hosts_formula, ip6_test, ip6_tests};
+ghost use Rattle.flt_gen.specs.inside.{Code.emit_all, Emits.Emits, Emits.EmitsFormula};
+ghost use Rattle.flt_gen.specs.inside.Emitted.{is_idle, last_test, needed_tests, needed_sides, ip6_needed};
 
 use crate::code::{Code, Targets};
 use crate::elementary::{

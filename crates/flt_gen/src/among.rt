@@ -1,10 +1,7 @@
 //! Emits the code that checks whether a field, or one of two, is in one of some intervals.
 
 ghost use Rattle.std.specs.Prelude.{◌≡◌, OnOk};
-ghost use Rattle.flt_gen.specs.inside.Code.{are_few, low_of, emit_interval, emit_chain};
-ghost use Rattle.flt_gen.specs.inside.Code.{emit_search, emit_masked, emit_side, emit_few};
-ghost use Rattle.flt_gen.specs.inside.Code.{emit_index, emit_at_index, emit_many, emit_among};
-ghost use Rattle.flt_gen.specs.inside.Code.{fewest_at_index, are_at_index};
+ghost use Rattle.flt_gen.specs.inside.Code.{are_few, low_of, emit_interval, emit_chain, emit_search, emit_masked, emit_side, emit_few, emit_index, emit_at_index, emit_many, emit_among, fewest_at_index, are_at_index};
 ghost use Rattle.flt_gen.specs.inside.Emits.{Emits};
 
 use crate::code::{Code, Targets};

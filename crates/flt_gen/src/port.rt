@@ -3,12 +3,10 @@
 //! (`emit_ports_after`), the ports (`emit_port_sides`).
 
 ghost use Rattle.std.specs.Prelude.{◌≡◌};
-ghost use Rattle.flt_gen.specs.Primitives.{port_test, port_is, port_between, port_sides};
-ghost use Rattle.flt_gen.specs.Primitives.{ports_after, transport_ports, ip_transport};
-ghost use Rattle.flt_gen.specs.Primitives.{ip6_transport, port_formula, after};
 ghost use Rattle.flt_gen.specs.Elementary.{kind_test};
-ghost use Rattle.cap_octet.specs.declared.link.Link.{Link};
+ghost use Rattle.flt_gen.specs.Primitives.{port_test, port_is, port_between, port_sides, ports_after, transport_ports, ip_transport, ip6_transport, port_formula, after};
 ghost use Rattle.flt_gen.specs.inside.Emits.{EmitsFormula};
+ghost use Rattle.cap_octet.specs.declared.link.Link.{Link};
 
 use crate::code::{Code, Targets};
 use crate::elementary::{

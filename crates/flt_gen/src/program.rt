@@ -2,11 +2,9 @@
 //! is threaded and shortened in one or two rounds, and is laid out.
 
 ghost use Rattle.std.specs.Prelude.{◌≡◌, ◌≤◌, IfOk, reverse};
-ghost use Rattle.flt_gen.specs.Correct.{IsProgramOf};
-ghost use Rattle.flt_gen.specs.Counts.{short_bound_of};
-ghost use Rattle.flt_bpf.specs.Layout.{JumpsAreNeeded, IsShort};
-ghost use Rattle.flt_gen.specs.inside.Round.{IsRound};
+ghost use Rattle.flt_gen.specs.{Correct.IsProgramOf, Counts.short_bound_of, inside.Round.IsRound};
 ghost use Rattle.flt_gen.specs.inside.Walk.{emit_nodes, start_walk, insns_of};
+ghost use Rattle.flt_bpf.specs.Layout.{JumpsAreNeeded, IsShort};
 
 use crate::folding::folded_nodes;
 use crate::walk::Walk;

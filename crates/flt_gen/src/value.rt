@@ -6,8 +6,7 @@
 //! The rows themselves are emitted by address.rt, port.rt and protocol.rt (`proto`, MAC addresses).
 
 ghost use Rattle.flt_gen.specs.Primitives.{net_formula};
-ghost use Rattle.flt_gen.specs.inside.Emitted.{qualified_needed};
-ghost use Rattle.flt_gen.specs.inside.Emits.{EmitsFormula};
+ghost use Rattle.flt_gen.specs.inside.{Emits.EmitsFormula, Emitted.qualified_needed};
 
 use crate::address::{Hosts, NetTest, partial_mask};
 use crate::code::{Code, Targets};

@@ -21,15 +21,9 @@
 
 ghost use Rattle.std.specs.Prelude.{◌≡◌, true, Some, None, if◌then◌else◌, OnOk, IfOk, reverse};
 ghost use Rattle.flt_gen.specs.inside.Code.{block};
-ghost use Rattle.cap_octet.specs.declared.link.Link.{Link};
 ghost use Rattle.flt_gen.specs.inside.Group.{no_group, larger_group, group_formula};
-ghost use Rattle.flt_gen.specs.inside.Walk.{start_walk, insns_of, emit_nodes, emit_both_nodes};
-ghost use Rattle.flt_gen.specs.inside.Walk.{emit_load_at};
-ghost use Rattle.flt_gen.specs.inside.Walk.{emit_operator_with, emit_comparison_with, emit_node};
-ghost use Rattle.flt_gen.specs.inside.Walk.{emit_join, emit_value, emit_truth_node, is_truth_node};
-ghost use Rattle.flt_gen.specs.inside.Walk.{begin_right, flush_group, finish_formula};
-ghost use Rattle.flt_gen.specs.inside.Walk.{finish_truth, is_number_node, emit_leaf};
-ghost use Rattle.flt_gen.specs.inside.Walk.{begin_operands, finish_number, finish_relation};
+ghost use Rattle.flt_gen.specs.inside.Walk.{start_walk, insns_of, emit_nodes, emit_both_nodes, emit_load_at, emit_operator_with, emit_comparison_with, emit_node, emit_join, emit_value, emit_truth_node, is_truth_node, begin_right, flush_group, finish_formula, finish_truth, is_number_node, emit_leaf, begin_operands, finish_number, finish_relation};
+ghost use Rattle.cap_octet.specs.declared.link.Link.{Link};
 
 use crate::code::{Code, Targets};
 use crate::group::Group;

@@ -3,8 +3,7 @@ use Rattle.std.specs.Prelude.{◌≡◌, ℕ, List, Result, IfOk}
 use Rattle.std.specs.declared.alloc.AllocError.{AllocError}
 use Rattle.flt_bpf.specs.declared.insn.Insn.{Insn}
 use Rattle.cap_octet.specs.declared.link.Link.{Link}
-use Rattle.flt_gen.specs.declared.code.Targets.{Targets}
-use Rattle.flt_gen.specs.Formula.{Formula}
+use Rattle.flt_gen.specs.{Formula.Formula, declared.code.Targets.Targets}
 use Rattle.flt_gen.specs.inside.Code.{Block, block, emit_formula}
 
 -- if the call succeeds, the code is that of the block, whose entry the call returns;

@@ -2,9 +2,8 @@
 use Rattle.std.specs.Prelude.{nat_eq}
 use Rattle.std.proofs.Common.{rules}
 use Rattle.flt_gen.specs.declared.cases.Case.{Case}
+use Rattle.flt_gen.specs.inside.{Emits.EmitsFormula, Group.has_networks, Group.together_formula}
 use Rattle.flt_gen.proofs.Common.{arith, eqb-true, ◌≡◌, List, length, ◌∷◌, [], ◌∙◌, true, refl, sym, ap, ap₂, subst, if◌then◌else◌, Link, Formula, Group, is_searched, numbers_of, several_formula, rows_formula, group_formula, sought}
-use Rattle.flt_gen.specs.inside.Group.{has_networks, together_formula}
-use Rattle.flt_gen.specs.inside.Emits.{EmitsFormula}
 use Rattle.flt_gen.proofs.group.Group.emit.Goals as goal
 
 several_is : (link : Link) (group : Group) → is_searched group ≡ true → group.cases ≡ [] → group_formula link group ≡ several_formula link group.qualifiers group.qualifiers.value_type (numbers_of group)
