@@ -1,8 +1,8 @@
 -- A list from its end.
 use Rattle.std.proofs.Common.{◌≡◌, ℕ, ◌-◌, ◌≤◌, List, ◌++◌, length, take, drop, sym, ap, ◌∙◌, arith, length-drop}
-use Rattle.std.specs.Prelude.{reverse, min}
-use Rattle.std.proofs.lemmas.List.{take_min, take-append-drop, reverse-append, length-reverse}
 use Rattle.std.proofs.Math.Seq.{drop-append_seam}
+use Rattle.std.proofs.lemmas.List.{take_min, take-append-drop, reverse-append, length-reverse}
+use Rattle.std.specs.Prelude.{reverse, min}
 
 reverse_take : {A : Type 0} (xs : List A) (e : ℕ) → e ≤ length xs → reverse (take e xs) ≡ drop (length (reverse xs) - e) (reverse xs)
 reverse_take xs e l =

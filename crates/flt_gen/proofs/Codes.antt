@@ -1,8 +1,7 @@
 -- An instruction with the code of an operation is one of it.
 use Rattle.flt_gen.proofs.Common.{◌≡◌, ℕ, List, ◌∷◌, refl, ap, ◌∙◌, Insn, State, Operation, answer_of, answer_after, code_of, does, does_if_known, plain}
 pub use Rattle.flt_bpf.proofs.Codes.{code_is}
-use Rattle.flt_bpf.specs.Instructions.{operation_of}
-use Rattle.flt_bpf.specs.Machine.{step}
+use Rattle.flt_bpf.specs.{Instructions.operation_of, Machine.step}
 
 module _ (p : List ℕ) (n : ℕ) where
   -- what an instruction does in front of code

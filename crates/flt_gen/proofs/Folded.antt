@@ -1,11 +1,8 @@
 -- An expression with its arithmetic of numbers folded means the same, and counts no more.
 use Rattle.flt_gen.proofs.Common.{◌≡◌, ℕ, ◌+◌, ◌%◌, ◌^◌, ◌≤◌, List, [], ◌∷◌, false, Option, Some, None, refl, sym, ap, ◌∙◌, arith, fold, or_assoc, ◌||◌, Operator, Comparison, Protocol, field, Node, NumberTree, literal, named, load, negated, applied, TruthTree, compared, denied, joined, Expression, empty, truth, number_size, number_words, number_tests, truth_size, truth_words, truth_tests, bound_of, words_of, number_nodes, truth_nodes, expr_nodes, number_onto, truth_onto, expr_onto, is_unfilled, any_primitive, some_primitive, Link, MatchResult, Yes, with, reading_of, compares, elementary_reads, width_of, base, number, result_of, accessors, accessor_tests, Formula, Compare, both, either, negation, reads, relation_reads, guarded_formula, checked_formula, Elementary, constant, formula, holds, short_bound_of, negated_constant, applied_constant, number_or, negated_number, applied_number, folded_number, and_denied, joined_truth, folded_truth, folded_expression, node_or, with_negation, with_operator, Held, with_held, with_folded}
+use Rattle.flt_gen.proofs.{Held.held_truth, Held.none_held, Held.back_truth, Numbers.constant_is, Once.both_again}
 use Rattle.flt_words.specs.declared.token.Join.{Join}
-use Rattle.flt_words.specs.declared.token.Join.TheVariants as join
 use Rattle.flt_ast.specs.declared.node.Node.TheVariants as node
-use Rattle.flt_gen.proofs.Numbers.{constant_is}
-use Rattle.flt_gen.proofs.Held.{held_truth, none_held, back_truth}
-use Rattle.flt_gen.proofs.Once.{both_again}
 
 -- by what is folded
 by_fold : (P : NumberTree → Type 0) (o : Option ℕ) (a : NumberTree) → ((k : ℕ) → o ≡ Some k → P (literal k)) → P a → P (number_or o a)
@@ -73,13 +70,13 @@ record NoMore (a b : TruthTree) : Type 0 where
   words : truth_words a ≤ truth_words b
   tests : truth_tests a ≤ truth_tests b
 
-denied_no_more : (a b : TruthTree) → NoMore (and_denied a b) (joined join.And a (denied b))
+denied_no_more : (a b : TruthTree) → NoMore (and_denied a b) (joined Join.And a (denied b))
 denied_no_more (denied a) b = record { size = omega arith; words = omega arith; tests = omega arith }
-denied_no_more (joined join.And x (denied a)) b = record { size = omega arith; words = omega arith; tests = omega arith }
+denied_no_more (joined Join.And x (denied a)) b = record { size = omega arith; words = omega arith; tests = omega arith }
 denied_no_more a b = record { size = omega arith; words = omega arith; tests = omega arith }
 
 joined_no_more : (j : Join) (a b : TruthTree) → NoMore (joined_truth j a b) (joined j a b)
-joined_no_more join.And a (denied b) = denied_no_more a b
+joined_no_more Join.And a (denied b) = denied_no_more a b
 joined_no_more _ a b = record { size = omega arith; words = omega arith; tests = omega arith }
 
 no_more : (a : TruthTree) → NoMore (folded_truth a) a
@@ -109,11 +106,11 @@ short_no_more (truth a) = let h = no_more a in let s = h.size in let t = h.tests
 
 filled_denied : (a b : TruthTree) → any_primitive is_unfilled (and_denied a b) ≡ (any_primitive is_unfilled a || any_primitive is_unfilled b)
 filled_denied (denied a) b = refl
-filled_denied (joined join.And x (denied a)) b = sym (or_assoc (any_primitive is_unfilled x) (any_primitive is_unfilled a) (any_primitive is_unfilled b))
+filled_denied (joined Join.And x (denied a)) b = sym (or_assoc (any_primitive is_unfilled x) (any_primitive is_unfilled a) (any_primitive is_unfilled b))
 filled_denied a b = refl
 
 filled_joined : (j : Join) (a b : TruthTree) → any_primitive is_unfilled (joined_truth j a b) ≡ any_primitive is_unfilled (joined j a b)
-filled_joined join.And a (denied b) = filled_denied a b
+filled_joined Join.And a (denied b) = filled_denied a b
 filled_joined _ a b = refl
 
 filled_truth : (a : TruthTree) → any_primitive is_unfilled (folded_truth a) ≡ any_primitive is_unfilled a
@@ -175,15 +172,15 @@ module _ (p : List ℕ) (n : ℕ) where
   checked_same link [] f g h = h
   checked_same link (q ∷ qs) f g h = guarded_same link (accessor_tests link q) (checked_formula link qs f) (checked_formula link qs g) (checked_same link qs f g h)
 
-  denied_same : (link : Link) (a b : TruthTree) → reads link (formula link (and_denied a b)) p n ≡ reads link (formula link (joined join.And a (denied b))) p n
+  denied_same : (link : Link) (a b : TruthTree) → reads link (formula link (and_denied a b)) p n ≡ reads link (formula link (joined Join.And a (denied b))) p n
   denied_same link (denied a) b = denied_both (reads link (formula link a) p n) (reads link (formula link b) p n)
-  denied_same link (joined join.And x (denied a)) b =
+  denied_same link (joined Join.And x (denied a)) b =
       ap (λ r. both (reads link (formula link x) p n) r) (denied_both (reads link (formula link a) p n) (reads link (formula link b) p n))
       ∙ both_again (reads link (formula link x) p n) (negation (reads link (formula link a) p n)) (negation (reads link (formula link b) p n))
   denied_same link a b = refl
 
   joined_same : (link : Link) (j : Join) (a b : TruthTree) → reads link (formula link (joined_truth j a b)) p n ≡ reads link (formula link (joined j a b)) p n
-  joined_same link join.And a (denied b) = denied_same link a b
+  joined_same link Join.And a (denied b) = denied_same link a b
   joined_same link _ a b = refl
 
   truth_folded : (link : Link) (a : TruthTree) → reads link (formula link (folded_truth a)) p n ≡ reads link (formula link a) p n
@@ -192,8 +189,8 @@ module _ (p : List ℕ) (n : ℕ) where
       (accessors_folded a (accessors (folded_number b) []) ∙ ap (accessors a) (accessors_folded b []))
       ∙ checked_same link (accessors a (accessors b [])) (Compare c (folded_number a) (folded_number b)) (Compare c a b) (relation_folded link c a b)
   truth_folded link (denied a) = ap negation (truth_folded link a)
-  truth_folded link (joined join.And a b) = joined_same link join.And (folded_truth a) (folded_truth b) ∙ ap (λ r. both r (reads link (formula link (folded_truth b)) p n)) (truth_folded link a) ∙ ap (λ r. both (reads link (formula link a) p n) r) (truth_folded link b)
-  truth_folded link (joined join.Or a b) = ap (λ r. either r (reads link (formula link (folded_truth b)) p n)) (truth_folded link a) ∙ ap (λ r. either (reads link (formula link a) p n) r) (truth_folded link b)
+  truth_folded link (joined Join.And a b) = joined_same link Join.And (folded_truth a) (folded_truth b) ∙ ap (λ r. both r (reads link (formula link (folded_truth b)) p n)) (truth_folded link a) ∙ ap (λ r. both (reads link (formula link a) p n) r) (truth_folded link b)
+  truth_folded link (joined Join.Or a b) = ap (λ r. either r (reads link (formula link (folded_truth b)) p n)) (truth_folded link a) ∙ ap (λ r. either (reads link (formula link a) p n) r) (truth_folded link b)
   truth_folded link _ = refl
 
   pub holds_folded : (link : Link) (e : Expression) → holds (folded_expression e) link p n ≡ holds e link p n
@@ -224,15 +221,15 @@ number_put (applied o a b) d rest = number_put a d _ ∙ number_put b _ _ ∙ ap
 number_put _ d rest = refl
 
 join_put : (j : Join) (b a : TruthTree) (d : List Node) → with_folded (truth_onto b (truth_onto a d)) (node.Join j) ≡ truth_onto (joined_truth j a b) d
-join_put join.Or b a d = refl
-join_put join.And (denied b) a d =
+join_put Join.Or b a d = refl
+join_put Join.And (denied b) a d =
     ap (λ (h : Held). with_held h.held h.rest) (held_truth b 0 [] (truth_onto a d) ∙ none_held (truth_nodes b []) (truth_onto a d)) ∙ after b a d
   where
-    after : (b a : TruthTree) (d : List Node) → with_held (truth_nodes b []) (truth_onto a d) ≡ truth_onto (joined_truth join.And a (denied b)) d
-    after b (denied a) d = ap (λ ns. node.Not ∷ node.Join join.Or ∷ ns) (back_truth b [] (truth_onto a d))
-    after b (joined join.And x (denied a)) d = ap (λ ns. node.Join join.And ∷ node.Not ∷ node.Join join.Or ∷ ns) (back_truth b [] (truth_onto a (truth_onto x d)))
-    after b a d = ap (λ ns. node.Join join.And ∷ node.Not ∷ ns) (back_truth b [] (truth_onto a d))
-join_put join.And b a d = refl
+    after : (b a : TruthTree) (d : List Node) → with_held (truth_nodes b []) (truth_onto a d) ≡ truth_onto (joined_truth Join.And a (denied b)) d
+    after b (denied a) d = ap (λ ns. node.Not ∷ node.Join Join.Or ∷ ns) (back_truth b [] (truth_onto a d))
+    after b (joined Join.And x (denied a)) d = ap (λ ns. node.Join Join.And ∷ node.Not ∷ node.Join Join.Or ∷ ns) (back_truth b [] (truth_onto a (truth_onto x d)))
+    after b a d = ap (λ ns. node.Join Join.And ∷ node.Not ∷ ns) (back_truth b [] (truth_onto a d))
+join_put Join.And b a d = refl
 
 truth_put : (a : TruthTree) (d rest : List Node) → fold with_folded d (truth_nodes a rest) ≡ fold with_folded (truth_onto (folded_truth a) d) rest
 truth_put (compared c a b) d rest = number_put a d _ ∙ number_put b _ _

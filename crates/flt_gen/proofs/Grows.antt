@@ -1,19 +1,16 @@
 -- The code of a formula has no fault and no jump, and no more instructions and branches than are
 -- counted.
-use Rattle.flt_gen.proofs.Common.{accessor_offset, alu_operation, ◌≡◌, ℕ, zero, suc, ◌+◌, ◌-◌, ◌*◌, ◌/◌, ◌<◌, ◌≤◌, List, [], ◌∷◌, length, take, drop, Bool, true, false, cond, Option, Some, None, refl, sym, ap, ◌∙◌, arith, length-drop, length-take, ◌≢◌, nat_lt, nat_le, ◌==◌, not, ◌&&◌, if◌then◌else◌, count_by, nat_tests, sum_by-cons, All-cons, Insn, Operand, Constant, IndexRegister, Operation, LoadAbsolute, LoadIndirect, Load, LoadHeaderLength, Store, Compute, Negate, Jump, JumpIf, CopyToIndex, Word, Accumulator, Index, Immediate, Memory, Length, Test, Width, fault_if_known, operation_fault, unless, ends_in_return, IsValidUnlessLong, code_of, is_branch, JUMP, HasNoJump, Comparison, Equal, NotEqual, Less, AtMost, Greater, AtLeast, Operator, Protocol, Tcp, Udp, Icmp, number_words, number_size, NumberTree, literal, len, named, load, negated, applied, Link, network_offset, Interval, Elementary, Outcome, Field, Offset, Fixed, AfterHeader, width_of, Formula, Single, Compare, Both, Either, Except, Split, Sought, Numbers, Sides, Direction, Source, Destination, And, Or, max, subst, plain, computation, takes_constant, constant, constant_operand, branch_insn, emit_branch, emit_comparison, emit_field, emit_mask, emit_accessor, emit_number, Block, at_top, emit_interval, emit_chain, are_few, low_of, MOST_HALVINGS, emit_elementary, emit_formula, emit_masked, emit_side, emit_others, emit_few, emit_index, emit_at_index, emit_many, fewest_at_index, are_at_index, emit_among, words, nodes, first_ends, sought_tests, tests}
-use Rattle.flt_ast.specs.declared.qualifiers.Direction.TheVariants as direction
-use Rattle.flt_bpf.specs.declared.fault.CheckFault.{CheckFault}
-use Rattle.std.specs.Option.{is_none}
-use Rattle.flt_bpf.specs.declared.fault.CheckFault.TheVariants.{JumpOut, NoSuchWord}
-use Rattle.flt_bpf.specs.declared.operation.AluOperation.TheVariants as arithmetic
-use Rattle.flt_bpf.specs.declared.operation.Test.TheVariants as test
-use Rattle.flt_bpf.specs.Check.{constant_fault, fault_of}
-use Rattle.flt_bpf.specs.Instructions.{operation_of}
-use Rattle.flt_gen.specs.inside.Code.{emit_search}
 use Rattle.flt_gen.proofs.Ascending.{if_case, Searchable, Reached, Ready, Searches, length_without, ends_few as first_few}
 use Rattle.flt_gen.proofs.Codes.{code_is}
-use Rattle.flt_gen.proofs.Numbers.{operand_is}
-use Rattle.flt_gen.proofs.Tails.{by_right, by_index}
+use Rattle.flt_gen.proofs.Common.{accessor_offset, alu_operation, ◌≡◌, ℕ, zero, suc, ◌+◌, ◌-◌, ◌*◌, ◌/◌, ◌<◌, ◌≤◌, List, [], ◌∷◌, length, take, drop, Bool, true, false, cond, Option, Some, None, refl, sym, ap, ◌∙◌, arith, length-drop, length-take, ◌≢◌, nat_lt, nat_le, ◌==◌, not, ◌&&◌, if◌then◌else◌, count_by, nat_tests, sum_by-cons, All-cons, Insn, Operand, Constant, IndexRegister, Operation, LoadAbsolute, LoadIndirect, Load, LoadHeaderLength, Store, Compute, Negate, Jump, JumpIf, CopyToIndex, Word, Accumulator, Index, Immediate, Memory, Length, Test, Width, fault_if_known, operation_fault, unless, ends_in_return, IsValidUnlessLong, code_of, is_branch, JUMP, HasNoJump, Comparison, Equal, NotEqual, Less, AtMost, Greater, AtLeast, Operator, Protocol, Tcp, Udp, Icmp, number_words, number_size, NumberTree, literal, len, named, load, negated, applied, Link, network_offset, Interval, Elementary, Outcome, Field, Offset, Fixed, AfterHeader, width_of, Formula, Single, Compare, Both, Either, Except, Split, Sought, Numbers, Sides, Direction, Source, Destination, And, Or, max, subst, plain, computation, takes_constant, constant, constant_operand, branch_insn, emit_branch, emit_comparison, emit_field, emit_mask, emit_accessor, emit_number, Block, at_top, emit_interval, emit_chain, are_few, low_of, MOST_HALVINGS, emit_elementary, emit_formula, emit_masked, emit_side, emit_others, emit_few, emit_index, emit_at_index, emit_many, fewest_at_index, are_at_index, emit_among, words, nodes, first_ends, sought_tests, tests}
+use Rattle.flt_gen.proofs.{Numbers.operand_is, Tails.by_right, Tails.by_index}
+use Rattle.flt_ast.specs.declared.qualifiers.Direction.TheVariants as direction
+use Rattle.flt_bpf.specs.{Check.constant_fault, Check.fault_of, Instructions.operation_of}
+use Rattle.flt_bpf.specs.declared.fault.CheckFault.{CheckFault, TheVariants.JumpOut, TheVariants.NoSuchWord}
+use Rattle.flt_bpf.specs.declared.operation.AluOperation.{AluOperation}
+use Rattle.std.specs.Option.{is_none}
+use Rattle.flt_bpf.specs.declared.operation.Test.TheVariants as test
+use Rattle.flt_gen.specs.inside.Code.{emit_search}
 
 abbrev pub branches : List Insn → ℕ
 branches c = count_by (λ i. is_branch (operation_of i.code)) c
@@ -131,12 +128,12 @@ field_grows (AfterHeader header k) width g =
 
 mask_grows : (mask : Option ℕ) {c d : List Insn} {m w : ℕ} → Grows c d m w → Grows c (emit_mask mask d) (m + 1) (w + 1)
 mask_grows None g = grows_more _ _ (omega arith) (omega arith) g
-mask_grows (Some mask) g = grows_put (Compute arithmetic.And Constant) mask refl refl g
+mask_grows (Some mask) g = grows_put (Compute AluOperation.And Constant) mask refl refl g
 
-transport_grows : (at : ℕ) (width : Width) {c d : List Insn} {m w : ℕ} → Grows c d m w → Grows c (plain LoadHeaderLength at ∷ plain (Compute arithmetic.Add IndexRegister) 0 ∷ plain CopyToIndex 0 ∷ plain (LoadIndirect width) at ∷ d) (m + 4) (w + 4)
+transport_grows : (at : ℕ) (width : Width) {c d : List Insn} {m w : ℕ} → Grows c d m w → Grows c (plain LoadHeaderLength at ∷ plain (Compute AluOperation.Add IndexRegister) 0 ∷ plain CopyToIndex 0 ∷ plain (LoadIndirect width) at ∷ d) (m + 4) (w + 4)
 transport_grows at width g =
     grows_more _ _ (omega arith) (omega arith)
-    (grows_put LoadHeaderLength at refl refl (grows_put (Compute arithmetic.Add IndexRegister) 0 refl refl (grows_put CopyToIndex 0 refl refl (grows_put (LoadIndirect width) at refl refl g))))
+    (grows_put LoadHeaderLength at refl refl (grows_put (Compute AluOperation.Add IndexRegister) 0 refl refl (grows_put CopyToIndex 0 refl refl (grows_put (LoadIndirect width) at refl refl g))))
 
 base_grows : (at : ℕ) (width : Width) {c d : List Insn} {m w : ℕ} → Grows c d m w → Grows c (plain CopyToIndex 0 ∷ plain (LoadIndirect width) at ∷ d) (m + 4) (w + 4)
 base_grows at width g =

@@ -23,7 +23,7 @@ pub mod Needed
 pub mod Grouping
 pub mod Turned
 pub mod Masks
-pub mod StepsEmitted
+pub mod Flushed
 pub mod Whole
 pub mod Deciding
 pub mod Decision

@@ -1,18 +1,17 @@
 -- The code of a formula goes on where the formula's reading says.
-use Rattle.flt_gen.specs.Formula.{choose}
-use Rattle.flt_gen.proofs.Common.{◌≡◌, ℕ, zero, suc, ◌+◌, ◌-◌, ◌/◌, ◌%◌, ◌^◌, ◌<◌, ◌≤◌, List, [], ◌∷◌, length, take, drop, Bool, true, false, Option, Some, None, refl, sym, ap, ◌∙◌, subst, arith, nat_le, nat_lt, ◌==◌, not, ◌&&◌, ◌||◌, if◌then◌else◌, bit_and, option_map, nat_tests, Insn, State, Width, Byte, Test, Operand, Constant, IndexRegister, LoadAbsolute, LoadIndirect, Load, Immediate, LoadHeaderLength, Compute, JumpIf, Accumulator, Index, answer_of, answer_after, field, test_holds, operand_value, into, header_length, Comparison, Equal, NotEqual, Less, AtMost, Greater, AtLeast, number_words, NumberTree, Link, Offset, Fixed, AfterHeader, Interval, Sides, Direction, Source, Destination, And, Or, without, ap₂, Elementary, Outcome, Field, MatchResult, Yes, No, Rejected, reading_of, with, compares, field_at, under_mask, field_reads, elementary_reads, number, plain, constant, branch_insn, emit_elementary, emit_branch, emit_comparison, emit_field, emit_mask, emit_test, emit_relation, Block, at_top, emit_interval, emit_chain, are_few, low_of, MOST_HALVINGS, emit_masked, emit_side, emit_others, emit_few, emit_second, emit_at_sides, emit_many, are_at_index, emit_among, emit_formula, words}
-use Rattle.std.proofs.Math.Nat.{mod-eq_of_lt}
-use Rattle.flt_ast.specs.declared.qualifiers.Direction.TheVariants as direction
-use Rattle.flt_bpf.specs.declared.operation.Test.TheVariants as test
-use Rattle.flt_bpf.specs.declared.operation.AluOperation.TheVariants as arithmetic
-use Rattle.flt_gen.specs.Formula.{Formula, Single, Compare, Both, Either, Except, Split, Sought, Numbers, is_in, is_within, among_reads, captured_reads, either_reads, sought_reads, relation_reads, both, either, negation as exchanged, reads}
+use Rattle.flt_gen.specs.Formula.{choose, Formula, Single, Compare, Both, Either, Except, Split, Sought, Numbers, is_in, is_within, among_reads, captured_reads, either_reads, sought_reads, relation_reads, both, either, negation as exchanged, reads}
 use Rattle.flt_gen.specs.inside.Code.{emit_search}
 use Rattle.flt_gen.proofs.Ascending.{if_case, Apart, Searchable, Reached, Ready, Searches, apart_without, within_without, searchable_apart, apart_take, apart_drop, lower_half, first_taken, upper_half}
 use Rattle.flt_gen.proofs.Codes.{run, run_plain}
+use Rattle.flt_gen.proofs.Common.{◌≡◌, ℕ, zero, suc, ◌+◌, ◌-◌, ◌/◌, ◌%◌, ◌^◌, ◌<◌, ◌≤◌, List, [], ◌∷◌, length, take, drop, Bool, true, false, Option, Some, None, refl, sym, ap, ◌∙◌, subst, arith, nat_le, nat_lt, ◌==◌, not, ◌&&◌, ◌||◌, if◌then◌else◌, bit_and, option_map, nat_tests, Insn, State, Width, Byte, Test, Operand, Constant, IndexRegister, LoadAbsolute, LoadIndirect, Load, Immediate, LoadHeaderLength, Compute, JumpIf, Accumulator, Index, answer_of, answer_after, field, test_holds, operand_value, into, header_length, Comparison, Equal, NotEqual, Less, AtMost, Greater, AtLeast, number_words, NumberTree, Link, Offset, Fixed, AfterHeader, Interval, Sides, Direction, Source, Destination, And, Or, without, ap₂, Elementary, Outcome, Field, MatchResult, Yes, No, Rejected, reading_of, with, compares, field_at, under_mask, field_reads, elementary_reads, number, plain, constant, branch_insn, emit_elementary, emit_branch, emit_comparison, emit_field, emit_mask, emit_test, emit_relation, Block, at_top, emit_interval, emit_chain, are_few, low_of, MOST_HALVINGS, emit_masked, emit_side, emit_others, emit_few, emit_second, emit_at_sides, emit_many, are_at_index, emit_among, emit_formula, words}
 use Rattle.flt_gen.proofs.Grows.{are_many}
 use Rattle.flt_gen.proofs.Leads.{HasWords, Tops, Leads, leads_top, leads_on, leads_in, leads_to}
 use Rattle.flt_gen.proofs.Numbers.{answer_for, constant_is, operands_run, number_runs}
 use Rattle.flt_gen.proofs.Tails.{Extends, by_right, branch_extends, interval_extends, chain_extends, search_extends, masked_extends, side_extends, others_extends, at_index_extends, emitted_extends}
+use Rattle.std.proofs.Math.Nat.{mod-eq_of_lt}
+use Rattle.flt_ast.specs.declared.qualifiers.Direction.TheVariants as direction
+use Rattle.flt_bpf.specs.declared.operation.Test.TheVariants as test
+use Rattle.flt_bpf.specs.declared.operation.AluOperation.{AluOperation}
 
 -- one of two answers, by a reading; a rejected one ends the run with 0
 abbrev pub pick : MatchResult → ℕ → ℕ → ℕ
@@ -108,7 +107,7 @@ module _ (p : List ℕ) (n : ℕ) where
   masked_tops : (Q : State → Type 0) → Keeps Q → (mask : Option ℕ) (c : List Insn) (x v : ℕ) → Tops p n (With Q (under_mask mask x)) c v → Tops p n (With Q x) (emit_mask mask c) v
   masked_tops Q keep None c x v h = h
   masked_tops Q keep (Some m) c x v h =
-      λ s q. run_plain p n (Compute arithmetic.And Constant) m c s ∙ h (record s { accumulator = bit_and s.accumulator m }) (keep s (bit_and s.accumulator m) q.0, ap (λ y. bit_and y m) q.1)
+      λ s q. run_plain p n (Compute AluOperation.And Constant) m c s ∙ h (record s { accumulator = bit_and s.accumulator m }) (keep s (bit_and s.accumulator m) q.0, ap (λ y. bit_and y m) q.1)
 
   loaded : (o : Option ℕ) (b : ℕ → Bool) (c : List Insn) (v w : ℕ) (s : State) → HasWords s → ((x : ℕ) → Tops p n (Has x) c (if b x then v else w)) → answer_after (answer_of c p n) (into Accumulator o s) ≡ Some (pick (reading_of (with o (λ x. Some (b x)))) v w)
   loaded None b c v w s long h = refl

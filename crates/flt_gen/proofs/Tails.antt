@@ -1,9 +1,9 @@
 -- Code that grew in front still stands at its end.
+use Rattle.flt_gen.proofs.Ascending.{if_case}
 use Rattle.flt_gen.proofs.Common.{accessor_offset, emit_indexed, ◌≡◌, ℕ, zero, suc, ◌+◌, ◌-◌, ◌/◌, ◌≤◌, List, [], ◌∷◌, length, take, drop, Bool, true, false, Option, Some, None, refl, ap, ◌∙◌, arith, ◌==◌, Insn, Width, Test, Operand, Constant, IndexRegister, Comparison, Equal, Protocol, Tcp, Udp, Icmp, NumberTree, load, negated, applied, Link, Offset, Fixed, AfterHeader, Interval, Elementary, Outcome, Field, width_of, Formula, Single, Compare, Both, Either, Except, Split, Sought, Numbers, Sides, Direction, plain, emit_branch, emit_comparison, emit_field, emit_mask, emit_accessor, constant, constant_operand, emit_right, emit_number, emit_relation, Block, emit_interval, emit_chain, are_few, low_of, MOST_HALVINGS, emit_elementary, emit_formula, emit_masked, emit_side, emit_others, emit_few, emit_index, emit_at_index, emit_many, are_at_index, emit_among, Store, Accumulator, Source, Destination, And, Or}
 use Rattle.flt_ast.specs.declared.qualifiers.Direction.TheVariants as direction
 use Rattle.flt_bpf.specs.declared.operation.Test.TheVariants as test
 use Rattle.flt_gen.specs.inside.Code.{emit_search}
-use Rattle.flt_gen.proofs.Ascending.{if_case}
 
 -- a longer code is the same from the places of the shorter
 pub record Extends (c d : List Insn) : Type 0 where

@@ -1,7 +1,7 @@
 -- The walk over the nodes of an expression makes its program.
 use Rattle.flt_gen.proofs.Common.{◌≡◌, ℕ, ◌-◌, List, [], ◌∷◌, length, drop, take, get_or, zero, suc, ◌<◌, Option, Some, None, refl, sym, ap, ◌∙◌, arith, reverse, take-suc, reverse-append, Node, Expression, expr_onto, Link, expression_code, program_code, Walk, emit_node, emit_both_nodes, or_walk, emit_nodes, start_walk, insns_of}
-use Rattle.flt_ast.specs.declared.node.Node.TheVariants as node
 use Rattle.flt_gen.proofs.Walking.{expression_walked}
+use Rattle.flt_ast.specs.declared.node.Node.TheVariants as node
 
 -- by the nodes of the tree turned round
 abbrev pub Turned : Expression → List Node → Type 0

@@ -1,10 +1,8 @@
 -- The walk over the nodes of a tree, the last first, puts the code of the tree's formula in front.
 use Rattle.flt_gen.proofs.Common.{◌+◌, if◌then◌else◌, ◌≡◌, ℕ, List, [], ◌∷◌, Bool, true, false, Option, Some, None, refl, sym, ap, ◌∙◌, Insn, And, Or, Comparison, CompleteQualifiers, Value, Node, Apply, Literal, Not, Constant, IndexRegister, Operator, formula, Group, no_group, larger_group, truth_member, choice, or_any, or_group, group_formula, grouped_formula, NumberTree, literal, len, named, load, negated, applied, TruthTree, qualified, compared, denied, joined, Expression, empty, truth, number_onto, truth_onto, expr_onto, Link, Entry, protocols_of, relation_formula, qualified_needed, accessor_tests, Elementary, Protocol, plain, computation, takes_constant, emit_comparison, emit_operands, emit_right, emit_number, Block, emit_elementary, emit_formula, emit_all, emit_accessor_tests, expression_code, Walk, targets, finish_truth, finish_number, with_insns, finish_formula, flush_members, flush_group, emit_value, emit_truth_node, emit_node, or_walk, start_walk, emit_nodes}
 use Rattle.flt_ast.specs.declared.node.Node.TheVariants.{Compare}
-use Rattle.flt_gen.specs.declared.code.Targets.{Targets}
-use Rattle.flt_gen.specs.declared.waiting.LeftTruth.{LeftTruth}
-use Rattle.flt_gen.specs.declared.waiting.Pending.TheVariants as next
 use Rattle.flt_gen.specs.Formula.{Formula, Both, Either, Except, Compare as compare, guarded_formula, checked_formula}
+use Rattle.flt_gen.specs.declared.{code.Targets.Targets, waiting.LeftTruth.LeftTruth, waiting.Pending.Pending}
 
 guarded_emitted : (link : Link) (ts : List Elementary) (f : Formula) (hit miss : ℕ) (c : List Insn) → emit_formula link (guarded_formula ts f) hit miss c ≡ (let e = emit_formula link f hit miss c in emit_all ts e.entry miss e.code)
 guarded_emitted link [] f hit miss c = refl
@@ -39,10 +37,10 @@ number_walked link _ w d = refl
 
 -- a walk between two truths, with hosts that wait; and one after an or
 abbrev pub waiting : List Insn → Targets → List LeftTruth → Group → Walk
-waiting c to ts group = record { code = c; to = to; slot = 0; truths = ts; numbers = []; accessors = []; group = group; pending = next.Nothing }
+waiting c to ts group = record { code = c; to = to; slot = 0; truths = ts; numbers = []; accessors = []; group = group; pending = Pending.Nothing }
 
 abbrev after_or : List Insn → Targets → List LeftTruth → Group → Walk
-after_or c to ts group = record (waiting c to ts group) { pending = next.Or }
+after_or c to ts group = record (waiting c to ts group) { pending = Pending.Or }
 
 abbrev pub between : List Insn → Targets → List LeftTruth → Walk
 between c to ts = waiting c to ts no_group

@@ -1,20 +1,16 @@
 -- The wide code of an expression decides it, within its bounds; and so does what replaces it.
 use Rattle.flt_gen.proofs.Common.{◌≡◌, ℕ, ◌+◌, ◌-◌, ◌*◌, ◌≤◌, List, [], ◌∷◌, length, drop, take, false, cond, Some, None, refl, sym, ap, ◌∙◌, subst, arith, fold, length-drop, ◌≢◌, ◌↔◌, reverse, All-cons, All-drop, All-nil, sum_by-take-drop, Insn, ReturnConstant, answer_of, IsFaultless, IsValidUnlessLong, is_branch, JUMP, HasNoJump, IsShort, start, valid_if_short, faultless_drop, ends_drop, answer_drop, machine_answers, Node, tests_of, nodes_of, words_of, bound_of, expr_nodes, is_unfilled, some_primitive, Expression, empty, truth, Link, MatchResult, Yes, plain, IsProgramOf, short_bound_of, holds, with_folded, folded_expression, no_group, grouped_formula, returns_code, expression_code, program_code, emit_nodes, start_walk, insns_of}
-use Rattle.flt_bpf.specs.Check.{fault_of}
-use Rattle.flt_bpf.specs.Instructions.{operation_of}
-use Rattle.flt_bpf.specs.Machine.{step}
-use Rattle.flt_bpf.specs.Valid.{IsValid}
-use Rattle.flt_bpf.proofs.Checking.{parts}
-use Rattle.flt_short.specs.Threads.{Threads}
-use Rattle.flt_short.specs.Alike.{Shortens}
-use Rattle.flt_gen.specs.inside.Round.{IsRound}
-use Rattle.flt_short.proofs.Likeness.{met_of}
 use Rattle.flt_gen.proofs.Folded.{words_no_more, bound_no_more, short_no_more, filled_folded, nodes_folded, holds_folded}
 use Rattle.flt_gen.proofs.Grouping.{kept_none, grouped_stands}
 use Rattle.flt_gen.proofs.Grows.{branches, Sound, grows_none, Fits, fits_more, emitted_fits}
 use Rattle.flt_gen.proofs.Leads.{HasWords, Leads, leads_to}
-use Rattle.flt_gen.proofs.Runs.{pick, emitted_leads}
-use Rattle.flt_gen.proofs.Turned.{program_is}
+use Rattle.flt_gen.proofs.{Runs.pick, Runs.emitted_leads, Turned.program_is}
+use Rattle.flt_bpf.specs.Check.{fault_of}
+use Rattle.flt_bpf.specs.{Instructions.operation_of, Machine.step, Valid.IsValid}
+use Rattle.flt_bpf.proofs.Checking.{parts}
+use Rattle.flt_short.specs.{Alike.Shortens, Threads.Threads}
+use Rattle.flt_gen.specs.inside.Round.{IsRound}
+use Rattle.flt_short.proofs.Likeness.{met_of}
 
 -- code that answers a packet, by an answer other than 0 exactly where the expression matches
 pub record Decided (code : List Insn) (e : Expression) (link : Link) (p : List ℕ) (n : ℕ) : Type 0 where

@@ -1,12 +1,9 @@
 -- What is asked of a generated program.
 use Rattle.std.specs.Prelude.{◌≡◌, ◌≢◌, ◌↔◌, ℕ, ◌≤◌, List, length}
-use Rattle.flt_bpf.specs.declared.insn.Insn.{Insn}
-use Rattle.flt_bpf.specs.Machine.{machine, Answered}
-use Rattle.flt_ast.specs.Tree.{Expression}
-use Rattle.flt_ast.specs.Counts.{bound_of}
+use Rattle.flt_bpf.specs.{Machine.machine, Machine.Answered, declared.insn.Insn.Insn}
+use Rattle.flt_ast.specs.{Counts.bound_of, Tree.Expression}
 use Rattle.cap_octet.specs.declared.link.Link.{Link}
-use Rattle.flt_gen.specs.Elementary.{Yes}
-use Rattle.flt_gen.specs.Reading.{holds}
+use Rattle.flt_gen.specs.{Elementary.Yes, Reading.holds}
 
 -- a run on the captured bytes p of a packet of original length n reaches an answer, which is other
 -- than 0 exactly if the expression matches

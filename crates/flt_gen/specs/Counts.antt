@@ -1,7 +1,6 @@
 -- The bound of a program without `ja`.
 use Rattle.std.specs.Prelude.{ℕ, ◌+◌, ◌*◌}
-use Rattle.flt_ast.specs.Tree.{Expression}
-use Rattle.flt_ast.specs.Counts.{tests_of, nodes_of}
+use Rattle.flt_ast.specs.{Counts.tests_of, Counts.nodes_of, Tree.Expression}
 
 -- the most instructions that the program of an expression has, if it needs no `ja`
 abbrev pub short_bound_of : Expression → ℕ

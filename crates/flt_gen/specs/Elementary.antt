@@ -2,20 +2,15 @@
 use Rattle.std.specs.Prelude.{ℕ, ◌+◌, ◌%◌, ◌^◌, ◌==◌, not, nat_lt, nat_le, Bool, true, false, List, Option, Some, None, bit_and}
 use Rattle.cap_octet.specs.Assigned.{ETHERTYPE_IPV4, ETHERTYPE_IPV6, ETHERTYPE_ARP, ETHERTYPE_RARP}
 use Rattle.cap_octet.specs.Link.{network_offset, type_offset}
-use Rattle.flt_bpf.specs.declared.operation.Width.{Width}
-use Rattle.flt_bpf.specs.declared.operation.Width.TheVariants.{HalfWord, Byte}
+use Rattle.cap_octet.specs.declared.link.Link.{Link, TheVariants.Ether}
 use Rattle.flt_bpf.specs.Machine.{field, header_length}
+use Rattle.flt_bpf.specs.declared.operation.Width.{Width, TheVariants.HalfWord, TheVariants.Byte}
 use Rattle.flt_words.specs.declared.token.Comparison.{Comparison}
 use Rattle.flt_words.specs.declared.token.Comparison.TheVariants.{Equal, NotEqual, Less, AtMost, Greater, AtLeast}
-use Rattle.cap_octet.specs.declared.link.Link.{Link}
-use Rattle.cap_octet.specs.declared.link.Link.TheVariants.{Ether}
-use Rattle.flt_gen.specs.declared.elementary.FrameKind.{FrameKind}
+use Rattle.flt_gen.specs.declared.elementary.Elementary.{Elementary, TheVariants.Outcome, TheVariants.Field}
+use Rattle.flt_gen.specs.declared.elementary.{FieldTest.FieldTest, FrameKind.FrameKind}
 use Rattle.flt_gen.specs.declared.elementary.FrameKind.TheVariants.{Ethernet, Ip, Ip6, Arp, Rarp}
-use Rattle.flt_gen.specs.declared.elementary.Offset.{Offset}
-use Rattle.flt_gen.specs.declared.elementary.Offset.TheVariants.{Fixed, AfterHeader}
-use Rattle.flt_gen.specs.declared.elementary.FieldTest.{FieldTest}
-use Rattle.flt_gen.specs.declared.elementary.Elementary.{Elementary}
-use Rattle.flt_gen.specs.declared.elementary.Elementary.TheVariants.{Outcome, Field}
+use Rattle.flt_gen.specs.declared.elementary.Offset.{Offset, TheVariants.Fixed, TheVariants.AfterHeader}
 
 -- the result of a match on a packet: a rejection is neither yes nor no
 pub data MatchResult : Type 0 where

@@ -1,19 +1,12 @@
 -- Tests joined by and, or and not, and how they are read.
 use Rattle.std.specs.Prelude.{ℕ, ◌&&◌, ◌||◌, nat_le, Bool, true, false, List, [], ◌∷◌, Option, Some, None}
-use Rattle.flt_words.specs.declared.token.Comparison.{Comparison}
-use Rattle.flt_words.specs.declared.token.Protocol.{Protocol}
-use Rattle.flt_words.specs.declared.token.Side.TheVariants.{Source, Destination}
-use Rattle.flt_words.specs.declared.token.Join.TheVariants.{And, Or}
-use Rattle.flt_ast.specs.declared.qualifiers.Direction.{Direction}
-use Rattle.flt_ast.specs.declared.qualifiers.Direction.TheVariants as direction
-use Rattle.flt_ast.specs.Tree.{NumberTree}
+use Rattle.flt_words.specs.declared.token.{Comparison.Comparison, Join.TheVariants.And, Join.TheVariants.Or}
+use Rattle.flt_words.specs.declared.token.{Protocol.Protocol, Side.TheVariants.Source, Side.TheVariants.Destination}
+use Rattle.flt_ast.specs.{Tree.NumberTree, declared.qualifiers.Direction.Direction}
 use Rattle.cap_octet.specs.declared.link.Link.{Link}
-use Rattle.flt_gen.specs.declared.elementary.Elementary.{Elementary}
-use Rattle.flt_gen.specs.declared.elementary.Interval.{Interval}
-use Rattle.flt_gen.specs.declared.elementary.Sides.{Sides}
-use Rattle.flt_gen.specs.declared.elementary.Elementary.TheVariants.{Outcome}
 use Rattle.flt_gen.specs.Elementary.{MatchResult, Yes, No, Rejected, reading_of, with, compares, field_at, under_mask, elementary_reads}
-use Rattle.flt_gen.specs.Numbers.{number, accessor_tests}
+use Rattle.flt_gen.specs.{Numbers.number, Numbers.accessor_tests, declared.elementary.Elementary.Elementary}
+use Rattle.flt_gen.specs.declared.elementary.{Elementary.TheVariants.Outcome, Interval.Interval, Sides.Sides}
 
 -- numbers that are looked for under a mask, if there is one: those of the member that comes first
 -- in the expression, all, and all that aren't the first's
@@ -94,10 +87,10 @@ either_reads numbers s d =
 -- the sides that a direction asks for are some numbers; `src and dst` is never asked for like this,
 -- and doesn't match here
 abbrev pub sought_reads : Direction → Numbers → Option ℕ → Option ℕ → MatchResult
-sought_reads (direction.One Source) numbers s d = among_reads numbers.mask numbers.all s
-sought_reads (direction.One Destination) numbers s d = among_reads numbers.mask numbers.all d
-sought_reads (direction.Both Or) numbers s d = either_reads numbers s d
-sought_reads (direction.Both And) numbers s d = No
+sought_reads (Direction.One Source) numbers s d = among_reads numbers.mask numbers.all s
+sought_reads (Direction.One Destination) numbers s d = among_reads numbers.mask numbers.all d
+sought_reads (Direction.Both Or) numbers s d = either_reads numbers s d
+sought_reads (Direction.Both And) numbers s d = No
 
 -- the reading of a formula on a packet of original length n
 abbrev pub reads : Link → Formula → List ℕ → ℕ → MatchResult
@@ -129,10 +122,10 @@ checked_formula link (protocol ∷ rest) f =
 
 -- the tests of the source and of the destination, as a direction asks for them
 abbrev pub sides : Direction → List Elementary → List Elementary → Formula
-sides (direction.One Source) source destination = all_of source
-sides (direction.One Destination) source destination = all_of destination
-sides (direction.Both Or) source destination = Either (all_of source) (all_of destination)
-sides (direction.Both And) source destination = Both (all_of source) (all_of destination)
+sides (Direction.One Source) source destination = all_of source
+sides (Direction.One Destination) source destination = all_of destination
+sides (Direction.Both Or) source destination = Either (all_of source) (all_of destination)
+sides (Direction.Both And) source destination = Both (all_of source) (all_of destination)
 
 -- an interval that nothing looks for
 abbrev pub no_interval : Interval

@@ -1,19 +1,14 @@
 -- Laws of the table of primitives.
-use Rattle.std.specs.Prelude.{◌≡◌, ◌↔◌, ℕ, ◌-◌, ◌^◌, ◌<◌, Bool, true, false, List, All, map, Option, None, unwrap_or}
 use Rattle.std.specs.Int.Digits.{number_from_digits}
+use Rattle.std.specs.Prelude.{◌≡◌, ◌↔◌, ℕ, ◌-◌, ◌^◌, ◌<◌, Bool, true, false, List, All, map, Option, None, unwrap_or}
 use Rattle.flt_ast.specs.Nets.{ip6_mask}
-use Rattle.cap_octet.specs.NetworkHeader.{network_header}
+use Rattle.cap_octet.specs.{Link.link_type, Link.type_offset, NetworkHeader.network_header, declared.link.Link.Link}
 use Rattle.cap_octet.specs.declared.network.NetworkHeader.TheVariants.{Known, Short}
 use Rattle.cap_octet.specs.declared.network.NetworkKind.{NetworkKind}
-use Rattle.cap_octet.specs.declared.network.NetworkKind.TheVariants as network
-use Rattle.flt_gen.specs.declared.elementary.Elementary.{Elementary}
-use Rattle.flt_gen.specs.declared.elementary.FrameKind.{FrameKind}
-use Rattle.flt_gen.specs.declared.elementary.FrameKind.TheVariants as frame
-use Rattle.cap_octet.specs.declared.link.Link.{Link}
 use Rattle.flt_gen.specs.Elementary.{Yes, Rejected, elementary_reads, kind_test}
-use Rattle.cap_octet.specs.Link.{link_type, type_offset}
-use Rattle.flt_gen.specs.declared.elementary.Elementary.TheVariants.{Outcome, Field}
 use Rattle.flt_gen.specs.Primitives.{ip6_tests}
+use Rattle.flt_gen.specs.declared.elementary.Elementary.{Elementary, TheVariants.Outcome, TheVariants.Field}
+use Rattle.flt_gen.specs.declared.elementary.FrameKind.{FrameKind}
 
 -- the bits of a word that a test looks at
 abbrev pub word_mask : Elementary → ℕ
@@ -31,16 +26,16 @@ MasksJoin =
 
 -- the frames of a kind of network header
 abbrev pub frame_kind : NetworkKind → FrameKind
-frame_kind network.Ipv4 = frame.Ip
-frame_kind network.Ipv6 = frame.Ip6
-frame_kind network.Arp = frame.Arp
-frame_kind network.Rarp = frame.Rarp
+frame_kind NetworkKind.Ipv4 = FrameKind.Ip
+frame_kind NetworkKind.Ipv6 = FrameKind.Ip6
+frame_kind NetworkKind.Arp = FrameKind.Arp
+frame_kind NetworkKind.Rarp = FrameKind.Rarp
 
 -- packets of a link may have a network header of this kind, by whether the link's header has an
 -- EtherType: raw IP, which has none, has neither ARP nor RARP
 abbrev pub carries_kind : Option ℕ → NetworkKind → Bool
-carries_kind None network.Arp = false
-carries_kind None network.Rarp = false
+carries_kind None NetworkKind.Arp = false
+carries_kind None NetworkKind.Rarp = false
 carries_kind type_offset kind = true
 
 -- packets of the link may have a network header of this kind

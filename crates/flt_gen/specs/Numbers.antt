@@ -1,19 +1,16 @@
 -- The value of arithmetic on a packet.
 use Rattle.std.specs.Prelude.{ℕ, ◌+◌, ◌-◌, ◌*◌, ◌/◌, ◌%◌, ◌^◌, ◌==◌, nat_lt, if◌then◌else◌, List, [], ◌∷◌, Option, Some, None, bit_and, bit_or, bit_xor}
 use Rattle.cap_octet.specs.Assigned.{IPPROTO_ICMP, IPPROTO_TCP, IPPROTO_UDP}
-use Rattle.flt_bpf.specs.declared.operation.Width.{Width}
-use Rattle.flt_bpf.specs.declared.operation.Width.TheVariants.{Word, HalfWord, Byte}
+use Rattle.cap_octet.specs.{Link.network_offset, declared.link.Link.Link}
 use Rattle.flt_bpf.specs.Machine.{field}
+use Rattle.flt_bpf.specs.declared.operation.Width.{Width, TheVariants.Word, TheVariants.HalfWord, TheVariants.Byte}
 use Rattle.flt_words.specs.declared.token.Operator.{Operator}
 use Rattle.flt_words.specs.declared.token.Operator.TheVariants.{Or, And, ShiftLeft, ShiftRight, Add, Subtract, Multiply, Divide, Remainder, ExclusiveOr}
 use Rattle.flt_words.specs.declared.token.Protocol.{Protocol}
 use Rattle.flt_words.specs.declared.token.Protocol.TheVariants.{Ether, Ip, Ip6, Arp, Rarp, Tcp, Udp, Icmp, Icmp6}
 use Rattle.flt_ast.specs.Tree.{NumberTree, literal, len, named, load, negated, applied}
-use Rattle.cap_octet.specs.declared.link.Link.{Link}
-use Rattle.flt_gen.specs.declared.elementary.FrameKind.TheVariants as kind
-use Rattle.flt_gen.specs.declared.elementary.Elementary.{Elementary}
 use Rattle.flt_gen.specs.Elementary.{with, header_at, kind_test, has_ip_proto, first_fragment}
-use Rattle.cap_octet.specs.Link.{network_offset}
+use Rattle.flt_gen.specs.declared.elementary.{Elementary.Elementary, FrameKind.FrameKind}
 
 -- the width of a field of 1, 2 or 4 bytes; any other size is taken for 4
 abbrev pub width_of : ℕ → Width
@@ -56,18 +53,18 @@ number link (applied operator l r) p n =
 
 -- what must hold of a packet before a protocol's bytes are read
 abbrev pub accessor_tests : Link → Protocol → List Elementary
-accessor_tests link Ether = kind_test link kind.Ethernet ∷ []
-accessor_tests link Ip = kind_test link kind.Ip ∷ []
-accessor_tests link Ip6 = kind_test link kind.Ip6 ∷ []
-accessor_tests link Arp = kind_test link kind.Arp ∷ []
-accessor_tests link Rarp = kind_test link kind.Rarp ∷ []
+accessor_tests link Ether = kind_test link FrameKind.Ethernet ∷ []
+accessor_tests link Ip = kind_test link FrameKind.Ip ∷ []
+accessor_tests link Ip6 = kind_test link FrameKind.Ip6 ∷ []
+accessor_tests link Arp = kind_test link FrameKind.Arp ∷ []
+accessor_tests link Rarp = kind_test link FrameKind.Rarp ∷ []
 accessor_tests link Tcp =
-    kind_test link kind.Ip ∷ has_ip_proto link IPPROTO_TCP ∷ first_fragment link ∷ []
+    kind_test link FrameKind.Ip ∷ has_ip_proto link IPPROTO_TCP ∷ first_fragment link ∷ []
 accessor_tests link Udp =
-    kind_test link kind.Ip ∷ has_ip_proto link IPPROTO_UDP ∷ first_fragment link ∷ []
+    kind_test link FrameKind.Ip ∷ has_ip_proto link IPPROTO_UDP ∷ first_fragment link ∷ []
 accessor_tests link Icmp =
-    kind_test link kind.Ip ∷ has_ip_proto link IPPROTO_ICMP ∷ first_fragment link ∷ []
-accessor_tests link Icmp6 = kind_test link kind.Ip6 ∷ []
+    kind_test link FrameKind.Ip ∷ has_ip_proto link IPPROTO_ICMP ∷ first_fragment link ∷ []
+accessor_tests link Icmp6 = kind_test link FrameKind.Ip6 ∷ []
 
 -- the protocols of the accessors of arithmetic, in the order of their words, and then the rest
 abbrev pub accessors : NumberTree → List Protocol → List Protocol

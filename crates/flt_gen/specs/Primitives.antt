@@ -1,43 +1,25 @@
 -- The table of primitives: each is a formula of elementary tests.
 use Rattle.std.specs.Prelude.{ℕ, ◌+◌, ◌-◌, ◌*◌, ◌/◌, ◌%◌, ◌^◌, ◌==◌, if◌then◌else◌, min, max, false, List, [], ◌∷◌, Option, Some, None}
 use Rattle.cap_octet.specs.Assigned.{IPPROTO_ICMP, IPPROTO_TCP, IPPROTO_UDP, IPPROTO_ICMPV6}
+use Rattle.cap_octet.specs.{Link.network_offset, declared.link.Link.Link}
 use Rattle.flt_bpf.specs.declared.operation.Width.TheVariants.{Word, HalfWord, Byte}
+use Rattle.flt_words.specs.declared.token.Cast.{Cast, TheVariants.Broadcast, TheVariants.Multicast}
 use Rattle.flt_words.specs.declared.token.Comparison.TheVariants.{NotEqual, AtMost, AtLeast, Equal}
 use Rattle.flt_words.specs.declared.token.Protocol.{Protocol}
-use Rattle.flt_words.specs.declared.token.Protocol.TheVariants as protocol
-use Rattle.flt_words.specs.declared.token.Side.TheVariants.{Destination}
-use Rattle.flt_words.specs.declared.token.ValueType.{ValueType}
+use Rattle.flt_words.specs.declared.token.{Side.TheVariants.Destination, Size.Size, ValueType.ValueType}
 use Rattle.flt_words.specs.declared.token.ValueType.TheVariants.{Host, Net, Port, PortRange, Proto}
-use Rattle.flt_words.specs.declared.token.Size.{Size}
-use Rattle.flt_words.specs.declared.token.Size.TheVariants as size
-use Rattle.flt_words.specs.declared.token.Cast.{Cast}
-use Rattle.flt_words.specs.declared.token.Cast.TheVariants.{Broadcast, Multicast}
-use Rattle.flt_ast.specs.declared.qualifiers.Direction.{Direction}
-use Rattle.flt_ast.specs.declared.qualifiers.Direction.TheVariants as direction
-use Rattle.flt_ast.specs.declared.qualifiers.CompleteQualifiers.{CompleteQualifiers}
-use Rattle.flt_ast.specs.declared.value.Value.{Value}
-use Rattle.flt_ast.specs.declared.value.Value.TheVariants as value
-use Rattle.flt_ast.specs.declared.value.Ip4Net.{Ip4Net}
-use Rattle.flt_ast.specs.Nets.{first_bits, ip4_net}
-use Rattle.flt_ast.specs.Tree.{literal, len}
-use Rattle.cap_octet.specs.declared.link.Link.{Link}
-use Rattle.flt_gen.specs.declared.elementary.FrameKind.{FrameKind}
-use Rattle.flt_gen.specs.declared.elementary.FrameKind.TheVariants.{Ethernet, Ip, Ip6, Arp, Rarp}
-use Rattle.flt_gen.specs.declared.elementary.Offset.{Offset}
-use Rattle.flt_gen.specs.declared.elementary.Offset.TheVariants.{Fixed, AfterHeader}
-use Rattle.flt_gen.specs.declared.elementary.Elementary.{Elementary}
-use Rattle.flt_gen.specs.declared.elementary.Elementary.TheVariants.{Outcome}
-use Rattle.flt_gen.specs.declared.port.Ports.{Ports}
-use Rattle.flt_gen.specs.declared.elementary.Sides.{Sides}
-use Rattle.flt_gen.specs.declared.address.NetTest.{NetTest}
-use Rattle.flt_gen.specs.declared.address.Hosts.{Hosts}
-use Rattle.flt_gen.specs.declared.address.Hosts.TheVariants as hosts
-use Rattle.flt_gen.specs.declared.port.PortTest.{PortTest}
-use Rattle.flt_gen.specs.declared.port.Transport.{Transport}
-use Rattle.flt_gen.specs.declared.port.Ports.TheVariants.{One, Between, Several}
+use Rattle.flt_ast.specs.{Nets.first_bits, Nets.ip4_net, Tree.literal, Tree.len}
+use Rattle.flt_ast.specs.declared.qualifiers.{CompleteQualifiers.CompleteQualifiers, Direction.Direction}
+use Rattle.flt_ast.specs.declared.value.{Ip4Net.Ip4Net, Value.Value}
 use Rattle.flt_gen.specs.Elementary.{with, is_at, compares_at, compares_under, has_type, kind_test, first_fragment, has_ip_proto, has_ip6_proto}
-use Rattle.cap_octet.specs.Link.{network_offset}
 use Rattle.flt_gen.specs.Formula.{Formula, Single, Compare, Both, Either, Sought, all_of, sides, Numbers, no_numbers}
+use Rattle.flt_gen.specs.declared.{address.Hosts.Hosts, address.NetTest.NetTest, elementary.Elementary.Elementary}
+use Rattle.flt_gen.specs.declared.elementary.{Elementary.TheVariants.Outcome, FrameKind.FrameKind}
+use Rattle.flt_gen.specs.declared.elementary.FrameKind.TheVariants.{Ethernet, Ip, Ip6, Arp, Rarp}
+use Rattle.flt_gen.specs.declared.elementary.Offset.{Offset, TheVariants.Fixed, TheVariants.AfterHeader}
+use Rattle.flt_gen.specs.declared.{elementary.Sides.Sides, port.PortTest.PortTest, port.Ports.Ports}
+use Rattle.flt_gen.specs.declared.port.Ports.TheVariants.{One, Between, Several}
+use Rattle.flt_gen.specs.declared.port.Transport.{Transport}
 
 -- a test, and then a formula
 abbrev pub after : Elementary → Formula → Formula
@@ -63,21 +45,21 @@ ether_proto link n = Single (has_type link n)
 
 -- only a protocol's keyword
 abbrev pub check_formula : Link → Protocol → Formula
-check_formula link protocol.Ether = Single (kind_test link Ethernet)
-check_formula link protocol.Ip = Single (kind_test link Ip)
-check_formula link protocol.Ip6 = Single (kind_test link Ip6)
-check_formula link protocol.Arp = Single (kind_test link Arp)
-check_formula link protocol.Rarp = Single (kind_test link Rarp)
-check_formula link protocol.Tcp = any_proto link IPPROTO_TCP
-check_formula link protocol.Udp = any_proto link IPPROTO_UDP
-check_formula link protocol.Icmp = ip_proto link IPPROTO_ICMP
-check_formula link protocol.Icmp6 = ip6_proto link IPPROTO_ICMPV6
+check_formula link Protocol.Ether = Single (kind_test link Ethernet)
+check_formula link Protocol.Ip = Single (kind_test link Ip)
+check_formula link Protocol.Ip6 = Single (kind_test link Ip6)
+check_formula link Protocol.Arp = Single (kind_test link Arp)
+check_formula link Protocol.Rarp = Single (kind_test link Rarp)
+check_formula link Protocol.Tcp = any_proto link IPPROTO_TCP
+check_formula link Protocol.Udp = any_proto link IPPROTO_UDP
+check_formula link Protocol.Icmp = ip_proto link IPPROTO_ICMP
+check_formula link Protocol.Icmp6 = ip6_proto link IPPROTO_ICMPV6
 
 -- `proto N`, after a protocol or none
 abbrev pub proto_formula : Link → Option Protocol → ℕ → Formula
-proto_formula link (Some protocol.Ip) n = ip_proto link n
-proto_formula link (Some protocol.Ip6) n = ip6_proto link n
-proto_formula link (Some protocol.Ether) n = ether_proto link n
+proto_formula link (Some Protocol.Ip) n = ip_proto link n
+proto_formula link (Some Protocol.Ip6) n = ip6_proto link n
+proto_formula link (Some Protocol.Ether) n = ether_proto link n
 proto_formula link None n = any_proto link n
 proto_formula link (Some _) n = Single (Outcome false)
 
@@ -100,17 +82,17 @@ is_group_address = compares_under (Some 1) (Fixed 0) Byte NotEqual 0
 
 -- `broadcast` and `multicast`, after a protocol or none
 abbrev pub cast_formula : Link → Option Protocol → Cast → Formula
-cast_formula link None Broadcast = ether_host link (direction.One Destination) 0xffff_ffff_ffff
-cast_formula link (Some protocol.Ether) Broadcast =
-    ether_host link (direction.One Destination) 0xffff_ffff_ffff
+cast_formula link None Broadcast = ether_host link (Direction.One Destination) 0xffff_ffff_ffff
+cast_formula link (Some Protocol.Ether) Broadcast =
+    ether_host link (Direction.One Destination) 0xffff_ffff_ffff
 cast_formula link (Some _) Broadcast = Single (Outcome false)
-cast_formula link (Some protocol.Ip) Multicast =
+cast_formula link (Some Protocol.Ip) Multicast =
     all_of
     (kind_test link Ip ∷ compares_at (Fixed (network_offset link + 16)) Byte AtLeast 224 ∷ [])
-cast_formula link (Some protocol.Ip6) Multicast =
+cast_formula link (Some Protocol.Ip6) Multicast =
     all_of (kind_test link Ip6 ∷ is_at (network_offset link + 24) Byte 255 ∷ [])
 cast_formula link None Multicast = all_of (kind_test link Ethernet ∷ is_group_address ∷ [])
-cast_formula link (Some protocol.Ether) Multicast =
+cast_formula link (Some Protocol.Ether) Multicast =
     all_of (kind_test link Ethernet ∷ is_group_address ∷ [])
 cast_formula link (Some _) Multicast = Single (Outcome false)
 
@@ -154,8 +136,8 @@ net_tests at net =
 -- the addresses of a header of a kind, as a direction asks for them, are those of hosts: all in a
 -- network, or several, which are these numbers
 abbrev pub hosts_sides : Link → FrameKind → Hosts → Numbers → Formula
-hosts_sides link kind (hosts.Net net) numbers = net_tests (address_places link kind) net
-hosts_sides link kind (hosts.Several direction) numbers =
+hosts_sides link kind (Hosts.Net net) numbers = net_tests (address_places link kind) net
+hosts_sides link kind (Hosts.Several direction) numbers =
     Sought direction (address_places link kind) numbers
 
 -- hosts in a header of a kind
@@ -171,15 +153,15 @@ any_hosts link wanted numbers =
 
 -- hosts of IPv4 in the headers that a protocol, or none, allows
 abbrev pub hosts_formula : Link → Option Protocol → Hosts → Numbers → Formula
-hosts_formula link (Some protocol.Ip) wanted numbers = hosts_of_kind link Ip wanted numbers
-hosts_formula link (Some protocol.Arp) wanted numbers = hosts_of_kind link Arp wanted numbers
-hosts_formula link (Some protocol.Rarp) wanted numbers = hosts_of_kind link Rarp wanted numbers
+hosts_formula link (Some Protocol.Ip) wanted numbers = hosts_of_kind link Ip wanted numbers
+hosts_formula link (Some Protocol.Arp) wanted numbers = hosts_of_kind link Arp wanted numbers
+hosts_formula link (Some Protocol.Rarp) wanted numbers = hosts_of_kind link Rarp wanted numbers
 hosts_formula link None wanted numbers = any_hosts link wanted numbers
 hosts_formula link (Some _) wanted numbers = Single (Outcome false)
 
 -- the hosts of a network, in the headers that a protocol, or none, allows
 abbrev pub net_formula : Link → Option Protocol → NetTest → Formula
-net_formula link protocol net = hosts_formula link protocol (hosts.Net net) no_numbers
+net_formula link protocol net = hosts_formula link protocol (Hosts.Net net) no_numbers
 
 -- a test of this address, as far as the mask goes
 abbrev pub net_test : Direction → Option ℕ → ℕ → NetTest
@@ -238,8 +220,8 @@ port_sides Several direction header numbers =
 
 -- the test of TCP, that of UDP, or either, and then a formula
 abbrev pub transport : Option Protocol → Elementary → Elementary → Formula → Formula
-transport (Some protocol.Tcp) tcp udp f = after tcp f
-transport (Some protocol.Udp) tcp udp f = after udp f
+transport (Some Protocol.Tcp) tcp udp f = after tcp f
+transport (Some Protocol.Udp) tcp udp f = after udp f
 transport None tcp udp f = Both (Either (Single tcp) (Single udp)) f
 transport (Some _) tcp udp f = Single (Outcome false)
 
@@ -296,11 +278,11 @@ port_test protocol direction ports =
 
 -- `host` with an address of any kind
 abbrev pub host_formula : Link → Option Protocol → Direction → Value → Formula
-host_formula link protocol direction (value.Dotted dotted mask) =
+host_formula link protocol direction (Value.Dotted dotted mask) =
     net_formula link protocol (net_test direction None dotted.address)
-host_formula link protocol direction (value.Ip6 address prefix) =
+host_formula link protocol direction (Value.Ip6 address prefix) =
     ip6_formula link direction None address
-host_formula link protocol direction (value.Mac address) = ether_host link direction address
+host_formula link protocol direction (Value.Mac address) = ether_host link direction address
 host_formula link protocol direction _ = Single (Outcome false)
 
 -- the hosts of the network of IPv4 that a value means; no, if it means none
@@ -311,25 +293,25 @@ ip4_formula link protocol direction None = Single (Outcome false)
 
 -- `net` with a network of IPv4 or IPv6
 abbrev pub net_value_formula : Link → Option Protocol → Direction → Value → Formula
-net_value_formula link protocol direction (value.Ip6 address prefix) =
+net_value_formula link protocol direction (Value.Ip6 address prefix) =
     ip6_formula link direction prefix address
 net_value_formula link protocol direction v = ip4_formula link protocol direction (ip4_net v)
 
 -- `port` with a number
 abbrev pub port_value_formula : Link → Option Protocol → Direction → Value → Formula
-port_value_formula link protocol direction (value.Number n mask) =
+port_value_formula link protocol direction (Value.Number n mask) =
     port_formula link (port_test protocol direction (One n)) no_numbers
 port_value_formula link protocol direction _ = Single (Outcome false)
 
 -- `portrange` with a range, whose ends may stand in either order
 abbrev pub range_value_formula : Link → Option Protocol → Direction → Value → Formula
-range_value_formula link protocol direction (value.Range a b) =
+range_value_formula link protocol direction (Value.Range a b) =
     port_formula link (port_test protocol direction (Between (min a b) (max a b))) no_numbers
 range_value_formula link protocol direction _ = Single (Outcome false)
 
 -- `proto` with a number
 abbrev pub proto_value_formula : Link → Option Protocol → Value → Formula
-proto_value_formula link protocol (value.Number n mask) = proto_formula link protocol n
+proto_value_formula link protocol (Value.Number n mask) = proto_formula link protocol n
 proto_value_formula link protocol _ = Single (Outcome false)
 
 -- a value with these qualifiers
@@ -346,5 +328,5 @@ qualified_formula link q v = value_formula link q.value_type q.protocol q.direct
 
 -- the original length is at most, or at least, a number: `less N` is `len <= N` (pcap-filter(7))
 abbrev pub sized_formula : Size → ℕ → Formula
-sized_formula size.Less n = Compare AtMost len (literal n)
-sized_formula size.Greater n = Compare AtLeast len (literal n)
+sized_formula Size.Less n = Compare AtMost len (literal n)
+sized_formula Size.Greater n = Compare AtLeast len (literal n)

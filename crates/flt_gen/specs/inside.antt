@@ -9,5 +9,4 @@ pub mod Intervals
 pub mod Group
 pub mod ProgramCode
 pub mod Round
-pub mod Steps
 pub mod Walk

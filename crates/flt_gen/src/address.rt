@@ -2,18 +2,17 @@
 //! address without significant bits is tested only if the test decides something: in clauses,
 //! `.._needed` is the row without the other tests of such words.
 
-ghost use Rattle.std.specs.Prelude.{◌≡◌, ◌+◌, ◌≤◌, OnOk};
-ghost use Rattle.cap_octet.specs.Link.{longest_header};
-ghost use Rattle.flt_gen.specs.Formula.{all_of};
-ghost use Rattle.flt_gen.specs.Primitives.{partial_mask, net_test, address_test, address_places};
-ghost use Rattle.flt_gen.specs.Primitives.{hosts_of_kind, hosts_formula, ip6_test, ip6_tests};
-ghost use Rattle.flt_gen.specs.inside.Emitted.{is_idle, last_test, needed_tests, needed_sides};
-ghost use Rattle.flt_gen.specs.inside.Emitted.{ip6_needed};
+ghost use Rattle.std.specs.Prelude.{◌≡◌, ◌+◌, ◌≤◌};
+ghost use Rattle.cap_octet.specs.{Link.longest_header, declared.link.Link.Link};
+ghost use Rattle.flt_gen.specs.Primitives.{partial_mask, net_test, address_test, address_places, hosts_of_kind, hosts_formula, ip6_test, ip6_tests};
+ghost use Rattle.flt_gen.specs.inside.{Code.emit_all, Emits.Emits, Emits.EmitsFormula};
+ghost use Rattle.flt_gen.specs.inside.Emitted.{is_idle, last_test, needed_tests, needed_sides, ip6_needed};
 
+use crate::code::{Code, Targets};
 use crate::elementary::{
     Elementary, FieldTest, FrameKind, Offset, Sides, kind_test, network_offset,
 };
-use crate::steps::Steps;
+use crate::intervals::Numbers;
 use cap_octet::Link;
 use flt_ast::{Direction, ip4_prefix_mask};
 use flt_bpf::operation::Width;
@@ -47,7 +46,7 @@ impl NetTest {
 pub enum Hosts {
     /// Those of a network, which may be a single one.
     Net(NetTest),
-    /// The steps' numbers, on these sides.
+    /// Several numbers, on these sides.
     Several(Direction),
 }
 
@@ -145,118 +144,123 @@ fn last_test(test: Elementary) -> Elementary
     }
 }
 
-impl<A: Allocator> Steps<A> {
-    ghost use Rattle.flt_gen.specs.inside.Steps.{IsPut};
-
-    /// Adds the steps of hosts in a header of a kind: IPv4, ARP or RARP.
-    fn put_hosts_of_kind(
+impl<A: Allocator> Code<A> {
+    /// Emits hosts in a header of a kind: IPv4, ARP or RARP.
+    fn emit_hosts_of_kind(
         &mut self,
         link: Link,
         kind: FrameKind,
         wanted: Hosts,
-    ) -> Result<(), AllocError>
-        ensures { OnOk result
-            (IsPut (hosts_of_kind link kind wanted self.old.numbers) self.old self.new) }
+        numbers: &Numbers<'_>,
+        to: Targets,
+    ) -> Result<usize, AllocError>
+        ensures { EmitsFormula link (hosts_of_kind link kind wanted numbers.now) to self.old result
+            self.new }
     {
         let at = address_places(link, kind);
-        self.put_test(kind_test(link, kind))?;
-        match wanted {
+        let yes = match wanted {
             Hosts::Net(net) => {
                 let source = address_test(net.mask, net.address, at.source);
                 let destination = address_test(net.mask, net.address, at.destination);
-                self.put_sides(net.direction, &[source], &[destination])?;
+                self.emit_sides(net.direction, &[source], &[destination], to)?
             }
-            Hosts::Several(direction) => self.put_among(direction, at)?,
-        }
-        self.put_join(Join::And)
+            Hosts::Several(direction) => self.emit_among(direction, at, numbers, to)?,
+        };
+        self.emit_elementary(kind_test(link, kind), Targets { yes, no: to.no })
     }
 
-    /// Adds the steps of `host` and `net` of IPv4, in the headers that their protocol allows:
-    /// without one those of IPv4, ARP and RARP. After a protocol other than these three it is no.
-    pub fn put_hosts(
+    /// Emits `host` and `net` of IPv4, in the headers that their protocol allows: without one those
+    /// of IPv4, ARP and RARP. After a protocol other than these three it is no.
+    pub fn emit_hosts(
         &mut self,
         link: Link,
         protocol: Option<Protocol>,
         wanted: Hosts,
-    ) -> Result<(), AllocError>
-        ensures { OnOk result
-            (IsPut (hosts_formula link protocol wanted self.old.numbers) self.old self.new) }
+        numbers: &Numbers<'_>,
+        to: Targets,
+    ) -> Result<usize, AllocError>
+        ensures { EmitsFormula link (hosts_formula link protocol wanted numbers.now) to self.old result
+            self.new }
     {
-        match protocol {
-            Some(Protocol::Ip) => self.put_hosts_of_kind(link, FrameKind::Ip, wanted),
-            Some(Protocol::Arp) => self.put_hosts_of_kind(link, FrameKind::Arp, wanted),
-            Some(Protocol::Rarp) => self.put_hosts_of_kind(link, FrameKind::Rarp, wanted),
-            Some(_) => self.put_test(Elementary::Outcome(false)),
+        let kind = match protocol {
+            Some(Protocol::Ip) => FrameKind::Ip,
+            Some(Protocol::Arp) => FrameKind::Arp,
+            Some(Protocol::Rarp) => FrameKind::Rarp,
+            Some(_) => return Ok(to.no),
             None => {
-                self.put_hosts_of_kind(link, FrameKind::Ip, wanted)?;
-                self.put_hosts_of_kind(link, FrameKind::Arp, wanted)?;
-                self.put_hosts_of_kind(link, FrameKind::Rarp, wanted)?;
-                self.put_join(Join::Or)?;
-                self.put_join(Join::Or)
+                let yes = to.yes;
+                let no = self.emit_hosts_of_kind(link, FrameKind::Rarp, wanted, numbers, to)?;
+                let to = Targets { yes, no };
+                let no = self.emit_hosts_of_kind(link, FrameKind::Arp, wanted, numbers, to)?;
+                let to = Targets { yes, no };
+                return self.emit_hosts_of_kind(link, FrameKind::Ip, wanted, numbers, to);
             }
-        }
+        };
+        self.emit_hosts_of_kind(link, kind, wanted, numbers, to)
     }
 
-    /// Adds the steps of tests of words that all have to hold, each after the one before. One of
-    /// which no bit counts is left out in front of another: if its word isn't captured, no later
-    /// one is.
-    fn put_words(&mut self, tests: &[Elementary]) -> Result<(), AllocError>
-        ensures { OnOk result (IsPut (all_of (needed_tests tests.now)) self.old self.new) }
+    /// Emits the tests of words that all have to hold, each after the one before. One of which no
+    /// bit counts is left out in front of another: if its word isn't captured, no later one is.
+    fn emit_words(&mut self, tests: &[Elementary], to: Targets) -> Result<usize, AllocError>
+        ensures { Emits result (emit_all (needed_tests tests.now) to.yes to.no self.old) self.new }
     {
         match tests {
-            [] => self.put_test(Elementary::Outcome(true)),
-            [only] => self.put_test(last_test(*only)),
+            [] => Ok(to.yes),
+            [only] => self.emit_elementary(last_test(*only), to),
             [first, others @ ..] => {
+                let yes = self.emit_words(others, to)?;
                 if is_idle(*first) {
-                    return self.put_words(others);
+                    return Ok(yes);
                 }
-                self.put_test(*first)?;
-                self.put_words(others)?;
-                self.put_join(Join::And)
+                self.emit_elementary(*first, Targets { yes, no: to.no })
             }
         }
     }
 
-    /// Adds the steps of the tests of words of the source and of the destination, as a direction
-    /// asks for them.
-    fn put_word_sides(
+    /// Emits the tests of words of the source and of the destination, as a direction asks for them.
+    #[tactic(auto, using(crate::proofs::Decision::all_emitted))]
+    fn emit_word_sides(
         &mut self,
         direction: Direction,
         source: &[Elementary],
         destination: &[Elementary],
-    ) -> Result<(), AllocError>
-        ensures { OnOk result
-            (IsPut (needed_sides direction source.now destination.now) self.old self.new) }
+        to: Targets,
+    ) -> Result<usize, AllocError>
+        ensures { (link : Link) → EmitsFormula link
+            (needed_sides direction source.now destination.now) to self.old result self.new }
     {
         match direction {
-            Direction::One(Side::Source) => self.put_words(source),
-            Direction::One(Side::Destination) => self.put_words(destination),
-            Direction::Both(join) => {
-                self.put_words(source)?;
-                self.put_words(destination)?;
-                self.put_join(join)
+            Direction::One(Side::Source) => self.emit_words(source, to),
+            Direction::One(Side::Destination) => self.emit_words(destination, to),
+            Direction::Both(Join::And) => {
+                let yes = self.emit_words(destination, to)?;
+                self.emit_words(source, Targets { yes, no: to.no })
+            }
+            Direction::Both(Join::Or) => {
+                let no = self.emit_words(destination, to)?;
+                self.emit_words(source, Targets { yes: to.yes, no })
             }
         }
     }
 
-    /// Adds the steps of `host` and `net` of IPv6, with the length of the prefix where not the
-    /// whole address counts.
-    pub fn put_ip6(
+    /// Emits `host` and `net` of IPv6, with the length of the prefix where not the whole address
+    /// counts.
+    pub fn emit_ip6(
         &mut self,
         link: Link,
         direction: Direction,
         prefix: Option<u32>,
         address: u128,
-    ) -> Result<(), AllocError>
-        ensures { OnOk result
-            (IsPut (ip6_needed link direction prefix address) self.old self.new) }
+        to: Targets,
+    ) -> Result<usize, AllocError>
+        ensures { EmitsFormula link (ip6_needed link direction prefix address) to self.old result
+            self.new }
     {
         let start = network_offset(link);
         // The addresses stand at bytes 8 and 24 of the header (RFC 8200, section 3).
         let source = ip6_tests(prefix, address, start + 8);
         let destination = ip6_tests(prefix, address, start + 24);
-        self.put_test(kind_test(link, FrameKind::Ip6))?;
-        self.put_word_sides(direction, &source, &destination)?;
-        self.put_join(Join::And)
+        let yes = self.emit_word_sides(direction, &source, &destination, to)?;
+        self.emit_elementary(kind_test(link, FrameKind::Ip6), Targets { yes, no: to.no })
     }
 }

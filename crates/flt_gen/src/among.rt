@@ -1,15 +1,12 @@
 //! Emits the code that checks whether a field, or one of two, is in one of some intervals.
 
 ghost use Rattle.std.specs.Prelude.{◌≡◌, OnOk};
-ghost use Rattle.flt_gen.specs.inside.Code.{are_few, low_of, emit_interval, emit_chain};
-ghost use Rattle.flt_gen.specs.inside.Code.{emit_search, emit_masked, emit_side, emit_few};
-ghost use Rattle.flt_gen.specs.inside.Code.{emit_index, emit_at_index, emit_many, emit_among};
-ghost use Rattle.flt_gen.specs.inside.Code.{fewest_at_index, are_at_index};
+ghost use Rattle.flt_gen.specs.inside.Code.{are_few, low_of, emit_interval, emit_chain, emit_search, emit_masked, emit_side, emit_few, emit_index, emit_at_index, emit_many, emit_among, fewest_at_index, are_at_index};
 ghost use Rattle.flt_gen.specs.inside.Emits.{Emits};
 
 use crate::code::{Code, Targets};
 use crate::elementary::{Interval, Offset, Sides};
-use crate::steps::Steps;
+use crate::intervals::Numbers;
 use flt_ast::Direction;
 use flt_bpf::operation::{Operand, Operation, Register, Source, Test, Width};
 use flt_words::{Join, Side};
@@ -55,11 +52,11 @@ fn fewest_at_index(width: Width, is_plain: bool) -> usize
 }
 
 /// Whether numbers are looked for at X.
-fn are_at_index<A: Allocator>(at: Sides, numbers: &Steps<A>) -> bool
-    ensures { result ≡ are_at_index at numbers.now.numbers }
+fn are_at_index(at: Sides, numbers: &Numbers<'_>) -> bool
+    ensures { result ≡ are_at_index at numbers.now }
 {
-    let first = numbers.first();
-    numbers.all().len() >= fewest_at_index(at.width, first.low == first.high)
+    let first = numbers.first;
+    numbers.all.len() >= fewest_at_index(at.width, first.low == first.high)
 }
 
 impl<A: Allocator> Code<A> {
@@ -171,26 +168,31 @@ impl<A: Allocator> Code<A> {
 
     /// Emits whether either side is one of few numbers: the source is compared with the first
     /// member's, the destination with all, and the source with the others.
-    fn emit_few(&mut self, at: Sides, numbers: &Steps<A>, to: Targets) -> Result<usize, AllocError>
-        ensures { Emits result (emit_few at numbers.now.numbers to.yes to.no self.old) self.new }
+    fn emit_few(
+        &mut self,
+        at: Sides,
+        numbers: &Numbers<'_>,
+        to: Targets,
+    ) -> Result<usize, AllocError>
+        ensures { Emits result (emit_few at numbers.now to.yes to.no self.old) self.new }
     {
-        let (yes, width, mask) = (to.yes, at.width, numbers.mask());
+        let (yes, width, mask) = (to.yes, at.width, numbers.mask);
         let mut no = to.no;
-        if !numbers.others().is_empty() {
-            no = self.emit_side(at.source, width, mask, numbers.others(), to)?;
+        if !numbers.others.is_empty() {
+            no = self.emit_side(at.source, width, mask, numbers.others, to)?;
         }
         let no = self.emit_side(
             at.destination,
             width,
             mask,
-            numbers.all(),
+            numbers.all,
             Targets { yes, no },
         )?;
         self.emit_side(
             at.source,
             width,
             mask,
-            &[numbers.first()],
+            &[numbers.first],
             Targets { yes, no },
         )
     }
@@ -221,11 +223,16 @@ impl<A: Allocator> Code<A> {
     /// Emits whether either side is one of many numbers, both read at X, so that the same code may
     /// serve for headers of each kind. If the source is one of them, but not of the first member,
     /// it is asked whether the destination is captured.
-    fn emit_many(&mut self, at: Sides, numbers: &Steps<A>, to: Targets) -> Result<usize, AllocError>
-        ensures { Emits result (emit_many at numbers.now.numbers to.yes to.no self.old) self.new }
+    fn emit_many(
+        &mut self,
+        at: Sides,
+        numbers: &Numbers<'_>,
+        to: Targets,
+    ) -> Result<usize, AllocError>
+        ensures { Emits result (emit_many at numbers.now to.yes to.no self.old) self.new }
     {
-        let mask = numbers.mask();
-        self.emit_masked(mask, numbers.all(), to)?;
+        let mask = numbers.mask;
+        self.emit_masked(mask, numbers.all, to)?;
         self.emit_at_index(at.destination, at.width, at.index)?;
         let no = self.top();
         self.emit_branch(Test::AtLeast, Operand::Constant, 0, to)?;
@@ -234,8 +241,8 @@ impl<A: Allocator> Code<A> {
             yes: to.yes,
             no: self.top(),
         };
-        let yes = self.emit_interval(false, numbers.first(), later)?;
-        self.emit_masked(mask, numbers.all(), Targets { yes, no })?;
+        let yes = self.emit_interval(false, numbers.first, later)?;
+        self.emit_masked(mask, numbers.all, Targets { yes, no })?;
         self.emit_at_index(at.source, at.width, at.index)?;
         self.emit_index(at.source, at.index)?;
         Ok(self.top())
@@ -247,11 +254,11 @@ impl<A: Allocator> Code<A> {
         &mut self,
         direction: Direction,
         at: Sides,
-        numbers: &Steps<A>,
+        numbers: &Numbers<'_>,
         to: Targets,
     ) -> Result<usize, AllocError>
         ensures { Emits result
-            (emit_among direction at numbers.now.numbers to.yes to.no self.old) self.new }
+            (emit_among direction at numbers.now to.yes to.no self.old) self.new }
     {
         let offset = match direction {
             Direction::One(Side::Source) => at.source,
@@ -263,6 +270,6 @@ impl<A: Allocator> Code<A> {
             // Several numbers never have this direction (`same_direction` of group.rt).
             Direction::Both(Join::And) => return Ok(to.no),
         };
-        self.emit_side(offset, at.width, numbers.mask(), numbers.all(), to)
+        self.emit_side(offset, at.width, numbers.mask, numbers.all, to)
     }
 }

@@ -4,12 +4,8 @@
 //! is in A.
 
 ghost use Rattle.std.specs.Prelude.{◌≡◌, drop, OnOk};
-ghost use Rattle.flt_gen.specs.inside.Code.{emit_all, emit_formula};
-ghost use Rattle.flt_gen.specs.inside.Emits.{Emits};
-ghost use Rattle.flt_gen.specs.inside.Cases.{case_of, same_words, key_of, insert_case, case_frame};
-ghost use Rattle.flt_gen.specs.inside.Cases.{case_tests, lowest, reach};
-ghost use Rattle.flt_gen.specs.inside.Cases.{word_test, keeps, all_keep, test_at, from_test};
-ghost use Rattle.flt_gen.specs.inside.Cases.{middle, is_parted, chain, decision, cases_formula};
+ghost use Rattle.flt_gen.specs.inside.Cases.{case_of, same_words, key_of, insert_case, case_frame, case_tests, lowest, reach, word_test, keeps, all_keep, test_at, from_test, middle, is_parted, chain, decision, cases_formula};
+ghost use Rattle.flt_gen.specs.inside.{Code.emit_all, Code.emit_formula, Emits.Emits};
 
 use crate::address::ip6_test;
 use crate::code::{Code, Targets};

@@ -4,9 +4,7 @@
 
 ghost use Rattle.std.specs.Prelude.{◌≡◌, ◌≤◌, IfSome, Some, None};
 ghost use Rattle.cap_octet.specs.Link.{longest_header, network_offset};
-ghost use Rattle.flt_gen.specs.Elementary.{is_at, is_masked, compares_at, kind_test, type_test};
-ghost use Rattle.flt_gen.specs.Elementary.{has_type, has_type_at};
-ghost use Rattle.flt_gen.specs.Elementary.{first_fragment, has_ip_proto, has_ip6_proto};
+ghost use Rattle.flt_gen.specs.Elementary.{is_at, is_masked, compares_at, kind_test, type_test, has_type, has_type_at, first_fragment, has_ip_proto, has_ip6_proto};
 
 use cap_octet::Link;
 use cap_octet::assigned::{ETHERTYPE_ARP, ETHERTYPE_IPV4, ETHERTYPE_IPV6, ETHERTYPE_RARP};

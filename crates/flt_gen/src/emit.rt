@@ -1,14 +1,16 @@
 //! Emits the code of elementary tests.
 
 ghost use Rattle.std.specs.Prelude.{◌≡◌, length, OnOk};
-ghost use Rattle.flt_gen.specs.inside.Code.{emit_field, emit_mask, emit_comparison};
-ghost use Rattle.flt_gen.specs.inside.Code.{emit_elementary, emit_all};
-ghost use Rattle.flt_gen.specs.inside.Emits.{Emits};
+ghost use Rattle.flt_gen.specs.{Formula.sides, Primitives.sized_formula};
+ghost use Rattle.flt_gen.specs.inside.Code.{emit_field, emit_mask, emit_comparison, emit_elementary, emit_all};
+ghost use Rattle.flt_gen.specs.inside.Emits.{Emits, EmitsFormula};
+ghost use Rattle.cap_octet.specs.declared.link.Link.{Link};
 
 use crate::code::{Code, Targets};
 use crate::elementary::{Elementary, Offset};
-use flt_bpf::operation::{AluOperation, Operand, Operation, Test, Width};
-use flt_words::Comparison;
+use flt_ast::Direction;
+use flt_bpf::operation::{AluOperation, Operand, Operation, Register, Source, Test, Width};
+use flt_words::{Comparison, Join, Side, Size};
 use std::alloc::{AllocError, Allocator};
 
 impl<A: Allocator> Code<A> {
@@ -90,5 +92,50 @@ impl<A: Allocator> Code<A> {
                 self.emit_elementary(*first, Targets { yes, no: to.no })
             }
         }
+    }
+
+    /// Emits the tests of the source and of the destination, as a direction asks for them.
+    #[tactic(auto, using(crate::proofs::Decision::all_emitted))]
+    pub fn emit_sides(
+        &mut self,
+        direction: Direction,
+        source: &[Elementary],
+        destination: &[Elementary],
+        to: Targets,
+    ) -> Result<usize, AllocError>
+        ensures { (link : Link) → EmitsFormula link (sides direction source.now destination.now) to
+            self.old result self.new }
+    {
+        match direction {
+            Direction::One(Side::Source) => self.emit_all(source, to),
+            Direction::One(Side::Destination) => self.emit_all(destination, to),
+            Direction::Both(Join::And) => {
+                let yes = self.emit_all(destination, to)?;
+                self.emit_all(source, Targets { yes, no: to.no })
+            }
+            Direction::Both(Join::Or) => {
+                let no = self.emit_all(destination, to)?;
+                self.emit_all(source, Targets { yes: to.yes, no })
+            }
+        }
+    }
+
+    /// Emits `less N` and `greater N`: the original length is compared with a number.
+    pub fn emit_length_test(
+        &mut self,
+        size: Size,
+        number: u32,
+        to: Targets,
+    ) -> Result<usize, AllocError>
+        ensures { (link : Link) → EmitsFormula link (sized_formula size number) to self.old result
+            self.new }
+    {
+        let comparison = match size {
+            Size::Less => Comparison::AtMost,
+            Size::Greater => Comparison::AtLeast,
+        };
+        self.emit_comparison(comparison, Operand::Constant, number, to)?;
+        self.emit_plain(Operation::Load(Register::Accumulator, Source::Length), 0)?;
+        Ok(self.top())
     }
 }

@@ -2,11 +2,9 @@
 //! becomes one number, unless it divides by 0; and `not a and not b` becomes `not (a or b)`, so
 //! that `a` and `b` can be looked for together.
 
-ghost use Rattle.std.specs.Prelude.{◌≡◌, [], fold, reverse, OnOk, IfOk};
 ghost use Rattle.std.specs.Option.{IfSome};
-ghost use Rattle.flt_gen.specs.inside.Folding.{node_constant, applied_constant, with_negation};
-ghost use Rattle.flt_gen.specs.inside.Folding.{with_operator, with_folded};
-ghost use Rattle.flt_gen.specs.inside.Folding.{and_operands, hold, put_back, with_held, with_conjunction};
+ghost use Rattle.std.specs.Prelude.{◌≡◌, [], fold, reverse, OnOk, IfOk};
+ghost use Rattle.flt_gen.specs.inside.Folding.{node_constant, applied_constant, with_negation, with_operator, with_folded, and_operands, hold, put_back, with_held, with_conjunction};
 
 use crate::number::alu_operation;
 use crate::stack::Stack;

@@ -1,26 +1,19 @@
 //! Groups of addresses, ports or protocols, which one search or decision tree looks for together.
 //! The walk adds the members from the last one in the expression to the first.
 
-ghost use Rattle.std.specs.Prelude.{◌≡◌, ◌≤◌, [], nat_lt, if◌then◌else◌, Some, None, length, IfOk, OnOk, true, false};
 ghost use Rattle.std.specs.List.{insert};
+ghost use Rattle.std.specs.Prelude.{◌≡◌, ◌≤◌, [], nat_lt, if◌then◌else◌, Some, None, length, IfOk, OnOk, reverse};
+ghost use Rattle.flt_gen.specs.inside.{Cases.case_of, Emits.EmitsFormula};
+ghost use Rattle.flt_gen.specs.inside.Group.{no_group, same_type, same_protocol, same_direction, goes_with, is_masked, net_member, member_of, is_empty, larger_group, is_searched, group_formula, rows_formula, several_formula, is_address, has_networks, case_goes_with, with_case};
 ghost use Rattle.flt_gen.specs.inside.Intervals.{insert_ascending};
-ghost use Rattle.flt_gen.specs.inside.Group.{no_group, same_type, same_protocol, same_direction};
-ghost use Rattle.flt_gen.specs.inside.Group.{goes_with, is_masked, net_member, member_of, is_empty};
-ghost use Rattle.flt_gen.specs.inside.Group.{larger_group, is_searched, group_formula, rows_formula};
-ghost use Rattle.flt_gen.specs.inside.Group.{numbers_of, is_address, has_networks, has_none};
-ghost use Rattle.flt_gen.specs.inside.Group.{case_goes_with, with_case, is_decided};
-ghost use Rattle.flt_gen.specs.inside.Code.{emit_formula};
-ghost use Rattle.flt_gen.specs.inside.Emits.{Emits};
-ghost use Rattle.flt_gen.specs.inside.Cases.{case_of};
-ghost use Rattle.flt_gen.specs.inside.Steps.{IsPut, no_steps};
 
 use crate::address::Hosts;
 use crate::cases::{Case, case_of, put_case, same_words};
 use crate::code::{Code, Targets};
-use crate::elementary::{Elementary, Interval};
+use crate::elementary::Interval;
+use crate::intervals::{Numbers, Room};
 use crate::port::{PortTest, Ports};
 use crate::stack::Stack;
-use crate::steps::Steps;
 use cap_octet::Link;
 use flt_ast::{CompleteQualifiers, Direction, NetMask, Value};
 use flt_words::{Join, Protocol, Side, ValueType};
@@ -60,6 +53,7 @@ pub struct Group<A: Allocator> {
     cases: Vec<Case, A>,
     /// The members, of which the first in the expression is the latest.
     entries: Stack<Entry, A>,
+    room: Room<A>,
 }
 
 impl<A: Allocator> Model for Group<A> {
@@ -293,22 +287,6 @@ impl<A: Allocator> Group<A> {
         self.entries.entries().len() >= fewest
     }
 
-    /// Adds the steps of the members one after the other. `steps` has their numbers.
-    fn put_rows(&mut self, link: Link, steps: &mut Steps<A>) -> Result<(), AllocError>
-        ensures { OnOk result (IsPut
-            (rows_formula link self.old.entries) steps.old steps.new) }
-    {
-        let Some(first) = self.entries.pop() else {
-            return steps.put_test(Elementary::Outcome(false));
-        };
-        steps.put_value(link, first.qualifiers, first.value)?;
-        if self.is_empty() {
-            return Ok(());
-        }
-        self.put_rows(link, steps)?;
-        steps.put_join(Join::Or)
-    }
-
     /// Whether networks are looked for, not only hosts or ports.
     fn has_networks(&self) -> bool
         ensures { result ≡ has_networks self.now }
@@ -316,55 +294,60 @@ impl<A: Allocator> Group<A> {
         is_address(self.qualifiers.value_type) && !self.is_plain
     }
 
-    /// Begins the steps of the group's members, with the numbers that they look for.
-    pub fn begin_steps(&self, steps: &mut Steps<A>) -> Result<(), AllocError>
-        ensures { OnOk result (steps.new ≡ no_steps (numbers_of self.now)) }
-    {
-        steps.begin(self.has_networks(), self.first, &self.all)
-    }
-
-    /// Whether the members are decided together, as cases.
-    pub fn is_decided(&self) -> bool
-        ensures { result ≡ is_decided self.now }
-    {
-        !self.cases.is_empty() && self.is_searched()
-    }
-
-    /// Emits members that are decided together. Returns the place where the code begins.
-    pub fn emit_members(
-        &self,
-        link: Link,
-        code: &mut Code<A>,
-        to: Targets,
-    ) -> Result<usize, AllocError>
-        requires { is_decided self.now ≡ true }
-        ensures { Emits result
-            (emit_formula link (group_formula link self.now) to.yes to.no code.old) code.new }
-    {
-        code.emit_cases(link, self.qualifiers.direction, &self.cases, to)
-    }
-
-    /// Adds the steps that look for the group's members, which aren't decided as cases. `steps` has
-    /// their numbers.
-    pub fn put_members(&mut self, link: Link, steps: &mut Steps<A>) -> Result<(), AllocError>
-        requires numbers { steps.old.numbers ≡ numbers_of self.old }
-        requires others { is_decided self.old ≡ false }
-        ensures { OnOk result (IsPut (group_formula link self.old) steps.old steps.new) }
+    /// Emits the code that looks for the members. Returns the place where it begins.
+    pub fn emit(&mut self, link: Link, code: &mut Code<A>, to: Targets) -> Result<usize, AllocError>
+        ensures { EmitsFormula link (group_formula link self.old) to code.old result code.new }
     {
         if !self.is_searched() {
-            return self.put_rows(link, steps);
+            return code.emit_rows(link, self.entries.entries(), to);
         }
-        let (protocol, direction) = (self.qualifiers.protocol, self.qualifiers.direction);
-        match self.qualifiers.value_type {
+        if !self.cases.is_empty() {
+            return code.emit_cases(link, self.qualifiers.direction, &self.cases, to);
+        }
+        let has_networks = self.has_networks();
+        let numbers = self.room.numbers(has_networks, self.first, &self.all)?;
+        code.emit_several(link, self.qualifiers, &numbers, to)
+    }
+}
+
+impl<A: Allocator> Code<A> {
+    /// Emits the code that looks for several numbers, with their qualifiers.
+    fn emit_several(
+        &mut self,
+        link: Link,
+        qualifiers: CompleteQualifiers,
+        numbers: &Numbers<'_>,
+        to: Targets,
+    ) -> Result<usize, AllocError>
+        ensures { EmitsFormula link
+            (several_formula link qualifiers qualifiers.value_type numbers.now) to self.old result
+            self.new }
+    {
+        let (protocol, direction) = (qualifiers.protocol, qualifiers.direction);
+        match qualifiers.value_type {
             ValueType::Host | ValueType::Net => {
-                steps.put_hosts(link, protocol, Hosts::Several(direction))
+                self.emit_hosts(link, protocol, Hosts::Several(direction), numbers, to)
             }
             ValueType::Port | ValueType::PortRange => {
-                steps.put_ports(link, PortTest::new(protocol, direction, Ports::Several))
+                let wanted = PortTest::new(protocol, direction, Ports::Several);
+                self.emit_ports(link, wanted, numbers, to)
             }
             // No other type has members.
-            _ => steps.put_test(Elementary::Outcome(false)),
+            _ => Ok(to.no),
         }
+    }
+
+    /// Emits members one after the other, the last of the expression first.
+    fn emit_rows(&mut self, link: Link, entries: &[Entry], to: Targets) -> Result<usize, AllocError>
+        ensures { EmitsFormula link (rows_formula link (reverse entries.now)) to self.old result
+            self.new }
+    {
+        let mut no = to.no;
+        for entry in entries {
+            let to = Targets { yes: to.yes, no };
+            no = self.emit_value(link, entry.qualifiers, entry.value, to)?;
+        }
+        Ok(no)
     }
 }
 
@@ -387,7 +370,8 @@ impl<A: Allocator + Clone> Group<A> {
             first: Interval { low: 0, high: 0 },
             all: Vec::new(alloc.clone()?),
             cases: Vec::new(alloc.clone()?),
-            entries: Stack::new(alloc),
+            entries: Stack::new(alloc.clone()?),
+            room: Room::new(alloc)?,
         })
     }
 }

@@ -1,5 +1,5 @@
 //! Compiles filter expressions to programs of the packet-filter machine. `cap_filter` calls
-//! [`generate`]; read that first, then `walk::Walk` and `steps::Steps`.
+//! [`generate`]; read that first, then `walk::Walk`.
 //!
 //! - `program` has all stages. `folding` first computes arithmetic on constants, and joins
 //!   negations.
@@ -8,9 +8,9 @@
 //! - `elementary` has the tests of fields as data, with their table for each link. `code` is the
 //!   code, which grows from its last instruction to its first; `emit` has the code of a test,
 //!   `among` that of a search, and `cases` that of a decision tree.
-//! - `steps` has a primitive's formula as tests and operators. `protocol`, `address` and `port` put
-//!   the rows of the table of primitives (`specs/Primitives.antt`) into steps; `group` puts hosts
-//!   or ports that are looked for together, `value` any other value.
+//! - `protocol`, `address` and `port` emit the rows of the table of primitives
+//!   (`specs/Primitives.antt`); `group` emits hosts or ports that are looked for together, whose
+//!   numbers are `intervals`, and `value` any other value.
 //! - `stack` is the stack that these use, and `laws` has laws of the table of primitives.
 #![tactic(auto)]
 
@@ -22,13 +22,13 @@ mod elementary;
 mod emit;
 mod folding;
 mod group;
+mod intervals;
 pub mod laws;
 mod number;
 mod port;
 mod program;
 mod protocol;
 mod stack;
-mod steps;
 mod value;
 mod waiting;
 mod walk;

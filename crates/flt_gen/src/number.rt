@@ -8,13 +8,9 @@
 //! first.
 
 ghost use Rattle.std.specs.Prelude.{◌≡◌, OnOk, reverse};
-ghost use Rattle.flt_gen.specs.inside.Code.{emit_base, emit_transport, emit_accessor};
-ghost use Rattle.flt_gen.specs.inside.Code.{accessor_offset};
-ghost use Rattle.flt_gen.specs.inside.Code.{alu_operation, computation, takes_constant};
-ghost use Rattle.flt_gen.specs.inside.Code.{emit_operands, emit_all};
-ghost use Rattle.flt_gen.specs.inside.ProgramCode.{emit_accessor_tests};
 ghost use Rattle.flt_gen.specs.Numbers.{accessor_tests, width_of};
-ghost use Rattle.flt_gen.specs.inside.Emits.{Emits};
+ghost use Rattle.flt_gen.specs.inside.Code.{emit_base, emit_transport, emit_accessor, accessor_offset, alu_operation, computation, takes_constant, emit_operands, emit_all};
+ghost use Rattle.flt_gen.specs.inside.{Emits.Emits, ProgramCode.emit_accessor_tests};
 
 use crate::code::{Code, Targets};
 use crate::elementary::{

@@ -1,22 +1,24 @@
 //! Ports, as a row of the table of primitives. They are tested layer by layer: the network header
-//! (`put_ports`), TCP or UDP (`put_transport_ports`), that the packet isn't a later fragment
-//! (`put_ports_after`), the ports (`put_port_sides`).
+//! (`emit_ports`), TCP or UDP (`emit_transport_ports`), that the packet isn't a later fragment
+//! (`emit_ports_after`), the ports (`emit_port_sides`).
 
-ghost use Rattle.std.specs.Prelude.{◌≡◌, OnOk};
-ghost use Rattle.flt_gen.specs.Primitives.{port_test, port_is, port_between, port_sides};
-ghost use Rattle.flt_gen.specs.Primitives.{ports_after, transport_ports, ip_transport};
-ghost use Rattle.flt_gen.specs.Primitives.{ip6_transport, port_formula};
+ghost use Rattle.std.specs.Prelude.{◌≡◌};
+ghost use Rattle.flt_gen.specs.Elementary.{kind_test};
+ghost use Rattle.flt_gen.specs.Primitives.{port_test, port_is, port_between, port_sides, ports_after, transport_ports, ip_transport, ip6_transport, port_formula, after};
+ghost use Rattle.flt_gen.specs.inside.Emits.{EmitsFormula};
+ghost use Rattle.cap_octet.specs.declared.link.Link.{Link};
 
+use crate::code::{Code, Targets};
 use crate::elementary::{
     Elementary, FrameKind, Offset, Sides, compares_at, first_fragment, has_ip_proto, has_ip6_proto,
     kind_test, network_offset,
 };
-use crate::steps::Steps;
+use crate::intervals::Numbers;
 use cap_octet::Link;
 use cap_octet::assigned::{IPPROTO_TCP, IPPROTO_UDP};
 use flt_ast::Direction;
 use flt_bpf::operation::Width;
-use flt_words::{Comparison, Join, Protocol};
+use flt_words::{Comparison, Protocol};
 use std::alloc::{AllocError, Allocator};
 
 /// The ports that are looked for.
@@ -25,7 +27,7 @@ pub enum Ports {
     One(u32),
     /// Those from the first to the second.
     Between(u32, u32),
-    /// The steps' numbers.
+    /// Several numbers.
     Several,
 }
 
@@ -112,13 +114,17 @@ fn port_between(first: u32, last: u32, offset: Offset) -> [Elementary; 2]
     ]
 }
 
-impl<A: Allocator> Steps<A> {
-    ghost use Rattle.flt_gen.specs.inside.Steps.{IsPut};
-
-    /// Adds the steps of the ports after a header, on the sides that are asked for.
-    fn put_port_sides(&mut self, header: Transport, wanted: PortTest) -> Result<(), AllocError>
-        ensures { OnOk result (IsPut
-            (port_sides wanted.ports wanted.direction header self.old.numbers) self.old self.new) }
+impl<A: Allocator> Code<A> {
+    /// Emits the ports after a header, on the sides that are asked for.
+    fn emit_port_sides(
+        &mut self,
+        header: Transport,
+        wanted: PortTest,
+        numbers: &Numbers<'_>,
+        to: Targets,
+    ) -> Result<usize, AllocError>
+        ensures { (link : Link) → EmitsFormula link
+            (port_sides wanted.ports wanted.direction header numbers.now) to self.old result self.new }
     {
         let (direction, source, destination) = (
             wanted.direction,
@@ -127,15 +133,17 @@ impl<A: Allocator> Steps<A> {
         );
         match wanted.ports {
             Ports::One(port) => {
-                self.put_sides(
-                    direction,
-                    &port_is(port, source),
-                    &port_is(port, destination),
-                )
+                let source = port_is(port, source);
+                self.emit_sides(direction, &source, &port_is(port, destination), to)
             }
             Ports::Between(first, last) => {
                 let source = port_between(first, last, source);
-                self.put_sides(direction, &source, &port_between(first, last, destination))
+                self.emit_sides(
+                    direction,
+                    &source,
+                    &port_between(first, last, destination),
+                    to,
+                )
             }
             Ports::Several => {
                 let at = Sides {
@@ -144,58 +152,88 @@ impl<A: Allocator> Steps<A> {
                     source,
                     destination,
                 };
-                self.put_among(direction, at)
+                self.emit_among(direction, at, numbers, to)
             }
         }
     }
 
-    /// Adds the steps of the ports after a header, and before them the test that the packet isn't a
-    /// later fragment, if there is one.
-    fn put_ports_after(&mut self, header: Transport, wanted: PortTest) -> Result<(), AllocError>
-        ensures { OnOk result
-            (IsPut (ports_after header wanted self.old.numbers) self.old self.new) }
+    /// Emits the ports after a header, and before them the test that the packet isn't a later
+    /// fragment, if there is one.
+    fn emit_ports_after(
+        &mut self,
+        header: Transport,
+        wanted: PortTest,
+        numbers: &Numbers<'_>,
+        to: Targets,
+    ) -> Result<usize, AllocError>
+        ensures { (link : Link) → EmitsFormula link (ports_after header wanted numbers.now) to self.old
+            result self.new }
     {
+        let yes = self.emit_port_sides(header, wanted, numbers, to)?;
         match header.no_later_fragment {
-            None => self.put_port_sides(header, wanted),
-            Some(no_later_fragment) => {
-                self.put_test(no_later_fragment)?;
-                self.put_port_sides(header, wanted)?;
-                self.put_join(Join::And)
-            }
+            None => Ok(yes),
+            Some(test) => self.emit_elementary(test, Targets { yes, no: to.no }),
         }
     }
 
-    /// Adds the steps of the ports after a header that names the protocol that is asked for, or, if
-    /// none is, TCP or UDP. With another protocol than these two it is no.
-    fn put_transport_ports(&mut self, header: Transport, wanted: PortTest) -> Result<(), AllocError>
-        ensures { OnOk result
-            (IsPut (transport_ports header wanted self.old.numbers) self.old self.new) }
+    /// Emits the ports after a header that names the protocol that is asked for, or, if none is,
+    /// TCP or UDP. With another protocol than these two it is no.
+    fn emit_transport_ports(
+        &mut self,
+        header: Transport,
+        wanted: PortTest,
+        numbers: &Numbers<'_>,
+        to: Targets,
+    ) -> Result<usize, AllocError>
+        ensures { (link : Link) → EmitsFormula link (transport_ports header wanted numbers.now) to
+            self.old result self.new }
     {
-        match wanted.protocol {
-            Some(Protocol::Tcp) => self.put_test(header.tcp)?,
-            Some(Protocol::Udp) => self.put_test(header.udp)?,
-            None => {
-                self.put_test(header.tcp)?;
-                self.put_test(header.udp)?;
-                self.put_join(Join::Or)?;
-            }
-            Some(_) => return self.put_test(Elementary::Outcome(false)),
+        let (first, last) = match wanted.protocol {
+            Some(Protocol::Tcp) => (None, header.tcp),
+            Some(Protocol::Udp) => (None, header.udp),
+            None => (Some(header.tcp), header.udp),
+            Some(_) => return Ok(to.no),
+        };
+        let yes = self.emit_ports_after(header, wanted, numbers, to)?;
+        let no = self.emit_elementary(last, Targets { yes, no: to.no })?;
+        match first {
+            None => Ok(no),
+            Some(test) => self.emit_elementary(test, Targets { yes, no }),
         }
-        self.put_ports_after(header, wanted)?;
-        self.put_join(Join::And)
     }
 
-    /// Adds the steps of `port` and `portrange`, after a header of IPv4 or of IPv6.
-    pub fn put_ports(&mut self, link: Link, wanted: PortTest) -> Result<(), AllocError>
-        ensures { OnOk result
-            (IsPut (port_formula link wanted self.old.numbers) self.old self.new) }
+    /// Emits the ports after a header, in frames of its kind.
+    fn emit_ports_of_kind(
+        &mut self,
+        link: Link,
+        kind: FrameKind,
+        header: Transport,
+        wanted: PortTest,
+        numbers: &Numbers<'_>,
+        to: Targets,
+    ) -> Result<usize, AllocError>
+        ensures { EmitsFormula link
+            (after (kind_test link kind) (transport_ports header wanted numbers.now)) to self.old
+            result self.new }
     {
-        self.put_test(kind_test(link, FrameKind::Ip))?;
-        self.put_transport_ports(ip_transport(link), wanted)?;
-        self.put_join(Join::And)?;
-        self.put_test(kind_test(link, FrameKind::Ip6))?;
-        self.put_transport_ports(ip6_transport(link), wanted)?;
-        self.put_join(Join::And)?;
-        self.put_join(Join::Or)
+        let yes = self.emit_transport_ports(header, wanted, numbers, to)?;
+        self.emit_elementary(kind_test(link, kind), Targets { yes, no: to.no })
+    }
+
+    /// Emits `port` and `portrange`, after a header of IPv4 or of IPv6.
+    pub fn emit_ports(
+        &mut self,
+        link: Link,
+        wanted: PortTest,
+        numbers: &Numbers<'_>,
+        to: Targets,
+    ) -> Result<usize, AllocError>
+        ensures { EmitsFormula link (port_formula link wanted numbers.now) to self.old result
+            self.new }
+    {
+        let (ip, ip6) = (ip_transport(link), ip6_transport(link));
+        let no = self.emit_ports_of_kind(link, FrameKind::Ip6, ip6, wanted, numbers, to)?;
+        let to = Targets { yes: to.yes, no };
+        self.emit_ports_of_kind(link, FrameKind::Ip, ip, wanted, numbers, to)
     }
 }

@@ -2,14 +2,11 @@
 //! is threaded and shortened in one or two rounds, and is laid out.
 
 ghost use Rattle.std.specs.Prelude.{◌≡◌, ◌≤◌, IfOk, reverse};
-ghost use Rattle.flt_gen.specs.Correct.{IsProgramOf};
-ghost use Rattle.flt_gen.specs.Counts.{short_bound_of};
-ghost use Rattle.flt_bpf.specs.Layout.{JumpsAreNeeded, IsShort};
-ghost use Rattle.flt_gen.specs.inside.Round.{IsRound};
+ghost use Rattle.flt_gen.specs.{Correct.IsProgramOf, Counts.short_bound_of, inside.Round.IsRound};
 ghost use Rattle.flt_gen.specs.inside.Walk.{emit_nodes, start_walk, insns_of};
+ghost use Rattle.flt_bpf.specs.Layout.{JumpsAreNeeded, IsShort};
 
 use crate::folding::folded_nodes;
-use crate::steps::Steps;
 use crate::walk::Walk;
 use cap_octet::Link;
 use flt_ast::{Checked, Node};
@@ -35,8 +32,8 @@ fn wide_code<A: Allocator + Clone>(
     ensures { IfOk result
         (λ code. code.items ≡ insns_of (emit_nodes link start_walk (reverse nodes.now))) }
 {
-    let mut walk = Walk::new(alloc.clone()?)?;
-    walk.emit_nodes(link, nodes, &mut Steps::new(alloc)?)?;
+    let mut walk = Walk::new(alloc)?;
+    walk.emit_nodes(link, nodes)?;
     Ok(walk.into_insns())
 }
 

@@ -1,20 +1,19 @@
 //! Protocols, Ethernet addresses, `broadcast` and `multicast`, as rows of the table of primitives.
 
-ghost use Rattle.std.specs.Prelude.{◌≡◌, ◌≤◌, OnOk};
-ghost use Rattle.flt_gen.specs.Primitives.{ip_proto, ip6_proto, any_proto, check_formula};
-ghost use Rattle.flt_gen.specs.Primitives.{proto_formula, ether_host, mac_tests};
-ghost use Rattle.flt_gen.specs.Primitives.{is_group_address, cast_formula};
+ghost use Rattle.std.specs.Prelude.{◌≡◌, ◌≤◌};
+ghost use Rattle.flt_gen.specs.Primitives.{ip_proto, ip6_proto, any_proto, check_formula, proto_formula, ether_host, mac_tests, is_group_address, cast_formula};
+ghost use Rattle.flt_gen.specs.inside.Emits.{EmitsFormula};
 
+use crate::code::{Code, Targets};
 use crate::elementary::{
     Elementary, FieldTest, FrameKind, Offset, compares_at, has_ip_proto, has_ip6_proto, has_type,
     is_at, kind_test, network_offset,
 };
-use crate::steps::Steps;
 use cap_octet::Link;
 use cap_octet::assigned::{IPPROTO_ICMP, IPPROTO_ICMPV6, IPPROTO_TCP, IPPROTO_UDP};
 use flt_ast::Direction;
 use flt_bpf::operation::Width;
-use flt_words::{Cast, Comparison, Join, Protocol, Side};
+use flt_words::{Cast, Comparison, Protocol, Side};
 use std::alloc::{AllocError, Allocator};
 
 /// The tests for a MAC address of 48 bits in the six bytes from a place on: one for the first four
@@ -45,119 +44,146 @@ fn is_group_address() -> Elementary
     })
 }
 
-impl<A: Allocator> Steps<A> {
-    ghost use Rattle.flt_gen.specs.inside.Steps.{IsPut};
-
-    /// Adds the steps of IPv4 with this protocol.
-    fn put_ip_proto(&mut self, link: Link, protocol: u32) -> Result<(), AllocError>
-        ensures { OnOk result (IsPut (ip_proto link protocol) self.old self.new) }
+impl<A: Allocator> Code<A> {
+    /// Emits IPv4 with this protocol.
+    fn emit_ip_proto(&mut self, link: Link, protocol: u32, to: Targets) -> Result<usize, AllocError>
+        ensures { EmitsFormula link (ip_proto link protocol) to self.old result self.new }
     {
-        self.put_tests(&[kind_test(link, FrameKind::Ip), has_ip_proto(link, protocol)])
+        self.emit_all(
+            &[kind_test(link, FrameKind::Ip), has_ip_proto(link, protocol)],
+            to,
+        )
     }
 
-    /// Adds the steps of IPv6 with this next header. Extension headers aren't skipped.
-    fn put_ip6_proto(&mut self, link: Link, protocol: u32) -> Result<(), AllocError>
-        ensures { OnOk result (IsPut (ip6_proto link protocol) self.old self.new) }
+    /// Emits IPv6 with this next header. Extension headers aren't skipped.
+    fn emit_ip6_proto(
+        &mut self,
+        link: Link,
+        protocol: u32,
+        to: Targets,
+    ) -> Result<usize, AllocError>
+        ensures { EmitsFormula link (ip6_proto link protocol) to self.old result self.new }
     {
-        self.put_tests(&[
-            kind_test(link, FrameKind::Ip6),
-            has_ip6_proto(link, protocol),
-        ])
+        self.emit_all(
+            &[
+                kind_test(link, FrameKind::Ip6),
+                has_ip6_proto(link, protocol),
+            ],
+            to,
+        )
     }
 
-    /// Adds the steps of IPv4 with this protocol, or else IPv6 with this next header.
-    fn put_any_proto(&mut self, link: Link, protocol: u32) -> Result<(), AllocError>
-        ensures { OnOk result (IsPut (any_proto link protocol) self.old self.new) }
+    /// Emits IPv4 with this protocol, or else IPv6 with this next header.
+    fn emit_any_proto(
+        &mut self,
+        link: Link,
+        protocol: u32,
+        to: Targets,
+    ) -> Result<usize, AllocError>
+        ensures { EmitsFormula link (any_proto link protocol) to self.old result self.new }
     {
-        self.put_ip_proto(link, protocol)?;
-        self.put_ip6_proto(link, protocol)?;
-        self.put_join(Join::Or)
+        let no = self.emit_ip6_proto(link, protocol, to)?;
+        self.emit_ip_proto(link, protocol, Targets { yes: to.yes, no })
     }
 
-    /// Adds the steps of a protocol's keyword by itself, such as `tcp` or `arp`.
-    pub fn put_check(&mut self, link: Link, protocol: Protocol) -> Result<(), AllocError>
-        ensures { OnOk result (IsPut (check_formula link protocol) self.old self.new) }
+    /// Emits a protocol's keyword by itself, such as `tcp` or `arp`.
+    pub fn emit_check(
+        &mut self,
+        link: Link,
+        protocol: Protocol,
+        to: Targets,
+    ) -> Result<usize, AllocError>
+        ensures { EmitsFormula link (check_formula link protocol) to self.old result self.new }
     {
         match protocol {
-            Protocol::Ether => self.put_test(kind_test(link, FrameKind::Ethernet)),
-            Protocol::Ip => self.put_test(kind_test(link, FrameKind::Ip)),
-            Protocol::Ip6 => self.put_test(kind_test(link, FrameKind::Ip6)),
-            Protocol::Arp => self.put_test(kind_test(link, FrameKind::Arp)),
-            Protocol::Rarp => self.put_test(kind_test(link, FrameKind::Rarp)),
-            Protocol::Tcp => self.put_any_proto(link, IPPROTO_TCP.into()),
-            Protocol::Udp => self.put_any_proto(link, IPPROTO_UDP.into()),
-            Protocol::Icmp => self.put_ip_proto(link, IPPROTO_ICMP.into()),
-            Protocol::Icmp6 => self.put_ip6_proto(link, IPPROTO_ICMPV6.into()),
+            Protocol::Ether => self.emit_elementary(kind_test(link, FrameKind::Ethernet), to),
+            Protocol::Ip => self.emit_elementary(kind_test(link, FrameKind::Ip), to),
+            Protocol::Ip6 => self.emit_elementary(kind_test(link, FrameKind::Ip6), to),
+            Protocol::Arp => self.emit_elementary(kind_test(link, FrameKind::Arp), to),
+            Protocol::Rarp => self.emit_elementary(kind_test(link, FrameKind::Rarp), to),
+            Protocol::Tcp => self.emit_any_proto(link, IPPROTO_TCP.into(), to),
+            Protocol::Udp => self.emit_any_proto(link, IPPROTO_UDP.into(), to),
+            Protocol::Icmp => self.emit_ip_proto(link, IPPROTO_ICMP.into(), to),
+            Protocol::Icmp6 => self.emit_ip6_proto(link, IPPROTO_ICMPV6.into(), to),
         }
     }
 
-    /// Adds the steps of `proto N`, where N is a field of the protocol `below`: `ip`, `ip6` or
-    /// `ether`; `None` means IPv4 or IPv6. With any other protocol no packet matches.
-    pub fn put_proto(
+    /// Emits `proto N`, where N is a field of the protocol `below`: `ip`, `ip6` or `ether`; `None`
+    /// means IPv4 or IPv6. With any other protocol no packet matches.
+    pub fn emit_proto(
         &mut self,
         link: Link,
         below: Option<Protocol>,
         protocol: u32,
-    ) -> Result<(), AllocError>
-        ensures { OnOk result
-            (IsPut (proto_formula link below protocol) self.old self.new) }
+        to: Targets,
+    ) -> Result<usize, AllocError>
+        ensures { EmitsFormula link (proto_formula link below protocol) to self.old result
+            self.new }
     {
         match below {
-            Some(Protocol::Ip) => self.put_ip_proto(link, protocol),
-            Some(Protocol::Ip6) => self.put_ip6_proto(link, protocol),
-            Some(Protocol::Ether) => self.put_test(has_type(link, protocol)),
-            None => self.put_any_proto(link, protocol),
-            Some(_) => self.put_test(Elementary::Outcome(false)),
+            Some(Protocol::Ip) => self.emit_ip_proto(link, protocol, to),
+            Some(Protocol::Ip6) => self.emit_ip6_proto(link, protocol, to),
+            Some(Protocol::Ether) => self.emit_elementary(has_type(link, protocol), to),
+            None => self.emit_any_proto(link, protocol, to),
+            Some(_) => Ok(to.no),
         }
     }
 
-    /// Adds the steps of `ether host M`.
-    pub fn put_ether_host(
+    /// Emits `ether host M`.
+    pub fn emit_ether_host(
         &mut self,
         link: Link,
         direction: Direction,
         address: u64,
-    ) -> Result<(), AllocError>
-        ensures { OnOk result
-            (IsPut (ether_host link direction address) self.old self.new) }
+        to: Targets,
+    ) -> Result<usize, AllocError>
+        ensures { EmitsFormula link (ether_host link direction address) to self.old result
+            self.new }
     {
-        self.put_test(kind_test(link, FrameKind::Ethernet))?;
         // The source is at byte 6 of a frame, the destination at byte 0.
-        self.put_sides(direction, &mac_tests(6, address), &mac_tests(0, address))?;
-        self.put_join(Join::And)
+        let (source, destination) = (mac_tests(6, address), mac_tests(0, address));
+        let yes = self.emit_sides(direction, &source, &destination, to)?;
+        self.emit_elementary(
+            kind_test(link, FrameKind::Ethernet),
+            Targets { yes, no: to.no },
+        )
     }
 
-    /// Adds the steps of `broadcast` or `multicast`, with the protocol before it, or none. With a
-    /// protocol that isn't allowed, no packet matches; such expressions were refused before.
-    pub fn put_cast(
+    /// Emits `broadcast` or `multicast`, with the protocol before it, or none. With a protocol that
+    /// isn't allowed, no packet matches; such expressions were refused before.
+    pub fn emit_cast(
         &mut self,
         link: Link,
         protocol: Option<Protocol>,
         cast: Cast,
-    ) -> Result<(), AllocError>
-        ensures { OnOk result (IsPut (cast_formula link protocol cast) self.old self.new) }
+        to: Targets,
+    ) -> Result<usize, AllocError>
+        ensures { EmitsFormula link (cast_formula link protocol cast) to self.old result self.new }
     {
         match (cast, protocol) {
             (Cast::Broadcast, None | Some(Protocol::Ether)) => {
                 // All 48 bits of the address are set.
                 let destination = Direction::One(Side::Destination);
-                self.put_ether_host(link, destination, 0xffff_ffff_ffff)
+                self.emit_ether_host(link, destination, 0xffff_ffff_ffff, to)
             }
             (Cast::Multicast, None | Some(Protocol::Ether)) => {
-                self.put_tests(&[kind_test(link, FrameKind::Ethernet), is_group_address()])
+                self.emit_all(
+                    &[kind_test(link, FrameKind::Ethernet), is_group_address()],
+                    to,
+                )
             }
             (Cast::Multicast, Some(Protocol::Ip)) => {
                 // The first byte of the destination address: groups begin at 224.0.0.0.
                 let first = Offset::Fixed(network_offset(link) + 16);
                 let is_group = compares_at(first, Width::Byte, Comparison::AtLeast, 224);
-                self.put_tests(&[kind_test(link, FrameKind::Ip), is_group])
+                self.emit_all(&[kind_test(link, FrameKind::Ip), is_group], to)
             }
             (Cast::Multicast, Some(Protocol::Ip6)) => {
                 // The first byte of an IPv6 destination address: groups are ff00::/8.
                 let is_group = is_at(network_offset(link) + 24, Width::Byte, 255);
-                self.put_tests(&[kind_test(link, FrameKind::Ip6), is_group])
+                self.emit_all(&[kind_test(link, FrameKind::Ip6), is_group], to)
             }
-            (_, Some(_)) => self.put_test(Elementary::Outcome(false)),
+            (_, Some(_)) => Ok(to.no),
         }
     }
 }

@@ -21,17 +21,9 @@
 
 ghost use Rattle.std.specs.Prelude.{◌≡◌, true, Some, None, if◌then◌else◌, OnOk, IfOk, reverse};
 ghost use Rattle.flt_gen.specs.inside.Code.{block};
-ghost use Rattle.cap_octet.specs.declared.link.Link.{Link};
-ghost use Rattle.flt_gen.specs.Primitives.{sized_formula};
 ghost use Rattle.flt_gen.specs.inside.Group.{no_group, larger_group, group_formula};
-ghost use Rattle.flt_gen.specs.inside.Steps.{meaning};
-ghost use Rattle.flt_gen.specs.inside.Walk.{start_walk, insns_of, emit_nodes, emit_both_nodes};
-ghost use Rattle.flt_gen.specs.inside.Walk.{emit_load_at};
-ghost use Rattle.flt_gen.specs.inside.Walk.{emit_operator_with, emit_comparison_with, emit_node};
-ghost use Rattle.flt_gen.specs.inside.Walk.{emit_join, emit_value, emit_truth_node, is_truth_node};
-ghost use Rattle.flt_gen.specs.inside.Walk.{begin_right, flush_group, finish_formula, emit_parts};
-ghost use Rattle.flt_gen.specs.inside.Walk.{finish_truth, is_number_node, emit_leaf};
-ghost use Rattle.flt_gen.specs.inside.Walk.{begin_operands, finish_number, finish_relation};
+ghost use Rattle.flt_gen.specs.inside.Walk.{start_walk, insns_of, emit_nodes, emit_both_nodes, emit_load_at, emit_operator_with, emit_comparison_with, emit_node, emit_join, emit_value, emit_truth_node, is_truth_node, begin_right, flush_group, finish_formula, finish_truth, is_number_node, emit_leaf, begin_operands, finish_number, finish_relation};
+ghost use Rattle.cap_octet.specs.declared.link.Link.{Link};
 
 use crate::code::{Code, Targets};
 use crate::group::Group;
@@ -40,13 +32,12 @@ use crate::number::{
     takes_constant, width_of,
 };
 use crate::stack::Stack;
-use crate::steps::{Step, Steps};
 use crate::waiting::{LeftTruth, Pending, Waiting, add_accessor};
 use cap_octet::Link;
 use flt_ast::{CompleteQualifiers, Node, Value};
 use flt_bpf::Wide;
 use flt_bpf::operation::{Operand, Operation, Register, Source};
-use flt_words::{Comparison, Join, Operator, Protocol, Size};
+use flt_words::{Comparison, Join, Operator, Protocol};
 use std::alloc::{AllocError, Allocator};
 use std::marker::Model;
 
@@ -114,14 +105,8 @@ impl<A: Allocator + Clone> Walk<A> {
         })
     }
 
-    /// Emits the code of all nodes of a tree, from the last to the first. `steps` is room in which
-    /// each primitive's steps are put before they are emitted.
-    pub fn emit_nodes(
-        &mut self,
-        link: Link,
-        nodes: &[Node],
-        steps: &mut Steps<A>,
-    ) -> Result<(), AllocError>
+    /// Emits the code of all nodes of a tree, from the last to the first.
+    pub fn emit_nodes(&mut self, link: Link, nodes: &[Node]) -> Result<(), AllocError>
         ensures { OnOk result (self.new ≡ emit_nodes link self.old (reverse nodes.now)) }
     {
         let mut left = nodes.len();
@@ -129,11 +114,11 @@ impl<A: Allocator + Clone> Walk<A> {
         'nodes: while left > 0 {
             left -= 1;
             if left == 0 {
-                self.emit_node(link, &nodes[left], steps)?;
-            } else if self.emit_both_nodes(link, &nodes[left], &nodes[left - 1], steps)? {
+                self.emit_node(link, &nodes[left])?;
+            } else if self.emit_both_nodes(link, &nodes[left], &nodes[left - 1])? {
                 left -= 1;
             } else {
-                self.emit_node(link, &nodes[left], steps)?;
+                self.emit_node(link, &nodes[left])?;
             }
         }
         Ok(())
@@ -141,13 +126,7 @@ impl<A: Allocator + Clone> Walk<A> {
 
     /// Emits a node and the one before it at once, if that is its right operand or its index, and a
     /// constant that its instruction may have. `false`: it isn't, and nothing is emitted.
-    fn emit_both_nodes(
-        &mut self,
-        link: Link,
-        node: &Node,
-        right: &Node,
-        steps: &mut Steps<A>,
-    ) -> Result<bool, AllocError>
+    fn emit_both_nodes(&mut self, link: Link, node: &Node, right: &Node) -> Result<bool, AllocError>
         ensures emits { IfOk result (λ fits. emit_both_nodes link self.old node.now right.now
             ≡ (if fits then Some self.new else None)) }
         ensures same { IfOk result (λ fits. self.new ≡ (if fits then self.new else self.old)) }
@@ -157,7 +136,7 @@ impl<A: Allocator + Clone> Walk<A> {
                 self.emit_operator_with(*operator, *n)
             }
             (Node::Compare(comparison), Node::Literal(n) | Node::Named(n)) => {
-                self.emit_comparison_with(link, *comparison, *n, steps)?;
+                self.emit_comparison_with(link, *comparison, *n)?;
                 Ok(true)
             }
             (Node::Load(protocol, size), Node::Literal(n) | Node::Named(n)) => {
@@ -205,12 +184,11 @@ impl<A: Allocator + Clone> Walk<A> {
         link: Link,
         comparison: Comparison,
         constant: u32,
-        steps: &mut Steps<A>,
     ) -> Result<(), AllocError>
         ensures { OnOk result
             (emit_comparison_with comparison constant (flush_group link self.old) ≡ Some self.new) }
     {
-        self.flush_group(link, steps)?;
+        self.flush_group(link)?;
         self.code
             .emit_comparison(comparison, Operand::Constant, constant, self.to)
     }
@@ -218,14 +196,12 @@ impl<A: Allocator + Clone> Walk<A> {
     /// Emits one more node, the one before those that were emitted. A group that waits is emitted
     /// first, unless the node is a value or an `or`, which may go on with it, or arithmetic, of
     /// which the comparison did so.
-    fn emit_node(&mut self, link: Link, node: &Node, steps: &mut Steps<A>) -> Result<(), AllocError>
+    fn emit_node(&mut self, link: Link, node: &Node) -> Result<(), AllocError>
         ensures { OnOk result (self.new ≡ emit_node link self.old node.now) }
     {
         match node {
-            Node::Join(join) => self.emit_join(link, *join, steps),
-            Node::Qualified(qualifiers, value) => {
-                self.emit_value(link, *qualifiers, *value, steps)
-            }
+            Node::Join(join) => self.emit_join(link, *join),
+            Node::Qualified(qualifiers, value) => self.emit_value(link, *qualifiers, *value),
             Node::Literal(_)
             | Node::Named(_)
             | Node::Len
@@ -233,14 +209,14 @@ impl<A: Allocator + Clone> Walk<A> {
             | Node::Negate
             | Node::Apply(_) => { self.emit_number_node(link, node) }
             _ => {
-                self.flush_group(link, steps)?;
-                self.emit_truth_node(link, node, steps)
+                self.flush_group(link)?;
+                self.emit_truth_node(link, node)
             }
         }
     }
 
     /// Emits `and` or `or`, which has no code of its own: it sets what its operands go on to.
-    fn emit_join(&mut self, link: Link, join: Join, steps: &mut Steps<A>) -> Result<(), AllocError>
+    fn emit_join(&mut self, link: Link, join: Join) -> Result<(), AllocError>
         ensures { OnOk result (self.new ≡ emit_join link join self.old) }
     {
         match join {
@@ -250,7 +226,7 @@ impl<A: Allocator + Clone> Walk<A> {
                 Ok(())
             }
             Join::And => {
-                self.flush_group(link, steps)?;
+                self.flush_group(link)?;
                 let to = self.to;
                 self.truths.push(LeftTruth { join, to })
             }
@@ -265,7 +241,6 @@ impl<A: Allocator + Clone> Walk<A> {
         link: Link,
         qualifiers: CompleteQualifiers,
         value: Value,
-        steps: &mut Steps<A>,
     ) -> Result<(), AllocError>
         ensures { OnOk result (self.new ≡ emit_value link qualifiers value self.old
             (larger_group qualifiers value self.old.group)) }
@@ -275,69 +250,36 @@ impl<A: Allocator + Clone> Walk<A> {
                 self.pending = Pending::Nothing;
                 return Ok(());
             }
-            return self.emit_group(link, steps);
+            return self.emit_group(link);
         }
-        self.flush_group(link, steps)?;
-        steps.begin_alone();
-        steps.put_value(link, qualifiers, value)?;
-        self.emit_steps(steps)
+        self.flush_group(link)?;
+        let entry = self.code.emit_value(link, qualifiers, value, self.to)?;
+        self.finish_truth(entry);
+        Ok(())
     }
 
     /// Emits a primitive or a negation. A value whose qualifiers aren't filled in matches no
     /// packet; a `Checked` expression has none.
-    fn emit_truth_node(
-        &mut self,
-        link: Link,
-        node: &Node,
-        steps: &mut Steps<A>,
-    ) -> Result<(), AllocError>
+    fn emit_truth_node(&mut self, link: Link, node: &Node) -> Result<(), AllocError>
         requires truth { is_truth_node node.now ≡ true }
         ensures { OnOk result (self.new ≡ emit_truth_node link self.old node.now) }
     {
-        match node {
-            Node::Check(protocol) => {
-                steps.begin_alone();
-                steps.put_check(link, *protocol)?;
-                self.emit_steps(steps)
-            }
-            Node::Cast(protocol, cast) => {
-                steps.begin_alone();
-                steps.put_cast(link, *protocol, *cast)?;
-                self.emit_steps(steps)
-            }
-            Node::Sized(size, number) => self.emit_length_test(*size, *number),
-            Node::Bare(_) | Node::Valued(_, _) => {
-                let entry = self.to.no;
-                self.finish_truth(entry);
-                Ok(())
-            }
+        let entry = match node {
+            Node::Check(protocol) => self.code.emit_check(link, *protocol, self.to)?,
+            Node::Cast(protocol, cast) => self.code.emit_cast(link, *protocol, *cast, self.to)?,
+            Node::Sized(size, number) => self.code.emit_length_test(*size, *number, self.to)?,
+            Node::Bare(_) | Node::Valued(_, _) => self.to.no,
             Node::Not => {
                 self.to = self.to.exchanged();
-                Ok(())
+                return Ok(());
             }
             Node::Compare(comparison) => {
                 self.code
                     .emit_comparison(*comparison, Operand::IndexRegister, 0, self.to)?;
-                self.begin_operands(0)
+                return self.begin_operands(0);
             }
             _ => unreachable!(),
-        }
-    }
-
-    /// Emits `less N` and `greater N`: the original length is compared with a number.
-    fn emit_length_test(&mut self, size: Size, number: u32) -> Result<(), AllocError>
-        ensures { OnOk result ((link : Link)
-            → self.new ≡ finish_formula link (sized_formula size number) self.old) }
-    {
-        let comparison = match size {
-            Size::Less => Comparison::AtMost,
-            Size::Greater => Comparison::AtLeast,
         };
-        self.code
-            .emit_comparison(comparison, Operand::Constant, number, self.to)?;
-        self.code
-            .emit_plain(Operation::Load(Register::Accumulator, Source::Length), 0)?;
-        let entry = self.code.top();
         self.finish_truth(entry);
         Ok(())
     }
@@ -361,7 +303,7 @@ impl<A: Allocator + Clone> Walk<A> {
     /// in front of it. That operand is next, and goes on at the group's code if it doesn't
     /// match. Before that, if the last node was an `or`, its left operand begins to wait
     /// (`begin_right`).
-    fn flush_group(&mut self, link: Link, steps: &mut Steps<A>) -> Result<(), AllocError>
+    fn flush_group(&mut self, link: Link) -> Result<(), AllocError>
         ensures { OnOk result (self.new ≡ flush_group link self.old) }
     {
         self.begin_right()?;
@@ -371,44 +313,17 @@ impl<A: Allocator + Clone> Walk<A> {
         }
         let to = self.to;
         self.truths.push(LeftTruth { join: Join::Or, to })?;
-        self.emit_group(link, steps)
+        self.emit_group(link)
     }
 
     /// Emits the code of the group, which has members, and empties it.
-    fn emit_group(&mut self, link: Link, steps: &mut Steps<A>) -> Result<(), AllocError>
+    fn emit_group(&mut self, link: Link) -> Result<(), AllocError>
         ensures { OnOk result (self.new ≡ finish_formula link (group_formula link self.old.group)
             (record self.old { group = no_group })) }
     {
-        if self.group.is_decided() {
-            let entry = self.group.emit_members(link, &mut self.code, self.to)?;
-            self.group.clear();
-            self.finish_truth(entry);
-            return Ok(());
-        }
-        self.group.begin_steps(steps)?;
-        self.group.put_members(link, steps)?;
+        let entry = self.group.emit(link, &mut self.code, self.to)?;
         self.group.clear();
-        self.emit_steps(steps)
-    }
-
-    /// Emits the code of a formula's steps, from the last one to the first. An operator's right
-    /// operand comes first, and its left one waits.
-    fn emit_steps(&mut self, steps: &mut Steps<A>) -> Result<(), AllocError>
-        ensures { OnOk result
-            ((link : Link) → self.new ≡ emit_parts link self.old (meaning steps.old).parts) }
-    {
-        while let Some(step) = steps.pop() {
-            let to = self.to;
-            let entry = match step {
-                Step::Check(test) => self.code.emit_elementary(test, to)?,
-                Step::Among(direction, at) => self.code.emit_among(direction, at, steps, to)?,
-                Step::Joined(join) => {
-                    self.truths.push(LeftTruth { join, to })?;
-                    continue;
-                }
-            };
-            self.finish_truth(entry);
-        }
+        self.finish_truth(entry);
         Ok(())
     }
 

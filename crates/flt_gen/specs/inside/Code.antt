@@ -1,44 +1,30 @@
 -- The code of a formula, which is emitted in front of the code that is present.
-use Rattle.std.specs.Prelude.{ℕ, zero, suc, ◌+◌, ◌-◌, ◌/◌, ◌%◌, ◌^◌, true, false, nat_le, ◌==◌, ◌&&◌, if◌then◌else◌, Bool, List, [], ◌∷◌, length, take, drop, Option, Some, None}
 use Rattle.std.specs.Option.{is_none}
-use Rattle.flt_bpf.specs.Check.{constant_fault}
-use Rattle.flt_bpf.specs.declared.insn.Insn.{Insn}
-use Rattle.flt_bpf.specs.declared.operation.Width.{Width}
-use Rattle.flt_bpf.specs.declared.operation.Width.TheVariants.{Word}
-use Rattle.flt_bpf.specs.declared.operation.Test.{Test}
-use Rattle.flt_bpf.specs.declared.operation.Test.TheVariants as test
-use Rattle.flt_bpf.specs.declared.operation.Operand.{Operand}
-use Rattle.flt_bpf.specs.declared.operation.Operand.TheVariants.{Constant, IndexRegister}
-use Rattle.flt_words.specs.declared.token.Operator.{Operator}
-use Rattle.flt_words.specs.declared.token.Operator.TheVariants.{Or, And, ShiftLeft, ShiftRight, Add, Subtract, Multiply, Divide, Remainder, ExclusiveOr}
-use Rattle.flt_words.specs.declared.token.Comparison.{Comparison}
-use Rattle.flt_words.specs.declared.token.Comparison.TheVariants.{Equal, NotEqual, Less, AtMost, Greater, AtLeast}
-use Rattle.flt_words.specs.declared.token.Protocol.{Protocol}
-use Rattle.flt_words.specs.declared.token.Protocol.TheVariants.{Ether, Tcp, Udp, Icmp}
-use Rattle.flt_words.specs.declared.token.Side.TheVariants as side
-use Rattle.flt_words.specs.declared.token.Join.TheVariants as join
-use Rattle.flt_ast.specs.declared.qualifiers.Direction.{Direction}
-use Rattle.flt_ast.specs.declared.qualifiers.Direction.TheVariants as direction
-use Rattle.flt_ast.specs.Tree.{NumberTree, literal, len, named, load, negated, applied}
-use Rattle.cap_octet.specs.declared.link.Link.{Link}
-use Rattle.flt_gen.specs.declared.elementary.Offset.{Offset}
-use Rattle.flt_gen.specs.declared.elementary.Offset.TheVariants.{Fixed, AfterHeader}
-use Rattle.flt_gen.specs.declared.elementary.FieldTest.{FieldTest}
-use Rattle.flt_gen.specs.declared.elementary.Elementary.{Elementary}
-use Rattle.flt_gen.specs.declared.elementary.Interval.{Interval}
-use Rattle.flt_gen.specs.declared.elementary.Sides.{Sides}
-use Rattle.flt_gen.specs.declared.elementary.Elementary.TheVariants.{Outcome, Field}
-use Rattle.flt_gen.specs.Elementary.{with}
-use Rattle.cap_octet.specs.Link.{network_offset}
-use Rattle.flt_gen.specs.Numbers.{width_of}
-use Rattle.flt_gen.specs.Formula.{Formula, Single, Compare, Both, Either, Except, Split, Sought, Numbers}
+use Rattle.std.specs.Prelude.{ℕ, zero, suc, ◌+◌, ◌-◌, ◌/◌, ◌%◌, ◌^◌, true, false, nat_le, ◌==◌, ◌&&◌, if◌then◌else◌, Bool, List, [], ◌∷◌, length, take, drop, Option, Some, None}
+use Rattle.flt_bpf.specs.{Check.constant_fault, Instructions.code_of}
+use Rattle.flt_bpf.specs.declared.{insn.Insn.Insn, operation.AluOperation.AluOperation}
+use Rattle.flt_bpf.specs.declared.operation.Operand.{Operand, TheVariants.Constant, TheVariants.IndexRegister}
 use Rattle.flt_bpf.specs.declared.operation.Operation.{Operation}
 use Rattle.flt_bpf.specs.declared.operation.Operation.TheVariants.{LoadAbsolute, LoadIndirect, Load, LoadHeaderLength, Store, Compute, Negate, JumpIf, CopyToIndex}
 use Rattle.flt_bpf.specs.declared.operation.Register.TheVariants.{Accumulator, Index}
 use Rattle.flt_bpf.specs.declared.operation.Source.TheVariants.{Immediate, Memory, Length}
-use Rattle.flt_bpf.specs.declared.operation.AluOperation.{AluOperation}
-use Rattle.flt_bpf.specs.declared.operation.AluOperation.TheVariants as arithmetic
-use Rattle.flt_bpf.specs.Instructions.{code_of}
+use Rattle.flt_bpf.specs.declared.operation.{Test.Test, Width.Width, Width.TheVariants.Word}
+use Rattle.flt_words.specs.declared.token.Comparison.{Comparison}
+use Rattle.flt_words.specs.declared.token.Comparison.TheVariants.{Equal, NotEqual, Less, AtMost, Greater, AtLeast}
+use Rattle.flt_words.specs.declared.token.{Join.Join, Operator.Operator}
+use Rattle.flt_words.specs.declared.token.Operator.TheVariants.{Or, And, ShiftLeft, ShiftRight, Add, Subtract, Multiply, Divide, Remainder, ExclusiveOr}
+use Rattle.flt_words.specs.declared.token.Protocol.{Protocol}
+use Rattle.flt_words.specs.declared.token.Protocol.TheVariants.{Ether, Tcp, Udp, Icmp}
+use Rattle.flt_words.specs.declared.token.Side.{Side}
+use Rattle.flt_ast.specs.Tree.{NumberTree, literal, len, named, load, negated, applied}
+use Rattle.flt_ast.specs.declared.qualifiers.Direction.{Direction}
+use Rattle.cap_octet.specs.{Link.network_offset, declared.link.Link.Link}
+use Rattle.flt_gen.specs.Elementary.{with}
+use Rattle.flt_gen.specs.Formula.{Formula, Single, Compare, Both, Either, Except, Split, Sought, Numbers}
+use Rattle.flt_gen.specs.Numbers.{width_of}
+use Rattle.flt_gen.specs.declared.elementary.Elementary.{Elementary, TheVariants.Outcome, TheVariants.Field}
+use Rattle.flt_gen.specs.declared.elementary.{FieldTest.FieldTest, Interval.Interval, Offset.Offset}
+use Rattle.flt_gen.specs.declared.elementary.{Offset.TheVariants.Fixed, Offset.TheVariants.AfterHeader, Sides.Sides}
 
 -- an instruction that isn't a test
 abbrev pub plain : Operation → ℕ → Insn
@@ -46,16 +32,16 @@ plain operation k = record { code = code_of operation; jt = 0; jf = 0; k = k }
 
 -- the machine's operator for one of an expression
 abbrev pub alu_operation : Operator → AluOperation
-alu_operation Add = arithmetic.Add
-alu_operation Subtract = arithmetic.Subtract
-alu_operation Multiply = arithmetic.Multiply
-alu_operation Divide = arithmetic.Divide
-alu_operation Or = arithmetic.Or
-alu_operation And = arithmetic.And
-alu_operation ShiftLeft = arithmetic.ShiftLeft
-alu_operation ShiftRight = arithmetic.ShiftRight
-alu_operation Remainder = arithmetic.Remainder
-alu_operation ExclusiveOr = arithmetic.ExclusiveOr
+alu_operation Add = AluOperation.Add
+alu_operation Subtract = AluOperation.Subtract
+alu_operation Multiply = AluOperation.Multiply
+alu_operation Divide = AluOperation.Divide
+alu_operation Or = AluOperation.Or
+alu_operation And = AluOperation.And
+alu_operation ShiftLeft = AluOperation.ShiftLeft
+alu_operation ShiftRight = AluOperation.ShiftRight
+alu_operation Remainder = AluOperation.Remainder
+alu_operation ExclusiveOr = AluOperation.ExclusiveOr
 
 -- an operator with X, or with a constant
 abbrev pub computation : Operator → Operand → Operation
@@ -94,12 +80,12 @@ emit_branch test operand k hit miss c =
 
 -- the machine has three of the six comparisons; the others exchange the places
 abbrev pub emit_comparison : Comparison → Operand → ℕ → ℕ → ℕ → List Insn → List Insn
-emit_comparison Equal operand k hit miss c = emit_branch test.Equal operand k hit miss c
-emit_comparison NotEqual operand k hit miss c = emit_branch test.Equal operand k miss hit c
-emit_comparison Less operand k hit miss c = emit_branch test.AtLeast operand k miss hit c
-emit_comparison AtMost operand k hit miss c = emit_branch test.Greater operand k miss hit c
-emit_comparison Greater operand k hit miss c = emit_branch test.Greater operand k hit miss c
-emit_comparison AtLeast operand k hit miss c = emit_branch test.AtLeast operand k hit miss c
+emit_comparison Equal operand k hit miss c = emit_branch Test.Equal operand k hit miss c
+emit_comparison NotEqual operand k hit miss c = emit_branch Test.Equal operand k miss hit c
+emit_comparison Less operand k hit miss c = emit_branch Test.AtLeast operand k miss hit c
+emit_comparison AtMost operand k hit miss c = emit_branch Test.Greater operand k miss hit c
+emit_comparison Greater operand k hit miss c = emit_branch Test.Greater operand k hit miss c
+emit_comparison AtLeast operand k hit miss c = emit_branch Test.AtLeast operand k hit miss c
 
 -- a field's number goes into A
 abbrev pub emit_field : Offset → Width → List Insn → List Insn
@@ -110,7 +96,7 @@ emit_field (AfterHeader header k) width c =
 -- of A only the bits of a mask are left
 abbrev pub emit_mask : Option ℕ → List Insn → List Insn
 emit_mask None c = c
-emit_mask (Some mask) c = plain (Compute arithmetic.And Constant) mask ∷ c
+emit_mask (Some mask) c = plain (Compute AluOperation.And Constant) mask ∷ c
 
 -- a field is loaded, masked and compared
 abbrev pub emit_test : FieldTest → ℕ → ℕ → List Insn → List Insn
@@ -121,7 +107,7 @@ emit_test t hit miss c =
 -- the field as far past the IPv4 header as the number in A goes into A
 abbrev pub emit_transport : Link → Width → List Insn → List Insn
 emit_transport link width c =
-    plain LoadHeaderLength (network_offset link) ∷ plain (Compute arithmetic.Add IndexRegister) 0
+    plain LoadHeaderLength (network_offset link) ∷ plain (Compute AluOperation.Add IndexRegister) 0
     ∷ plain CopyToIndex 0 ∷ plain (LoadIndirect width) (network_offset link) ∷ c
 
 -- the field as far past a fixed place as the number in A goes into A
@@ -205,9 +191,9 @@ emit_elementary (Field t) hit miss c = at_top (emit_test t hit miss c)
 -- whether A is in an interval, if it may be known to be no lower
 abbrev pub emit_interval : Bool → Interval → ℕ → ℕ → List Insn → Block
 emit_interval is_above i hit miss c =
-    if i.low == i.high then at_top (emit_branch test.Equal Constant i.low hit miss c) else
-    (let e = at_top (emit_branch test.Greater Constant i.high miss hit c) in
-    if is_above then e else at_top (emit_branch test.AtLeast Constant i.low e.entry miss e.code))
+    if i.low == i.high then at_top (emit_branch Test.Equal Constant i.low hit miss c) else
+    (let e = at_top (emit_branch Test.Greater Constant i.high miss hit c) in
+    if is_above then e else at_top (emit_branch Test.AtLeast Constant i.low e.entry miss e.code))
 
 -- whether A is in some intervals, by one after the other. It may be known that A isn't lower than
 -- the first
@@ -219,7 +205,7 @@ emit_chain is_above (i ∷ is) hit miss c =
 -- a test in front of the code of both halves: is A in the upper one, which begins with this number
 abbrev pub emit_halves : ℕ → Block → ℕ → Block
 emit_halves pivot lower upper =
-    at_top (emit_branch test.AtLeast Constant pivot upper lower.entry lower.code)
+    at_top (emit_branch Test.AtLeast Constant pivot upper lower.entry lower.code)
 
 -- one interval at most, or two numbers, which aren't halved: that would be one more test
 abbrev pub are_few : List Interval → Bool
@@ -291,7 +277,7 @@ emit_second at c = emit_at_index at.destination at.width at.index c
 abbrev pub emit_at_sides : Sides → Numbers → ℕ → ℕ → List Insn → List Insn
 emit_at_sides at numbers hit miss c =
     let none = emit_second at (emit_masked numbers.mask numbers.all hit miss c) in
-    let later = emit_second at (emit_branch test.AtLeast Constant 0 hit miss none) in
+    let later = emit_second at (emit_branch Test.AtLeast Constant 0 hit miss none) in
     let one = emit_interval false numbers.first hit (length later) later in
     emit_at_index at.source at.width at.index
     (emit_masked numbers.mask numbers.all one.entry (length none) one.code)
@@ -315,14 +301,14 @@ are_at_index at numbers =
 
 -- the sides that a direction asks for are some numbers
 abbrev pub emit_among : Direction → Sides → Numbers → ℕ → ℕ → List Insn → Block
-emit_among (direction.One side.Source) at numbers hit miss c =
+emit_among (Direction.One Side.Source) at numbers hit miss c =
     emit_side at.source at.width numbers.mask numbers.all hit miss c
-emit_among (direction.One side.Destination) at numbers hit miss c =
+emit_among (Direction.One Side.Destination) at numbers hit miss c =
     emit_side at.destination at.width numbers.mask numbers.all hit miss c
-emit_among (direction.Both join.Or) at numbers hit miss c =
+emit_among (Direction.Both Join.Or) at numbers hit miss c =
     if are_at_index at numbers then emit_many at numbers hit miss c
     else emit_few at numbers hit miss c
-emit_among (direction.Both join.And) at numbers hit miss c = block c miss
+emit_among (Direction.Both Join.And) at numbers hit miss c = block c miss
 
 -- the code of a formula that goes on at one of two places
 abbrev pub emit_formula : Link → Formula → ℕ → ℕ → List Insn → Block

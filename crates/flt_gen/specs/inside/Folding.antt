@@ -1,14 +1,9 @@
 -- Arithmetic of only numbers is one number, if it has a value.
 use Rattle.std.specs.Prelude.{ℕ, zero, suc, ◌-◌, ◌%◌, ◌^◌, List, [], ◌∷◌, Option, Some, None}
-use Rattle.flt_words.specs.declared.token.Operator.{Operator}
-use Rattle.flt_words.specs.declared.token.Join.{Join}
-use Rattle.flt_words.specs.declared.token.Join.TheVariants.{And, Or}
-use Rattle.flt_ast.specs.declared.node.Node.{Node}
-use Rattle.flt_ast.specs.declared.node.Node.TheVariants as node
+use Rattle.flt_words.specs.declared.token.{Join.Join, Join.TheVariants.And, Join.TheVariants.Or, Operator.Operator}
 use Rattle.flt_ast.specs.Tree.{NumberTree, literal, load, negated, applied, TruthTree, compared, denied, joined, Expression, empty, truth}
-use Rattle.flt_gen.specs.Elementary.{with}
-use Rattle.flt_gen.specs.Numbers.{result_of}
-use Rattle.flt_gen.specs.inside.Code.{constant}
+use Rattle.flt_ast.specs.declared.node.Node.{Node}
+use Rattle.flt_gen.specs.{Elementary.with, Numbers.result_of, inside.Code.constant}
 
 -- the negative of a number, modulo 2^32, or none if there is no number
 abbrev pub negated_constant : Option ℕ → Option ℕ
@@ -69,8 +64,8 @@ folded_expression (truth a) = truth (folded_truth a)
 
 -- the number that a node is, or none for other nodes
 abbrev pub node_constant : Node → Option ℕ
-node_constant (node.Literal k) = Some k
-node_constant (node.Named k) = Some k
+node_constant (Node.Literal k) = Some k
+node_constant (Node.Named k) = Some k
 node_constant _ = None
 
 -- the number that the latest node is, or none if it isn't a number
@@ -85,27 +80,27 @@ earlier (n ∷ ns) = ns
 
 -- this constant as a node after the nodes `before`, or else the other nodes
 abbrev pub node_or : Option ℕ → List Node → List Node → List Node
-node_or (Some k) before nodes = node.Literal k ∷ before
+node_or (Some k) before nodes = Node.Literal k ∷ before
 node_or None before nodes = nodes
 
 -- a negation comes, or the negative of a number in its place
 abbrev pub with_negation : List Node → List Node
-with_negation ns = node_or (negated_constant (latest_constant ns)) (earlier ns) (node.Negate ∷ ns)
+with_negation ns = node_or (negated_constant (latest_constant ns)) (earlier ns) (Node.Negate ∷ ns)
 
 -- an operator comes, or what it makes of two numbers in their place
 abbrev pub with_operator : Operator → List Node → List Node
 with_operator operator ns =
     node_or (applied_constant operator (latest_constant (earlier ns)) (latest_constant ns))
-    (earlier (earlier ns)) (node.Apply operator ∷ ns)
+    (earlier (earlier ns)) (Node.Apply operator ∷ ns)
 
 -- as many trees are needed, and the operands of a node
 abbrev pub and_operands : Node → ℕ → ℕ
-and_operands (node.Join j) need = suc (suc need)
-and_operands (node.Compare c) need = suc (suc need)
-and_operands (node.Apply o) need = suc (suc need)
-and_operands node.Not need = suc need
-and_operands node.Negate need = suc need
-and_operands (node.Load p s) need = suc need
+and_operands (Node.Join j) need = suc (suc need)
+and_operands (Node.Compare c) need = suc (suc need)
+and_operands (Node.Apply o) need = suc (suc need)
+and_operands Node.Not need = suc need
+and_operands Node.Negate need = suc need
+and_operands (Node.Load p s) need = suc need
 and_operands n need = need
 
 -- nodes that are held, the earliest first, and those that were written before them
@@ -126,20 +121,20 @@ put_back (h ∷ held) ns = put_back held (h ∷ ns)
 
 -- `and` comes after a negation, of which what is denied is held
 abbrev pub with_held : List Node → List Node → List Node
-with_held held (node.Not ∷ ns) = node.Not ∷ node.Join Or ∷ put_back held ns
-with_held held (node.Join And ∷ node.Not ∷ ns) =
-    node.Join And ∷ node.Not ∷ node.Join Or ∷ put_back held ns
-with_held held ns = node.Join And ∷ node.Not ∷ put_back held ns
+with_held held (Node.Not ∷ ns) = Node.Not ∷ Node.Join Or ∷ put_back held ns
+with_held held (Node.Join And ∷ Node.Not ∷ ns) =
+    Node.Join And ∷ Node.Not ∷ Node.Join Or ∷ put_back held ns
+with_held held ns = Node.Join And ∷ Node.Not ∷ put_back held ns
 
 -- `and` comes
 abbrev pub with_conjunction : List Node → List Node
-with_conjunction (node.Not ∷ ns) = let h = hold 1 [] ns in with_held h.held h.rest
-with_conjunction ns = node.Join And ∷ ns
+with_conjunction (Node.Not ∷ ns) = let h = hold 1 [] ns in with_held h.held h.rest
+with_conjunction ns = Node.Join And ∷ ns
 
 -- one more node, after its operands; arithmetic of only numbers becomes one number, if it has a
 -- value
 abbrev pub with_folded : List Node → Node → List Node
-with_folded ns node.Negate = with_negation ns
-with_folded ns (node.Apply operator) = with_operator operator ns
-with_folded ns (node.Join And) = with_conjunction ns
+with_folded ns Node.Negate = with_negation ns
+with_folded ns (Node.Apply operator) = with_operator operator ns
+with_folded ns (Node.Join And) = with_conjunction ns
 with_folded ns n = n ∷ ns

@@ -237,10 +237,6 @@ rows_formula link (e ∷ []) = qualified_needed link e.qualifiers e.value
 rows_formula link (e ∷ f ∷ es) =
     Either (qualified_needed link e.qualifiers e.value) (rows_formula link (f ∷ es))
 
--- the members are decided together, as cases
-abbrev pub is_decided : Group → Bool
-is_decided group = not (has_none group.cases) && is_searched group
-
 -- one of the members, by their numbers or as cases
 abbrev pub together_formula : Link → Group → List Case → Formula
 together_formula link group [] =

@@ -1,36 +1,23 @@
 -- The walk over the nodes of an expression, from the last to the first.
-use Rattle.std.specs.Prelude.{ℕ, ◌+◌, List, [], ◌∷◌, length, drop, ◌-◌, if◌then◌else◌, Bool, true, false, Option, Some, None}
+use Rattle.std.specs.Prelude.{not, ℕ, ◌+◌, List, [], ◌∷◌, length, drop, ◌-◌, if◌then◌else◌, Bool, true, false, Option, Some, None}
 use Rattle.flt_bpf.specs.declared.insn.Insn.{Insn}
 use Rattle.flt_bpf.specs.declared.operation.Operand.TheVariants.{Constant, IndexRegister}
-use Rattle.flt_words.specs.declared.token.Operator.{Operator}
-use Rattle.flt_words.specs.declared.token.Comparison.{Comparison}
-use Rattle.flt_words.specs.declared.token.Join.{Join}
-use Rattle.flt_words.specs.declared.token.Join.TheVariants.{And, Or}
-use Rattle.flt_words.specs.declared.token.Protocol.{Protocol}
-use Rattle.flt_ast.specs.declared.qualifiers.CompleteQualifiers.{CompleteQualifiers}
-use Rattle.flt_ast.specs.declared.value.Value.{Value}
-use Rattle.flt_ast.specs.declared.node.Node.{Node}
-use Rattle.flt_ast.specs.declared.node.Node.TheVariants as node
+use Rattle.flt_bpf.specs.declared.operation.Operation.TheVariants.{Load, Store, Negate}
+use Rattle.flt_bpf.specs.declared.operation.{Register.TheVariants.Accumulator, Source.Source}
+use Rattle.flt_bpf.specs.declared.operation.Source.TheVariants.{Immediate, Length}
+use Rattle.flt_words.specs.declared.token.{Comparison.Comparison, Join.Join, Join.TheVariants.And, Join.TheVariants.Or}
+use Rattle.flt_words.specs.declared.token.{Operator.Operator, Protocol.Protocol}
+use Rattle.flt_ast.specs.declared.{node.Node.Node, qualifiers.CompleteQualifiers.CompleteQualifiers, value.Value.Value}
 use Rattle.cap_octet.specs.declared.link.Link.{Link}
-use Rattle.flt_gen.specs.declared.code.Targets.{Targets}
-use Rattle.flt_gen.specs.declared.group.Entry.{Entry}
-use Rattle.flt_gen.specs.declared.waiting.LeftTruth.{LeftTruth}
-use Rattle.flt_gen.specs.declared.waiting.Pending.{Pending}
-use Rattle.flt_gen.specs.declared.waiting.Pending.TheVariants as next
-use Rattle.flt_gen.specs.declared.waiting.Waiting.{Waiting}
+use Rattle.flt_gen.specs.{Formula.Formula, Numbers.width_of}
+use Rattle.flt_gen.specs.Primitives.{check_formula, cast_formula, sized_formula}
+use Rattle.flt_gen.specs.declared.{code.Targets.Targets, group.Entry.Entry}
+use Rattle.flt_gen.specs.declared.waiting.{LeftTruth.LeftTruth, Pending.Pending, Waiting.Waiting}
 use Rattle.flt_gen.specs.declared.waiting.Waiting.TheVariants.{Index, Left}
-use Rattle.flt_gen.specs.Numbers.{width_of}
-use Rattle.flt_gen.specs.Formula.{Formula}
+use Rattle.flt_gen.specs.inside.Code.{plain, emit_comparison, emit_field, accessor_offset, emit_accessor, computation, takes_constant, emit_operands, Block, block, emit_formula}
 use Rattle.flt_gen.specs.inside.Emitted.{with_accessor, qualified_needed}
 use Rattle.flt_gen.specs.inside.Group.{Group, no_group, larger_group, group_formula}
-use Rattle.flt_gen.specs.Primitives.{check_formula, cast_formula, sized_formula}
-use Rattle.flt_gen.specs.inside.Code.{plain, emit_comparison, emit_field, accessor_offset, emit_accessor, computation, takes_constant, emit_operands, Block, block, emit_formula}
-use Rattle.flt_gen.specs.inside.Steps.{Part, Leaf, Joint}
 use Rattle.flt_gen.specs.inside.ProgramCode.{emit_accessor_tests, returns_code}
-use Rattle.flt_bpf.specs.declared.operation.Operation.TheVariants.{Load, Store, Negate}
-use Rattle.flt_bpf.specs.declared.operation.Register.TheVariants.{Accumulator}
-use Rattle.flt_bpf.specs.declared.operation.Source.{Source}
-use Rattle.flt_bpf.specs.declared.operation.Source.TheVariants.{Immediate, Length}
 
 -- how far the walk has come: the code so far, the targets of the next truth, the word for the next
 -- left operand; what waits, latest first; and the protocols of the relation's accessors, each once,
@@ -109,25 +96,12 @@ begin_operands slot c w = record w {
 abbrev pub finish_formula : Link → Formula → Walk → Walk
 finish_formula link f w = finish_truth (emit_formula link f w.to.yes w.to.no w.code) w
 
--- one more part of a formula, the one before those that were emitted: for an operator the right
--- operand comes next, and the left one waits
-abbrev pub emit_part : Link → Walk → Part → Walk
-emit_part link w (Leaf f) = finish_formula link f w
-emit_part link w (Joint join) = record w {
-  truths = record { join = join; to = w.to } ∷ w.truths;
-}
-
--- all parts of formulas, the latest first
-abbrev pub emit_parts : Link → Walk → List Part → Walk
-emit_parts link w [] = w
-emit_parts link w (p ∷ ps) = emit_parts link (emit_part link w p) ps
-
 -- if an or was the last node, its right operand is on its own: the left one waits for it
 abbrev pub begin_right : Pending → Walk → Walk
-begin_right next.Nothing w = w
-begin_right next.Or w = record w {
+begin_right Pending.Nothing w = w
+begin_right Pending.Or w = record w {
   truths = record { join = Or; to = w.to } ∷ w.truths;
-  pending = next.Nothing;
+  pending = Pending.Nothing;
 }
 
 -- the code of the group is emitted, if it has members, as the right operand of an or
@@ -144,8 +118,8 @@ flush_group link w = flush_members link (begin_right w.pending w) w.group.entrie
 
 -- a host or port and those after it: they wait for one more if it is the right operand of an or
 abbrev pub finish_group : Link → Walk → Group → Pending → Walk
-finish_group link w group next.Or = record w { group = group; pending = next.Nothing }
-finish_group link w group next.Nothing =
+finish_group link w group Pending.Or = record w { group = group; pending = Pending.Nothing }
+finish_group link w group Pending.Nothing =
     finish_formula link (group_formula link group) (record w { group = no_group })
 
 -- a value with its qualifiers: a member of the group, if there is such a group, or else on its own
@@ -156,18 +130,18 @@ emit_value link q v w (Some group) = finish_group link w group w.pending
 -- `and` or `or`: its right operand is next. The left one of `and` waits; of `or` it waits only once
 -- the right one is known to be no member of the group
 abbrev pub emit_join : Link → Join → Walk → Walk
-emit_join link Or w = record (begin_right w.pending w) { pending = next.Or }
+emit_join link Or w = record (begin_right w.pending w) { pending = Pending.Or }
 emit_join link And w =
     let v = flush_group link w in record v { truths = record { join = And; to = v.to } ∷ v.truths }
 
 -- a primitive or a negation
 abbrev pub emit_truth_node : Link → Walk → Node → Walk
-emit_truth_node link w (node.Check protocol) = finish_formula link (check_formula link protocol) w
-emit_truth_node link w (node.Cast protocol c) = finish_formula link (cast_formula link protocol c) w
-emit_truth_node link w (node.Sized size n) = finish_formula link (sized_formula size n) w
-emit_truth_node link w (node.Compare comparison) =
+emit_truth_node link w (Node.Check protocol) = finish_formula link (check_formula link protocol) w
+emit_truth_node link w (Node.Cast protocol c) = finish_formula link (cast_formula link protocol c) w
+emit_truth_node link w (Node.Sized size n) = finish_formula link (sized_formula size n) w
+emit_truth_node link w (Node.Compare comparison) =
     begin_operands 0 (emit_comparison comparison IndexRegister 0 w.to.yes w.to.no w.code) w
-emit_truth_node link w node.Not = record w { to = targets w.to.no w.to.yes }
+emit_truth_node link w Node.Not = record w { to = targets w.to.no w.to.yes }
 emit_truth_node link w _ = finish_truth (block w.code w.to.no) w
 
 -- a number, or the length of the packet, goes into A
@@ -177,29 +151,19 @@ emit_leaf link source n w =
 
 -- one more node, the one before those that were emitted
 abbrev pub emit_node : Link → Walk → Node → Walk
-emit_node link w (node.Join join) = emit_join link join w
-emit_node link w (node.Qualified q v) = emit_value link q v w (larger_group q v w.group)
-emit_node link w (node.Literal n) = emit_leaf link Immediate n w
-emit_node link w (node.Named n) = emit_leaf link Immediate n w
-emit_node link w node.Len = emit_leaf link Length 0 w
-emit_node link w (node.Load protocol size) = record w {
+emit_node link w (Node.Join join) = emit_join link join w
+emit_node link w (Node.Qualified q v) = emit_value link q v w (larger_group q v w.group)
+emit_node link w (Node.Literal n) = emit_leaf link Immediate n w
+emit_node link w (Node.Named n) = emit_leaf link Immediate n w
+emit_node link w Node.Len = emit_leaf link Length 0 w
+emit_node link w (Node.Load protocol size) = record w {
   code = emit_accessor link protocol (width_of size) w.code;
   numbers = Index protocol ∷ w.numbers;
 }
-emit_node link w node.Negate = with_insns (plain Negate 0 ∷ w.code) w
-emit_node link w (node.Apply operator) =
+emit_node link w Node.Negate = with_insns (plain Negate 0 ∷ w.code) w
+emit_node link w (Node.Apply operator) =
     begin_operands w.slot (plain (computation operator IndexRegister) 0 ∷ w.code) w
-emit_node link w (node.Check protocol) =
-    emit_truth_node link (flush_group link w) (node.Check protocol)
-emit_node link w (node.Cast protocol c) =
-    emit_truth_node link (flush_group link w) (node.Cast protocol c)
-emit_node link w (node.Sized size n) = emit_truth_node link (flush_group link w) (node.Sized size n)
-emit_node link w (node.Bare v) = emit_truth_node link (flush_group link w) (node.Bare v)
-emit_node link w (node.Valued qualifiers v) =
-    emit_truth_node link (flush_group link w) (node.Valued qualifiers v)
-emit_node link w (node.Compare comparison) =
-    emit_truth_node link (flush_group link w) (node.Compare comparison)
-emit_node link w node.Not = emit_truth_node link (flush_group link w) node.Not
+emit_node link w n = emit_truth_node link (flush_group link w) n
 
 -- an operator with a constant as its right operand, and the left one is next; none if its
 -- instruction may not have this constant
@@ -223,36 +187,31 @@ emit_load_at link protocol size k w =
 -- an operator, a comparison or an accessor, and its right operand or index, a constant, at once;
 -- none if the nodes are others, or the instruction may not have this constant
 abbrev pub emit_both_nodes : Link → Walk → Node → Node → Option Walk
-emit_both_nodes link w (node.Apply operator) (node.Literal k) = emit_operator_with operator k w
-emit_both_nodes link w (node.Apply operator) (node.Named k) = emit_operator_with operator k w
-emit_both_nodes link w (node.Compare comparison) (node.Literal k) =
+emit_both_nodes link w (Node.Apply operator) (Node.Literal k) = emit_operator_with operator k w
+emit_both_nodes link w (Node.Apply operator) (Node.Named k) = emit_operator_with operator k w
+emit_both_nodes link w (Node.Compare comparison) (Node.Literal k) =
     emit_comparison_with comparison k (flush_group link w)
-emit_both_nodes link w (node.Compare comparison) (node.Named k) =
+emit_both_nodes link w (Node.Compare comparison) (Node.Named k) =
     emit_comparison_with comparison k (flush_group link w)
-emit_both_nodes link w (node.Load p s) (node.Literal k) = Some (emit_load_at link p s k w)
-emit_both_nodes link w (node.Load p s) (node.Named k) = Some (emit_load_at link p s k w)
+emit_both_nodes link w (Node.Load p s) (Node.Literal k) = Some (emit_load_at link p s k w)
+emit_both_nodes link w (Node.Load p s) (Node.Named k) = Some (emit_load_at link p s k w)
 emit_both_nodes link w _ _ = None
 
 -- a node of arithmetic
 abbrev pub is_number_node : Node → Bool
-is_number_node (node.Literal n) = true
-is_number_node (node.Named n) = true
-is_number_node node.Len = true
-is_number_node (node.Load protocol size) = true
-is_number_node node.Negate = true
-is_number_node (node.Apply operator) = true
+is_number_node (Node.Literal n) = true
+is_number_node (Node.Named n) = true
+is_number_node Node.Len = true
+is_number_node (Node.Load protocol size) = true
+is_number_node Node.Negate = true
+is_number_node (Node.Apply operator) = true
 is_number_node _ = false
 
 -- a node of truths, except values with all their qualifiers and for joins
 abbrev pub is_truth_node : Node → Bool
-is_truth_node (node.Check protocol) = true
-is_truth_node (node.Cast protocol c) = true
-is_truth_node (node.Sized size n) = true
-is_truth_node (node.Bare v) = true
-is_truth_node (node.Valued qualifiers v) = true
-is_truth_node (node.Compare comparison) = true
-is_truth_node node.Not = true
-is_truth_node _ = false
+is_truth_node (Node.Qualified q v) = false
+is_truth_node (Node.Join join) = false
+is_truth_node n = not (is_number_node n)
 
 -- the two returns are there, and nothing waits
 abbrev pub start_walk : Walk
@@ -264,7 +223,7 @@ start_walk = record {
   numbers = [];
   accessors = [];
   group = no_group;
-  pending = next.Nothing;
+  pending = Pending.Nothing;
 }
 
 -- this walk, if there is one, or else the other
@@ -280,18 +239,18 @@ emit_pair link w n right =
 -- the walk over nodes, the last first
 abbrev pub emit_nodes : Link → Walk → List Node → Walk
 emit_nodes link w [] = w
-emit_nodes link w (node.Apply o ∷ node.Literal k ∷ ns) =
-    emit_nodes link (emit_pair link w (node.Apply o) (node.Literal k)) ns
-emit_nodes link w (node.Apply o ∷ node.Named k ∷ ns) =
-    emit_nodes link (emit_pair link w (node.Apply o) (node.Named k)) ns
-emit_nodes link w (node.Compare c ∷ node.Literal k ∷ ns) =
-    emit_nodes link (emit_pair link w (node.Compare c) (node.Literal k)) ns
-emit_nodes link w (node.Compare c ∷ node.Named k ∷ ns) =
-    emit_nodes link (emit_pair link w (node.Compare c) (node.Named k)) ns
-emit_nodes link w (node.Load p s ∷ node.Literal k ∷ ns) =
-    emit_nodes link (emit_pair link w (node.Load p s) (node.Literal k)) ns
-emit_nodes link w (node.Load p s ∷ node.Named k ∷ ns) =
-    emit_nodes link (emit_pair link w (node.Load p s) (node.Named k)) ns
+emit_nodes link w (Node.Apply o ∷ Node.Literal k ∷ ns) =
+    emit_nodes link (emit_pair link w (Node.Apply o) (Node.Literal k)) ns
+emit_nodes link w (Node.Apply o ∷ Node.Named k ∷ ns) =
+    emit_nodes link (emit_pair link w (Node.Apply o) (Node.Named k)) ns
+emit_nodes link w (Node.Compare c ∷ Node.Literal k ∷ ns) =
+    emit_nodes link (emit_pair link w (Node.Compare c) (Node.Literal k)) ns
+emit_nodes link w (Node.Compare c ∷ Node.Named k ∷ ns) =
+    emit_nodes link (emit_pair link w (Node.Compare c) (Node.Named k)) ns
+emit_nodes link w (Node.Load p s ∷ Node.Literal k ∷ ns) =
+    emit_nodes link (emit_pair link w (Node.Load p s) (Node.Literal k)) ns
+emit_nodes link w (Node.Load p s ∷ Node.Named k ∷ ns) =
+    emit_nodes link (emit_pair link w (Node.Load p s) (Node.Named k)) ns
 emit_nodes link w (n ∷ ns) = emit_nodes link (emit_node link w n) ns
 
 -- the instructions from the beginning of the program

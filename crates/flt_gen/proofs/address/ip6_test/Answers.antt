@@ -1,6 +1,5 @@
 -- A power of 2 whose exponent is at most 96 is below 2^128.
-use Rattle.std.proofs.Common.{◌-◌, ◌*◌, ◌^◌, ◌≤◌, arith}
-use Rattle.std.proofs.Math.Nat.{pow-le-pow_right}
+use Rattle.std.proofs.{Common.◌-◌, Common.◌*◌, Common.◌^◌, Common.◌≤◌, Common.arith, Math.Nat.pow-le-pow_right}
 use Rattle.flt_gen.proofs.address.ip6_test.Goals as goal
 
 pub pow-requires : goal.pow-requires

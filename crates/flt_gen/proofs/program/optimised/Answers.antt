@@ -1,6 +1,5 @@
 -- Without a round code is its own: nothing moves, and nothing is shortened.
-use Rattle.flt_short.proofs.Threading.{threads_itself}
-use Rattle.flt_short.proofs.Likeness.{itself}
+use Rattle.flt_short.proofs.{Likeness.itself, Threading.threads_itself}
 use Rattle.flt_gen.proofs.program.optimised.Goals as goal
 
 pub returns-then-not-is_wanted : goal.returns-then-not-is_wanted

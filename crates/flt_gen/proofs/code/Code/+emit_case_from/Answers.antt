@@ -1,9 +1,7 @@
 -- A test in front of others.
 use Rattle.flt_gen.proofs.Common.{◌∙◌, sym, ap, subst, List, Elementary, Block}
-use Rattle.flt_gen.specs.inside.Cases.{case_tests}
-use Rattle.flt_gen.specs.inside.Code.{emit_all, emit_elementary}
-use Rattle.flt_gen.specs.inside.Emits.{Emits}
 use Rattle.flt_gen.proofs.Decision.{tests_from}
+use Rattle.flt_gen.specs.inside.{Cases.case_tests, Code.emit_all, Code.emit_elementary, Emits.Emits}
 use Rattle.flt_gen.proofs.code.Code.+emit_case_from.Goals as goal
 
 pub returns : goal.returns

@@ -1,8 +1,6 @@
 -- A case in front of others.
-use Rattle.flt_gen.proofs.Common.{◌∙◌, sym, ap, take_rest, block}
-use Rattle.flt_gen.specs.inside.Code.{emit_formula}
-use Rattle.flt_gen.specs.inside.Cases.{case_tests, chain}
-use Rattle.flt_gen.proofs.Decision.{turn_emitted}
+use Rattle.flt_gen.proofs.{Common.◌∙◌, Common.sym, Common.ap, Common.take_rest, Common.block, Decision.turn_emitted}
+use Rattle.flt_gen.specs.inside.{Cases.case_tests, Cases.chain, Code.emit_formula}
 use Rattle.flt_gen.proofs.code.Code.+emit_cases_in_turn.Goals as goal
 
 pub returns-in_ok-no-in-len1-up : goal.returns-in_ok-no-in-len1-up

@@ -1,13 +1,11 @@
 -- A decision by its parts.
 use Rattle.flt_gen.proofs.Common.{◌≡◌, ◌+◌, ◌-◌, ◌∙◌, take, drop, take_rest, sym, ap, subst, arith, true, false, Formula, Block}
+use Rattle.flt_gen.proofs.Decision.{decision_chain, decision_untold, decision_last, decision_both, decision_halves}
 use Rattle.std.specs.Prelude.{is_none}
 use Rattle.std.proofs.Common.{rules, inl, inr}
-use Rattle.flt_gen.specs.Formula.{Split}
-use Rattle.flt_gen.specs.declared.cases.Bound.TheVariants.{Exactly}
-use Rattle.flt_gen.specs.inside.Code.{emit_formula, emit_elementary}
-use Rattle.flt_gen.specs.inside.Emits.{Emits}
+use Rattle.flt_gen.specs.{Formula.Split, declared.cases.Bound.TheVariants.Exactly}
 use Rattle.flt_gen.specs.inside.Cases.{case_tests, all_keep, is_parted, test_at, lowest, from_test, decision}
-use Rattle.flt_gen.proofs.Decision.{decision_chain, decision_untold, decision_last, decision_both, decision_halves}
+use Rattle.flt_gen.specs.inside.{Code.emit_formula, Code.emit_elementary, Emits.Emits}
 use Rattle.flt_gen.proofs.code.Code.+emit_decision.Goals as goal
 
 pub returns-then-most-eq0 : goal.returns-then-most-eq0

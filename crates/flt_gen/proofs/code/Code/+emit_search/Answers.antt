@@ -1,7 +1,7 @@
 -- The code of both halves, and the test in front.
 use Rattle.std.proofs.Common.{◌≡◌, ◌-◌, ◌/◌, ◌<◌, ◌∙◌, ◌⊎◌, inl, inr, true, ap, sym, subst, length, take, drop, arith}
-use Rattle.std.specs.Prelude.{List}
 use Rattle.std.proofs.lemmas.List.{take_rest}
+use Rattle.std.specs.Prelude.{List}
 use Rattle.flt_gen.specs.declared.elementary.Interval.{Interval}
 use Rattle.flt_gen.specs.inside.Code.{block, Block, at_top, are_few, low_of, emit_halves, emit_search}
 use Rattle.flt_gen.specs.inside.Emits.{Emits}

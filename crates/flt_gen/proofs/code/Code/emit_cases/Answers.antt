@@ -1,8 +1,7 @@
 -- The frames' test in front of the decision.
 use Rattle.flt_gen.proofs.Common.{◌∙◌, sym, ap, ap₂, subst, Formula, Block, kind_test}
-use Rattle.flt_gen.specs.inside.Code.{emit_formula, emit_elementary}
-use Rattle.flt_gen.specs.inside.Emits.{Emits}
 use Rattle.flt_gen.proofs.Decision.{cases_put}
+use Rattle.flt_gen.specs.inside.{Code.emit_formula, Code.emit_elementary, Emits.Emits}
 use Rattle.flt_gen.proofs.code.Code.emit_cases.Goals as goal
 
 pub returns : goal.returns

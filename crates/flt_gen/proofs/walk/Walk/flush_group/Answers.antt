@@ -1,6 +1,5 @@
 -- The group that waits is emitted as the right operand of an or.
-use Rattle.flt_gen.proofs.Common.{◌∙◌, sym, Walk}
-use Rattle.flt_gen.proofs.StepsEmitted.{flushed}
+use Rattle.flt_gen.proofs.{Common.◌∙◌, Common.sym, Common.Walk, Flushed.flushed}
 use Rattle.flt_gen.proofs.walk.Walk.flush_group.Goals as goal
 
 pub returns : goal.returns

@@ -1,13 +1,13 @@
 -- What is cut so far, and the rest after it.
 use Rattle.std.proofs.Common.{◌≡◌, ◌-◌, ◌≤◌, ◌++◌, length, drop, map}
 use Rattle.flt_gen.specs.inside.Intervals.{cut}
-use Rattle.flt_gen.proofs.steps.put_cut.Given as goal
+use Rattle.flt_gen.proofs.intervals.put_cut.Given as goal
 
 abbrev pub invariant-cut : goal.invariant-cut
 invariant-cut g l = record {
-  within : l.at ≤ length l.items.items;
-  parts : l.all.items ++ map (cut l.last) (drop l.at l.items.items) ≡ map (cut l.last) l.items.items;
+  within : l.at ≤ length l.items;
+  parts : l.all.items ++ map (cut l.last) (drop l.at l.items) ≡ map (cut l.last) l.items;
 }
 
 abbrev pub decreases-cut : goal.decreases-cut
-decreases-cut g l = length l.items.items - l.at
+decreases-cut g l = length l.items - l.at

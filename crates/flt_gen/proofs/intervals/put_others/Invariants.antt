@@ -1,7 +1,7 @@
 -- What is put so far, and the rest after it.
 use Rattle.std.proofs.Common.{◌≡◌, ◌-◌, ◌≤◌, ◌++◌, length, drop}
 use Rattle.flt_gen.specs.inside.Intervals.{without}
-use Rattle.flt_gen.proofs.steps.put_others.Given as goal
+use Rattle.flt_gen.proofs.intervals.put_others.Given as goal
 
 abbrev pub invariant-others : goal.invariant-others
 invariant-others g l = record {

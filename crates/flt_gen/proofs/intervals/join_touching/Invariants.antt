@@ -1,7 +1,7 @@
 -- What is joined so far, and the rest after it.
 use Rattle.std.proofs.Common.{◌≡◌, ◌-◌, ◌≤◌, ◌++◌, length, drop}
 use Rattle.flt_gen.specs.inside.Intervals.{joined_from, joined_all}
-use Rattle.flt_gen.proofs.steps.join_touching.Given as goal
+use Rattle.flt_gen.proofs.intervals.join_touching.Given as goal
 
 abbrev pub invariant-touching : goal.invariant-touching
 invariant-touching g l = record {
