@@ -63,8 +63,7 @@ def split_import(line):
     names = [name.strip() for name in found[3].split(",")] if found else []
     if not any(re.match(r"\w+\.", name) for name in names):
         return [line]
-    paths = [f"{found[2]}.{name}" for name in names]
-    return [found[1] + (path if " as " in path else "{0}.{{{2}}}".format(*path.rpartition("."))) for path in paths]
+    return ["{3}{0}.{{{2}}}".format(*f"{found[2]}.{name}".rpartition("."), found[1]) for name in names]
 
 
 def used_names(code, scope, bound):
