@@ -1,6 +1,6 @@
 -- Which packets an edit keeps, by their numbers.
-use Rattle.std.specs.Prelude.{ℕ, ◌&&◌, Bool, not, nat_le, List, if◌then◌else◌}
 use Rattle.std.specs.List.{list_any}
+use Rattle.std.specs.Prelude.{ℕ, ◌&&◌, Bool, not, nat_le, List, if◌then◌else◌}
 
 -- some range has the number
 abbrev pub is_in_some_range : List (ℕ × ℕ) → ℕ → Bool

@@ -1,17 +1,13 @@
 -- What runs of programs answer and cost.
 use Rattle.cap_filter.proofs.Common.{◌≡◌, ◌≢◌, ◌↔◌, ◌<◌, All, ℕ, zero, suc, ◌+◌, ◌-◌, ◌^◌, Bool, cond, not, nat_eq, nat_lt, ◌==◌, true, false, List, [], ◌∷◌, ◌++◌, length, get_or, set, slice_get, take, drop, min, Option, None, Some, Ok, Err, refl, sym, ◌∙◌, ap, arith, subst, Captured, Content, machine, Answered, Expression, empty, truth, Link, Ether, AreMade, IsMade, steps_of_run, met_on, ran_at, ran_if, ran_on, HasPrograms, all_links, link_of, link_type, by_reading, expression_decides, decision_of, read_on, program_place, spent_on}
 use Rattle.std.proofs.Math.Seq.{take-append_seam}
-use Rattle.std.proofs.lemmas.Bool.{ltb-true, ne_eqb}
-use Rattle.std.proofs.lemmas.List.Elements.{All-append}
-use Rattle.std.proofs.lemmas.Bool.Decides.{nat_tests}
-use Rattle.std.proofs.lemmas.List.Folds.{find_at}
-use Rattle.std.proofs.lemmas.Option.{slice_get-get_or, slice_get_past}
+use Rattle.std.proofs.lemmas.{Bool.ltb-true, Bool.ne_eqb, Bool.Decides.nat_tests, List.Elements.All-append}
+use Rattle.std.proofs.lemmas.{List.Folds.find_at, Option.slice_get-get_or, Option.slice_get_past}
 use Rattle.std.specs.List.{find, position, position_or_len}
 use Rattle.cap_octet.specs.declared.fault.Fault.TheVariants.{LinkTypeNotFiltered}
 use Rattle.flt_bpf.specs.declared.insn.Insn.{Insn}
 use Rattle.flt_gen.specs.Correct.{IsProgramOf}
-use Rattle.flt_gen.specs.Elementary.{MatchResult, Yes, No, Rejected}
-use Rattle.flt_gen.specs.Reading.{holds}
+use Rattle.flt_gen.specs.{Elementary.MatchResult, Elementary.Yes, Elementary.No, Elementary.Rejected, Reading.holds}
 use Rattle.cap_filter.specs.Decisions.{ReturnsDecision}
 
 -- ---- the answer

@@ -1,7 +1,6 @@
 -- What a compilation makes.
 use Rattle.std.specs.Prelude.{ℕ, List}
-use Rattle.flt_bpf.specs.declared.insn.Insn.{Insn}
-use Rattle.flt_bpf.specs.Valid.{IsValid}
+use Rattle.flt_bpf.specs.{Valid.IsValid, declared.insn.Insn.Insn}
 use Rattle.flt_ast.specs.Tree as tree
 use Rattle.cap_octet.specs.declared.link.Link.{Link}
 use Rattle.flt_gen.specs.Correct.{IsProgramOf}

@@ -1,15 +1,8 @@
 -- Which texts are expressions and which are programs, and why others are refused.
 use Rattle.std.specs.Prelude.{◌≡◌, ◌⊎◌, List, ℕ, None, Some, Ok, Err}
-use Rattle.flt_words.specs.declared.fault.ExprFault.{ExprFault}
-use Rattle.flt_words.specs.declared.fault.ExprFault.TheVariants as fault
-use Rattle.flt_words.specs.declared.token.Token.{Token}
-use Rattle.flt_words.specs.Tokens.{Tokens}
-use Rattle.flt_ast.specs.Tree.{Expression}
-use Rattle.flt_lang.specs.Grammar.{IsReadAs, kinds_of}
-use Rattle.flt_lang.specs.Nesting.{IsTooDeep}
-use Rattle.flt_ast.specs.Filled.{fill_expression}
-use Rattle.flt_ast.specs.Resolved.{fill_fault}
-use Rattle.flt_ast.specs.Checks.{check_fault}
+use Rattle.flt_words.specs.{Tokens.Tokens, declared.fault.ExprFault.ExprFault, declared.token.Token.Token}
+use Rattle.flt_ast.specs.{Checks.check_fault, Filled.fill_expression, Resolved.fill_fault, Tree.Expression}
+use Rattle.flt_lang.specs.{Grammar.IsReadAs, Grammar.kinds_of, Nesting.IsTooDeep}
 
 -- the text has tokens that aren't nested too deep, and they have this tree
 pub record HasTree (text : List ℕ) (tree : Expression) : Type 0 where
@@ -43,14 +36,14 @@ pub record IsExpression (text : List ℕ) (e : Expression) : Type 0 where
 pub data IsTextRefused (text : List ℕ) : ExprFault → Type 0 where
   by_tokens : {refusal : ExprFault} → Tokens text (Err refusal) → IsTextRefused text refusal
   too_deep : {tokens : List Token} → Tokens text (Ok tokens) → IsTooDeep tokens
-      → IsTextRefused text fault.NestedTooDeep
+      → IsTextRefused text ExprFault.NestedTooDeep
   no_tree : {tokens : List Token} → Tokens text (Ok tokens) → ¬ IsTooDeep tokens
       → ((tree : Expression) → IsReadAs (kinds_of tokens) tree → ⊥)
-      → IsTextRefused text fault.NotAnExpression
+      → IsTextRefused text ExprFault.NotAnExpression
   by_tree : {tree : Expression} {refusal : ExprFault} → HasTree text tree → HasFault tree refusal
       → IsTextRefused text refusal
 
 -- Why no expression is made of a text: it is refused; memory may be refused whatever the text is.
 abbrev pub IsTextFault : List ℕ → ExprFault → Type 0
-IsTextFault text fault.Memory = Unit {0}
+IsTextFault text ExprFault.Memory = Unit {0}
 IsTextFault text refusal = IsTextRefused text refusal

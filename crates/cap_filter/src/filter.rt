@@ -27,10 +27,9 @@ pub enum Filter<A: Allocator> {
 impl<A: Allocator> Filter<A> {
     ghost use Rattle.std.specs.Prelude.{◌≡◌, ◌+◌, ◌≤◌};
     ghost use Rattle.cap_octet.specs.Packet.{captured};
-    ghost use Rattle.cap_filter.specs.Decisions.{ReturnsDecision};
-    ghost use Rattle.cap_filter.specs.FilterRules.{rule_decides};
-    ghost use Rattle.cap_filter.specs.Programs.{spent_in};
+    ghost use Rattle.cap_filter.specs.{Decisions.ReturnsDecision, FilterRules.rule_decides};
     ghost use Rattle.cap_filter.specs.Filters.{most_cost, programs_of, rule_of, spent_on};
+    ghost use Rattle.cap_filter.specs.Programs.{spent_in};
 
     /// Whether a packet passes, by at most one run of a program. It takes no memory.
     ///

@@ -1,12 +1,11 @@
 -- How whole commands end: at the first packet that the form refuses, else as the verdicts on
 -- packets say.
 use Rattle.cap_process.proofs.Common.{◌≡◌, ℕ, suc, ◌+◌, ◌-◌, ◌^◌, ◌<◌, ◌≤◌, ◌&&◌, Bool, true, false, if◌then◌else◌, nat_le, List, [], ◌∷◌, ◌++◌, length, Option, None, Some, refl, sym, ◌∙◌, ap, arith, subst, append_assoc, append-nil, option_or, nat_tests, Captured, Fault, Format, Placed, Ending, End, FaultAt, kind_of, Carries, Event, Packet, InputEnd, SequenceEnd, Complete, FaultIn, Sequence, InTurn, InputItems, whole_input, end_of, packet_events, input_sequence, sequence_in_turn, sequence_of, Decision, Rule, rule_decides, Policy, Edit, EditRule, Filter, filters, is_last, KeepAll, Count, Judgement, SelectorState, initial_state, Verdict, Pass, PassLast, Skip, Refuse, is_selected, judge, passes, Report, Form, AsCapture, AsReports, JobProgress, Work, no_progress, form_refuses, unless_refused, decide, end_with, apply_verdict, apply_event, apply_events, unless_ended, final_progress, message, status, outcome_at, outcome, is_count, packets_selected, unique_after, arriving, at_most, end_at_time, first_without_time, kept_by, packets_kept, packets_of, CopyEnds, EditEnds, EndsAs, EndsUnlessRefused, InfosEnds, MergeEnds, PrintEnds, edit_end, end_by_decision, is_reached, print_work, rule_end, edit_work, event_packets, file_packets, first_refusal, infos_work, merge_work, no_options, packets_in_order}
-use Rattle.cap_filter.specs.Decisions as chosen
 use Rattle.cap_process.proofs.Edits.{passes_unique}
 use Rattle.cap_process.proofs.Lists.{IsBelow, all-still, below-first, ends_without_time, still}
-use Rattle.cap_process.proofs.Outcomes.{progress-ended}
-use Rattle.cap_process.proofs.Selectors.{upper_bound}
+use Rattle.cap_process.proofs.{Outcomes.progress-ended, Selectors.upper_bound}
 use Rattle.cap_process.proofs.Wholes.{printed, all-selected, all-unique, in-file, judged, judged_by, judged-all, judged-is, under_way, end-stays}
+use Rattle.cap_filter.specs.Decisions as chosen
 
 -- ---- the end by the verdicts
 

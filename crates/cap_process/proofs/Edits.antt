@@ -1,7 +1,7 @@
 -- What an edit makes of packets that come one after another.
 use Rattle.cap_process.proofs.Common.{◌≡◌, ℕ, zero, suc, drop, ◌+◌, ◌-◌, ◌^◌, ◌<◌, Bool, true, false, if◌then◌else◌, List, [], ◌∷◌, ◌++◌, length, Option, None, Some, refl, sym, ◌∙◌, ap, arith, append_assoc, append-nil, Captured, Fault, TimeOutOfRange, Placed, Mark, mark_of, has_same, last, last-last, Packet, FaultIn, Judgement, Edit, EditRule, SelectorState, initial_state, edited_packet_with, is_selected, shifted_time, passes, refuses, selects, skip_judgement, unique, with_mark, Form, AsReports, JobProgress, apply_verdict, next_progress, end_with, apply_events, coming, is_repeated, packets_selected, unique_after}
-use Rattle.cap_process.specs.inside.Edits.{PassesUnique}
 use Rattle.cap_process.proofs.Selectors.{upper_bound}
+use Rattle.cap_process.specs.inside.Edits.{PassesUnique}
 
 abbrev reports : Form
 reports = AsReports []

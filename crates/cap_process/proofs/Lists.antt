@@ -1,10 +1,9 @@
 -- What is counted, kept and searched of packets that come one after another.
 use Rattle.cap_process.proofs.Common.{map-append, ◌≡◌, ℕ, zero, suc, drop, ◌+◌, ◌-◌, ◌^◌, ◌<◌, ◌==◌, ◌&&◌, Bool, true, false, if◌then◌else◌, nat_le, min, max, Option, None, Some, List, [], ◌∷◌, ◌++◌, length, refl, sym, ◌∙◌, ap, arith, subst, nat_tests, append_assoc, append-nil, sum_by-append, take-nil, sum_by, IfSome, Captured, TimeOutOfRange, Placed, Decision, Keep, Rule, rule_decides, Mark, mark_of, has_same, last, last-last, Event, Packet, Complete, FaultIn, Policy, Count, Filter, Edit, EditRule, Judgement, PassLast, Pass, SelectorState, initial_state, edited_packet_with, filters, is_last, is_selected, judge_by, shifted_time, passes, refuses, selects, skip_judgement, unique, with_mark, Tally, tally_with, Form, AsReports, JobProgress, apply_verdict, next_progress, end_with, apply_events, coming, is_repeated, packets_selected, unique_after, is_count}
+use Rattle.cap_process.proofs.{Outcomes.progress-ended, Selectors.upper_bound}
 use Rattle.std.proofs.lemmas.List.{length-append}
 use Rattle.cap_filter.specs.Decisions as chosen
 use Rattle.cap_process.specs.Lists.{CountsAll, EndsWithoutTime, HasLastMarks, PassesFiltered, arriving, ascends, at_most, end_at_time, final, first_without_time, greatest, packets_kept as kept, least, marks, packets_of, tally_of, times}
-use Rattle.cap_process.proofs.Outcomes.{progress-ended}
-use Rattle.cap_process.proofs.Selectors.{upper_bound}
 
 -- ---- what is counted
 

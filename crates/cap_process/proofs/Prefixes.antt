@@ -1,7 +1,6 @@
 -- What is read of a file that is cut anywhere is a prefix of what is read of the whole.
 use Rattle.cap_process.proofs.Common.{◌≡◌, ℕ, ◌+◌, List, ◌++◌, length, take, drop, sym, ◌∙◌, ap, append_assoc, map-append, take-append-drop, Captured, Items, Placed, items, items_from, packets_of, CutsGivePrefixes, file_packets}
-use Rattle.cap_io.proofs.Cuts.{cut_tells, has_cut}
-use Rattle.cap_io.proofs.Items.{items_from-units}
+use Rattle.cap_io.proofs.{Cuts.cut_tells, Cuts.has_cut, Items.items_from-units}
 
 pub cuts_give_prefixes : CutsGivePrefixes
 cuts_give_prefixes file n =

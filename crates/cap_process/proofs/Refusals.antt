@@ -1,10 +1,9 @@
 -- The messages of refused listings.
 use Rattle.std.proofs.Common.{◌≡◌, ◌++◌, [], List, ℕ, Bool, true, false, if◌then◌else◌, Option, None, Some, ap, sym, ◌∙◌, codes}
-use Rattle.std.specs.Fmt.{decimal}
 use Rattle.std.proofs.lemmas.List.{append_assoc}
-use Rattle.flt_bpf.specs.declared.fault.CheckFault.{CheckFault}
-use Rattle.flt_bpf.specs.declared.fault.ListingFault.{ListingFault}
+use Rattle.std.specs.Fmt.{decimal}
 use Rattle.flt_bpf.specs.Message.{check_text, has_index, check_message, listing_text, wrong_line, at_line, listing_message}
+use Rattle.flt_bpf.specs.declared.fault.{CheckFault.CheckFault, ListingFault.ListingFault}
 use Rattle.cap_process.specs.Messages.{code_message, line_feed}
 
 -- the bytes of a refusal's message, in its parts

@@ -1,11 +1,9 @@
 -- What whole commands write: the verdicts on packets make a list, of which the form refuses the
 -- rest.
 use Rattle.cap_process.proofs.Common.{◌≡◌, ℕ, zero, suc, ◌+◌, ◌-◌, ◌^◌, ◌<◌, Bool, true, false, if◌then◌else◌, nat_le, max, List, [], ◌∷◌, ◌++◌, length, take, Option, None, Some, refl, sym, ◌∙◌, ap, arith, subst, append_assoc, append-nil, IfSome, nat_lt, nat_eq, nat_tests, take-length, Captured, Fault, TooManyPackets, Format, Kind, Placed, Ending, End, FaultAt, items, kind_of, Carries, ItemsBack, text, Options, Rule, Event, Packet, InputEnd, SequenceEnd, Complete, FaultIn, Sequence, PacketOrder, InTurn, ByTime, InputItems, whole_input, Entry, packet_events, input_sequence, sequence_in_turn, sequence_of, end_of, end_after, entries_of, comes_before, insert_entry, sort_entries, sequence_of_entries, sequence_by_time, first_end, unless_fault, with_front, Policy, Edit, Filter, KeepAll, Count, Judgement, SelectorState, initial_state, Verdict, Pass, PassLast, Skip, Refuse, edited_packet_with, judge, judge_by, passes, refuses, Report, Tally, nothing_counted, tally_with, reports_text, Form, AsCapture, AsReports, AsLines, JobProgress, Work, no_progress, form_refuses, unless_refused, decide, end_with, apply_verdict, apply_event, apply_events, next_progress, end_input, unless_ended, end_unless_ended, final_progress, output_text, text_at_end, first_link, lines_text, status, outcome_at, outcome, is_count, coming, packets_selected, unique_after, at_most, packets_kept, packets_of, tally_of, Mark, mark_of, EditKeeps, EditWrites, EditsAlike, HasCarried, MergesOne, copy_of, no_options, InfosReports, MergeWrites, PrintLines, PrintWrites, closing_if, edit_work, event_packets, merge_work, file_packets, packets_in_order, print_work, reports_by, reports_of, packets_written, written_text, written_unless}
+use Rattle.cap_process.proofs.{Edits.passes_unique, Lists.passes_filtered, Lists.counted-next}
+use Rattle.cap_process.proofs.{Outcomes.progress-append, Outcomes.progress-ended, Selectors.upper_bound}
 use Rattle.std.proofs.lemmas.Bool.{and_right}
-use Rattle.cap_process.proofs.Edits.{passes_unique}
-use Rattle.cap_process.proofs.Lists.{passes_filtered, counted-next}
-use Rattle.cap_process.proofs.Outcomes.{progress-append, progress-ended}
-use Rattle.cap_process.proofs.Selectors.{upper_bound}
 
 -- ---- the verdicts
 

@@ -1,8 +1,7 @@
 -- The packets that an edit passes on, as lists: the unique ones of those that it selects.
 use Rattle.std.specs.Prelude.{ℕ, ◌+◌, ◌-◌, Bool, false, if◌then◌else◌, List, [], ◌∷◌, ◌++◌, Option, None, Some}
 use Rattle.cap_octet.specs.Packet.{Captured}
-use Rattle.cap_window.specs.declared.mark.Mark.{Mark}
-use Rattle.cap_window.specs.Marks.{mark_of, has_same, last}
+use Rattle.cap_window.specs.{Marks.mark_of, Marks.has_same, Marks.last, declared.mark.Mark.Mark}
 use Rattle.cap_io.specs.Sequence.{Event, Packet}
 use Rattle.cap_process.specs.Verdict.{EditRule, edited_packet_with, is_selected, shifted_time}
 

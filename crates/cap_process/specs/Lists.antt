@@ -1,19 +1,14 @@
 -- What is counted, kept and searched of packets that come one after another, as lists.
+use Rattle.std.specs.{List.sum_by, Option.is_none}
 use Rattle.std.specs.Prelude.{◌≡◌, ℕ, ◌+◌, ◌-◌, ◌^◌, ◌<◌, ◌&&◌, Bool, true, if◌then◌else◌, nat_le, min, max, List, [], ◌∷◌, length, map, take, Option, None, Some, IfSome}
-use Rattle.std.specs.List.{sum_by}
-use Rattle.std.specs.Option.{is_none}
-use Rattle.cap_octet.specs.Packet.{Captured}
-use Rattle.cap_octet.specs.declared.fault.Fault.TheVariants.{TimeOutOfRange}
-use Rattle.cap_io.specs.Capture.{Placed}
+use Rattle.cap_octet.specs.{Packet.Captured, declared.fault.Fault.TheVariants.TimeOutOfRange}
+use Rattle.cap_io.specs.{Capture.Placed, Sequence.Event, Sequence.Packet, Sequence.SequenceEnd, Sequence.FaultIn}
 use Rattle.cap_filter.specs.Decisions.{Decision, Keep, Skip, Refuse}
 use Rattle.cap_filter.specs.FilterRules.{Rule, rule_decides}
-use Rattle.cap_window.specs.declared.mark.Mark.{Mark}
-use Rattle.cap_window.specs.Marks.{mark_of, last}
-use Rattle.cap_io.specs.Sequence.{Event, Packet, SequenceEnd, FaultIn}
-use Rattle.cap_process.specs.Verdict.{Count, Filter, Edit, EditRule, is_selected, shifted_time}
-use Rattle.cap_process.specs.Reports.{Tally}
-use Rattle.cap_process.specs.Outcome.{AsReports, no_progress, apply_events}
+use Rattle.cap_window.specs.{Marks.mark_of, Marks.last, declared.mark.Mark.Mark}
 use Rattle.cap_process.specs.Edits.{coming, packets_selected, unique_after}
+use Rattle.cap_process.specs.{Outcome.AsReports, Outcome.no_progress, Outcome.apply_events, Reports.Tally}
+use Rattle.cap_process.specs.Verdict.{Count, Filter, Edit, EditRule, is_selected, shifted_time}
 
 -- ---- what is counted
 

@@ -1,19 +1,16 @@
 -- The steps that decide the current packet.
+use Rattle.cap_tools.proofs.Coming.{carries-decided, true-wholes, true-fit, true-fits}
 use Rattle.cap_tools.proofs.Common.{◌≡◌, ◌⊎◌, inl, inr, ℕ, ◌+◌, ◌<◌, ◌≤◌, Bool, true, false, List, [], ◌∷◌, ◌++◌, length, map, Option, None, Some, Result, Ok, Err, refl, sym, ◌∙◌, ap, arith, subst, ◌-◌, append-nil, map-append, slice_get, slice_set, Stops, Captured, Fault, NoMemory, WriteFailed, Placed, IsAt, SinkView, text, added_text, refusal_of, takes_memory, IsAt-decided, Tally, InputItems, Event, Packet, SequenceEnd, Complete, FaultIn, Sequence, sequence_of, with_front, PacketOrder, Policy, SelectorState, Verdict, Pass, PassLast, PassesAs, Skip, judge, IsWithin, PolicyState, GrowsByOne, IsVerdict, Form, AsCapture, JobProgress, IsNextEvent, no_progress, decide, unless_refused, apply_verdict, apply_event, apply_events, final_progress, form_refuses, end_with, final_text, first_link, output_text, Target, Capture, Text, Lines, HasWrittenTo, form_to, written_to, failures_to, PutsIntoOutput, InputView, Future, InputPast, AreInputsAfter, AreSettled, IsInput, input_after_decided, items_left, inputs_left, sequence_left, actual_future, most_steps, JobEnd, BreaksAt, JobState, Meets, a_packet, PacketsDecided, GoesOn, EndLeaves, StepLeaves, progress_at, progress_of, progress_over, wholes_of, work_of, DecidesPacket, Offers, end_after, end_of_failed_write, sieve, drained-text, PutOk, put-ok, WhyUnput, unput, closing-some, course-stop, greatest-decided, set-here, next-is-of}
+use Rattle.cap_tools.proofs.Fetches.{mk, among-same, comes-broken, goes-one, inputs_at, past-of}
+use Rattle.cap_tools.proofs.Laws.{DecideLaws, DecideAt, decide-at}
+use Rattle.cap_tools.proofs.{Nexts.packet-answer, Nexts.stops-at, Once.once-nothing, Once.once-packet, Places.get-at}
+use Rattle.cap_tools.proofs.Splits.{At, stands-split, stands-join, rests-join, come-on}
 use Rattle.cap_process.specs.declared.selector.Verdict as code
-use Rattle.cap_process.specs.declared.selector.Verdict.TheVariants as code_verdict
-use Rattle.cap_inputs.specs.declared.inputs.Next.TheVariants as next
+use Rattle.cap_inputs.specs.declared.inputs.Next.{Next}
 use Rattle.cap_process.specs.inside.Reports.{FitsTally}
 use Rattle.cap_print.specs.Rendering.{printed_text}
 use Rattle.cap_process.specs.Outcome as course_spec
 use Rattle.cap_inputs.specs.inside.Inputs as input_spec
-use Rattle.cap_tools.proofs.Places.{get-at}
-use Rattle.cap_tools.proofs.Splits.{At, stands-split, stands-join, rests-join, come-on}
-use Rattle.cap_tools.proofs.Coming.{carries-decided, true-wholes, true-fit, true-fits}
-use Rattle.cap_tools.proofs.Laws.{DecideLaws, DecideAt, decide-at}
-use Rattle.cap_tools.proofs.Once.{once-nothing, once-packet}
-use Rattle.cap_tools.proofs.Nexts.{packet-answer, stops-at}
-use Rattle.cap_tools.proofs.Fetches.{mk, among-same, comes-broken, goes-one, inputs_at, past-of}
 
 -- ---- a packet that is judged
 
@@ -33,8 +30,8 @@ goes-by policy form w i x v state' one other = rw (one, other) refl
 
 -- the job goes on after it
 pub took : (policy : Policy) (w : JobProgress) (before : List ℕ) (i : ℕ) (x : Placed) (names : List (List ℕ)) (old new : Target) (state' : SelectorState) (v : code.Verdict) (q : Captured) → HasWrittenTo before names old w.packets w.reports
-    → IsVerdict (judge policy w.state (w.decided + 1) x.packet) (Ok v) q state' → Offers v q old (Ok tt) new → (v ≡ code_verdict.PassLast → ⊥) → Took policy w before i x state' names old new
-took policy w before i x names old new state' code_verdict.Pass q has exact offers on =
+    → IsVerdict (judge policy w.state (w.decided + 1) x.packet) (Ok v) q state' → Offers v q old (Ok tt) new → (v ≡ Verdict.PassLast → ⊥) → Took policy w before i x state' names old new
+took policy w before i x names old new state' Verdict.Pass q has exact offers on =
     let ok : PutOk before w.packets w.reports q names old new = put-ok before w.packets w.reports q names old new has offers in
     record {
       passed = q ∷ [];
@@ -44,8 +41,8 @@ took policy w before i x names old new state' code_verdict.Pass q has exact offe
       form = ok.form;
       failures = ok.failures;
     }
-took policy w before i x names old new state' code_verdict.PassLast q has exact offers on = absurd (on refl)
-took policy w before i x names old new state' code_verdict.Skip q has exact offers on =
+took policy w before i x names old new state' Verdict.PassLast q has exact offers on = absurd (on refl)
+took policy w before i x names old new state' Verdict.Skip q has exact offers on =
     let same : new ≡ old = offers.1 in
     rw same (record {
       passed = [];
@@ -239,17 +236,17 @@ AnswerLeaves {ss} {before} {old} d (Ok verdict) new failed = StepLeaves d (end_a
 AnswerLeaves {ss} {before} {old} d (Err e) new failed = EndLeaves d e failed
 
 answer-core : (us vs : List InputPast) (s : InputPast) (before : List ℕ) (xs ys : List InputView) (h : InputView) (order : PacketOrder) (turn : ℕ) (policy : Policy) (state state' : SelectorState) (names : List (List ℕ)) (output output' : Target) (decided : ℕ) (p : Captured) (r : Result code.Verdict JobEnd)
-    → DecideLaws order turn xs ys h → input_spec.IsNext (inputs_at order (xs ++ h ∷ ys)) (next.Decide turn) → AreInputsAfter us xs → At s h → AreInputsAfter vs ys → h.source.packet ≡ Some p → state'.passed ≤ decided + 1 → GrowsByOne state.tally state'.tally
+    → DecideLaws order turn xs ys h → input_spec.IsNext (inputs_at order (xs ++ h ∷ ys)) (Next.Decide turn) → AreInputsAfter us xs → At s h → AreInputsAfter vs ys → h.source.packet ≡ Some p → state'.passed ≤ decided + 1 → GrowsByOne state.tally state'.tally
     → (d : PacketsDecided (us ++ s ∷ vs) before (mk (xs ++ h ∷ ys) order policy state names output decided))
     → DecidesPacket (Some p) turn (decided + 1) (sieve (record { policy = policy; state = state }) output) r (sieve (record { policy = policy; state = state' }) output')
     → AnswerLeaves d r (mk (xs ++ input_after_decided h ∷ ys) order policy state' names output' (decided + 1)) (mk (xs ++ h ∷ ys) order policy state' names output' decided)
-answer-core us vs s before xs ys h order turn policy state state' names output output' decided p (Ok code_verdict.Pass) laws tells front at back held within grows d decides =
+answer-core us vs s before xs ys h order turn policy state state' names output output' decided p (Ok Verdict.Pass) laws tells front at back held within grows d decides =
     decided-goes us vs s before xs ys h order turn policy state state' names output output' decided p laws front at back held within grows d
-    (took policy (progress_at (mk (xs ++ h ∷ ys) order policy state names output decided) d.packets d.reports) before turn (record { offset = h.source.offset; packet = p }) names output output' state' code_verdict.Pass decides.packet d.output decides.exact decides.offers (λ is. (cc)))
-answer-core us vs s before xs ys h order turn policy state state' names output output' decided p (Ok code_verdict.Skip) laws tells front at back held within grows d decides =
+    (took policy (progress_at (mk (xs ++ h ∷ ys) order policy state names output decided) d.packets d.reports) before turn (record { offset = h.source.offset; packet = p }) names output output' state' Verdict.Pass decides.packet d.output decides.exact decides.offers (λ is. (cc)))
+answer-core us vs s before xs ys h order turn policy state state' names output output' decided p (Ok Verdict.Skip) laws tells front at back held within grows d decides =
     decided-goes us vs s before xs ys h order turn policy state state' names output output' decided p laws front at back held within grows d
-    (took policy (progress_at (mk (xs ++ h ∷ ys) order policy state names output decided) d.packets d.reports) before turn (record { offset = h.source.offset; packet = p }) names output output' state' code_verdict.Skip decides.packet d.output decides.exact decides.offers (λ is. (cc)))
-answer-core us vs s before xs ys h order turn policy state state' names output output' decided p (Ok code_verdict.PassLast) laws tells front at back held within grows d decides =
+    (took policy (progress_at (mk (xs ++ h ∷ ys) order policy state names output decided) d.packets d.reports) before turn (record { offset = h.source.offset; packet = p }) names output output' state' Verdict.Skip decides.packet d.output decides.exact decides.offers (λ is. (cc)))
+answer-core us vs s before xs ys h order turn policy state state' names output output' decided p (Ok Verdict.PassLast) laws tells front at back held within grows d decides =
     let w : JobProgress = progress_at (mk (xs ++ h ∷ ys) order policy state names output decided) d.packets d.reports in
     let x : Placed = record { offset = h.source.offset; packet = p } in
     let q : Captured = decides.packet in
@@ -292,16 +289,16 @@ answer-core us vs s before xs ys h order turn policy state state' names output o
     w = progress_at (mk (xs ++ h ∷ ys) order policy state names output decided) d.packets d.reports
 
     by_verdict_of : (fault : Fault) (v : code.Verdict) (q : Captured) → IsVerdict (judge policy state (decided + 1) p) (Ok v) q state' → Offers v q output (Err fault) output' → EndLeaves d (end_of_failed_write turn fault) failed
-    by_verdict_of fault code_verdict.Pass q exact offers =
+    by_verdict_of fault Verdict.Pass q exact offers =
         unput-leaves (us ++ s ∷ vs) before (xs ++ h ∷ ys) order turn policy state state' names output decided failed x q None fault d ahead
-        (goes-by policy (form_to names output) w turn x (Pass q) state' exact.0 exact.1) (a_packet turn h p (next-is-of (inputs_at order (xs ++ h ∷ ys)) (next.Decide turn) tells) here held refl) h here refl (let A : Verdict → Type 0 = λ v. PassesAs v q in subst A exact.0 refl) offers
-    by_verdict_of fault code_verdict.PassLast q exact offers =
+        (goes-by policy (form_to names output) w turn x (Pass q) state' exact.0 exact.1) (a_packet turn h p (next-is-of (inputs_at order (xs ++ h ∷ ys)) (Next.Decide turn) tells) here held refl) h here refl (let A : Verdict → Type 0 = λ v. PassesAs v q in subst A exact.0 refl) offers
+    by_verdict_of fault Verdict.PassLast q exact offers =
         unput-leaves (us ++ s ∷ vs) before (xs ++ h ∷ ys) order turn policy state state' names output decided failed x q (Some Complete) fault d ahead
-        (goes-by policy (form_to names output) w turn x (PassLast q) state' exact.0 exact.1) (a_packet turn h p (next-is-of (inputs_at order (xs ++ h ∷ ys)) (next.Decide turn) tells) here held refl) h here refl (let A : Verdict → Type 0 = λ v. PassesAs v q in subst A exact.0 refl) offers
-    by_verdict_of fault code_verdict.Skip q exact offers = absurd (let e = offers.0 in cc)
+        (goes-by policy (form_to names output) w turn x (PassLast q) state' exact.0 exact.1) (a_packet turn h p (next-is-of (inputs_at order (xs ++ h ∷ ys)) (Next.Decide turn) tells) here held refl) h here refl (let A : Verdict → Type 0 = λ v. PassesAs v q in subst A exact.0 refl) offers
+    by_verdict_of fault Verdict.Skip q exact offers = absurd (let e = offers.0 in cc)
 
 pub answer-leaves : (ss : List InputPast) (before : List ℕ) (cursors : List InputView) (order : PacketOrder) (policy : Policy) (state : SelectorState) (names : List (List ℕ)) (output : Target) (decided i : ℕ) (r : Result code.Verdict JobEnd) (h : InputView) (selector' : PolicyState) (output' : Target)
-    → input_spec.IsNext (inputs_at order cursors) (next.Decide i) → IsInput cursors i h → selector'.policy ≡ policy → (state.passed ≤ decided + 1 → selector'.state.passed ≤ decided + 1) → GrowsByOne state.tally selector'.state.tally → decided ≤ most_steps
+    → input_spec.IsNext (inputs_at order cursors) (Next.Decide i) → IsInput cursors i h → selector'.policy ≡ policy → (state.passed ≤ decided + 1 → selector'.state.passed ≤ decided + 1) → GrowsByOne state.tally selector'.state.tally → decided ≤ most_steps
     → (state.passed < decided + 1 → FitsTally state.tally → DecidesPacket h.source.packet i (decided + 1) (sieve (record { policy = policy; state = state }) output) r (sieve selector' output'))
     → (d : PacketsDecided ss before (mk cursors order policy state names output decided))
     → AnswerLeaves d r (mk (slice_set cursors i (input_after_decided h)) order policy selector'.state names output' (decided + 1)) (mk cursors order policy selector'.state names output' decided)
@@ -313,7 +310,7 @@ answer-leaves ss before cursors order policy state names output decided i r othe
     let D : List InputView → Type 0 = λ l. PacketsDecided ss before (mk l order policy state names output decided) in
     let d' = subst D among.splits d in
     let st = stands-split ss among.front among.back h d'.following in
-    let T : List InputView → Type 0 = λ l. input_spec.IsNext (inputs_at order l) (next.Decide i) in
+    let T : List InputView → Type 0 = λ l. input_spec.IsNext (inputs_at order l) (Next.Decide i) in
     let W : Bool → Type 0 = λ b. IsAt st.here.text st.here.done st.here.packets b h.source in
     let was : IsAt st.here.text st.here.done st.here.packets true h.source = subst W at.laws.waits st.at in
     let has = was.waits refl in

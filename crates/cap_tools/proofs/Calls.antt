@@ -1,13 +1,10 @@
 -- What the run of a job leaves, in terms of its call.
 use Rattle.cap_tools.proofs.Common.{◌≡◌, inl, inr, ℕ, ◌+◌, ◌-◌, ◌<◌, ◌≤◌, arith, Bool, IsTrue, false, List, [], ◌∷◌, ◌++◌, length, map, Option, None, Some, Ok, refl, sym, ◌∙◌, ap, subst, add-zero, append-nil, length-map, length-set, slice_get-map, slice_get, option_map, HasGiven, Stops, Fault, Declared, ReadFailsAt, given_in_all, decisive_length, Link, listing, Refusal, fault_message, refusal_message, write_failed_message, refusal_status, OutputView, IsTold, FreshInput, fresh_view, nothing_done, DeviceLimits, InputView, InputsView, InputPast, input_after, device_limits, limits_of, offset_of, offset_at, InputItems, Event, SequenceEnd, Complete, FaultIn, whole_input, Call, RunResult, NoMemory, JobView, JobGives, EndsJob, end_status, end_message, first_job, JobEnd, SourceView, JobState, PacketsDecided, CompletesOutput, EndLeaves, EndsByCut, Meets, StopsWriting, WantsMemory, a_packet, all_ends, an_end, failures_by, output_form, wholes_of, work_of, written_by, texts, Outcome, JobProgress, Work, IsNextAnswer, NeedsMemory, cut_at, message, outcome, status, text_after, text_of_progress, name_at, CommandRuns, HasLeft, HasLostOutput, IsPolicy, IsWhyRefused, ends, fault_outcome, listing_answer, listing_outcome, of_cut_input, of_events, of_listing, of_packets, of_refusal, output_failed, packets_answer, refusal_outcome, whole_inputs, Assignment, Preparing, ReadsFilter, Compiles, DecidedBy, ListsSome, PreparesBy, RefusesStart, drained-text}
-use Rattle.flt_words.specs.declared.fault.ExprFault.TheVariants as expression
-use Rattle.flt_bpf.specs.declared.fault.ListingFault.TheVariants as listing_fault
-use Rattle.cap_filter.specs.declared.filter.Refusal.TheVariants as refusal
-use Rattle.cap_inputs.specs.inside.Fresh.{fresh_limits}
-use Rattle.cap_tools.specs.declared.step.JobEnd.TheVariants as end
-use Rattle.cap_tools.specs.declared.job.Turn.TheVariants as turn
-use Rattle.cap_tools.specs.inside.Commands.{MakesStep}
 use Rattle.cap_tools.proofs.Runs.{Begun, IsUnderWay, Under, begins, first-output, fresh, goes}
+use Rattle.flt_words.specs.declared.fault.ExprFault.{ExprFault}
+use Rattle.flt_bpf.specs.declared.fault.ListingFault.{ListingFault}
+use Rattle.cap_inputs.specs.inside.Fresh.{fresh_limits}
+use Rattle.cap_tools.specs.{declared.job.Turn.Turn, inside.Commands.MakesStep}
 
 -- where the output failed, it took as many bytes as it has room for
 abbrev pub IsFilled : Call → RunResult → Type 0
@@ -29,11 +26,11 @@ told-as tells old old' new message message' is same exact =
 
 -- a refusal has a status of its own
 never-zero : (why : Refusal) → refusal_status why ≡ 0 → ⊥
-never-zero (refusal.Expression expression.Memory) zero = (cc)
-never-zero (refusal.Expression fault) zero = (cc)
-never-zero (refusal.Listing listing_fault.Memory) zero = (cc)
-never-zero (refusal.Listing fault) zero = (cc)
-never-zero (refusal.Program fault at) zero = (cc)
+never-zero (Refusal.Expression ExprFault.Memory) zero = (cc)
+never-zero (Refusal.Expression fault) zero = (cc)
+never-zero (Refusal.Listing ListingFault.Memory) zero = (cc)
+never-zero (Refusal.Listing fault) zero = (cc)
+never-zero (Refusal.Program fault at) zero = (cc)
 
 -- ---- one of the inputs
 
@@ -132,10 +129,10 @@ packets-run asked call job new r filled was ended is_left = by_end ended.end ref
     whole-ends : (close : SequenceEnd) → CompletesOutput (wholes_of was.past) d last close → text ≡ message names (Some close) → end_status ended.end ≡ status (Some close) → CommandRuns asked call r
     whole-ends close comes says is = ends (outcome w call.names (whole_inputs call)) (of_packets w was.work) (left (wholes_of was.past) (whole_inputs call) close wholes-are comes says is)
 
-    says : (input : ℕ) (fault : Fault) (offset : ℕ) → ended.end ≡ end.FaultIn input fault → offset_at last.inputs.cursors input ≡ offset → text ≡ fault_message (name_at names input) offset fault
+    says : (input : ℕ) (fault : Fault) (offset : ℕ) → ended.end ≡ JobEnd.FaultIn input fault → offset_at last.inputs.cursors input ≡ offset → text ≡ fault_message (name_at names input) offset fault
     says input fault offset is place = ap (end_message names last.inputs.cursors) is ∙ ap (λ n. fault_message (name_at names input) n fault) place
 
-    cuts : (input : ℕ) (fault : Fault) (after : SourceView) → ended.end ≡ end.FaultIn input fault → offset_at last.inputs.cursors input ≡ after.offset → EndsByCut d last input fault after → CommandRuns asked call r
+    cuts : (input : ℕ) (fault : Fault) (after : SourceView) → ended.end ≡ JobEnd.FaultIn input fault → offset_at last.inputs.cursors input ≡ after.offset → EndsByCut d last input fault after → CommandRuns asked call r
     cuts input fault after is place cut =
         let items = cut.held in
         let text_of : From (λ (o : FreshInput). o.text) (slice_get call.inputs input) cut.past.text =
@@ -162,7 +159,7 @@ packets-run asked call job new r filled was ended is_left = by_end ended.end ref
         (left (cut_at (wholes_of was.past) input items) (cut_at (whole_inputs call) input items) (FaultIn input fault after.offset)
         (ap (λ (l : List InputItems). cut_at l input items) wholes-are) cut.comes (says input fault after.offset is place) (ap end_status is))
 
-    lacks-memory : (input : ℕ) (fault : Fault) (after : SourceView) → ended.end ≡ end.FaultIn input fault → offset_at last.inputs.cursors input ≡ after.offset → WantsMemory d last input fault after → CommandRuns asked call r
+    lacks-memory : (input : ℕ) (fault : Fault) (after : SourceView) → ended.end ≡ JobEnd.FaultIn input fault → offset_at last.inputs.cursors input ≡ after.offset → WantsMemory d last input fault after → CommandRuns asked call r
     lacks-memory input fault after is place wants =
         let L : List InputItems → Type 0 = λ l. NeedsMemory w l d.events input wants.packet in
         let one : r.status ≡ 1 = ended.status_is ∙ ap end_status is in
@@ -178,7 +175,7 @@ packets-run asked call job new r filled was ended is_left = by_end ended.end ref
           status = one;
         })
 
-    loses-output : ended.end ≡ end.OutputFailed → StopsWriting d last → HasLostOutput asked call r
+    loses-output : ended.end ≡ JobEnd.OutputFailed → StopsWriting d last → HasLostOutput asked call r
     loses-output is stops =
         let bytes : List ℕ = stops.bytes in
         let L : List InputItems → Type 0 = λ l. IsNextAnswer w l d.events stops.event bytes in
@@ -204,8 +201,8 @@ packets-run asked call job new r filled was ended is_left = by_end ended.end ref
         }
 
     by_end : (e : JobEnd) → ended.end ≡ e → EndLeaves d e last → CommandRuns asked call r
-    by_end end.Complete is comes = whole-ends Complete comes (ap (end_message names last.inputs.cursors) is) (ap end_status is)
-    by_end (end.FaultIn input fault) is breaks =
+    by_end JobEnd.Complete is comes = whole-ends Complete comes (ap (end_message names last.inputs.cursors) is) (ap end_status is)
+    by_end (JobEnd.FaultIn input fault) is breaks =
         let place : offset_at last.inputs.cursors input ≡ breaks.cursor.source.offset = ap offset_of breaks.among in
         elim breaks.why [
           | inl comes ↦ whole-ends (FaultIn input fault breaks.cursor.source.offset) comes (says input fault breaks.cursor.source.offset is place) (ap end_status is)
@@ -214,7 +211,7 @@ packets-run asked call job new r filled was ended is_left = by_end ended.end ref
             | inr wants ↦ lacks-memory input fault breaks.cursor.source is place wants
           ]
         ]
-    by_end end.OutputFailed is stops = output_failed (loses-output is stops)
+    by_end JobEnd.OutputFailed is stops = output_failed (loses-output is stops)
 
 -- ---- a job that is refused, or lists a program
 
@@ -264,8 +261,8 @@ listed-run asked call new r words link filled is lists left =
 -- ---- all of it
 
 -- the first step ends the job: over packets, or it is refused, or it lists a program
-first-done : (output_tells : Bool) (asked : Assignment) (call : Call) (new : JobView) (r : RunResult) (p : Option Preparing) → asked.preparing ≡ p → IsTrue output_tells → IsFilled call r → (p ≡ None → JobGives call.tells (first_job asked call) (turn.Done r.status) new)
-    → PreparesBy p output_tells call.tells (first_job asked call) (turn.Done r.status) new → DecidedBy p (map nothing_done call.inputs) call.output.written (first_job asked call) → IsLeft new r → CommandRuns asked call r
+first-done : (output_tells : Bool) (asked : Assignment) (call : Call) (new : JobView) (r : RunResult) (p : Option Preparing) → asked.preparing ≡ p → IsTrue output_tells → IsFilled call r → (p ≡ None → JobGives call.tells (first_job asked call) (Turn.Done r.status) new)
+    → PreparesBy p output_tells call.tells (first_job asked call) (Turn.Done r.status) new → DecidedBy p (map nothing_done call.inputs) call.output.written (first_job asked call) → IsLeft new r → CommandRuns asked call r
 first-done output_tells asked call new r None is to filled exact prepares d left =
     let P : Option Preparing → Type 0 = λ p. IsPolicy p asked.policy asked.policy in
     packets-run asked call (first_job asked call) new r filled (begins asked call asked.policy asked.preparing [] 0 None (subst P (sym is) refl) d) (exact refl) left
@@ -276,14 +273,14 @@ first-done output_tells asked call new r (Some (Compiles words link)) is to fill
     elim (prepares to) [
       | inl lists ↦ listed-run asked call new r words link filled is lists left
       | inr fails ↦
-          let P : Option Preparing → Type 0 = λ p. IsWhyRefused p (refusal.Expression fails.fault) in
-          refused-run asked call new r (refusal.Expression fails.fault) (subst P (sym is) fails.why) fails.refuses left
+          let P : Option Preparing → Type 0 = λ p. IsWhyRefused p (Refusal.Expression fails.fault) in
+          refused-run asked call new r (Refusal.Expression fails.fault) (subst P (sym is) fails.why) fails.refuses left
     ]
 
 -- the last step of a run
-pub under-done : (inputs_tell output_tells : Bool) (asked : Assignment) (call : Call) (job new : JobView) (r : RunResult) → IsTrue inputs_tell → IsTrue output_tells → Begun asked call → IsFilled call r → MakesStep inputs_tell output_tells call.tells job (turn.Done r.status) new → IsLeft new r → Under asked call job → CommandRuns asked call r
+pub under-done : (inputs_tell output_tells : Bool) (asked : Assignment) (call : Call) (job new : JobView) (r : RunResult) → IsTrue inputs_tell → IsTrue output_tells → Begun asked call → IsFilled call r → MakesStep inputs_tell output_tells call.tells job (Turn.Done r.status) new → IsLeft new r → Under asked call job → CommandRuns asked call r
 under-done inputs_tell output_tells asked call job new r ti to begun filled step left (fresh is) =
-    let P : JobView → Type 0 = λ j. MakesStep inputs_tell output_tells call.tells j (turn.Done r.status) new in
+    let P : JobView → Type 0 = λ j. MakesStep inputs_tell output_tells call.tells j (Turn.Done r.status) new in
     let first = subst P is step in
     first-done output_tells asked call new r asked.preparing refl to filled (first.exact ti to refl) first.prepares begun left
 under-done inputs_tell output_tells asked call job new r ti to begun filled step left (goes prepared undone was) =

@@ -1,7 +1,7 @@
 -- What has come when an input is read on, or its packet is decided.
 use Rattle.cap_tools.proofs.Common.{◌≡◌, ℕ, suc, ◌+◌, Bool, true, false, List, [], ◌∷◌, ◌++◌, length, drop, map, None, Some, Result, Ok, refl, sym, ◌∙◌, ap, arith, subst, add-zero, Option, option_to_list, append_assoc, append-nil, length-append, Captured, Fault, Declared, Placed, placed_at, Items, Ending, End, FaultAt, NoUnit, items, items_from, after_packets, no_items, front_of, kind_of, SourceView, Phase, Ended, FindsPacket, FindsEnd, Finds, Advances, IsAt, pending, IsAt-items, items-begin, Advances-sound, InputItems, Event, Packet, InputEnd, FaultIn, Sequence, sequence_of, sequence_in_turn, input_sequence, with_front, whole_input, PacketOrder, InputView, InputsView, Future, InputPast, AreInputsAfter, AreFutures, AreSettled, waiting_packets, input_items, inputs_with, items_left, inputs_left, sequence_left, no_future, input_after, input_after_decided, actual_future, wholes_of, ComeFirst}
-use Rattle.cap_io.proofs.Items.{items_from-stops}
 use Rattle.cap_tools.proofs.Splits.{At, Fit, Carries}
+use Rattle.cap_io.proofs.Items.{items_from-stops}
 
 drop-front : (rs qs : List InputItems) (r : InputItems) (n : ℕ) → length rs ≡ n → drop n (rs ++ r ∷ qs) ≡ r ∷ qs
 drop-front [] qs r n is = rw (← is) refl

@@ -1,16 +1,11 @@
 -- The job of a command of which nothing is done.
 use Rattle.cap_tools.proofs.Common.{◌≡◌, inl, inr, ℕ, ◌+◌, ◌≤◌, Bool, true, not, List, [], map, length, None, Option, Result, Ok, Err, refl, sym, ap, arith, subst, ◌∙◌, nat_eq, nat_le, ◌&&◌, add-zero, DeviceFault, Stops, listing, Target, Capture, Text, Lines, target_at, written_to, failures_to, failures_by, Reports, is_text, nothing_counted, written_by, MessagesView, is_proper, is_proper_edit, is_proper_print, most_inputs, IsCompiled, IsTold, Insn, Link, Turn, InTurn, Count, KeepAll, Call, JobView, JobEnd, first_job, state_at, end_message, end_status, fresh_inputs, nothing_done, order_of, InputsView, EndsList, ending, Assignment, Preparing, assignment, SelectorView, state_with, CompileGives, DecidedBy, PreparesBy, PreparesOnly, RefusesStart, Refusal, refusal_status, IsReadyIf, IsSound, Some, spent_in, with_preparing}
+use Rattle.cap_tools.proofs.{Programs.new-for, Starts.nothing-decided, Starts.first-few, Starts.first-less}
 use Rattle.std.proofs.lemmas.Bool.{and_parts, eqb-true, leb-true}
 use Rattle.cap_octet.specs.Device.{AppendsOrStops, failures_of}
 use Rattle.cap_command.specs.declared.command.Command.{Command}
-use Rattle.cap_command.specs.declared.command.Command.TheVariants as command
-use Rattle.cap_tools.specs.declared.job.Turn.TheVariants as turn
-use Rattle.cap_process.specs.declared.output.Writing.TheVariants as writing
-use Rattle.cap_tools.specs.declared.step.JobEnd.TheVariants as end
-use Rattle.cap_tools.specs.inside.Commands.{HasMadeNoStep, KeepsFirst, MakesStep}
-use Rattle.cap_tools.specs.inside.FirstStep.{IsFresh}
-use Rattle.cap_tools.proofs.Programs.{new-for}
-use Rattle.cap_tools.proofs.Starts.{nothing-decided, first-few, first-less}
+use Rattle.cap_process.specs.declared.output.Writing.{Writing}
+use Rattle.cap_tools.specs.inside.{Commands.HasMadeNoStep, Commands.KeepsFirst, Commands.MakesStep, FirstStep.IsFresh}
 
 -- ---- the first step of a job, whose preparation was taken out
 
@@ -24,16 +19,16 @@ first-step inputs_tell output_tells tells p old r new fresh prepares keeps only 
 }
 
 -- a refusal ends the job
-pub refused-step : (inputs_tell output_tells tells : Bool) (p : Preparing) (refusal : Refusal) (old : JobView) (r : Turn) (new : JobView) → IsFresh old → r ≡ turn.Done (refusal_status refusal) → RefusesStart refusal tells old (refusal_status refusal) new
-    → (RefusesStart refusal tells (with_preparing (Some p) old) (refusal_status refusal) new → PreparesBy (Some p) output_tells tells (with_preparing (Some p) old) (turn.Done (refusal_status refusal)) new) → KeepsFirst old r new → MakesStep inputs_tell output_tells tells (with_preparing (Some p) old) r new
+pub refused-step : (inputs_tell output_tells tells : Bool) (p : Preparing) (refusal : Refusal) (old : JobView) (r : Turn) (new : JobView) → IsFresh old → r ≡ Turn.Done (refusal_status refusal) → RefusesStart refusal tells old (refusal_status refusal) new
+    → (RefusesStart refusal tells (with_preparing (Some p) old) (refusal_status refusal) new → PreparesBy (Some p) output_tells tells (with_preparing (Some p) old) (Turn.Done (refusal_status refusal)) new) → KeepsFirst old r new → MakesStep inputs_tell output_tells tells (with_preparing (Some p) old) r new
 refused-step inputs_tell output_tells tells p refusal old r new fresh is refuses gives keeps =
     let P : Turn → Type 0 = λ t. PreparesBy (Some p) output_tells tells (with_preparing (Some p) old) t new in
     first-step inputs_tell output_tells tells p old r new fresh (subst P (sym is) (gives (record { status_is = refl; exact = refuses.exact; new_is = refuses.new_is }))) keeps
     (record { inputs = ap (λ (j : JobView). j.state.inputs) refuses.new_is; decided = ap (λ (j : JobView). j.state.decided) refuses.new_is; unspent = ap (λ (j : JobView). spent_in j.programs) refuses.new_is })
 
 pub lists-some : (tells : Bool) (words : List ℕ) (link : Link) (prog : List Insn) (p : Option Preparing) (old new : JobView) (r : Turn) → IsCompiled words link prog → EndsList prog tells old r new → CompileGives words link tells (with_preparing p old) r new
-lists-some tells words link prog p old new turn.More compiled lists = lists
-lists-some tells words link prog p old new (turn.Done status) compiled lists = inl (record {
+lists-some tells words link prog p old new Turn.More compiled lists = lists
+lists-some tells words link prog p old new (Turn.Done status) compiled lists = inl (record {
   prog = prog;
   compiled = compiled;
   lists = elim lists [
@@ -60,11 +55,11 @@ one-input n other is = let one = eqb-true n 1 (and_parts (nat_eq n 1) other is).
 
 -- a proper command has at most a given number of inputs
 pub few-inputs : {Z : Type 0} (c : Command Z) (n : ℕ) → is_proper c n ≡ true → n ≤ most_inputs
-few-inputs (command.Edit edit) n is = one-input n (is_proper_edit edit) is
-few-inputs (command.Merge merge) n is = leb-true n most_inputs (and_parts (nat_le 1 n) (nat_le n most_inputs) is).1
-few-inputs command.Infos n is = leb-true n most_inputs (and_parts (nat_le 1 n) (nat_le n most_inputs) is).1
-few-inputs (command.Print print) n is = one-input n (is_proper_print print) is
-few-inputs (command.Compile compile) n is = let none = eqb-true n 0 is in omega (arith, none)
+few-inputs (Command.Edit edit) n is = one-input n (is_proper_edit edit) is
+few-inputs (Command.Merge merge) n is = leb-true n most_inputs (and_parts (nat_le 1 n) (nat_le n most_inputs) is).1
+few-inputs Command.Infos n is = leb-true n most_inputs (and_parts (nat_le 1 n) (nat_le n most_inputs) is).1
+few-inputs (Command.Print print) n is = one-input n (is_proper_print print) is
+few-inputs (Command.Compile compile) n is = let none = eqb-true n 0 is in omega (arith, none)
 
 -- the job that was made of these parts is that of the command
 pub first-made : {Z : Type 0} (c : Command Z) (call : Call) (a : Assignment) (inputs : InputsView) (selector : SelectorView) (messages : MessagesView) (target : Target)
@@ -85,21 +80,21 @@ first-made c call a inputs selector messages target same_preparing same_order sa
 -- what a command reads or compiles first is not begun, and no step was made
 pub first-ready : {Z : Type 0} (c : Command Z) (call : Call) → length call.inputs ≤ most_inputs
     → IsReadyIf (assignment c).preparing (first_job (assignment c) call)
-first-ready (command.Edit edit) call upper_bound = tt
-first-ready (command.Merge merge) call upper_bound = tt
-first-ready command.Infos call upper_bound = tt
-first-ready (command.Print print) call upper_bound = record { turns = refl; done = refl; programs = refl; left = first-less (assignment (command.Print print)).order call.inputs upper_bound; upper_bound = first-few (assignment (command.Print print)).order call.inputs }
-first-ready (command.Compile compile) call upper_bound =
-    (record { turns = refl; done = refl; programs = refl; left = first-less (assignment (command.Compile compile)).order call.inputs upper_bound; upper_bound = first-few (assignment (command.Compile compile)).order call.inputs }, refl)
+first-ready (Command.Edit edit) call upper_bound = tt
+first-ready (Command.Merge merge) call upper_bound = tt
+first-ready Command.Infos call upper_bound = tt
+first-ready (Command.Print print) call upper_bound = record { turns = refl; done = refl; programs = refl; left = first-less (assignment (Command.Print print)).order call.inputs upper_bound; upper_bound = first-few (assignment (Command.Print print)).order call.inputs }
+first-ready (Command.Compile compile) call upper_bound =
+    (record { turns = refl; done = refl; programs = refl; left = first-less (assignment (Command.Compile compile)).order call.inputs upper_bound; upper_bound = first-few (assignment (Command.Compile compile)).order call.inputs }, refl)
 
 -- nothing is decided of the inputs
 pub first-decided : {Z : Type 0} (c : Command Z) (call : Call)
     → DecidedBy (assignment c).preparing (map nothing_done call.inputs) call.output.written (first_job (assignment c) call)
-first-decided (command.Edit edit) call = record { packets = nothing-decided (assignment (command.Edit edit)).order call.inputs call.output.written (assignment (command.Edit edit)).policy call.names (assignment (command.Edit edit)).writing call.output.failures call.room; programs = refl }
-first-decided (command.Merge merge) call = record { packets = nothing-decided (order_of (not merge.append)) call.inputs call.output.written KeepAll call.names (writing.Capture merge.format) call.output.failures call.room; programs = refl }
-first-decided command.Infos call = record { packets = nothing-decided InTurn call.inputs call.output.written Count call.names writing.Text call.output.failures call.room; programs = refl }
-first-decided (command.Print print) call = λ rule is programs made. record { packets = nothing-decided (assignment (command.Print print)).order call.inputs call.output.written _ call.names (assignment (command.Print print)).writing call.output.failures call.room; programs = new-for rule programs made }
-first-decided (command.Compile compile) call = tt
+first-decided (Command.Edit edit) call = record { packets = nothing-decided (assignment (Command.Edit edit)).order call.inputs call.output.written (assignment (Command.Edit edit)).policy call.names (assignment (Command.Edit edit)).writing call.output.failures call.room; programs = refl }
+first-decided (Command.Merge merge) call = record { packets = nothing-decided (order_of (not merge.append)) call.inputs call.output.written KeepAll call.names (Writing.Capture merge.format) call.output.failures call.room; programs = refl }
+first-decided Command.Infos call = record { packets = nothing-decided InTurn call.inputs call.output.written Count call.names Writing.Text call.output.failures call.room; programs = refl }
+first-decided (Command.Print print) call = λ rule is programs made. record { packets = nothing-decided (assignment (Command.Print print)).order call.inputs call.output.written _ call.names (assignment (Command.Print print)).writing call.output.failures call.room; programs = new-for rule programs made }
+first-decided (Command.Compile compile) call = tt
 
 -- ---- a listing is written
 
@@ -113,12 +108,12 @@ appended (Text written failures room) new bytes r text to =
 
 -- how a job ends after a listing
 abbrev end_of_list : Result (Unit {0}) DeviceFault → JobEnd
-end_of_list (Ok done) = end.Complete
-end_of_list (Err fault) = end.OutputFailed
+end_of_list (Ok done) = JobEnd.Complete
+end_of_list (Err fault) = JobEnd.OutputFailed
 
 pub listed : (insns : List Insn) (tells : Bool) (old new : JobView) (output : Target) (r : Result (Unit {0}) DeviceFault) → is_text old.state.output ≡ true → Reports (listing insns) old.state.output r output
     → new ≡ ending (end_of_list r) new.err (record old { state = record old.state { output = output } })
-    → IsTold tells old.err (end_message old.state.names old.state.inputs.cursors (end_of_list r)) new.err → (end_of_list r ≡ end.Complete → new.err ≡ old.err) → EndsList insns tells old (turn.Done (end_status (end_of_list r))) new
+    → IsTold tells old.err (end_message old.state.names old.state.inputs.cursors (end_of_list r)) new.err → (end_of_list r ≡ JobEnd.Complete → new.err ≡ old.err) → EndsList insns tells old (Turn.Done (end_status (end_of_list r))) new
 listed insns tells old new output (Ok done) text lists is told quiet =
     let to = appended old.state.output output (listing insns) (Ok done) text lists in
     inl (record {

@@ -1,9 +1,9 @@
 -- What a place says of what is left, for inputs in turn and for a merge.
-use Rattle.cap_tools.proofs.Common.{◌≡◌, inl, inr, ℕ, zero, suc, ◌+◌, ◌≤◌, Bool, true, false, cond, not, max, List, [], ◌∷◌, ◌++◌, length, drop, Option, None, Some, refl, sym, ◌∙◌, ap, arith, subst, Captured, Fault, Kind, Declared, Items, no_items, kind_of, IsAt, Phase, Ended, InputItems, Event, Packet, InputEnd, SequenceEnd, Complete, FaultIn, PacketOrder, InTurn, ByTime, with_front, sequence_in_turn, sequence_by_time, fault_without_packets, sequence_of_entries, sort_entries, all_entries, unless_fault, Policy, Form, JobProgress, apply_events, end_input, unless_ended, InputView, InputPast, Future, AreFutures, AreInputsAfter, IsInput, ended_count, input_after_decided, is_open, items_left, inputs_left, key_of, sequence_left, packet_time, AllEnded, AllReady, IsNextIn, IsOpen, IsReady, KeysFrom, NoneEnded, NoneWaits, count-open, count-all, merged-broken}
-use Rattle.cap_inputs.specs.declared.inputs.Next.TheVariants as next
-use Rattle.cap_tools.proofs.Splits.{At, Fit, fits-join, rests-join, rests-length}
 use Rattle.cap_tools.proofs.Coming.{from_turn, left-decided, turn-closes, turn-broken}
+use Rattle.cap_tools.proofs.Common.{◌≡◌, inl, inr, ℕ, zero, suc, ◌+◌, ◌≤◌, Bool, true, false, cond, not, max, List, [], ◌∷◌, ◌++◌, length, drop, Option, None, Some, refl, sym, ◌∙◌, ap, arith, subst, Captured, Fault, Kind, Declared, Items, no_items, kind_of, IsAt, Phase, Ended, InputItems, Event, Packet, InputEnd, SequenceEnd, Complete, FaultIn, PacketOrder, InTurn, ByTime, with_front, sequence_in_turn, sequence_by_time, fault_without_packets, sequence_of_entries, sort_entries, all_entries, unless_fault, Policy, Form, JobProgress, apply_events, end_input, unless_ended, InputView, InputPast, Future, AreFutures, AreInputsAfter, IsInput, ended_count, input_after_decided, is_open, items_left, inputs_left, key_of, sequence_left, packet_time, AllEnded, AllReady, IsNextIn, IsOpen, IsReady, KeysFrom, NoneEnded, NoneWaits, count-open, count-all, merged-broken}
 use Rattle.cap_tools.proofs.Merges.{InputFrom, InputsFrom, ended_from, ended-rest, merge-decides, none-broken, waits_from}
+use Rattle.cap_tools.proofs.Splits.{At, Fit, fits-join, rests-join, rests-length}
+use Rattle.cap_inputs.specs.declared.inputs.Next.{Next}
 
 -- ---- which inputs are ready
 
@@ -126,7 +126,7 @@ pub record ReadAt (order : PacketOrder) (cursors : List InputView) (i : ℕ) : T
   pub among : IsInput cursors i cursor
   pub laws : ReadLaws order i among.front among.back cursor
 
-pub read-at : (order : PacketOrder) (ss : List InputPast) (cursors : List InputView) (i : ℕ) → IsNextIn order cursors (next.Read i) → AreInputsAfter ss cursors → ReadAt order cursors i
+pub read-at : (order : PacketOrder) (ss : List InputPast) (cursors : List InputView) (i : ℕ) → IsNextIn order cursors (Next.Read i) → AreInputsAfter ss cursors → ReadAt order cursors i
 read-at InTurn ss cursors i tells following =
     let a = tells.among in
     record { cursor = tells.cursor; among = a; laws = turn-reads i a.front a.back tells.cursor a.place tells.waits tells.unended tells.front tells.back }
@@ -180,7 +180,7 @@ pub record DecideAt (order : PacketOrder) (cursors : List InputView) (i : ℕ) :
   pub among : IsInput cursors i cursor
   pub laws : DecideLaws order i among.front among.back cursor
 
-pub decide-at : (order : PacketOrder) (ss : List InputPast) (cursors : List InputView) (i : ℕ) → IsNextIn order cursors (next.Decide i) → AreInputsAfter ss cursors → DecideAt order cursors i
+pub decide-at : (order : PacketOrder) (ss : List InputPast) (cursors : List InputView) (i : ℕ) → IsNextIn order cursors (Next.Decide i) → AreInputsAfter ss cursors → DecideAt order cursors i
 decide-at InTurn ss cursors i tells following =
     let a = tells.among in
     record { cursor = tells.cursor; among = a; laws = turn-decides i a.front a.back tells.cursor a.place tells.waits tells.unended tells.front }
@@ -216,7 +216,7 @@ no-entries n (h ∷ hs) (f ∷ fs) none ended fits =
     ap (λ (i : Items). all_entries n (record { greatest = h.greatest; items = i; size = f.size } ∷ inputs_left hs fs)) (ended-rest h f none.0 ended.0 fits.0)
     ∙ no-entries (n + 1) hs fs none.1 ended.1 fits.1
 
-pub over-at : (order : PacketOrder) (cursors : List InputView) → IsNextIn order cursors next.Finish → OverAt order cursors
+pub over-at : (order : PacketOrder) (cursors : List InputView) → IsNextIn order cursors Next.Finish → OverAt order cursors
 over-at InTurn cursors ended = record {
   ended = ended;
   over_left = λ fs fits.

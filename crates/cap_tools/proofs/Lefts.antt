@@ -1,8 +1,8 @@
 -- Each step leaves less to do, and is paid by what was read.
 use Rattle.cap_tools.proofs.Common.{◌≡◌, ℕ, ◌+◌, ◌*◌, ◌^◌, ◌<◌, ◌≤◌, suc, Bool, true, false, List, [], ◌∷◌, ◌++◌, length, Result, Ok, Err, refl, sym, ◌∙◌, ap, arith, length-append, slice_set, Fault, SourceView, Phase, Reading, Ended, Failed, Steps, end_offset, phase_after, PacketOrder, InTurn, ByTime, InputView, InputsView, IsInput, MarksDecided, ReadSteps, input_after, input_after_decided, input_steps_left, is_packet_found, steps_left_in, steps_owed, with_cursor, owed_by, steps_left, IsNext, IsNextIn, IsOpen, set-here, most_turns, reads_of, IsPaid, steps_owed_in_all, owed_in}
-use Rattle.std.specs.Prelude.{OnOk}
-use Rattle.cap_inputs.specs.declared.inputs.Next.TheVariants as next
 use Rattle.cap_tools.proofs.Fetches.{among-same}
+use Rattle.std.specs.Prelude.{OnOk}
+use Rattle.cap_inputs.specs.declared.inputs.Next.{Next}
 
 -- ---- one input for another
 
@@ -53,7 +53,7 @@ owes-one (Failed fault) on = refl
 unready-owes : (h : InputView) → Unready h → owed_by h ≡ 1
 unready-owes h un = ap (λ (b : Bool). steps_owed b h.source.phase) un.waits ∙ owes-one h.source.phase un.on
 
-to-read : (inputs : InputsView) (i : ℕ) (h : InputView) → IsNext inputs (next.Read i) → IsInput inputs.cursors i h → Unready h
+to-read : (inputs : InputsView) (i : ℕ) (h : InputView) → IsNext inputs (Next.Read i) → IsInput inputs.cursors i h → Unready h
 to-read inputs i h tells a = by_order inputs.order tells
   where
     same-as : (cursor : InputView) → IsInput inputs.cursors i cursor → cursor.waiting ≡ false → IsOpen cursor → Unready h
@@ -61,12 +61,12 @@ to-read inputs i h tells a = by_order inputs.order tells
         let same = among-same inputs.cursors i h cursor a among in
         record { waits = ap (λ (v : InputView). v.waiting) same ∙ waits; on = λ e. on (sym (ap (λ (v : InputView). v.source.phase) same) ∙ e) }
 
-    by_order : (order : PacketOrder) → IsNextIn order inputs.cursors (next.Read i) → Unready h
+    by_order : (order : PacketOrder) → IsNextIn order inputs.cursors (Next.Read i) → Unready h
     by_order InTurn tells = same-as tells.cursor tells.among tells.waits tells.unended
     by_order ByTime tells = same-as tells.cursor tells.among tells.waits tells.unended
 
 -- the packet of an input that is to be decided waits
-pub to-decide : (order : PacketOrder) (cursors : List InputView) (i : ℕ) (h : InputView) → IsNextIn order cursors (next.Decide i) → IsInput cursors i h → h.waiting ≡ true
+pub to-decide : (order : PacketOrder) (cursors : List InputView) (i : ℕ) (h : InputView) → IsNextIn order cursors (Next.Decide i) → IsInput cursors i h → h.waiting ≡ true
 to-decide InTurn cursors i h tells a = ap (λ (v : InputView). v.waiting) (among-same cursors i h tells.cursor a tells.among) ∙ tells.waits
 to-decide ByTime cursors i h tells a = ap (λ (v : InputView). v.waiting) (among-same cursors i h tells.1.cursor a tells.1.among) ∙ tells.1.waits
 
@@ -78,7 +78,7 @@ following-owes (Failed fault) = omega arith
 
 -- ---- a packet is decided
 
-pub decided-on : (inputs inputs' : InputsView) (i : ℕ) → IsNext inputs (next.Decide i) → MarksDecided inputs i inputs' → (steps_left inputs' < steps_left inputs) × IsPaid inputs inputs'
+pub decided-on : (inputs inputs' : InputsView) (i : ℕ) → IsNext inputs (Next.Decide i) → MarksDecided inputs i inputs' → (steps_left inputs' < steps_left inputs) × IsPaid inputs inputs'
 decided-on inputs inputs' i tells s =
     let cursors' : List InputView = slice_set inputs.cursors i (input_after_decided s.cursor) in
     let one = exchanged inputs.cursors i s.cursor (input_after_decided s.cursor) s.among in
@@ -119,7 +119,7 @@ pub record ReadOn (inputs inputs' : InputsView) (r : Result Bool Fault) : Type 0
   pub less : Goes r → steps_left inputs' < steps_left inputs
   pub paid : Goes r → IsPaid inputs inputs'
 
-pub read-on : (inputs inputs' : InputsView) (i : ℕ) (r : Result Bool Fault) → IsNext inputs (next.Read i) → ReadSteps inputs i r inputs' → ReadOn inputs inputs' r
+pub read-on : (inputs inputs' : InputsView) (i : ℕ) (r : Result Bool Fault) → IsNext inputs (Next.Read i) → ReadSteps inputs i r inputs' → ReadOn inputs inputs' r
 read-on inputs inputs' i r tells f =
     by_result r (gave f.cursor.source f.source r f.steps) (exchanged inputs.cursors i f.cursor (input_after f.cursor r f.source) f.among) (ap (steps_owed (is_packet_found r)) f.phase) (ap steps_left f.is) (ap steps_owed_in_all f.is) (ap most_turns f.is)
   where

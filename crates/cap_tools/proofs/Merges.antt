@@ -1,7 +1,7 @@
 -- Merging: what the keys of the inputs say of all that may come.
+use Rattle.cap_tools.proofs.Coming.{hand_is}
 use Rattle.cap_tools.proofs.Common.{◌≡◌, ℕ, ◌+◌, ◌≤◌, true, false, max, List, [], ◌∷◌, ◌++◌, length, Some, refl, sym, ◌∙◌, ap, subst, Captured, Placed, Items, after_packets, Ended, Packet, SequenceEnd, Complete, with_front, first_end, fault_without_packets, sequence_by_time, InputView, Future, AreFutures, waiting_packets, items_left, inputs_left, no_future, input_after_decided, IsFrom, end_at, AllFrom, merged-next}
 use Rattle.cap_tools.proofs.Splits.{Fit}
-use Rattle.cap_tools.proofs.Coming.{hand_is}
 
 -- a packet waits, whose greatest time so far is at least the key; or the input is at its clean end
 pub data InputFrom (k : ℕ) (h : InputView) : Type 0 where

@@ -1,7 +1,7 @@
 -- What comes next, as a step knows it, is what comes next in the order.
 use Rattle.cap_tools.proofs.Common.{IsNextEvent, ap₂, append_assoc, append-nil, Stops, AsCapture, AsReports, AsLines, text, added_text, packets_text, text-more, lines_text, lines-more, report_text, reports_text, reports-more, Report, Sequence, sequence_of, no_progress, apply_events, end_with, final_text, output_text, text_at_end, Grows, course-grows, course-close, drained-text, StopsWriting, progress_over, failures_by, written_by, ◌≡◌, ℕ, ◌+◌, true, List, [], ◌∷◌, ◌++◌, Option, None, Some, refl, sym, ◌∙◌, ap, Captured, Fault, Kind, Placed, Event, Packet, InputEnd, Complete, PacketOrder, InTurn, ByTime, InputPast, Policy, Edit, Filter, KeepAll, Count, SelectorState, Verdict, Pass, PassLast, PassesAs, Skip, Refuse, judge, Form, JobProgress, IsNextAnswer, apply_event, apply_verdict, closing_text, decide, unless_refused, end_input, first_link, form_refuses, packet_bytes, report_bytes, text_of_progress, progress-next, JobState, Meets, PacketsDecided, asks_report, output_form, progress_of, wholes_of, work_of}
-use Rattle.cap_print.specs.Rendering.{printed_text}
 use Rattle.cap_tools.proofs.Once.{packet-more, report-more}
+use Rattle.cap_print.specs.Rendering.{printed_text}
 
 -- ---- what the next answer adds
 

@@ -1,9 +1,7 @@
 -- A run of a job, from its first view on, in terms of its call.
 use Rattle.cap_tools.proofs.Common.{◌≡◌, ℕ, Bool, zero, suc, List, [], ◌∷◌, map, Option, None, Some, IsTrue, refl, sym, ◌∙◌, ap, subst, Placed, InputPast, DeviceLimits, FreshInput, fresh_view, nothing_done, device_limits, Writing, target_at, written_to, failures_to, form_to, room_to, failures_by, finish_at, texts, work_of, JobView, Decided, JobGives, StaysDecided, first_job, Policy, IsPolicy, IsWork, form_asked, Call, Content, Assignment, Preparing, ReadsFilter, Compiles, Filter, DecidedBy, PreparesBy}
 use Rattle.cap_inputs.specs.inside.Fresh.{fresh_limits}
-use Rattle.cap_process.specs.declared.output.Writing.TheVariants as writing
-use Rattle.cap_tools.specs.declared.job.Turn.TheVariants as turn
-use Rattle.cap_tools.specs.inside.Commands.{MakesStep}
+use Rattle.cap_tools.specs.{declared.job.Turn.Turn, inside.Commands.MakesStep}
 
 -- A job goes on over the packets of a call: it does the work that is asked, of the same inputs more
 -- bytes are done, and the output didn't fail.
@@ -37,9 +35,9 @@ pub record FirstOutput (names : List (List ℕ)) (w : Writing) (bytes : List ℕ
   pub room_is : room_to (target_at w bytes failures room) ≡ room
 
 pub first-output : (names : List (List ℕ)) (w : Writing) (bytes : List ℕ) (failures room : ℕ) → FirstOutput names w bytes failures room
-first-output names (writing.Capture format) bytes failures room = record { form = refl; written = refl; failures_are = refl; room_is = refl }
-first-output names writing.Text bytes failures room = record { form = refl; written = refl; failures_are = refl; room_is = refl }
-first-output names (writing.Lines options) bytes failures room = record { form = refl; written = refl; failures_are = refl; room_is = refl }
+first-output names (Writing.Capture format) bytes failures room = record { form = refl; written = refl; failures_are = refl; room_is = refl }
+first-output names Writing.Text bytes failures room = record { form = refl; written = refl; failures_are = refl; room_is = refl }
+first-output names (Writing.Lines options) bytes failures room = record { form = refl; written = refl; failures_are = refl; room_is = refl }
 
 first-limits : (os : List FreshInput) → device_limits (map fresh_view os) ≡ map fresh_limits os
 first-limits [] = refl
@@ -73,7 +71,7 @@ finish-texts [] i bytes packets = refl
 finish-texts (s ∷ ss) zero bytes packets = refl
 finish-texts (s ∷ ss) (suc i) bytes packets = ap (λ (l : List (List ℕ)). s.text ∷ l) (finish-texts ss i bytes packets)
 
-goes-on : (asked : Assignment) (call : Call) (tells : Bool) (job new : JobView) → IsUnderWay asked call job → JobGives tells job turn.More new → new.state.policy ≡ job.state.policy → new.state.names ≡ job.state.names → IsUnderWay asked call new
+goes-on : (asked : Assignment) (call : Call) (tells : Bool) (job new : JobView) → IsUnderWay asked call job → JobGives tells job Turn.More new → new.state.policy ≡ job.state.policy → new.state.names ≡ job.state.names → IsUnderWay asked call new
 goes-on asked call tells job new was gives policy names =
     let stays : StaysDecided was.decided new = gives.1 was.past call.output.written was.decided in
     let on = stays.goes in
@@ -90,7 +88,7 @@ goes-on asked call tells job new was gives policy names =
     }
 
 -- the first step goes on: over packets, or since the filter is read
-first-more : (output_tells tells : Bool) (asked : Assignment) (call : Call) (new : JobView) (p : Option Preparing) → asked.preparing ≡ p → IsTrue output_tells → (p ≡ None → JobGives tells (first_job asked call) turn.More new) → PreparesBy p output_tells tells (first_job asked call) turn.More new
+first-more : (output_tells tells : Bool) (asked : Assignment) (call : Call) (new : JobView) (p : Option Preparing) → asked.preparing ≡ p → IsTrue output_tells → (p ≡ None → JobGives tells (first_job asked call) Turn.More new) → PreparesBy p output_tells tells (first_job asked call) Turn.More new
     → DecidedBy p (map nothing_done call.inputs) call.output.written (first_job asked call) → (p ≡ None → new.state.policy ≡ asked.policy) → new.state.names ≡ call.names → IsUnderWay asked call new
 first-more output_tells tells asked call new None is to exact prepares d policy names =
     let P : Option Preparing → Type 0 = λ p. IsPolicy p asked.policy asked.policy in
@@ -101,9 +99,9 @@ first-more output_tells tells asked call new (Some (ReadsFilter filter)) is to e
     subst J (sym read.new_is) (begins asked call (Filter read.rule filter.count) None read.programs 1 None (subst P (sym is) (read.rule, read.is, refl)) (d read.rule read.is read.programs read.made))
 first-more output_tells tells asked call new (Some (Compiles words link)) is to exact prepares d policy names = absurd (prepares to)
 
-pub under-more : (inputs_tell output_tells tells : Bool) (asked : Assignment) (call : Call) (job new : JobView) → IsTrue inputs_tell → IsTrue output_tells → Begun asked call → MakesStep inputs_tell output_tells tells job turn.More new → Under asked call job → Under asked call new
+pub under-more : (inputs_tell output_tells tells : Bool) (asked : Assignment) (call : Call) (job new : JobView) → IsTrue inputs_tell → IsTrue output_tells → Begun asked call → MakesStep inputs_tell output_tells tells job Turn.More new → Under asked call job → Under asked call new
 under-more inputs_tell output_tells tells asked call job new ti to begun step (fresh is) =
-    let P : JobView → Type 0 = λ j. MakesStep inputs_tell output_tells tells j turn.More new in
+    let P : JobView → Type 0 = λ j. MakesStep inputs_tell output_tells tells j Turn.More new in
     let first = subst P is step in
     goes first.keeps.prepared first.keeps.done (first-more output_tells tells asked call new asked.preparing refl to (first.exact ti to refl) first.prepares begun first.keeps.policy first.keeps.names)
 under-more inputs_tell output_tells tells asked call job new ti to begun step (goes prepared undone was) =

@@ -1,7 +1,6 @@
 -- A job of which nothing is done.
-use Rattle.cap_tools.proofs.Common.{most_inputs, ◌≡◌, ℕ, suc, ◌+◌, ◌*◌, ◌^◌, ◌<◌, ◌≤◌, List, [], ◌∷◌, map, drop, length, refl, sym, ◌∙◌, ap, arith, Writing, HasWrittenTo, target_at, nothing_counted, append-nil, IsAt-start, HasPackets-none, InputItems, sequence_in_turn, sequence_by_time, PacketOrder, InTurn, ByTime, Policy, FreshInput, fresh_view, nothing_done, fresh_inputs, state_with, Future, AreInputsAfter, KnowGreatest, AreFutures, AreSettled, ended_count, inputs_with, inputs_left, input_items, steps_left_in, steps_left, most_steps, reads_of, most_turns, steps_owed_in_all, owed_in, PacketsDecided}
-use Rattle.cap_process.specs.declared.output.Writing.TheVariants as writing
 use Rattle.cap_tools.proofs.Coming.{come-first}
+use Rattle.cap_tools.proofs.Common.{most_inputs, ◌≡◌, ℕ, suc, ◌+◌, ◌*◌, ◌^◌, ◌<◌, ◌≤◌, List, [], ◌∷◌, map, drop, length, refl, sym, ◌∙◌, ap, arith, Writing, HasWrittenTo, target_at, nothing_counted, append-nil, IsAt-start, HasPackets-none, InputItems, sequence_in_turn, sequence_by_time, PacketOrder, InTurn, ByTime, Policy, FreshInput, fresh_view, nothing_done, fresh_inputs, state_with, Future, AreInputsAfter, KnowGreatest, AreFutures, AreSettled, ended_count, inputs_with, inputs_left, input_items, steps_left_in, steps_left, most_steps, reads_of, most_turns, steps_owed_in_all, owed_in, PacketsDecided}
 use Rattle.cap_tools.proofs.Fetches.{mk}
 
 start-following : (os : List FreshInput) → AreInputsAfter (map nothing_done os) (map fresh_view os)
@@ -16,9 +15,9 @@ start-wholes (o ∷ os) (f ∷ fs) fits = ap (λ (l : List InputItems). input_it
 
 -- nothing is written
 start-drained : (before : List ℕ) (names : List (List ℕ)) (w : Writing) (failures room : ℕ) → HasWrittenTo before names (target_at w before failures room) [] []
-start-drained before names (writing.Capture format) failures room = HasPackets-none format before failures room
-start-drained before names writing.Text failures room = sym (append-nil before)
-start-drained before names (writing.Lines options) failures room = sym (append-nil before)
+start-drained before names (Writing.Capture format) failures room = HasPackets-none format before failures room
+start-drained before names Writing.Text failures room = sym (append-nil before)
+start-drained before names (Writing.Lines options) failures room = sym (append-nil before)
 
 fresh-count : (os : List FreshInput) → ended_count (map fresh_view os) ≡ 0
 fresh-count [] = refl

@@ -1,25 +1,18 @@
 -- The steps of a command's job, from the first one on.
 use Rattle.std.specs.Prelude.{◌≡◌, ◌⊎◌, ℕ, ◌+◌, ◌<◌, ◌≤◌, Bool, List, Option, None, Some, IsTrue}
 use Rattle.cap_octet.specs.declared.link.Link.{Link}
-use Rattle.flt_bpf.specs.declared.insn.Insn.{Insn}
-use Rattle.flt_bpf.specs.Content.{Content}
+use Rattle.flt_bpf.specs.{Content.Content, declared.insn.Insn.Insn}
 use Rattle.flt_words.specs.declared.fault.ExprFault.{ExprFault}
-use Rattle.cap_filter.specs.declared.filter.Refusal.{Refusal}
-use Rattle.cap_filter.specs.declared.filter.Refusal.TheVariants as refusal
-use Rattle.cap_filter.specs.Compilation.{IsCompiled}
-use Rattle.cap_filter.specs.Expressions.{IsTextFault}
+use Rattle.cap_filter.specs.{Compilation.IsCompiled, Expressions.IsTextFault}
 use Rattle.cap_filter.specs.FilterRules.{Rule, IsRule, IsWhy}
-use Rattle.cap_filter.specs.Filters.{AreNew}
-use Rattle.cap_filter.specs.Programs.{spent_in}
-use Rattle.cap_tools.specs.declared.job.Turn.{Turn}
-use Rattle.cap_tools.specs.declared.job.Turn.TheVariants as turn
+use Rattle.cap_filter.specs.{Filters.AreNew, Programs.spent_in, declared.filter.Refusal.Refusal}
+use Rattle.cap_tools.specs.Bounds.{IsLight, StepReads, most_turns}
+use Rattle.cap_tools.specs.FirstStep.{WritesListing, StopsListing, RefusesStart, filtering}
+use Rattle.cap_tools.specs.{Jobs.JobView, Jobs.Decided, Jobs.IsStatus, Jobs.done_by, Packets.room_by}
 use Rattle.cap_tools.specs.Start.{FilterAsked, Preparing, ReadsFilter, Compiles}
+use Rattle.cap_tools.specs.declared.job.Turn.{Turn}
 use Rattle.cap_process.specs.Selector.{HavePrograms}
 use Rattle.cap_inputs.specs.Inputs.{InputPast, steps_left_in}
-use Rattle.cap_tools.specs.Bounds.{IsLight, StepReads, most_turns}
-use Rattle.cap_tools.specs.Packets.{room_by}
-use Rattle.cap_tools.specs.Jobs.{JobView, Decided, IsStatus, done_by}
-use Rattle.cap_tools.specs.FirstStep.{WritesListing, StopsListing, RefusesStart, filtering}
 
 -- the filter is read
 pub record IsFiltered (asked : FilterAsked) (old new : JobView) : Type 0 where
@@ -39,8 +32,8 @@ pub record RefusesFilter (asked : FilterAsked) (tells : Bool) (old : JobView) (s
 -- the first step of a print: its filter is read and the job goes on, or it is refused and the job
 -- ends
 abbrev pub FilterGives : FilterAsked → Bool → JobView → Turn → JobView → Type 0
-FilterGives asked tells old turn.More new = IsFiltered asked old new
-FilterGives asked tells old (turn.Done status) new = RefusesFilter asked tells old status new
+FilterGives asked tells old Turn.More new = IsFiltered asked old new
+FilterGives asked tells old (Turn.Done status) new = RefusesFilter asked tells old status new
 
 -- a listing of some program for the expression is written, or a prefix of it
 pub record ListsSome (words : List ℕ) (link : Link) (tells : Bool) (old : JobView) (status : ℕ)
@@ -54,13 +47,13 @@ pub record RefusesExpression (words : List ℕ) (tells : Bool) (old : JobView) (
     (new : JobView) : Type 0 where
   pub fault : ExprFault
   pub why : IsTextFault words fault
-  pub refuses : RefusesStart (refusal.Expression fault) tells old status new
+  pub refuses : RefusesStart (Refusal.Expression fault) tells old status new
 
 -- the one step of a compilation: a listing is written, or not the whole of it, or the expression is
 -- refused
 abbrev pub CompileGives : List ℕ → Link → Bool → JobView → Turn → JobView → Type 0
-CompileGives words link tells old turn.More new = ⊥
-CompileGives words link tells old (turn.Done status) new =
+CompileGives words link tells old Turn.More new = ⊥
+CompileGives words link tells old (Turn.Done status) new =
     ListsSome words link tells old status new ⊎ RefusesExpression words tells old status new
 
 -- the result of a step that prepares: for a filter on all devices, for a compilation only if
@@ -93,11 +86,11 @@ pub record StepKeeps (old : JobView) (r : Turn) (new : JobView) : Type 0 where
   pub upper_bound : old.done ≡ None → new.turns ≤ most_turns old.state.inputs + 1
   pub light : IsLight new.state
   pub sound : HavePrograms new.state.policy new.programs
-  pub left : r ≡ turn.More → job_left new < job_left old
+  pub left : r ≡ Turn.More → job_left new < job_left old
   pub names : new.state.names ≡ old.state.names
   pub room : room_by new.state ≡ room_by old.state
   -- a step that goes on sends no message
-  pub quiet : r ≡ turn.More → new.err ≡ old.err
+  pub quiet : r ≡ Turn.More → new.err ≡ old.err
   -- if there was nothing to prepare, the policy is unchanged; a filter that is read becomes it
   pub policy : old.preparing ≡ None → new.state.policy ≡ old.state.policy
 

@@ -1,17 +1,11 @@
 -- The first step of a job that reads a filter or compiles an expression.
 use Rattle.std.specs.Prelude.{◌≡◌, ℕ, ◌+◌, Bool, List, ◌++◌, length, Option, None, Some}
-use Rattle.flt_bpf.specs.declared.insn.Insn.{Insn}
-use Rattle.flt_bpf.specs.Content.{Content}
-use Rattle.flt_bpf.specs.Listing.{listing}
+use Rattle.flt_bpf.specs.{Content.Content, Listing.listing, declared.insn.Insn.Insn}
 use Rattle.cap_octet.specs.Device.{Stops}
-use Rattle.cap_filter.specs.declared.filter.Refusal.{Refusal}
+use Rattle.cap_filter.specs.{FilterRules.Rule, Refusals.refusal_status, declared.filter.Refusal.Refusal}
 use Rattle.cap_process.specs.Messages.{IsTold, refusal_message, write_failed_message}
-use Rattle.cap_filter.specs.Refusals.{refusal_status}
-use Rattle.cap_filter.specs.FilterRules.{Rule}
-use Rattle.cap_process.specs.Verdict.{Filter, initial_state}
-use Rattle.cap_process.specs.Reports.{name_at}
-use Rattle.cap_tools.specs.Packets.{written_by, failures_by}
-use Rattle.cap_tools.specs.Jobs.{JobView}
+use Rattle.cap_process.specs.{Reports.name_at, Verdict.Filter, Verdict.initial_state}
+use Rattle.cap_tools.specs.{Jobs.JobView, Packets.written_by, Packets.failures_by}
 
 -- the job whose packets go through the filter, by these programs, up to `count` that pass
 abbrev pub filtering : Rule → Option ℕ → List Content → JobView → JobView

@@ -22,8 +22,7 @@ pub struct Messages<E: Output, A: Allocator> {
 }
 
 impl<E: Output, A: Allocator> Model for Messages<E, A> {
-    ghost use Rattle.std.specs.Prelude.{map};
-    ghost use Rattle.std.specs.String.{string_bytes};
+    ghost use Rattle.std.specs.{Prelude.map, String.string_bytes};
     ghost use Rattle.cap_octet.specs.Views.{output_view};
     ghost use Rattle.cap_tools.specs.Messages.{MessagesView};
 
@@ -36,13 +35,10 @@ impl<E: Output, A: Allocator> Model for Messages<E, A> {
 }
 
 impl<E: Output, A: Allocator> Messages<E, A> {
-    ghost use Rattle.std.specs.Prelude.{◌≡◌, map};
-    ghost use Rattle.std.specs.String.{string_bytes};
-    ghost use Rattle.cap_process.specs.Messages.{refusal_message};
-    ghost use Rattle.cap_process.specs.Messages.{IsTold};
+    ghost use Rattle.std.specs.{Prelude.◌≡◌, Prelude.map, String.string_bytes};
+    ghost use Rattle.cap_process.specs.{Messages.refusal_message, Messages.IsTold, Reports.name_at};
     ghost use Rattle.cap_octet.specs.Views.{output_view};
     ghost use Rattle.cap_tools.specs.Jobs.{end_message};
-    ghost use Rattle.cap_process.specs.Reports.{name_at};
 
     /// Messages of a job over files of these names: for the inputs, then of the output.
     pub fn new(device: E, names: Vec<String<A>, A>) -> Self

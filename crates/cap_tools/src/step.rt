@@ -5,8 +5,7 @@ ghost use Rattle.cap_process.specs.Output.{HasFewOutputInterfaces, room_to};
 ghost use Rattle.cap_process.specs.inside.Reports.{FitsTally};
 ghost use Rattle.cap_process.specs.inside.Selector.{GrowsByOne, HasFewMarks, policy_state};
 ghost use Rattle.cap_tools.specs.Packets.{asks_report};
-ghost use Rattle.cap_tools.specs.inside.Packets.{Closes, DecidesPacket, Offers, Spends};
-ghost use Rattle.cap_tools.specs.inside.Packets.{sieve, end_after, end_of_failed_write};
+ghost use Rattle.cap_tools.specs.inside.Packets.{Closes, DecidesPacket, Offers, Spends, sieve, end_after, end_of_failed_write};
 
 use crate::messages::Messages;
 use cap_inputs::{InputCursor, Inputs};

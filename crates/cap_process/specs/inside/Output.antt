@@ -1,10 +1,8 @@
 -- What one call writes of a packet, a line or a report.
 use Rattle.std.specs.Prelude.{◌≡◌, ℕ, ◌+◌, Bool, true, false, List, Option, Result, Ok, Err, IfErr}
 use Rattle.cap_octet.specs.Device.{AppendsOrStops, failures_of}
-use Rattle.cap_octet.specs.Packet.{Captured}
-use Rattle.cap_octet.specs.declared.device.DeviceFault.{DeviceFault}
-use Rattle.cap_octet.specs.declared.fault.Fault.{Fault}
-use Rattle.cap_octet.specs.declared.fault.Fault.TheVariants.{WriteFailed}
+use Rattle.cap_octet.specs.{Packet.Captured, declared.device.DeviceFault.DeviceFault}
+use Rattle.cap_octet.specs.declared.fault.Fault.{Fault, TheVariants.WriteFailed}
 use Rattle.cap_print.specs.Rendering.{printed_text}
 use Rattle.cap_io.specs.Sink as sinks
 use Rattle.cap_io.specs.Sink.{SinkView, PutWrites, FinishWrites}

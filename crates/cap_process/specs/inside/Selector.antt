@@ -1,15 +1,14 @@
 -- The state of a selector, and its change by one verdict.
 use Rattle.std.specs.Prelude.{◌≡◌, ℕ, ◌+◌, ◌-◌, ◌^◌, ◌≤◌, Bool, true, false, length, Option, None, Result, Ok, Err, Some, []}
-use Rattle.cap_octet.specs.Packet.{Captured}
-use Rattle.cap_octet.specs.declared.fault.Fault.{Fault}
+use Rattle.cap_octet.specs.{Packet.Captured, declared.fault.Fault.Fault}
 use Rattle.cap_window.specs.View.{WindowView}
 use Rattle.cap_process.specs.declared.selector.Verdict as code
 use Rattle.cap_process.specs.declared.selector.Verdict.TheVariants as code_verdict
+use Rattle.cap_process.specs.Reports.{Tally, nothing_counted}
+use Rattle.cap_process.specs.Selector.{SelectorView, window_of, places}
 use Rattle.cap_process.specs.Verdict.{Policy, Filter, SelectorState, Verdict, Pass, PassLast, Refuse, Judgement, counts}
 use Rattle.cap_process.specs.Verdict as judged
-use Rattle.cap_process.specs.Reports.{Tally, nothing_counted}
 use Rattle.cap_io.specs.Reading.{most_in_unit}
-use Rattle.cap_process.specs.Selector.{SelectorView, window_of, places}
 
 -- the policy of a selector, and its state
 pub record PolicyState : Type 0 where

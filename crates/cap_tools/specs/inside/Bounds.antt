@@ -1,9 +1,7 @@
 -- The number of steps, bounded by the bytes read.
 use Rattle.std.specs.Prelude.{ℕ, ◌+◌, ◌≤◌, Bool, true, false, List, [], ◌∷◌, Option, None, Some}
-use Rattle.cap_tools.specs.declared.step.JobEnd.{JobEnd}
-use Rattle.cap_inputs.specs.Inputs.{InputView, InputsView}
-use Rattle.cap_inputs.specs.inside.Inputs.{owed_by}
-use Rattle.cap_tools.specs.Bounds.{most_turns}
+use Rattle.cap_tools.specs.{Bounds.most_turns, declared.step.JobEnd.JobEnd}
+use Rattle.cap_inputs.specs.{Inputs.InputView, Inputs.InputsView, inside.Inputs.owed_by}
 
 -- whether a job goes on after a step
 abbrev pub step_goes_on : Option JobEnd → Bool

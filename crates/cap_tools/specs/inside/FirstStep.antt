@@ -1,13 +1,9 @@
 -- A job before its first step, and the result of a listing.
 use Rattle.std.specs.Prelude.{◌≡◌, ◌⊎◌, ◌<◌, Bool, List, [], None}
 use Rattle.flt_bpf.specs.declared.insn.Insn.{Insn}
-use Rattle.cap_tools.specs.declared.job.Turn.{Turn}
-use Rattle.cap_tools.specs.declared.job.Turn.TheVariants as turn
+use Rattle.cap_tools.specs.{Bounds.most_turns, FirstStep.WritesListing, FirstStep.StopsListing}
+use Rattle.cap_tools.specs.{Jobs.JobView, declared.job.Turn.Turn, inside.Bounds.steps_owed_in_all}
 use Rattle.cap_inputs.specs.inside.Inputs.{steps_left, most_steps}
-use Rattle.cap_tools.specs.Bounds.{most_turns}
-use Rattle.cap_tools.specs.inside.Bounds.{steps_owed_in_all}
-use Rattle.cap_tools.specs.Jobs.{JobView}
-use Rattle.cap_tools.specs.FirstStep.{WritesListing, StopsListing}
 
 -- a job that made no step
 pub record IsFresh (j : JobView) : Type 0 where
@@ -19,6 +15,6 @@ pub record IsFresh (j : JobView) : Type 0 where
 
 -- the step that writes a listing ends the job: all is written, or the output's device failed
 abbrev pub EndsList : List Insn → Bool → JobView → Turn → JobView → Type 0
-EndsList insns tells old turn.More new = ⊥
-EndsList insns tells old (turn.Done status) new =
+EndsList insns tells old Turn.More new = ⊥
+EndsList insns tells old (Turn.Done status) new =
     WritesListing insns old status new ⊎ StopsListing insns tells old status new

@@ -1,12 +1,8 @@
 -- The invariant of a job, and of a loop of steps.
 use Rattle.std.specs.Prelude.{ℕ, ◌+◌, ◌≤◌, Option, None, Some}
 use Rattle.cap_inputs.specs.inside.Inputs.{most_steps, steps_left}
-use Rattle.cap_process.specs.Selector.{HavePrograms}
-use Rattle.cap_process.specs.inside.Selector.{HasFewMarks}
-use Rattle.cap_tools.specs.Bounds.{IsBounded}
-use Rattle.cap_tools.specs.Jobs.{JobView}
-use Rattle.cap_tools.specs.inside.Bounds.{HasFewTurns}
-use Rattle.cap_tools.specs.inside.Commands.{IsReadyIf}
+use Rattle.cap_process.specs.{Selector.HavePrograms, inside.Selector.HasFewMarks}
+use Rattle.cap_tools.specs.{Bounds.IsBounded, Jobs.JobView, inside.Bounds.HasFewTurns, inside.Commands.IsReadyIf}
 
 -- the steps that were made and those that are left are `most_steps` at most; those of a job that
 -- ended one more at most, and its status is at most 2

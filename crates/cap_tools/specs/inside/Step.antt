@@ -2,14 +2,11 @@
 -- job after that report.
 use Rattle.std.specs.Prelude.{◌≡◌, ◌+◌, ◌<◌, ◌≤◌, Bool, IsTrue, Some, Option, None}
 use Rattle.cap_octet.specs.Views.{OutputView}
-use Rattle.cap_tools.specs.declared.step.JobEnd.{JobEnd}
+use Rattle.cap_tools.specs.{Bounds.IsLight, Bounds.StepReads, Bounds.most_turns, Jobs.JobView, Jobs.end_status}
+use Rattle.cap_tools.specs.{Packets.StepGives, Packets.room_by, declared.step.JobEnd.JobEnd}
+use Rattle.cap_tools.specs.inside.{Bounds.IsPaid, Bounds.step_goes_on, Bounds.steps_owed_in_all, Jobs.IsSound}
 use Rattle.cap_inputs.specs.inside.Inputs.{most_steps, steps_left}
 use Rattle.cap_process.specs.Selector.{HavePrograms}
-use Rattle.cap_tools.specs.Packets.{StepGives, room_by}
-use Rattle.cap_tools.specs.Jobs.{JobView, end_status}
-use Rattle.cap_tools.specs.Bounds.{IsLight, StepReads, most_turns}
-use Rattle.cap_tools.specs.inside.Bounds.{IsPaid, step_goes_on, steps_owed_in_all}
-use Rattle.cap_tools.specs.inside.Jobs.{IsSound}
 
 -- The result of a step. `exact` holds if contracts know the bytes of the inputs and of the output;
 -- the other clauses hold for all devices. Messages and the count of steps don't change.

@@ -1,8 +1,8 @@
 use Rattle.cap_tools.proofs.Common.{◌≡◌, ℕ, List, Option, true, Ok, Err, refl, sym, ◌∙◌, ap₂, subst, None, Some, is_in_turn, Reports, Tally, file_report, is_count, TakesTally, policy_state}
-use Rattle.cap_tools.specs.declared.step.JobEnd.TheVariants as end
 use Rattle.cap_tools.proofs.Fetches.{closes-by, counted, uncounted, unreported}
-use Rattle.cap_process.proofs.Selectors.{closes-policy}
 use Rattle.cap_tools.proofs.Places.{get-input}
+use Rattle.cap_tools.specs.declared.step.JobEnd.{JobEnd}
+use Rattle.cap_process.proofs.Selectors.{closes-policy}
 use Rattle.cap_tools.proofs.step.close.Goals as goal
 
 pub returns-in-Ok-clause-exact : goal.returns-in-Ok-clause-exact
@@ -24,7 +24,7 @@ returns-in-Err-clause-exact g c = λ to.
     record {
       cursor = c.cursor-cursor.result.now;
       among = get-input c.args.inputs.now.cursors c.args.input c.cursor-cursor.result.now c.cursor-cursor.ensures;
-      by = closes-by c.args.inputs.now.order c.args.input c.cursor-cursor.result.now (policy_state c.args.selector.now) (policy_state c.close.new.self) c.args.messages.now.names c.args.output.now c.report.new.self (Some end.OutputFailed) c.in-Some.tally
+      by = closes-by c.args.inputs.now.order c.args.input c.cursor-cursor.result.now (policy_state c.args.selector.now) (policy_state c.close.new.self) c.args.messages.now.names c.args.output.now c.report.new.self (Some JobEnd.OutputFailed) c.in-Some.tally
           _ (Err c.in-Err.field-0) turn c.in-Some.ensures.closes (ap₂ (λ k n. record { input = c.args.input; kind = k; size = n; tally = c.in-Some.tally }) c.kind.ensures c.offset.ensures) (let F : List ℕ → Type 0 = λ n. Reports (file_report n c.kind.result c.offset.result c.in-Some.tally) c.args.output.now (Err c.in-Err.field-0) c.report.new.self in subst F c.name.ensures (c.in-Err.ensures.exact to)) refl;
     }
 

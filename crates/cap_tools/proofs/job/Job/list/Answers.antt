@@ -1,7 +1,7 @@
-use Rattle.cap_tools.proofs.Common.{◌≡◌, true, Ok, Err, subst, sym, arith, common_steps, JobView, IsLight, is_text, EndsList}
-use Rattle.cap_tools.specs.declared.job.Turn.TheVariants as turn
 use Rattle.cap_tools.proofs.CommandStarts.{listed}
+use Rattle.cap_tools.proofs.Common.{◌≡◌, true, Ok, Err, subst, sym, arith, common_steps, JobView, IsLight, is_text, EndsList}
 use Rattle.cap_tools.proofs.Weights.{is-light}
+use Rattle.cap_tools.specs.declared.job.Turn.{Turn}
 use Rattle.cap_tools.proofs.job.Job.list.Goals as goal
 
 pub list-requires : goal.list-requires
@@ -12,7 +12,7 @@ list-requires g c =
 pub returns-in-Ok-clause-exact : goal.returns-in-Ok-clause-exact
 returns-in-Ok-clause-exact g c = λ to.
     let T : JobView → Type 0 = λ v. is_text v.state.output ≡ true in
-    let P : JobView → Type 0 = λ v. EndsList c.args.program.now.insns g.E.Output.tells v (turn.Done 0) c.end.new.self in
+    let P : JobView → Type 0 = λ v. EndsList c.args.program.now.insns g.E.Output.tells v (Turn.Done 0) c.end.new.self in
     rw c.end.ensures.done (subst P c.self.view_is (listed c.args.program.now.insns g.E.Output.tells _ c.end.new.self c.list.new.self (Ok tt) (subst T (sym c.self.view_is) c.requires.text) (c.in-Ok.ensures.exact to) c.end.ensures.ended c.end.ensures.exact c.end.ensures.quiet))
 
 pub returns-in-Ok-clause-keeps : goal.returns-in-Ok-clause-keeps
@@ -24,7 +24,7 @@ returns-in-Ok-clause-keeps g c = λ p.
 pub returns-in-Err-clause-exact : goal.returns-in-Err-clause-exact
 returns-in-Err-clause-exact g c = λ to.
     let T : JobView → Type 0 = λ v. is_text v.state.output ≡ true in
-    let P : JobView → Type 0 = λ v. EndsList c.args.program.now.insns g.E.Output.tells v (turn.Done 1) c.end-in-Err.new.self in
+    let P : JobView → Type 0 = λ v. EndsList c.args.program.now.insns g.E.Output.tells v (Turn.Done 1) c.end-in-Err.new.self in
     rw c.end-in-Err.ensures.done (subst P c.self.view_is (listed c.args.program.now.insns g.E.Output.tells _ c.end-in-Err.new.self c.list.new.self (Err c.in-Err.field-0) (subst T (sym c.self.view_is) c.requires.text) (c.in-Err.ensures.exact to) c.end-in-Err.ensures.ended c.end-in-Err.ensures.exact c.end-in-Err.ensures.quiet))
 
 pub returns-in-Err-clause-keeps : goal.returns-in-Err-clause-keeps
