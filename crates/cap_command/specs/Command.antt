@@ -1,6 +1,6 @@
--- Which commands may be run, and the listing of a print.
-use Rattle.std.specs.{List.list_all, Option.is_none, Option.option_map, Option.option_map_or}
-use Rattle.std.specs.Prelude.{ℕ, ◌^◌, ◌&&◌, ◌||◌, Bool, true, not, List, length, nat_eq, nat_lt, nat_le, string_bytes, Option}
+-- Which commands may be run, the listing of a print, and which packets an edit keeps.
+use Rattle.std.specs.{List.list_all, List.list_any, Option.is_none, Option.option_map, Option.option_map_or}
+use Rattle.std.specs.Prelude.{ℕ, ◌^◌, ◌&&◌, ◌||◌, Bool, true, not, List, length, nat_eq, nat_lt, nat_le, string_bytes, Option, if◌then◌else◌}
 use Rattle.cap_octet.specs.Date.{TIME_END}
 use Rattle.cap_command.specs.declared.command.{Command.Command, Edit.Edit, Print.Print, Shift.Shift}
 
@@ -91,3 +91,13 @@ is_proper (Command.Compile compile) inputs = nat_eq inputs 0
 -- the bytes of a listing, if there is one
 abbrev pub listing_of : {Z : Type 0} → Print Z → Option (List ℕ)
 listing_of print = option_map (λ text. text.items) print.code
+
+-- ---- which packets an edit keeps
+
+-- some range has the number
+abbrev pub is_in_some_range : List (ℕ × ℕ) → ℕ → Bool
+is_in_some_range ranges number = list_any (λ range. nat_le range.0 number && nat_le number range.1) ranges
+
+-- the packet with this number is kept: the ranges name the deleted packets, or the only kept ones
+abbrev pub is_kept : List (ℕ × ℕ) → Bool → ℕ → Bool
+is_kept ranges keep number = if keep then is_in_some_range ranges number else not (is_in_some_range ranges number)

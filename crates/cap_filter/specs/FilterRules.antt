@@ -3,12 +3,15 @@ use Rattle.std.specs.Prelude.{ℕ, ◌==◌, not, List, length, Option, None, So
 use Rattle.cap_octet.specs.{Link.link_of, Packet.Captured}
 use Rattle.cap_octet.specs.declared.{fault.Fault.TheVariants.LinkTypeNotFiltered, link.Link.Link}
 use Rattle.flt_bpf.specs.{Listing.IsListing, Machine.machine, Machine.Progress, Machine.Answered}
-use Rattle.flt_bpf.specs.{Valid.IsValid, Valid.BreaksFirst, declared.insn.Insn.Insn}
+use Rattle.flt_bpf.specs.Valid.{IsValid, BreaksFirst}
+use Rattle.flt_bpf.specs.declared.{fault.ListingFault.ListingFault, insn.Insn.Insn}
 use Rattle.flt_bpf.specs.Refusal as listing
 use Rattle.flt_ast.specs.Tree.{Expression, empty, truth}
 use Rattle.flt_gen.specs.{Elementary.MatchResult, Elementary.Yes, Elementary.No, Elementary.Rejected, Reading.holds}
 use Rattle.cap_filter.specs.Decisions.{Decision, Keep, Skip, Refuse, keep_if}
-use Rattle.cap_filter.specs.{Expressions.IsExpression, Expressions.IsTextFault, declared.filter.Refusal.Refusal}
+use Rattle.cap_filter.specs.Expressions.{IsExpression, IsTextFault}
+use Rattle.cap_filter.specs.declared.filter.Refusal.{Refusal, TheVariants.Expression, TheVariants.Listing}
+use Rattle.flt_words.specs.declared.fault.ExprFault.{ExprFault}
 
 -- ---- which packets pass
 
@@ -61,3 +64,9 @@ IsWhy words (Some text) (Refusal.Expression fault) = ⊥
 IsWhy words (Some text) (Refusal.Listing fault) = listing.IsReasonFor text fault
 IsWhy words (Some text) (Refusal.Program fault at) =
     (prog : List Insn) × IsListing text prog × BreaksFirst prog fault at
+
+-- 1 if memory ran out, else 2
+abbrev pub refusal_status : Refusal → ℕ
+refusal_status (Expression ExprFault.Memory) = 1
+refusal_status (Listing ListingFault.Memory) = 1
+refusal_status _ = 2

@@ -4,5 +4,4 @@ pub mod Programs
 pub mod Expressions
 pub mod FilterRules
 pub mod Filters
-pub mod Refusals
 pub mod inside

@@ -1,9 +1,8 @@
 //! Filters: what decides which packets pass, made of an expression's words or of a listing, or why
 //! these are refused.
 ghost use Rattle.std.specs.Prelude.{◌≡◌, IfErr, IfOk, None, Some};
-ghost use Rattle.cap_filter.specs.FilterRules.{IsRule, IsWhy, by_reading};
+ghost use Rattle.cap_filter.specs.FilterRules.{IsRule, IsWhy, by_reading, refusal_status};
 ghost use Rattle.cap_filter.specs.Filters.{AreNew, programs_of, rule_of};
-ghost use Rattle.cap_filter.specs.Refusals.{refusal_status};
 
 use crate::compiled::Compiled;
 use crate::expression::read_expression;

@@ -3,7 +3,7 @@
 use Rattle.std.specs.Prelude.{◌≡◌, ℕ, ◌+◌, ◌-◌, ◌==◌, ◌&&◌, Bool, true, false, if◌then◌else◌, nat_lt, nat_le, List, [], ◌∷◌, ◌++◌, length, take, drop, Option, None, Some}
 use Rattle.cap_octet.specs.{Date.TIME_END, Packet.Captured}
 use Rattle.cap_octet.specs.declared.fault.Fault.{Fault, TheVariants.TimeOutOfRange, TheVariants.TooManyPackets}
-use Rattle.cap_command.specs.{Command.PACKET_NUMBER_END, Selection.is_kept, declared.command.Shift.Shift}
+use Rattle.cap_command.specs.{Command.PACKET_NUMBER_END, Command.is_kept, declared.command.Shift.Shift}
 use Rattle.cap_filter.specs.Decisions as chosen
 use Rattle.cap_filter.specs.{Decisions.Decision, FilterRules.Rule, FilterRules.rule_decides}
 use Rattle.cap_process.specs.Reports.{Tally, nothing_counted, tally_with}

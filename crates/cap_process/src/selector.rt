@@ -4,7 +4,7 @@ ghost use Rattle.std.specs.Prelude.{◌≡◌, ℕ, ◌+◌, ◌-◌, ◌<◌, �
 ghost use Rattle.cap_octet.specs.Packet.{Captured, captured};
 ghost use Rattle.cap_io.specs.Reading.{most_in_unit};
 ghost use Rattle.cap_filter.specs.Programs.{spent_in};
-ghost use Rattle.cap_process.specs.Reports.{Tally, nothing_counted};
+ghost use Rattle.cap_process.specs.Reports.{Tally};
 ghost use Rattle.cap_process.specs.Selector.{is_count, marks_in, most_spent, policy_of, programs_in, spent_by, state_of, window_of};
 ghost use Rattle.cap_process.specs.Verdict.{is_last, judge_by};
 ghost use Rattle.cap_process.specs.inside.Selector.{IsWindowFor, ReturnsVerdict, count_limit, verdict_if, verdict_of};
@@ -172,9 +172,8 @@ impl<A: Allocator> Selector<A> {
     ghost use Rattle.std.specs.Prelude.{IfOk};
     ghost use Rattle.cap_filter.specs.Filters.{programs_of, rule_of};
     ghost use Rattle.cap_process.specs.Selector.{SelectorView, spent_by_verdict};
-    ghost use Rattle.cap_process.specs.Verdict.{Filter as AskedFilter, judge};
-    ghost use Rattle.cap_process.specs.inside.Reports.{FitsTally};
-    ghost use Rattle.cap_process.specs.inside.Selector.{GrowsByOne, HasFewMarks, IsVerdict, TakesTally, policy_state, state_with};
+    ghost use Rattle.cap_process.specs.Verdict.{Filter as AskedFilter, initial_state, judge};
+    ghost use Rattle.cap_process.specs.inside.Selector.{FitsTally, GrowsByOne, HasFewMarks, IsVerdict, TakesTally, policy_state};
 
     /// A selector by which no packet was judged yet. If it looks for duplicates it takes the
     /// memory of their window here; the error means that memory ran out.
@@ -183,8 +182,7 @@ impl<A: Allocator> Selector<A> {
         A: Copy + Drop,
         ensures { IfOk result (λ selector. selector ≡ record {
           policy = policy_of policy;
-          state = state_with 0
-              nothing_counted;
+          state = initial_state;
           programs = programs_in policy;
         }) }
     {
@@ -202,8 +200,7 @@ impl<A: Allocator> Selector<A> {
     pub fn filtering(filter: Filter<A>, count: Option<u64>) -> Self
         ensures { result ≡ record {
           policy = AskedFilter (rule_of filter) count;
-          state = state_with 0
-              nothing_counted;
+          state = initial_state;
           programs = programs_of filter;
         } }
     {

@@ -1,11 +1,79 @@
 -- The job of a command of which nothing is done.
-use Rattle.cap_tools.proofs.Common.{◌≡◌, inl, inr, ℕ, ◌+◌, ◌≤◌, Bool, true, not, List, [], map, length, None, Option, Result, Ok, Err, refl, sym, ap, arith, subst, ◌∙◌, nat_eq, nat_le, ◌&&◌, add-zero, DeviceFault, Stops, listing, Target, Capture, Text, Lines, target_at, written_to, failures_to, failures_by, Reports, is_text, nothing_counted, written_by, MessagesView, is_proper, is_proper_edit, is_proper_print, most_inputs, IsCompiled, IsTold, Insn, Link, Turn, InTurn, Count, KeepAll, Call, JobView, JobEnd, first_job, state_at, end_message, end_status, fresh_inputs, nothing_done, order_of, InputsView, EndsList, ending, Assignment, Preparing, assignment, SelectorView, state_with, CompileGives, DecidedBy, PreparesBy, PreparesOnly, RefusesStart, Refusal, refusal_status, IsReadyIf, IsSound, Some, spent_in, with_preparing}
-use Rattle.cap_tools.proofs.{Programs.new-for, Starts.nothing-decided, Starts.first-few, Starts.first-less}
+use Rattle.cap_tools.proofs.Coming.{come-first}
+use Rattle.cap_tools.proofs.Common.{◌≡◌, inl, inr, ℕ, ◌+◌, ◌≤◌, Bool, true, not, List, [], map, length, None, Option, Result, Ok, Err, refl, sym, ap, arith, subst, ◌∙◌, nat_eq, nat_le, ◌&&◌, add-zero, DeviceFault, Stops, listing, Target, Capture, Text, Lines, target_at, written_to, failures_to, failures_by, Reports, is_text, nothing_counted, written_by, MessagesView, is_proper, is_proper_edit, is_proper_print, most_inputs, IsCompiled, IsTold, Insn, Link, Turn, InTurn, Count, KeepAll, Call, JobView, JobEnd, first_job, state_at, end_message, end_of_write, end_status, fresh_inputs, nothing_done, order_of, InputsView, EndsList, ending, Assignment, Preparing, assignment, SelectorView, initial_state, CompileGives, DecidedBy, PreparesBy, PreparesOnly, RefusesStart, Refusal, refusal_status, IsReadyIf, IsSound, Some, spent_in, with_preparing, suc, ◌*◌, ◌^◌, ◌<◌, ◌∷◌, drop, Writing, HasWrittenTo, append-nil, IsAt-start, HasPackets-none, InputItems, sequence_in_turn, sequence_by_time, PacketOrder, ByTime, Policy, FreshInput, fresh_view, Future, AreInputsAfter, KnowGreatest, AreFutures, AreSettled, ended_count, inputs_with, inputs_left, input_items, steps_left_in, steps_left, most_steps, reads_of, most_turns, steps_owed_in_all, owed_in, PacketsDecided, false, ap₂, All, is_some, option_map, Content, empty, truth, Rule, by_reading, by_answer, AreNew, preparing_of}
+use Rattle.cap_tools.proofs.{Fetches.mk, Programs.new-for}
 use Rattle.std.proofs.lemmas.Bool.{and_parts, eqb-true, leb-true}
 use Rattle.cap_octet.specs.Device.{AppendsOrStops, failures_of}
 use Rattle.cap_command.specs.declared.command.Command.{Command}
 use Rattle.cap_process.specs.declared.output.Writing.{Writing}
-use Rattle.cap_tools.specs.inside.{Commands.HasMadeNoStep, Commands.KeepsFirst, Commands.MakesStep, FirstStep.IsFresh}
+use Rattle.cap_tools.specs.declared.start.Preparation.{Preparation}
+use Rattle.cap_tools.specs.inside.Jobs.{HasMadeNoStep, KeepsFirst, MakesStep, IsFresh}
+
+start-following : (os : List FreshInput) → AreInputsAfter (map nothing_done os) (map fresh_view os)
+start-following [] = tt
+start-following (o ∷ os) = (IsAt-start o.text o.given o.failures o.sure, start-following os)
+
+start-wholes : (os : List FreshInput) (fs : List Future) → AreFutures (map fresh_view os) fs → inputs_with (map nothing_done os) (map fresh_view os) fs ≡ inputs_left (map fresh_view os) fs
+start-wholes [] [] fits = refl
+start-wholes [] (f ∷ fs) fits = absurd fits
+start-wholes (o ∷ os) [] fits = absurd fits
+start-wholes (o ∷ os) (f ∷ fs) fits = ap (λ (l : List InputItems). input_items (nothing_done o) (fresh_view o) f ∷ l) (start-wholes os fs fits.1)
+
+-- nothing is written
+start-drained : (before : List ℕ) (names : List (List ℕ)) (w : Writing) (failures room : ℕ) → HasWrittenTo before names (target_at w before failures room) [] []
+start-drained before names (Writing.Capture format) failures room = HasPackets-none format before failures room
+start-drained before names Writing.Text failures room = sym (append-nil before)
+start-drained before names (Writing.Lines options) failures room = sym (append-nil before)
+
+fresh-count : (os : List FreshInput) → ended_count (map fresh_view os) ≡ 0
+fresh-count [] = refl
+fresh-count (o ∷ os) = refl
+
+start-come : (order : PacketOrder) (os : List FreshInput) → AreSettled (map nothing_done os) (record { order = order; cursors = map fresh_view os }) []
+start-come InTurn os fs fits =
+    let rs : List InputItems = inputs_left (map fresh_view os) fs in
+    ap (sequence_in_turn 0) (start-wholes os fs fits) ∙ ap (λ n. sequence_in_turn n (drop n rs)) (sym (fresh-count os))
+start-come ByTime os fs fits = ap sequence_by_time (start-wholes os fs fits)
+
+start-greatest : (os : List FreshInput) → KnowGreatest (map nothing_done os) (map fresh_view os)
+start-greatest [] = tt
+start-greatest (o ∷ os) = (refl, start-greatest os)
+
+pub nothing-decided : (order : PacketOrder) (os : List FreshInput) (before : List ℕ) (policy : Policy) (names : List (List ℕ)) (w : Writing) (failures room : ℕ)
+    → PacketsDecided (map nothing_done os) before (mk (map fresh_view os) order policy initial_state names (target_at w before failures room) 0)
+nothing-decided order os before policy names w failures room = record {
+  following = start-following os;
+  greatest = start-greatest os;
+  events = [];
+  first = come-first (map nothing_done os) (record { order = order; cursors = map fresh_view os }) [] (start-following os) (start-come order os);
+  come = start-come order os;
+  packets = [];
+  reports = [];
+  progress = refl;
+  output = start-drained before names w failures room;
+  passed = omega arith;
+  counted = (omega arith, omega arith, omega arith);
+}
+
+fresh-left : (os : List FreshInput) → steps_left_in (map fresh_view os) ≤ (2 ^ 64 + 1) * length os
+fresh-left [] = omega arith
+fresh-left (o ∷ os) = let e = fresh-left os in omega (arith, e)
+
+-- so much is to be done
+pub first-left : (order : PacketOrder) (os : List FreshInput) → length os ≤ most_inputs → steps_left (fresh_inputs order os) ≤ most_steps
+first-left order os upper_bound = let a = fresh-left os in omega (arith, a, upper_bound)
+
+pub first-less : (order : PacketOrder) (os : List FreshInput) → length os ≤ most_inputs → steps_left (fresh_inputs order os) < most_steps
+first-less order os upper_bound = let a = fresh-left os in omega (arith, a, upper_bound)
+
+-- each input owes one step
+start-owed : (os : List FreshInput) → (reads_of (map fresh_view os) ≡ 0) × (owed_in (map fresh_view os) ≡ length (map fresh_view os))
+start-owed [] = (refl, refl)
+start-owed (o ∷ os) = let e = start-owed os in let r = e.0 in let w = e.1 in (omega (arith, r), omega (arith, w))
+
+-- nothing is owed but for the ends of the inputs
+pub first-few : (order : PacketOrder) (os : List FreshInput) → steps_owed_in_all (fresh_inputs order os) < most_turns (fresh_inputs order os)
+first-few order os = let e = start-owed os in let r = e.0 in let w = e.1 in omega (arith, r, w)
 
 -- ---- the first step of a job, whose preparation was taken out
 
@@ -64,7 +132,7 @@ few-inputs (Command.Compile compile) n is = let none = eqb-true n 0 is in omega 
 -- the job that was made of these parts is that of the command
 pub first-made : {Z : Type 0} (c : Command Z) (call : Call) (a : Assignment) (inputs : InputsView) (selector : SelectorView) (messages : MessagesView) (target : Target)
     → a.preparing ≡ (assignment c).preparing → a.order ≡ (assignment c).order → a.policy ≡ (assignment c).policy → a.writing ≡ (assignment c).writing
-    → inputs ≡ fresh_inputs a.order call.inputs → selector ≡ record { policy = a.policy; state = state_with 0 nothing_counted; programs = [] }
+    → inputs ≡ fresh_inputs a.order call.inputs → selector ≡ record { policy = a.policy; state = initial_state; programs = [] }
     → messages ≡ record { names = call.names; device = call.messages } → target ≡ target_at a.writing call.output.written call.output.failures call.room
     → record {
       preparing = a.preparing;
@@ -106,14 +174,9 @@ appended (Text written failures room) new bytes r text to =
     let P : Target → Type 0 = λ t. AppendsOrStops r written bytes (written_to t) × (failures_to t ≡ failures + failures_of r) in
     subst P (sym to.is) (to.appends, refl)
 
--- how a job ends after a listing
-abbrev end_of_list : Result (Unit {0}) DeviceFault → JobEnd
-end_of_list (Ok done) = JobEnd.Complete
-end_of_list (Err fault) = JobEnd.OutputFailed
-
 pub listed : (insns : List Insn) (tells : Bool) (old new : JobView) (output : Target) (r : Result (Unit {0}) DeviceFault) → is_text old.state.output ≡ true → Reports (listing insns) old.state.output r output
-    → new ≡ ending (end_of_list r) new.err (record old { state = record old.state { output = output } })
-    → IsTold tells old.err (end_message old.state.names old.state.inputs.cursors (end_of_list r)) new.err → (end_of_list r ≡ JobEnd.Complete → new.err ≡ old.err) → EndsList insns tells old (Turn.Done (end_status (end_of_list r))) new
+    → new ≡ ending (end_of_write r) new.err (record old { state = record old.state { output = output } })
+    → IsTold tells old.err (end_message old.state.names old.state.inputs.cursors (end_of_write r)) new.err → (end_of_write r ≡ JobEnd.Complete → new.err ≡ old.err) → EndsList insns tells old (Turn.Done (end_status (end_of_write r))) new
 listed insns tells old new output (Ok done) text lists is told quiet =
     let to = appended old.state.output output (listing insns) (Ok done) text lists in
     inl (record {
@@ -126,3 +189,27 @@ listed insns tells old new output (Err fault) text lists is told quiet =
     let to = appended old.state.output output (listing insns) (Err fault) text lists in
     let S : JobView → Type 0 = λ j. Stops (written_by old.state) (listing insns) (written_by j.state) in
     inr (record { stops = subst S (sym is) to.0; failures = ap (λ (j : JobView). failures_by j.state) is ∙ to.1; exact = told; status_is = refl })
+
+pub none-before : {Z : Type 0} (p : Option (Preparation Z)) → is_some p ≡ false → option_map preparing_of p ≡ None
+none-before None is = refl
+none-before (Some p) is = (cc)
+
+pub some-before : {Z : Type 0} (p : Option (Preparation Z)) → is_some p ≡ true → option_map preparing_of p ≡ None → ⊥
+some-before None is none = (cc)
+some-before (Some p) is none = (cc)
+
+-- a job that prepares nothing is ready
+pub ready-none : (p : Option Preparing) (j : JobView) → p ≡ None → IsReadyIf p j
+ready-none None j is = tt
+ready-none (Some preparing) j is = (cc)
+
+none-spent : (programs : List Content) → All (λ program. program.spent ≡ 0) programs → spent_in programs ≡ 0
+none-spent [] all = refl
+none-spent (program ∷ programs) all =
+    let cursor : program.spent ≡ 0 = all 0 program (omega arith) in
+    ap₂ (λ a b. a + b) cursor (none-spent programs (λ k d less. all (suc k) d (omega (arith, less))))
+
+pub new-unspent : (rule : Rule) (programs : List Content) → AreNew rule programs → spent_in programs ≡ 0
+new-unspent (by_reading empty) programs new = rw new refl
+new-unspent (by_reading (truth a)) programs new = none-spent programs new.1
+new-unspent (by_answer prog) programs new = rw new refl

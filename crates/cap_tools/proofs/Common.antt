@@ -8,10 +8,10 @@ pub use Rattle.std.specs.Option.{option_map, option_or, is_some, unwrap_or}
 pub use Rattle.cap_command.specs.Call.{Call, RunResult, call_of}
 pub use Rattle.cap_command.specs.Command.{is_proper, is_proper_edit, is_proper_print, most_inputs}
 pub use Rattle.cap_filter.specs.Compilation.{IsCompiled}
-pub use Rattle.cap_filter.specs.FilterRules.{Rule, by_reading, by_answer}
+pub use Rattle.cap_filter.specs.FilterRules.{Rule, by_reading, by_answer, refusal_status}
 pub use Rattle.cap_filter.specs.Filters.{AreNew, place_by, spent_on, programs_of, rule_of}
 pub use Rattle.cap_filter.specs.Programs.{spent_in, AreMade, ran_at, ran_if}
-pub use Rattle.cap_filter.specs.{Refusals.refusal_status, declared.filter.Refusal.Refusal}
+pub use Rattle.cap_filter.specs.declared.filter.Refusal.{Refusal}
 pub use Rattle.cap_inputs.specs.Fresh.{fresh_view, nothing_done, fresh_inputs}
 pub use Rattle.cap_inputs.specs.Inputs.{InputView, Future, InputPast, AreInputsAfter, AreSettled, IsInput, input_after_decided, items_left, inputs_left, sequence_left, DeviceLimits, InputsView, input_after, device_limits, limits_of, offset_at, AreFutures, waiting_packets, input_items, inputs_with, no_future, ReadsInput, ended_count, is_open, key_of, packet_time, MarksDecided, ReadSteps, input_steps_left, is_packet_found, steps_left_in, steps_owed, with_cursor, KnowGreatest, greatest_of, is_clean_end}
 pub use Rattle.cap_inputs.specs.inside.Inputs.{actual_future, most_steps, offset_of, IsNext, is_in_turn, AllEnded, first_declared_link, AllReady, IsNextIn, IsOpen, IsReady, KeysFrom, NoneEnded, NoneWaits, owed_by, steps_left}
@@ -38,16 +38,14 @@ pub use Rattle.cap_process.specs.Outcome.{Form, AsCapture, AsLines, JobProgress,
 pub use Rattle.cap_process.specs.Output.{Target, Capture, Text, Lines, HasWrittenTo, form_to, written_to, failures_to, room_to, target_at, HasFewOutputInterfaces}
 pub use Rattle.cap_process.specs.Reports.{Tally, name_at, nothing_counted, Report, report_text, reports_text, file_report}
 pub use Rattle.cap_process.specs.Selector.{IsWithin, SelectorView, is_count, spent_by_verdict, AreFor, HavePrograms, spent_by, policy_of}
-pub use Rattle.cap_process.specs.Verdict.{Policy, Edit, Filter, KeepAll, Count, SelectorState, Verdict, Pass, PassLast, PassesAs, Skip, Refuse, judge, is_too_many}
+pub use Rattle.cap_process.specs.Verdict.{Policy, Edit, Filter, KeepAll, Count, SelectorState, initial_state, Verdict, Pass, PassLast, PassesAs, Skip, Refuse, judge, is_too_many}
 pub use Rattle.cap_process.specs.declared.output.Writing.{Writing}
 pub use Rattle.cap_process.specs.inside.Output.{PutsIntoOutput, Reports, is_text, EndsOutput, FinishesInto}
-pub use Rattle.cap_process.specs.inside.Selector.{PolicyState, GrowsByOne, IsVerdict, state_with, with_empty_tally, HasFewMarks, policy_state, TakesTally}
-pub use Rattle.cap_process.proofs.Growing.{Grows, course-grows}
-pub use Rattle.cap_process.proofs.Outcomes.{progress-next, course-stop, progress-append, course-close}
+pub use Rattle.cap_process.specs.inside.Selector.{PolicyState, GrowsByOne, IsVerdict, with_empty_tally, HasFewMarks, policy_state, TakesTally}
+pub use Rattle.cap_process.proofs.Outcomes.{Grows, course-grows, progress-next, course-stop, progress-append, course-close}
 pub use Rattle.cap_process.proofs.Outputs.{drained-text, PutOk, put-ok, WhyUnput, lines-more, unput, closing-some, ReportOk, report-ok, reports-more, lines-one}
 pub use Rattle.cap_tools.specs.Bounds.{most_turns, StepReads, reads_on, decides_one, leaves_one, reads_nothing, reads_of, IsBounded, IsLight, IsSmall, declared_weight, inputs_weight, names_weight, target_weight, is_fault}
-pub use Rattle.cap_tools.specs.Commands.{CompileGives, DecidedBy, ListsSome, PreparesBy, PreparesOnly, StepReadsBy, job_left}
-pub use Rattle.cap_tools.specs.FirstStep.{RefusesStart}
+pub use Rattle.cap_tools.specs.Commands.{CompileGives, DecidedBy, ListsSome, PreparesBy, PreparesOnly, StepReadsBy, job_left, RefusesStart}
 pub use Rattle.cap_tools.specs.Jobs.{JobView, end_status, end_message, first_job, Decided, JobGives, EndsJob, state_at, StaysDecided}
 pub use Rattle.cap_tools.specs.Messages.{MessagesView}
 pub use Rattle.cap_tools.specs.Packets.{JobState, Meets, a_packet, PacketsDecided, GoesOn, StopsWriting, EndLeaves, StepLeaves, progress_at, progress_of, progress_over, output_form, wholes_of, work_of, written_by, CompletesOutput, EndsByCut, WantsMemory, all_ends, an_end, failures_by, room_by, StepGives, AppendsOnce, BreaksAt, WhyBroken, asks_report, nothing, packet, report, closes, finish_at}
@@ -55,9 +53,7 @@ pub use Rattle.cap_tools.specs.Run.{CommandRuns, HasLeft, HasLostOutput, IsPolic
 pub use Rattle.cap_tools.specs.Start.{Assignment, Preparing, ReadsFilter, Compiles, assignment, preparing_of, asked_by}
 pub use Rattle.cap_tools.specs.declared.{job.Turn.Turn, step.JobEnd.JobEnd}
 pub use Rattle.cap_tools.specs.inside.Bounds.{HasFewTurns, IsPaid, steps_owed_in_all, owed_in}
-pub use Rattle.cap_tools.specs.inside.Commands.{IsReadyIf, with_preparing}
-pub use Rattle.cap_tools.specs.inside.{FirstStep.EndsList, Jobs.IsCounted, Jobs.IsSound}
-pub use Rattle.cap_tools.specs.inside.Packets.{DecidesPacket, Offers, end_after, end_of_failed_write, sieve, texts, Closes, ClosesBy, unless_failed, report_at, Spends}
-pub use Rattle.cap_tools.specs.inside.Step.{ending, IsStep}
+pub use Rattle.cap_tools.specs.inside.Jobs.{IsReadyIf, with_preparing, EndsList, IsCounted, IsSound, ending, IsStep}
+pub use Rattle.cap_tools.specs.inside.Packets.{DecidesPacket, Offers, end_after, end_of_failed_write, end_of_write, sieve, texts, Closes, ClosesBy, unless_failed, report_at, Spends}
 pub use Rattle.flt_ast.specs.Tree.{Expression, empty, truth}
 pub use Rattle.flt_bpf.specs.{Content.Content, Listing.listing, declared.insn.Insn.Insn}

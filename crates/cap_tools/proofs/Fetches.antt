@@ -1,9 +1,9 @@
 -- The steps that read an input on.
 use Rattle.cap_tools.proofs.Coming.{carries-found, carries-closed, come-first, true-wholes, true-fits, finds}
-use Rattle.cap_tools.proofs.Common.{Captured, greatest_of, an_end, InputEnd, ◌≡◌, inl, inr, ℕ, suc, ◌+◌, ◌<◌, ◌≤◌, Bool, true, false, List, [], ◌∷◌, ◌++◌, length, map, get_or, Option, None, Some, Result, Ok, Err, refl, sym, ◌∙◌, ap, arith, subst, append_assoc, append-nil, slice_set, HasGiven, Stops, DeviceFault, Fault, ReadFailed, Kind, Placed, Items, FaultAt, no_items, kind_of, after_packets, SourceView, Phase, Reading, Ended, Failed, Steps, FindsPacket, FindsEnd, FindsFault, Advances, IsAt, IsAt-found, IsAt-closed, IsAt-fault, JobEnd, Report, Tally, InputItems, Event, FaultIn, PacketOrder, InTurn, ByTime, Sequence, sequence_of, with_front, whole_input, Policy, Edit, Filter, KeepAll, Count, SelectorState, IsWithin, is_count, PolicyState, with_empty_tally, Form, JobProgress, cut_at, no_progress, apply_events, final_progress, end_with, final_text, output_text, first_link, Target, Capture, Text, Lines, HasWrittenTo, form_to, written_to, failures_to, Reports, InputView, InputsView, Future, InputPast, AreInputsAfter, AreSettled, IsInput, ReadsInput, waiting_packets, input_after, input_items, inputs_with, inputs_left, limits_of, sequence_left, IsNext, actual_future, is_in_turn, report_text, JobState, AppendsOnce, PacketsDecided, GoesOn, CompletesOutput, WhyBroken, StopsWriting, StepLeaves, asks_report, progress_at, progress_of, progress_over, output_form, failures_by, written_by, wholes_of, Closes, ClosesBy, unless_failed, sieve, report_at, drained-text, ReportOk, report-ok, progress-append, course-close, greatest-here, greatest-same, limits-at, limits-kept, set-here, next-is-of}
+use Rattle.cap_tools.proofs.Common.{length-map, map-append, texts, Captured, greatest_of, an_end, InputEnd, ◌≡◌, inl, inr, ℕ, suc, ◌+◌, ◌<◌, ◌≤◌, Bool, true, false, List, [], ◌∷◌, ◌++◌, length, map, get_or, Option, None, Some, Result, Ok, Err, refl, sym, ◌∙◌, ap, arith, subst, append_assoc, append-nil, slice_set, HasGiven, Stops, DeviceFault, Fault, ReadFailed, Kind, Placed, Items, FaultAt, no_items, kind_of, after_packets, SourceView, Phase, Reading, Ended, Failed, Steps, FindsPacket, FindsEnd, FindsFault, Advances, IsAt, IsAt-found, IsAt-closed, IsAt-fault, JobEnd, Report, Tally, InputItems, Event, FaultIn, PacketOrder, InTurn, ByTime, Sequence, sequence_of, with_front, whole_input, Policy, Edit, Filter, KeepAll, Count, SelectorState, IsWithin, is_count, PolicyState, with_empty_tally, Form, JobProgress, cut_at, no_progress, apply_events, final_progress, end_with, final_text, output_text, first_link, Target, Capture, Text, Lines, HasWrittenTo, form_to, written_to, failures_to, Reports, InputView, InputsView, Future, InputPast, AreInputsAfter, AreSettled, IsInput, ReadsInput, waiting_packets, input_after, input_items, inputs_with, inputs_left, limits_of, sequence_left, IsNext, actual_future, is_in_turn, report_text, JobState, AppendsOnce, PacketsDecided, GoesOn, CompletesOutput, WhyBroken, StopsWriting, StepLeaves, asks_report, progress_at, progress_of, progress_over, output_form, failures_by, written_by, wholes_of, Closes, ClosesBy, unless_failed, sieve, report_at, drained-text, ReportOk, report-ok, progress-append, course-close, greatest-here, greatest-same, limits-at, limits-kept, set-here, next-is-of}
 use Rattle.cap_tools.proofs.Laws.{ReadLaws, ReadAt, closed_in, read-at}
-use Rattle.cap_tools.proofs.{Nexts.report-answer, Nexts.stops-at, Once.once-nothing, Once.once-report, Places.get-at}
-use Rattle.cap_tools.proofs.Splits.{At, Fit, stands-split, stands-join, stands-length, fits-join, wholes-join, rests-join, finish-here, come-on}
+use Rattle.cap_tools.proofs.Nexts.{report-answer, stops-at, once-nothing, once-report}
+use Rattle.cap_tools.proofs.Splits.{get-at, get-input, At, Fit, stands-split, stands-join, stands-length, fits-join, wholes-join, rests-join, finish-here, come-on}
 use Rattle.cap_inputs.specs.declared.inputs.Next.{Next}
 use Rattle.cap_process.specs.inside.Selector as selecting_inside
 
@@ -13,15 +13,8 @@ inputs_at order cursors = record { order = order; cursors = cursors }
 abbrev pub mk : List InputView → PacketOrder → Policy → SelectorState → (names : List (List ℕ)) → Target → ℕ → JobState
 mk cursors order policy state names output decided = record { names = names; inputs = inputs_at order cursors; policy = policy; state = state; output = output; decided = decided }
 
-at-here : (xs ys : List InputView) (v d : InputView) (n : ℕ) → length xs ≡ n → get_or (xs ++ v ∷ ys) n d ≡ v
-at-here [] ys v d n e = rw (← e) refl
-at-here (x ∷ xs) ys v d n e = rw (← e) (at-here xs ys v d (length xs) refl)
-
 pub among-same : (cursors : List InputView) (i : ℕ) (h h' : InputView) → IsInput cursors i h → IsInput cursors i h' → h ≡ h'
-among-same cursors i h h' a b =
-    sym (ap (λ (l : List InputView). get_or l i h) a.splits ∙ at-here a.front a.back h h i a.place)
-    ∙ ap (λ (l : List InputView). get_or l i h) b.splits
-    ∙ at-here b.front b.back h' h i b.place
+among-same cursors i h h' a b = let e = sym (get-input cursors i h a) ∙ get-input cursors i h' b in cc
 
 -- ---- more is done of one input
 
@@ -128,16 +121,11 @@ closed-goes us vs s before xs ys h s' order turn policy state names output decid
 -- ---- it ends by a fault
 
 pub wholes_of-join : (us vs : List InputPast) (s : InputPast) → wholes_of (us ++ s ∷ vs) ≡ wholes_of us ++ whole_input s.text ∷ wholes_of vs
-wholes_of-join [] vs s = refl
-wholes_of-join (u ∷ us) vs s = ap (λ (l : List InputItems). whole_input u.text ∷ l) (wholes_of-join us vs s)
+wholes_of-join us vs s = ap (map whole_input) (map-append (λ (p : InputPast). p.text) us (s ∷ vs)) ∙ map-append whole_input (texts us) (s.text ∷ texts vs)
 
 pub cut-here : (rs qs : List InputItems) (r : InputItems) (n : ℕ) (held : Items) → length rs ≡ n → cut_at (rs ++ r ∷ qs) n held ≡ rs ++ record { greatest = r.greatest; items = held; size = r.size } ∷ qs
 cut-here [] qs r n held is = rw (← is) refl
 cut-here (x ∷ xs) qs r n held is = rw (← is) (ap (λ (l : List InputItems). x ∷ l) (cut-here xs qs r (length xs) held refl))
-
-pub wholes_of-length : (us : List InputPast) → length (wholes_of us) ≡ length us
-wholes_of-length [] = refl
-wholes_of-length (u ∷ us) = ap suc (wholes_of-length us)
 
 -- what the output has where the job ends by a fault after what is decided
 pub comes-broken : (ss : List InputPast) (before : List ℕ) (m : JobState) (rs : List InputItems) (d : PacketsDecided ss before m) (new : JobState) (input : ℕ) (fault : Fault) (offset : ℕ)
@@ -201,7 +189,7 @@ broken-ends us vs s before xs ys h s' fault order turn policy state names output
         comes = comes-broken (us ++ s ∷ vs) before m (cut_at (wholes_of (us ++ s ∷ vs)) turn (record { packets = s.packets; declared = s'.declared; ending = FaultAt fault s'.offset })) d new turn fault s'.offset
             (ap (λ (l : List InputItems). final_progress policy (form_to names output) (sequence_of order l))
             (ap (λ (l : List InputItems). cut_at l turn (record { packets = s.packets; declared = s'.declared; ending = FaultAt fault s'.offset })) (wholes_of-join us vs s)
-            ∙ cut-here (wholes_of us) (wholes_of vs) (whole_input s.text) turn (record { packets = s.packets; declared = s'.declared; ending = FaultAt fault s'.offset }) (wholes_of-length us ∙ stands-length us xs front ∙ laws.here))
+            ∙ cut-here (wholes_of us) (wholes_of vs) (whole_input s.text) turn (record { packets = s.packets; declared = s'.declared; ending = FaultAt fault s'.offset }) (length-map (texts us) whole_input ∙ length-map us (λ (p : InputPast). p.text) ∙ stands-length us xs front ∙ laws.here))
             ∙ cut-course)
             refl refl;
       }))

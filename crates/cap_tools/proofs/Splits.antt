@@ -1,5 +1,5 @@
 -- One input among others, with how far it is and what may come of it.
-use Rattle.cap_tools.proofs.Common.{◌≡◌, ℕ, suc, List, [], ◌∷◌, ◌++◌, length, refl, sym, ◌∙◌, ap, Placed, Ended, IsAt, InputItems, Event, sequence_of, with_front, PacketOrder, InputView, Future, InputPast, AreInputsAfter, AreFutures, AreSettled, input_items, inputs_with, items_left, inputs_left, no_future, sequence_left, finish_at}
+use Rattle.cap_tools.proofs.Common.{◌≡◌, ℕ, suc, List, [], ◌∷◌, ◌++◌, length, refl, sym, ◌∙◌, ap, Placed, Ended, IsAt, InputItems, Event, sequence_of, with_front, PacketOrder, InputView, Future, InputPast, AreInputsAfter, AreFutures, AreSettled, input_items, inputs_with, items_left, inputs_left, no_future, sequence_left, finish_at, Some, slice_get, IsInput}
 
 abbrev pub At : InputPast → InputView → Type 0
 At s h = IsAt s.text s.done s.packets h.waiting h.source
@@ -118,3 +118,10 @@ come-on us vs s s' xs ys h h' order es new st come carries fs fits =
     append-back : (xs ys zs : List Event) → xs ++ (ys ++ zs) ≡ (xs ++ ys) ++ zs
     append-back [] ys zs = refl
     append-back (x ∷ xs) ys zs = ap (λ (l : List Event). x ∷ l) (append-back xs ys zs)
+
+pub get-at : {A : Type 0} (xs ys : List A) (x : A) (i : ℕ) → length xs ≡ i → slice_get (xs ++ x ∷ ys) i ≡ Some x
+get-at [] ys x i is = rw (← is) refl
+get-at (y ∷ xs) ys x i is = rw (← is) (get-at xs ys x (length xs) refl)
+
+pub get-input : (cursors : List InputView) (i : ℕ) (h : InputView) → IsInput cursors i h → slice_get cursors i ≡ Some h
+get-input cursors i h a = ap (λ (l : List InputView). slice_get l i) a.splits ∙ get-at a.front a.back h i a.place

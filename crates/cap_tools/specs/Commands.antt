@@ -1,18 +1,60 @@
 -- The steps of a command's job, from the first one on.
-use Rattle.std.specs.Prelude.{◌≡◌, ◌⊎◌, ℕ, ◌+◌, ◌<◌, ◌≤◌, Bool, List, Option, None, Some, IsTrue}
-use Rattle.cap_octet.specs.declared.link.Link.{Link}
-use Rattle.flt_bpf.specs.{Content.Content, declared.insn.Insn.Insn}
+use Rattle.std.specs.Prelude.{◌≡◌, ◌⊎◌, ℕ, ◌+◌, ◌<◌, ◌≤◌, Bool, List, Option, None, Some, IsTrue, ◌++◌, length}
+use Rattle.cap_octet.specs.{Device.Stops, declared.link.Link.Link}
+use Rattle.flt_bpf.specs.{Content.Content, Listing.listing, declared.insn.Insn.Insn}
 use Rattle.flt_words.specs.declared.fault.ExprFault.{ExprFault}
 use Rattle.cap_filter.specs.{Compilation.IsCompiled, Expressions.IsTextFault}
-use Rattle.cap_filter.specs.FilterRules.{Rule, IsRule, IsWhy}
+use Rattle.cap_filter.specs.FilterRules.{Rule, IsRule, IsWhy, refusal_status}
 use Rattle.cap_filter.specs.{Filters.AreNew, Programs.spent_in, declared.filter.Refusal.Refusal}
 use Rattle.cap_tools.specs.Bounds.{IsLight, StepReads, most_turns}
-use Rattle.cap_tools.specs.FirstStep.{WritesListing, StopsListing, RefusesStart, filtering}
-use Rattle.cap_tools.specs.{Jobs.JobView, Jobs.Decided, Jobs.IsStatus, Jobs.done_by, Packets.room_by}
+use Rattle.cap_tools.specs.Jobs.{JobView, Decided, IsStatus, done_by}
+use Rattle.cap_tools.specs.Packets.{room_by, written_by, failures_by}
 use Rattle.cap_tools.specs.Start.{FilterAsked, Preparing, ReadsFilter, Compiles}
 use Rattle.cap_tools.specs.declared.job.Turn.{Turn}
-use Rattle.cap_process.specs.Selector.{HavePrograms}
+use Rattle.cap_process.specs.Messages.{IsTold, refusal_message, write_failed_message}
+use Rattle.cap_process.specs.{Reports.name_at, Selector.HavePrograms, Verdict.Filter, Verdict.initial_state}
 use Rattle.cap_inputs.specs.Inputs.{InputPast, steps_left_in}
+
+-- the job whose packets go through the filter, by these programs, up to `count` that pass
+abbrev pub filtering : Rule → Option ℕ → List Content → JobView → JobView
+filtering rule count programs j = record j {
+  preparing = None;
+  state = record j.state { policy = Filter rule count; state = initial_state };
+  programs = programs;
+  turns = j.turns + 1;
+  done = None;
+}
+
+-- The filter or the expression is refused, or there was no memory for it, and nothing is read or
+-- written but the message. A message that can't be written is lost.
+pub record RefusesStart (refusal : Refusal) (tells : Bool) (old : JobView) (status : ℕ)
+    (new : JobView) : Type 0 where
+  pub status_is : status ≡ refusal_status refusal
+  pub exact : IsTold tells old.err (refusal_message refusal) new.err
+  pub new_is : new ≡ record old {
+    preparing = None;
+    err = new.err;
+    turns = old.turns + 1;
+    done = Some (refusal_status refusal);
+  }
+
+-- a listing is written, and the job ended
+pub record WritesListing (insns : List Insn) (old : JobView) (status : ℕ)
+    (new : JobView) : Type 0 where
+  pub written : written_by new.state ≡ written_by old.state ++ listing insns
+  pub failures : failures_by new.state ≡ failures_by old.state
+  pub quiet : new.err ≡ old.err
+  pub status_is : status ≡ 0
+
+-- the output's device failed after a prefix of the listing, not the whole
+pub record StopsListing (insns : List Insn) (tells : Bool) (old : JobView) (status : ℕ)
+    (new : JobView) : Type 0 where
+  pub stops : Stops (written_by old.state) (listing insns) (written_by new.state)
+  pub failures : failures_by new.state ≡ failures_by old.state + 1
+  pub exact : IsTold tells old.err
+      (write_failed_message (name_at old.state.names (length old.state.inputs.cursors)))
+      new.err
+  pub status_is : status ≡ 1
 
 -- the filter is read
 pub record IsFiltered (asked : FilterAsked) (old new : JobView) : Type 0 where

@@ -1,6 +1,5 @@
 pub mod Bounds
 pub mod Commands
-pub mod FirstStep
 pub mod Jobs
 pub mod Run
 pub mod Start

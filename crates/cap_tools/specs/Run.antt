@@ -9,8 +9,8 @@ use Rattle.cap_io.specs.{Capture.Declared, Capture.Placed, Capture.Items, Positi
 use Rattle.cap_io.specs.{Reading.decisive_length, Sequence.Event, Sequence.InputItems, Sequence.whole_input}
 use Rattle.flt_bpf.specs.{Listing.listing, declared.insn.Insn.Insn}
 use Rattle.cap_filter.specs.{Compilation.IsCompiled, Expressions.IsTextFault}
-use Rattle.cap_filter.specs.FilterRules.{Rule, IsRule, IsWhy}
-use Rattle.cap_filter.specs.{Refusals.refusal_status, declared.filter.Refusal.Refusal}
+use Rattle.cap_filter.specs.FilterRules.{Rule, IsRule, IsWhy, refusal_status}
+use Rattle.cap_filter.specs.declared.filter.Refusal.{Refusal}
 use Rattle.cap_process.specs.Messages.{fault_message, no_memory_message, refusal_message, write_failed_message, IsTold}
 use Rattle.cap_process.specs.Outcome.{Form, AsCapture, AsReports, AsLines, Outcome, Work, IsNextAnswer, NeedsMemory, cut_at, outcome, text_after}
 use Rattle.cap_process.specs.{Reports.name_at, Verdict.Policy, Verdict.Filter, declared.output.Writing.Writing}

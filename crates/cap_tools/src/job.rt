@@ -10,7 +10,7 @@ ghost use Rattle.cap_inputs.specs.inside.Inputs as input_spec;
 
 use crate::messages::Messages;
 use crate::start::{Assignment, Preparation, assignment_of, read_filter};
-use crate::step::{JobEnd, close, decide, end_after};
+use crate::step::{JobEnd, close, decide, end_after, end_of_write};
 use cap_command::{Command, Compile, Print};
 use cap_filter::expression::compile_text;
 use cap_filter::filter::{Filter, Refusal};
@@ -90,16 +90,13 @@ fn status_at_end(end: JobEnd) -> u8
 }
 
 impl<I: Input, O: Output, E: Output, A: Allocator + Copy + Drop> Job<I, O, E, A> {
+    ghost use Rattle.cap_filter.specs.FilterRules.{refusal_status};
     ghost use Rattle.cap_filter.specs.Filters.{AreNew, programs_of, rule_of};
-    ghost use Rattle.cap_filter.specs.Refusals.{refusal_status};
-    ghost use Rattle.cap_tools.specs.Commands.{DecidedBy, PreparesBy, StepKeeps, StepReadsBy};
-    ghost use Rattle.cap_tools.specs.FirstStep.{RefusesStart, filtering};
+    ghost use Rattle.cap_tools.specs.Commands.{DecidedBy, PreparesBy, StepKeeps, StepReadsBy, RefusesStart, filtering};
     ghost use Rattle.cap_tools.specs.Jobs.{JobGives, JobView, first_job, turn_goes_on};
     ghost use Rattle.cap_tools.specs.Packets.{failures_by, room_by, written_by};
     ghost use Rattle.cap_tools.specs.Start.{Compiles, ReadsFilter, asked_by};
-    ghost use Rattle.cap_tools.specs.inside.Commands.{KeepsFirst, MakesStep, MakesStepUnless, MakesSteps, with_preparing};
-    ghost use Rattle.cap_tools.specs.inside.{FirstStep.EndsList, FirstStep.IsFresh, Jobs.IsSound};
-    ghost use Rattle.cap_tools.specs.inside.Step.{IsStep, IsUncounted, MayCount, ending};
+    ghost use Rattle.cap_tools.specs.inside.Jobs.{KeepsFirst, MakesStep, MakesStepUnless, MakesSteps, with_preparing, EndsList, IsFresh, IsSound, IsStep, IsUncounted, MayCount, ending};
     ghost use Rattle.cap_process.specs.inside.Output.{is_text};
     ghost use Rattle.cap_inputs.specs.Fresh.{nothing_done};
 
@@ -458,10 +455,7 @@ impl<I: Input, O: Output, E: Output, A: Allocator + Copy + Drop> Job<I, O, E, A>
         ensures { IsStep I.tells O.tells self.old result self.new }
     {
         let first = self.inputs.first_link();
-        match self.output.finish(first) {
-            Ok(()) => Some(JobEnd::Complete),
-            Err(_) => Some(JobEnd::OutputFailed),
-        }
+        Some(end_of_write(self.output.finish(first)))
     }
 
     /// Ends the job, which is one step: reports how it ended, and returns its status. A message
@@ -527,10 +521,7 @@ impl<I: Input, O: Output, E: Output, A: Allocator + Copy + Drop> Job<I, O, E, A>
         ensures keeps { KeepsFirst self.old result self.new }
         ensures reads { ReadsNothing self.old self.new }
     {
-        match self.output.list(program) {
-            Ok(()) => self.end(JobEnd::Complete),
-            Err(_) => self.end(JobEnd::OutputFailed),
-        }
+        self.end(end_of_write(self.output.list(program)))
     }
 
     /// The inputs, the output and the messages' device, as the last step left them. It takes no

@@ -1,5 +1,5 @@
 -- The state of a selector, and its change by one verdict.
-use Rattle.std.specs.Prelude.{◌≡◌, ℕ, ◌+◌, ◌-◌, ◌^◌, ◌≤◌, Bool, true, false, length, Option, None, Result, Ok, Err, Some, []}
+use Rattle.std.specs.Prelude.{◌≡◌, ℕ, ◌+◌, ◌-◌, ◌^◌, ◌≤◌, Bool, true, false, length, Option, None, Result, Ok, Err, Some, ◌<◌}
 use Rattle.cap_octet.specs.{Packet.Captured, declared.fault.Fault.Fault}
 use Rattle.cap_window.specs.View.{WindowView}
 use Rattle.cap_process.specs.declared.selector.Verdict as code
@@ -78,6 +78,6 @@ TakesTally true old r new =
     (r ≡ Some old.state.tally)
     × (new ≡ record { policy = old.policy; state = with_empty_tally old.state })
 
--- the state of a selector with an empty window
-abbrev pub state_with : ℕ → Tally → SelectorState
-state_with passed tally = record { passed = passed; window = []; tally = tally }
+-- one packet more fits the tally's numbers
+abbrev pub FitsTally : Tally → Type 0
+FitsTally t = (t.count < 2 ^ 127) × (t.data_size < 2 ^ 127) × (t.captured_size < 2 ^ 127)

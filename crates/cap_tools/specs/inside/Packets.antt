@@ -96,6 +96,11 @@ abbrev pub unless_failed : Result (Unit {0}) DeviceFault → Option JobEnd
 unless_failed (Ok done) = None
 unless_failed (Err fault) = Some JobEnd.OutputFailed
 
+-- how a job ends with the last bytes of its output
+abbrev pub end_of_write : Result (Unit {0}) DeviceFault → JobEnd
+end_of_write (Ok done) = JobEnd.Complete
+end_of_write (Err fault) = JobEnd.OutputFailed
+
 -- an input is reported, and the count begins again
 pub record ReportsOn (names : List (List ℕ)) (input : ℕ) (cursor : InputView) (old : Sieve)
     (r : Option JobEnd) (new : Sieve) : Type 0 where

@@ -1,4 +1,4 @@
-use Rattle.cap_process.proofs.{Closings.print_ends, Wholes.print_writes}
+use Rattle.cap_process.proofs.Wholes.{print_ends, print_writes}
 use Rattle.cap_process.proofs.law.print_writes_matching.Goals as goal
 
 pub returns : goal.returns
