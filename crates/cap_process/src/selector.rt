@@ -3,11 +3,11 @@
 ghost use Rattle.std.specs.Prelude.{◌≡◌, ℕ, ◌+◌, ◌-◌, ◌<◌, ◌≤◌, [], IfOk, None, Some, false, if◌then◌else◌, length};
 ghost use Rattle.cap_octet.specs.Packet.{Captured, captured};
 ghost use Rattle.cap_io.specs.Reading.{most_in_unit};
-ghost use Rattle.cap_filter.specs.Programs.{spent_in};
+ghost use Rattle.cap_filter.specs.{Filters.programs_of, Filters.rule_of, Programs.spent_in};
 ghost use Rattle.cap_process.specs.Reports.{Tally};
-ghost use Rattle.cap_process.specs.Selector.{is_count, marks_in, most_spent, policy_of, programs_in, spent_by, state_of, window_of};
-ghost use Rattle.cap_process.specs.Verdict.{is_last, judge_by};
-ghost use Rattle.cap_process.specs.inside.Selector.{IsWindowFor, ReturnsVerdict, count_limit, verdict_if, verdict_of};
+ghost use Rattle.cap_process.specs.Selector.{is_count, marks_in, most_spent, policy_of, programs_in, spent_by, state_of, window_of, SelectorView, spent_by_verdict};
+ghost use Rattle.cap_process.specs.Verdict.{is_last, judge_by, Filter as AskedFilter, initial_state, judge};
+ghost use Rattle.cap_process.specs.inside.Selector.{IsWindowFor, ReturnsVerdict, count_limit, verdict_if, verdict_of, FitsTally, GrowsByOne, HasFewMarks, IsVerdict, TakesTally, policy_state};
 ghost use Rattle.cap_window.specs.View.{window};
 
 use crate::edit::edit_packet;
@@ -169,12 +169,6 @@ impl<A: Allocator> Policy<A> {
 }
 
 impl<A: Allocator> Selector<A> {
-    ghost use Rattle.std.specs.Prelude.{IfOk};
-    ghost use Rattle.cap_filter.specs.Filters.{programs_of, rule_of};
-    ghost use Rattle.cap_process.specs.Selector.{SelectorView, spent_by_verdict};
-    ghost use Rattle.cap_process.specs.Verdict.{Filter as AskedFilter, initial_state, judge};
-    ghost use Rattle.cap_process.specs.inside.Selector.{FitsTally, GrowsByOne, HasFewMarks, IsVerdict, TakesTally, policy_state};
-
     /// A selector by which no packet was judged yet. If it looks for duplicates it takes the
     /// memory of their window here; the error means that memory ran out.
     pub fn new(alloc: A, policy: Policy<A>) -> Result<Self, AllocError>

@@ -13,7 +13,8 @@ pub use Rattle.cap_filter.specs.Filters.{AreNew, place_by, spent_on, programs_of
 pub use Rattle.cap_filter.specs.Programs.{spent_in, AreMade, ran_at, ran_if}
 pub use Rattle.cap_filter.specs.declared.filter.Refusal.{Refusal}
 pub use Rattle.cap_inputs.specs.Fresh.{fresh_view, nothing_done, fresh_inputs}
-pub use Rattle.cap_inputs.specs.Inputs.{InputView, Future, InputPast, AreInputsAfter, AreSettled, IsInput, input_after_decided, items_left, inputs_left, sequence_left, DeviceLimits, InputsView, input_after, device_limits, limits_of, offset_at, AreFutures, waiting_packets, input_items, inputs_with, no_future, ReadsInput, ended_count, is_open, key_of, packet_time, MarksDecided, ReadSteps, input_steps_left, is_packet_found, steps_left_in, steps_owed, with_cursor, KnowGreatest, greatest_of, is_clean_end}
+pub use Rattle.cap_inputs.specs.Inputs.{InputView, Future, InputPast, AreInputsAfter, AreSettled, IsInput, input_after_decided, items_left, inputs_left, sequence_left, DeviceLimits, InputsView, input_after, device_limits, limits_of, offset_at, AreFutures, waiting_packets, input_items, inputs_with, no_future, ReadsInput, ended_count, is_open, key_of, packet_time, MarksDecided, ReadSteps, input_steps_left, is_packet_found, steps_left_in, steps_owed, with_cursor, KnowGreatest, greatest_of, is_clean_end, next_of}
+pub use Rattle.cap_inputs.specs.declared.inputs.Next.{Next}
 pub use Rattle.cap_inputs.specs.inside.Inputs.{actual_future, most_steps, offset_of, IsNext, is_in_turn, AllEnded, first_declared_link, AllReady, IsNextIn, IsOpen, IsReady, KeysFrom, NoneEnded, NoneWaits, owed_by, steps_left}
 pub use Rattle.cap_inputs.proofs.Cursors.{greatest-decided, greatest-here, limits-at, set-here, greatest-same, limits-kept}
 pub use Rattle.cap_inputs.proofs.Nexts.{next-is-of, count-open, count-all}
@@ -53,7 +54,7 @@ pub use Rattle.cap_tools.specs.Run.{CommandRuns, HasLeft, HasLostOutput, IsPolic
 pub use Rattle.cap_tools.specs.Start.{Assignment, Preparing, ReadsFilter, Compiles, assignment, preparing_of, asked_by}
 pub use Rattle.cap_tools.specs.declared.{job.Turn.Turn, step.JobEnd.JobEnd}
 pub use Rattle.cap_tools.specs.inside.Bounds.{HasFewTurns, IsPaid, steps_owed_in_all, owed_in}
-pub use Rattle.cap_tools.specs.inside.Jobs.{IsReadyIf, with_preparing, EndsList, IsCounted, IsSound, ending, IsStep}
+pub use Rattle.cap_tools.specs.inside.Jobs.{IsReadyIf, with_preparing, EndsList, IsCounted, IsSound, ending, IsStep, MakesStep, is_read, makes, rests}
 pub use Rattle.cap_tools.specs.inside.Packets.{DecidesPacket, Offers, end_after, end_of_failed_write, end_of_write, sieve, texts, Closes, ClosesBy, unless_failed, report_at, Spends}
 pub use Rattle.flt_ast.specs.Tree.{Expression, empty, truth}
 pub use Rattle.flt_bpf.specs.{Content.Content, Listing.listing, declared.insn.Insn.Insn}

@@ -1,9 +1,7 @@
 -- Each step leaves less to do, and is paid by what was read.
-use Rattle.cap_tools.proofs.Common.{◌≡◌, ℕ, ◌+◌, ◌*◌, ◌^◌, ◌<◌, ◌≤◌, suc, Bool, true, false, List, [], ◌∷◌, ◌++◌, length, Result, Ok, Err, refl, sym, ◌∙◌, ap, arith, length-append, slice_set, Fault, SourceView, Phase, Reading, Ended, Failed, Steps, end_offset, phase_after, PacketOrder, InTurn, ByTime, InputView, InputsView, IsInput, MarksDecided, ReadSteps, input_after, input_after_decided, input_steps_left, is_packet_found, steps_left_in, steps_owed, with_cursor, owed_by, steps_left, IsNext, IsNextIn, IsOpen, set-here, most_turns, reads_of, IsPaid, steps_owed_in_all, owed_in, Option, None, Some, most_steps, HasFewTurns, OutputView, Preparing, JobView, StepReads, reads_on, decides_one, leaves_one, reads_nothing}
+use Rattle.cap_tools.proofs.Common.{◌≡◌, ℕ, ◌+◌, ◌*◌, ◌^◌, ◌<◌, ◌≤◌, suc, Bool, true, false, List, [], ◌∷◌, ◌++◌, length, Result, Ok, Err, refl, sym, ◌∙◌, ap, arith, length-append, slice_set, Fault, SourceView, Phase, Reading, Ended, Failed, Steps, end_offset, phase_after, PacketOrder, InTurn, ByTime, InputView, InputsView, IsInput, MarksDecided, ReadSteps, input_after, input_after_decided, input_steps_left, is_packet_found, steps_left_in, steps_owed, with_cursor, owed_by, steps_left, IsNext, IsNextIn, IsOpen, set-here, most_turns, reads_of, IsPaid, steps_owed_in_all, owed_in, Option, None, Some, most_steps, HasFewTurns, OutputView, Preparing, JobView, StepReads, reads_on, decides_one, leaves_one, reads_nothing, Next, IsCounted}
 use Rattle.cap_tools.proofs.Fetches.{among-same}
 use Rattle.std.specs.Prelude.{OnOk}
-use Rattle.cap_inputs.specs.declared.inputs.Next.{Next}
-use Rattle.cap_tools.specs.inside.Jobs.{IsCounted}
 
 -- ---- one input for another
 

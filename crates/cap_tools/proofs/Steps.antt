@@ -1,14 +1,13 @@
 -- What a step does to a job, by the parts that it changes. `old` is the job as its invariant has it,
 -- and `now` the same job as contracts see it.
 use Rattle.cap_tools.proofs.{Answers.AnswerLeaves, Answers.answer-leaves, CommandStarts.ready-none}
-use Rattle.cap_tools.proofs.Common.{◌≡◌, ℕ, ◌+◌, ◌<◌, ◌≤◌, Bool, true, false, IsTrue, List, Captured, Option, None, Some, Result, Ok, Err, ◌&&◌, refl, sym, ◌∙◌, ap, arith, subst, All, Fault, InputView, InputsView, InputPast, IsInput, IsNext, IsSound, MarksDecided, ReadSteps, ReadsInput, steps_left, next-is-of, is_clean_end, input_after_decided, with_cursor, Policy, SelectorView, policy_state, GrowsByOne, HasFewMarks, HavePrograms, Spends, IsStep, JobEnd, JobState, JobView, PacketsDecided, StepGives, StepLeaves, state_at, asks_report, end_after, sieve, DecidesPacket, StepReads, reads_on, decides_one, leaves_one, is_fault, IsPaid, IsSmall, Target, HasFewOutputInterfaces, room_by, room_to}
+use Rattle.cap_tools.proofs.Common.{is_none, ◌≡◌, ℕ, ◌+◌, ◌<◌, ◌≤◌, Bool, true, false, IsTrue, List, Captured, Option, None, Some, Result, Ok, Err, ◌&&◌, refl, sym, ◌∙◌, ap, arith, subst, All, Fault, InputView, InputsView, InputPast, IsInput, IsNext, IsSound, MarksDecided, ReadSteps, ReadsInput, steps_left, next-is-of, is_clean_end, input_after_decided, with_cursor, Policy, SelectorView, policy_state, GrowsByOne, HasFewMarks, HavePrograms, Spends, IsStep, JobEnd, JobState, JobView, PacketsDecided, StepGives, StepLeaves, state_at, asks_report, end_after, sieve, DecidesPacket, StepReads, reads_on, decides_one, leaves_one, is_fault, IsPaid, IsSmall, Target, HasFewOutputInterfaces, room_by, room_to, Next}
 use Rattle.cap_tools.proofs.Fetches.{Follows, among-same, read_input-leaves}
 use Rattle.cap_tools.proofs.Lefts.{counted-kept, few-kept, Goes, decided-on, read-on}
 use Rattle.cap_tools.proofs.{Splits.get-input, Weights.is-light, Weights.mark_decided-small, Weights.read_input-small}
-use Rattle.cap_inputs.specs.declared.inputs.Next.{Next}
 use Rattle.cap_process.specs.declared.selector.Verdict as code
 use Rattle.cap_process.specs.inside.Selector.{FitsTally}
-use Rattle.cap_tools.specs.{Bounds.JudgesOne, inside.Bounds.step_goes_on}
+use Rattle.cap_tools.specs.Bounds.{JudgesOne}
 
 -- the job with these inputs, this selector, this output, this count of packets and this status
 abbrev pub with_parts : JobView → InputsView → SelectorView → Target → ℕ → Option ℕ → JobView
@@ -50,7 +49,7 @@ moves-sound old now inputs selector output decided is sound prepared keeps moves
     )
 
 pub step-of : (inputs_tell output_tells : Bool) (old now : JobView) (r : Option JobEnd) (inputs : InputsView) (selector : SelectorView) (output : Target) (decided : ℕ) (done : Option ℕ) → old ≡ now → Keeps old selector output → All IsSmall inputs.cursors → (r ≡ None → Moves old.state.inputs inputs) → (r ≡ None → done ≡ old.done)
-    → (IsTrue inputs_tell → IsTrue output_tells → StepGives old.state r (state_at old.state.names inputs selector output decided)) → StepReads inputs_tell (step_goes_on r) old (with_parts old inputs selector output decided done)
+    → (IsTrue inputs_tell → IsTrue output_tells → StepGives old.state r (state_at old.state.names inputs selector output decided)) → StepReads inputs_tell (is_none r) old (with_parts old inputs selector output decided done)
     → IsStep inputs_tell output_tells now r (with_parts old inputs selector output decided done)
 step-of inputs_tell output_tells old now r inputs selector output decided done is keeps small moves ends exact reads =
     let P : JobView → Type 0 = λ v. IsStep inputs_tell output_tells v r (with_parts old inputs selector output decided done) in
@@ -81,7 +80,7 @@ reads-move old now i inputs answer a is sound comes found steps goes =
     let goes_on = subst Goes (sym found) goes in
     record { small = read_input-small old.state.inputs inputs i answer steps sound.1.0; less = on.less goes_on; paid = on.paid goes_on }
 
-fault-ends : (r : Option JobEnd) (a : Result Bool Fault) → (r ≡ None → Goes a) → step_goes_on r ≡ true → is_fault a ≡ false
+fault-ends : (r : Option JobEnd) (a : Result Bool Fault) → (r ≡ None → Goes a) → is_none r ≡ true → is_fault a ≡ false
 fault-ends None (Ok found) goes on = refl
 fault-ends None (Err fault) goes on = absurd (goes refl)
 fault-ends (Some end) a goes on = (cc)

@@ -1,11 +1,10 @@
 -- A turn of the loop: one step, or two.
-use Rattle.cap_tools.proofs.Common.{◌≡◌, ◌⊎◌, inl, inr, ℕ, ◌+◌, ◌<◌, ◌≤◌, Bool, true, false, List, Option, None, Some, IsTrue, refl, sym, ◌∙◌, ap, arith, subst, OutputView, IsTold, InputsView, steps_left, next-is-of, Call, RunResult, CommandRuns, Assignment, JobEnd, JobState, StepGives, EndsJob, HavePrograms, Preparing, JobView, Turn, end_message, end_status, room_by, PreparesBy, StepReads, StepReadsBy, job_left, IsLight, reads_nothing, most_turns, HasFewTurns, IsCounted, IsSound, IsStep, ending, IsNext}
+use Rattle.cap_tools.proofs.Common.{◌≡◌, ◌⊎◌, inl, inr, ℕ, ◌+◌, ◌<◌, ◌≤◌, Bool, true, false, List, Option, None, Some, IsTrue, refl, sym, ◌∙◌, ap, arith, subst, OutputView, IsTold, InputsView, steps_left, next-is-of, Call, RunResult, CommandRuns, Assignment, JobEnd, JobState, StepGives, EndsJob, HavePrograms, Preparing, JobView, Turn, end_message, end_status, room_by, PreparesBy, StepReads, StepReadsBy, job_left, IsLight, reads_nothing, most_turns, HasFewTurns, IsCounted, IsSound, IsStep, ending, IsNext, next_of, Next, MakesStep, is_read, makes, rests}
 use Rattle.cap_tools.proofs.Lefts.{reads-kept}
 use Rattle.cap_tools.proofs.Runs.{IsFilled, IsLeft, under-done, Begun, Under, under-more}
 use Rattle.cap_tools.proofs.Weights.{is-light}
-use Rattle.cap_inputs.specs.{Inputs.next_of, declared.inputs.Next.Next}
 use Rattle.cap_tools.specs.Commands.{preparing_left}
-use Rattle.cap_tools.specs.inside.Jobs.{MakesStep, MakesSteps, MakesStepUnless, is_read, one_step, two_steps, makes, rests, IsUncounted, MayCount}
+use Rattle.cap_tools.specs.inside.Jobs.{MakesSteps, MakesStepUnless, one_step, two_steps, IsUncounted, MayCount}
 
 -- ---- a step that was made may be counted
 

@@ -1,12 +1,19 @@
 //! Jobs: one for all commands, step by step.
 ghost use Rattle.std.specs.Prelude.{ℕ, ◌≡◌, ◌<◌, ◌≤◌, IfErr, IfOk, IsTrue, None, Some, length, false, map, string_bytes, true, vec_len};
 ghost use Rattle.cap_command.specs.{Call.call_of, Call.run_result, Command.is_proper};
-ghost use Rattle.cap_process.specs.Messages.{IsTold};
+ghost use Rattle.cap_process.specs.{Messages.IsTold, inside.Output.is_text};
 ghost use Rattle.cap_octet.specs.Views.{device_view, fresh_input, fresh_output, output_view};
-ghost use Rattle.cap_tools.specs.{Bounds.ReadsNothing, Jobs.end_status, Jobs.end_message};
-ghost use Rattle.cap_tools.specs.{Run.CommandRuns, Start.assignment};
-ghost use Rattle.cap_inputs.specs.inside.Inputs.{most_steps};
+ghost use Rattle.cap_tools.specs.Bounds.{ReadsNothing};
+ghost use Rattle.cap_tools.specs.Commands.{DecidedBy, PreparesBy, StepKeeps, StepReadsBy, RefusesStart, filtering};
+ghost use Rattle.cap_tools.specs.Jobs.{end_status, end_message, JobGives, JobView, first_job, turn_goes_on};
+ghost use Rattle.cap_tools.specs.Packets.{failures_by, room_by, written_by};
+ghost use Rattle.cap_tools.specs.Run.{CommandRuns};
+ghost use Rattle.cap_tools.specs.Start.{assignment, Compiles, ReadsFilter, asked_by};
+ghost use Rattle.cap_tools.specs.inside.Jobs.{KeepsFirst, MakesStep, MakesStepUnless, MakesSteps, with_preparing, EndsList, IsFresh, IsSound, IsStep, IsUncounted, MayCount, ending};
+ghost use Rattle.cap_inputs.specs.{Fresh.nothing_done, inside.Inputs.most_steps};
 ghost use Rattle.cap_inputs.specs.inside.Inputs as input_spec;
+ghost use Rattle.cap_filter.specs.FilterRules.{refusal_status};
+ghost use Rattle.cap_filter.specs.Filters.{AreNew, programs_of, rule_of};
 
 use crate::messages::Messages;
 use crate::start::{Assignment, Preparation, assignment_of, read_filter};
@@ -90,16 +97,6 @@ fn status_at_end(end: JobEnd) -> u8
 }
 
 impl<I: Input, O: Output, E: Output, A: Allocator + Copy + Drop> Job<I, O, E, A> {
-    ghost use Rattle.cap_filter.specs.FilterRules.{refusal_status};
-    ghost use Rattle.cap_filter.specs.Filters.{AreNew, programs_of, rule_of};
-    ghost use Rattle.cap_tools.specs.Commands.{DecidedBy, PreparesBy, StepKeeps, StepReadsBy, RefusesStart, filtering};
-    ghost use Rattle.cap_tools.specs.Jobs.{JobGives, JobView, first_job, turn_goes_on};
-    ghost use Rattle.cap_tools.specs.Packets.{failures_by, room_by, written_by};
-    ghost use Rattle.cap_tools.specs.Start.{Compiles, ReadsFilter, asked_by};
-    ghost use Rattle.cap_tools.specs.inside.Jobs.{KeepsFirst, MakesStep, MakesStepUnless, MakesSteps, with_preparing, EndsList, IsFresh, IsSound, IsStep, IsUncounted, MayCount, ending};
-    ghost use Rattle.cap_process.specs.inside.Output.{is_text};
-    ghost use Rattle.cap_inputs.specs.Fresh.{nothing_done};
-
     /// The job of a proper command. `names` are those of the inputs, then of the output. The error
     /// means that memory ran out: nothing was read or written, and `out` and `err` are handed back.
     pub fn new(

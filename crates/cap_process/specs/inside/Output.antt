@@ -41,16 +41,13 @@ pub record AppendsText (bytes written : List ℕ) (failures room : ℕ)
 
 -- whether what is written is text: reports or a listing
 abbrev pub is_text : Target → Bool
-is_text (Capture sink) = false
 is_text (Text written failures room) = true
-is_text (Lines options written failures room) = false
+is_text target = false
 
 -- a report or a listing is appended to a text; other outputs are unchanged
 abbrev pub Reports : List ℕ → Target → Result (Unit {0}) DeviceFault → Target → Type 0
-Reports bytes (Capture sink) r new = (r ≡ Ok tt) × (new ≡ Capture sink)
 Reports bytes (Text written failures room) r new = AppendsText bytes written failures room r new
-Reports bytes (Lines options written failures room) r new =
-    (r ≡ Ok tt) × (new ≡ Lines options written failures room)
+Reports bytes target r new = (r ≡ Ok tt) × (new ≡ target)
 
 -- a capture is finished, or that fails
 pub record FinishesInto (first : Option ℕ) (old : SinkView) (r : Result (Unit {0}) Fault)
@@ -66,7 +63,4 @@ abbrev pub EndsOutput : Option ℕ → Target → Result (Unit {0}) DeviceFault 
 EndsOutput first (Capture sink) (Ok done) new = FinishesInto first sink (Ok done) new
 EndsOutput first (Capture sink) (Err failed) new =
     (fault : Fault) × FinishesInto first sink (Err fault) new
-EndsOutput first (Text written failures room) r new =
-    (r ≡ Ok tt) × (new ≡ Text written failures room)
-EndsOutput first (Lines options written failures room) r new =
-    (r ≡ Ok tt) × (new ≡ Lines options written failures room)
+EndsOutput first target r new = (r ≡ Ok tt) × (new ≡ target)

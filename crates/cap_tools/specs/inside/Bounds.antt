@@ -1,12 +1,7 @@
 -- The number of steps, bounded by the bytes read.
-use Rattle.std.specs.Prelude.{ℕ, ◌+◌, ◌≤◌, Bool, true, false, List, [], ◌∷◌, Option, None, Some}
-use Rattle.cap_tools.specs.{Bounds.most_turns, declared.step.JobEnd.JobEnd}
+use Rattle.std.specs.Prelude.{ℕ, ◌+◌, ◌≤◌, List, [], ◌∷◌, Option, None, Some}
+use Rattle.cap_tools.specs.Bounds.{most_turns}
 use Rattle.cap_inputs.specs.{Inputs.InputView, Inputs.InputsView, inside.Inputs.owed_by}
-
--- whether a job goes on after a step
-abbrev pub step_goes_on : Option JobEnd → Bool
-step_goes_on None = true
-step_goes_on (Some end) = false
 
 -- the steps that follow without a byte more
 abbrev pub owed_in : List InputView → ℕ

@@ -1,5 +1,6 @@
 -- The invariant of a job, also before its first step, and the result of its steps.
 use Rattle.std.specs.Prelude.{ℕ, ◌+◌, ◌≤◌, Option, None, Some, ◌≡◌, Bool, true, false, IsTrue, ◌⊎◌, ◌<◌, List, []}
+use Rattle.std.specs.Option.{is_none}
 use Rattle.cap_inputs.specs.{Inputs.next_of, declared.inputs.Next.Next}
 use Rattle.cap_inputs.specs.inside.Inputs.{most_steps, steps_left}
 use Rattle.cap_process.specs.{Selector.HavePrograms, inside.Output.is_text, inside.Selector.HasFewMarks}
@@ -8,7 +9,7 @@ use Rattle.cap_tools.specs.Commands.{PreparesBy, StepKeeps, StepReadsBy, WritesL
 use Rattle.cap_tools.specs.Jobs.{JobView, JobGives, turn_goes_on, end_status}
 use Rattle.cap_tools.specs.{Packets.StepGives, Packets.room_by, Start.Preparing, Start.ReadsFilter, Start.Compiles}
 use Rattle.cap_tools.specs.declared.{job.Turn.Turn, step.JobEnd.JobEnd}
-use Rattle.cap_tools.specs.inside.Bounds.{HasFewTurns, steps_owed_in_all, IsPaid, step_goes_on}
+use Rattle.cap_tools.specs.inside.Bounds.{HasFewTurns, steps_owed_in_all, IsPaid}
 use Rattle.flt_bpf.specs.declared.insn.Insn.{Insn}
 use Rattle.cap_octet.specs.Views.{OutputView}
 
@@ -98,7 +99,7 @@ IsSound j =
 pub record IsStep (inputs_tell output_tells : Bool) (old : JobView) (r : Option JobEnd)
     (new : JobView) : Type 0 where
   pub exact : IsTrue inputs_tell → IsTrue output_tells → StepGives old.state r new.state
-  pub reads : StepReads inputs_tell (step_goes_on r) old new
+  pub reads : StepReads inputs_tell (is_none r) old new
   pub progress : r ≡ None → steps_left new.state.inputs < steps_left old.state.inputs
   pub paid : r ≡ None → IsPaid old.state.inputs new.state.inputs
   pub light : IsLight new.state

@@ -1,6 +1,4 @@
-use Rattle.std.proofs.Common.{None, Some, sym, ◌∙◌}
-use Rattle.cap_octet.specs.Packet.{captured}
-use Rattle.cap_filter.proofs.Costs.{bounded-ran}
+use Rattle.cap_filter.proofs.{Common.None, Common.Some, Common.sym, Common.◌∙◌, Common.captured, Costs.bounded-ran}
 use Rattle.cap_filter.proofs.Filters.{answers-at, answers-none, place-within, put-back, reading-spends, sound-ran}
 use Rattle.cap_filter.proofs.compiled.Compiled.passes.Goals as goal
 

@@ -1,8 +1,7 @@
 use Rattle.cap_tools.proofs.CommandStarts.{ready-none}
-use Rattle.cap_tools.proofs.Common.{◌+◌, subst, sym, ◌∙◌, ap, arith, JobView, IsNext}
+use Rattle.cap_tools.proofs.Common.{◌+◌, subst, sym, ◌∙◌, ap, arith, JobView, IsNext, Next}
 use Rattle.cap_tools.proofs.{Lefts.to-decide, Programs.have-decided}
 use Rattle.cap_tools.proofs.Steps.{decided-step, decides-move, failed-step, moves-sound}
-use Rattle.cap_inputs.specs.declared.inputs.Next.{Next}
 use Rattle.cap_tools.proofs.job.Job.decide_next.Goals as goal
 
 pub decide-requires : goal.decide-requires

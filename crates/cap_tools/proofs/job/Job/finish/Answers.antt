@@ -1,6 +1,5 @@
-use Rattle.cap_tools.proofs.Common.{refl, subst, sym, ℕ, Option, Some, EndsOutput, JobEnd, JobView, EndLeaves, IsNext, reads_nothing, state_at}
+use Rattle.cap_tools.proofs.Common.{refl, subst, sym, ℕ, Option, Some, EndsOutput, JobEnd, JobView, EndLeaves, IsNext, reads_nothing, state_at, Next}
 use Rattle.cap_tools.proofs.{Finishes.finish-leaves, Steps.step-of}
-use Rattle.cap_inputs.specs.declared.inputs.Next.{Next}
 use Rattle.cap_tools.proofs.job.Job.finish.Goals as goal
 
 pub returns : goal.returns

@@ -1,10 +1,8 @@
 use Rattle.cap_tools.proofs.CommandStarts.{ready-none}
-use Rattle.cap_tools.proofs.Common.{◌≡◌, ◌∙◌, true, false, Ok, Err, refl, sym, ap, arith, subst, None, Some, InputsView, asks_report, JobView, IsNext}
+use Rattle.cap_tools.proofs.Common.{◌≡◌, ◌∙◌, true, false, Ok, Err, refl, sym, ap, arith, subst, None, Some, InputsView, asks_report, JobView, IsNext, Next, JobEnd}
 use Rattle.cap_tools.proofs.{Lefts.counted-turns, Lefts.read-on, Programs.have-kept}
 use Rattle.cap_tools.proofs.Steps.{moves-sound, read-step, reads-move, same-kept}
 use Rattle.cap_tools.proofs.Weights.{read_input-small}
-use Rattle.cap_inputs.specs.declared.inputs.Next.{Next}
-use Rattle.cap_tools.specs.declared.step.JobEnd.{JobEnd}
 use Rattle.cap_tools.proofs.job.Job.read_input.Goals as goal
 
 pub invariant_of-self : goal.invariant_of-self

@@ -1,6 +1,5 @@
-use Rattle.cap_tools.proofs.Common.{◌∙◌, Some, refl, subst, sym, reads_nothing, JobView, IsStep}
+use Rattle.cap_tools.proofs.Common.{◌∙◌, Some, refl, subst, sym, reads_nothing, JobView, IsStep, JobEnd}
 use Rattle.cap_tools.proofs.Steps.{same-kept, step-of}
-use Rattle.cap_tools.specs.declared.step.JobEnd.{JobEnd}
 use Rattle.cap_tools.proofs.job.Job.read_slowly.Goals as goal
 
 pub returns-then-not-release_before : goal.returns-then-not-release_before
