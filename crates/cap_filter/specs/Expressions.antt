@@ -3,6 +3,10 @@ use Rattle.std.specs.Prelude.{◌≡◌, ◌⊎◌, List, ℕ, None, Some, Ok, E
 use Rattle.flt_words.specs.{Tokens.Tokens, declared.fault.ExprFault.ExprFault, declared.token.Token.Token}
 use Rattle.flt_ast.specs.{Checks.check_fault, Filled.fill_expression, Resolved.fill_fault, Tree.Expression}
 use Rattle.flt_lang.specs.{Grammar.IsReadAs, Grammar.kinds_of, Nesting.IsTooDeep}
+use Rattle.flt_bpf.specs.{Valid.IsValid, declared.insn.Insn.Insn}
+use Rattle.flt_ast.specs.Tree as tree
+use Rattle.cap_octet.specs.declared.link.Link.{Link}
+use Rattle.flt_gen.specs.Correct.{IsProgramOf}
 
 -- the text has tokens that aren't nested too deep, and they have this tree
 pub record HasTree (text : List ℕ) (tree : Expression) : Type 0 where
@@ -47,3 +51,12 @@ pub data IsTextRefused (text : List ℕ) : ExprFault → Type 0 where
 abbrev pub IsTextFault : List ℕ → ExprFault → Type 0
 IsTextFault text ExprFault.Memory = Unit {0}
 IsTextFault text refusal = IsTextRefused text refusal
+
+-- a valid program for the expression that a text is: on packets of this link it accepts exactly
+-- those that the expression matches, and it has at most as many instructions as the expression's
+-- bound
+pub record IsCompiled (text : List ℕ) (link : Link) (prog : List Insn) : Type 0 where
+  pub e : tree.Expression
+  pub expression : IsExpression text e
+  pub valid : IsValid prog
+  pub program : IsProgramOf prog e link

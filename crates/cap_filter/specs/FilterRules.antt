@@ -1,17 +1,34 @@
 -- Which packets a filter keeps.
-use Rattle.std.specs.Prelude.{ℕ, ◌==◌, not, List, length, Option, None, Some}
+use Rattle.std.specs.Prelude.{ℕ, ◌==◌, not, List, length, Option, None, Some, ◌≡◌, Bool, true, false, if◌then◌else◌, Result, Ok, Err}
 use Rattle.cap_octet.specs.{Link.link_of, Packet.Captured}
-use Rattle.cap_octet.specs.declared.{fault.Fault.TheVariants.LinkTypeNotFiltered, link.Link.Link}
+use Rattle.cap_octet.specs.declared.{fault.Fault.Fault, fault.Fault.TheVariants.LinkTypeNotFiltered, link.Link.Link}
 use Rattle.flt_bpf.specs.{Listing.IsListing, Machine.machine, Machine.Progress, Machine.Answered}
 use Rattle.flt_bpf.specs.Valid.{IsValid, BreaksFirst}
 use Rattle.flt_bpf.specs.declared.{fault.ListingFault.ListingFault, insn.Insn.Insn}
 use Rattle.flt_bpf.specs.Refusal as listing
 use Rattle.flt_ast.specs.Tree.{Expression, empty, truth}
 use Rattle.flt_gen.specs.{Elementary.MatchResult, Elementary.Yes, Elementary.No, Elementary.Rejected, Reading.holds}
-use Rattle.cap_filter.specs.Decisions.{Decision, Keep, Skip, Refuse, keep_if}
 use Rattle.cap_filter.specs.Expressions.{IsExpression, IsTextFault}
 use Rattle.cap_filter.specs.declared.filter.Refusal.{Refusal, TheVariants.Expression, TheVariants.Listing}
 use Rattle.flt_words.specs.declared.fault.ExprFault.{ExprFault}
+
+-- what is decided of a packet: it is written, or not, or its fault ends the job
+pub data Decision : Type 0 where
+  Keep : Decision
+  Skip : Decision
+  Refuse : (fault : Fault) → Decision
+
+-- a packet is kept or skipped
+abbrev pub keep_if : Bool → Decision
+keep_if kept = if kept then Keep else Skip
+
+-- whether a packet is kept, by its decision: a refusal is returned as it is
+abbrev pub ReturnsDecision : Decision → Result Bool Fault → Type 0
+ReturnsDecision (Refuse refusal) r = r ≡ Err refusal
+ReturnsDecision Keep (Ok kept) = kept ≡ true
+ReturnsDecision Skip (Ok kept) = kept ≡ false
+ReturnsDecision Keep (Err fault) = ⊥
+ReturnsDecision Skip (Err fault) = ⊥
 
 -- ---- which packets pass
 

@@ -1,5 +1,3 @@
-pub mod Decisions
-pub mod Compilation
 pub mod Programs
 pub mod Expressions
 pub mod FilterRules

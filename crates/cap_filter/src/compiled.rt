@@ -2,8 +2,7 @@
 ghost use Rattle.std.specs.Prelude.{◌≡◌, ◌==◌, ◌<◌, All, IfOk, length, position, slice_index_or, ◌+◌, ◌≤◌};
 ghost use Rattle.cap_octet.specs.{Link.link_type, Link.all_links, Packet.captured};
 ghost use Rattle.flt_bpf.specs.{Content.Content, Machine.Answered};
-ghost use Rattle.cap_filter.specs.Decisions.{ReturnsDecision};
-ghost use Rattle.cap_filter.specs.FilterRules.{by_reading, expression_decides};
+ghost use Rattle.cap_filter.specs.FilterRules.{ReturnsDecision, by_reading, expression_decides};
 ghost use Rattle.cap_filter.specs.Filters.{program_place, most_cost, spent_on};
 ghost use Rattle.cap_filter.specs.Programs.{AreMade, met_on, ran_at, spent_in};
 ghost use Rattle.cap_filter.specs.inside.Programs.{IsTruth};

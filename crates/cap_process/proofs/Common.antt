@@ -1,10 +1,10 @@
 -- The names that most proofs here cite, passed on from one place. Declares nothing.
 pub use Rattle.std.proofs.Common.{◌≡◌, ℕ, zero, suc, ◌+◌, ◌-◌, ◌^◌, ◌<◌, ◌≤◌, ◌&&◌, ◌==◌, Bool, true, false, if◌then◌else◌, nat_le, List, [], ◌∷◌, ◌++◌, length, Option, None, Some, refl, sym, ◌∙◌, ap, arith, subst, ◌↔◌, not, IsTrue, Ok, drop, codes, Err, min, max, inl, inr, add-zero, take, nat_lt, nat_eq}
 pub use Rattle.std.proofs.{Math.Seq.take-nil, Math.Seq.take-length, lemmas.Bool.Decides.nat_tests}
-pub use Rattle.std.proofs.lemmas.List.{append_assoc, append-nil, length-map, map-append, take-append-drop, Sums.sum_by-append}
+pub use Rattle.std.proofs.lemmas.List.{append_assoc, append-nil, length-map, map-append, take-append-drop}
+pub use Rattle.std.proofs.lemmas.List.Sums.{sum_by-append}
 pub use Rattle.std.specs.{List.Contains, List.sum_by, Option.IfSome, Option.option_or, Option.is_some, Option.unwrap_or}
-pub use Rattle.cap_filter.specs.Decisions.{Decision, Keep}
-pub use Rattle.cap_filter.specs.FilterRules.{Rule, rule_decides, by_reading, decision_of, read_on}
+pub use Rattle.cap_filter.specs.FilterRules.{Decision, Keep, Rule, rule_decides, by_reading, decision_of, read_on}
 pub use Rattle.cap_io.specs.Capture.{Placed, Ending, End, FaultAt, items, kind_of, Items, items_from}
 pub use Rattle.cap_io.specs.RoundTrip.{Carries, ItemsBack}
 pub use Rattle.cap_io.specs.Sequence.{Event, Packet, InputEnd, SequenceEnd, Complete, FaultIn, Sequence, PacketOrder, InTurn, InputItems, whole_input, end_of, packet_events, input_sequence, sequence_in_turn, sequence_of, with_front, ByTime, Entry, end_after, entries_of, comes_before, insert_entry, sort_entries, sequence_of_entries, sequence_by_time, first_end, unless_fault}

@@ -3,8 +3,7 @@ use Rattle.std.specs.{List.sum_by, Option.is_none, Option.option_map}
 use Rattle.std.specs.Prelude.{◌≡◌, ℕ, ◌+◌, ◌-◌, ◌^◌, ◌<◌, ◌&&◌, Bool, true, false, if◌then◌else◌, nat_le, min, max, List, [], ◌∷◌, ◌++◌, length, map, take, Option, None, Some, IfSome}
 use Rattle.cap_octet.specs.{Packet.Captured, declared.fault.Fault.TheVariants.TimeOutOfRange}
 use Rattle.cap_io.specs.{Capture.Placed, Sequence.SequenceEnd, Sequence.FaultIn, Sequence.packet_events}
-use Rattle.cap_filter.specs.Decisions.{Decision, Keep, Skip, Refuse}
-use Rattle.cap_filter.specs.FilterRules.{Rule, rule_decides}
+use Rattle.cap_filter.specs.FilterRules.{Decision, Keep, Skip, Refuse, Rule, rule_decides}
 use Rattle.cap_window.specs.{Marks.mark_of, Marks.has_same, Marks.last, declared.mark.Mark.Mark}
 use Rattle.cap_process.specs.{Outcome.AsReports, Outcome.no_progress, Outcome.apply_events, Reports.Tally}
 use Rattle.cap_process.specs.Verdict.{Count, Filter, Edit, EditRule, edited_packet_with, is_selected, shifted_time}

@@ -4,8 +4,8 @@ use Rattle.std.specs.Prelude.{◌≡◌, ℕ, ◌+◌, ◌-◌, ◌==◌, ◌&&�
 use Rattle.cap_octet.specs.{Date.TIME_END, Packet.Captured}
 use Rattle.cap_octet.specs.declared.fault.Fault.{Fault, TheVariants.TimeOutOfRange, TheVariants.TooManyPackets}
 use Rattle.cap_command.specs.{Command.PACKET_NUMBER_END, Command.is_kept, declared.command.Shift.Shift}
-use Rattle.cap_filter.specs.Decisions as chosen
-use Rattle.cap_filter.specs.{Decisions.Decision, FilterRules.Rule, FilterRules.rule_decides}
+use Rattle.cap_filter.specs.FilterRules as chosen
+use Rattle.cap_filter.specs.FilterRules.{Decision, Rule, rule_decides}
 use Rattle.cap_process.specs.Reports.{Tally, nothing_counted, tally_with}
 use Rattle.cap_window.specs.{Marks.mark_of, Marks.has_same, Marks.last, declared.mark.Mark.Mark}
 

@@ -2,8 +2,8 @@
 -- that isn't written.
 use Rattle.std.specs.{List.sum_by, Option.is_some, Option.option_or, Option.unwrap_or}
 use Rattle.std.specs.Prelude.{◌≡◌, ℕ, zero, suc, ◌+◌, ◌^◌, ◌<◌, Bool, true, false, if◌then◌else◌, nat_le, List, [], ◌∷◌, ◌++◌, length, take, Option, None, Some, IfSome}
-use Rattle.cap_octet.specs.{Link.link_of, Packet.Captured, declared.fault.Fault.Fault}
-use Rattle.cap_octet.specs.declared.{format.Format.Format, link.Link.Link}
+use Rattle.cap_octet.specs.{Link.link_of, Packet.Captured}
+use Rattle.cap_octet.specs.declared.{fault.Fault.Fault, format.Format.Format, link.Link.Link}
 use Rattle.cap_io.specs.Capture.{Ending, End, FaultAt, Items, Placed, items, kind_of}
 use Rattle.cap_io.specs.RoundTrip.{Carries}
 use Rattle.cap_io.specs.Sequence.{Event, Packet, InputEnd, SequenceEnd, Complete, FaultIn, PacketOrder, InTurn, InputItems, end_of, whole_input, sequence_of}
@@ -11,8 +11,7 @@ use Rattle.cap_command.specs.declared.command.Shift.{Shift}
 use Rattle.cap_print.specs.declared.print.Options.{Options}
 use Rattle.flt_ast.specs.Tree.{TruthTree, denied, truth}
 use Rattle.flt_gen.specs.{Elementary.MatchResult, Elementary.Rejected, Reading.holds}
-use Rattle.cap_filter.specs.Decisions.{Decision, Refuse}
-use Rattle.cap_filter.specs.FilterRules.{Rule, by_reading, rule_decides}
+use Rattle.cap_filter.specs.FilterRules.{Decision, Refuse, Rule, by_reading, rule_decides}
 use Rattle.cap_process.specs.Lists.{at_most, end_at_time, first_without_time, packets_kept, packets_of, packets_selected, tally_of, unique_after}
 use Rattle.cap_process.specs.Messages.{fault_message}
 use Rattle.cap_process.specs.Outcome.{Form, AsCapture, AsReports, AsLines, Outcome, Work, form_refuses, output_text, closing_text, first_link, lines_text, outcome}

@@ -1,10 +1,9 @@
 -- The steps that decide the current packet.
-use Rattle.cap_tools.proofs.Coming.{carries-decided, true-wholes, true-fit, true-fits}
+use Rattle.cap_tools.proofs.Coming.{carries-decided, true-wholes, true-fit, true-fits, get-at, At, stands-split, stands-join, rests-join, come-on}
 use Rattle.cap_tools.proofs.Common.{◌≡◌, ◌⊎◌, inl, inr, ℕ, ◌+◌, ◌<◌, ◌≤◌, Bool, true, false, List, [], ◌∷◌, ◌++◌, length, map, Option, None, Some, Result, Ok, Err, refl, sym, ◌∙◌, ap, arith, subst, ◌-◌, append-nil, map-append, slice_get, slice_set, Stops, Captured, Fault, NoMemory, WriteFailed, Placed, IsAt, SinkView, text, added_text, refusal_of, takes_memory, IsAt-decided, Tally, InputItems, Event, Packet, SequenceEnd, Complete, FaultIn, Sequence, sequence_of, with_front, PacketOrder, Policy, SelectorState, Verdict, Pass, PassLast, PassesAs, Skip, judge, IsWithin, PolicyState, GrowsByOne, IsVerdict, Form, AsCapture, JobProgress, IsNextEvent, no_progress, decide, unless_refused, apply_verdict, apply_event, apply_events, final_progress, form_refuses, end_with, final_text, first_link, output_text, Target, Capture, Text, Lines, HasWrittenTo, form_to, written_to, failures_to, PutsIntoOutput, InputView, Future, InputPast, AreInputsAfter, AreSettled, IsInput, input_after_decided, items_left, inputs_left, sequence_left, actual_future, most_steps, JobEnd, BreaksAt, JobState, Meets, a_packet, PacketsDecided, GoesOn, EndLeaves, StepLeaves, progress_at, progress_of, progress_over, wholes_of, work_of, DecidesPacket, Offers, end_after, end_of_failed_write, sieve, drained-text, PutOk, put-ok, WhyUnput, unput, closing-some, course-stop, greatest-decided, set-here, next-is-of, Next}
 use Rattle.cap_tools.proofs.Fetches.{mk, among-same, comes-broken, goes-one, inputs_at, past-of}
 use Rattle.cap_tools.proofs.Laws.{DecideLaws, DecideAt, decide-at}
 use Rattle.cap_tools.proofs.Nexts.{packet-answer, stops-at, once-nothing, once-packet}
-use Rattle.cap_tools.proofs.Splits.{get-at, At, stands-split, stands-join, rests-join, come-on}
 use Rattle.cap_process.specs.declared.selector.Verdict as code
 use Rattle.cap_process.specs.inside.Selector.{FitsTally}
 use Rattle.cap_print.specs.Rendering.{printed_text}

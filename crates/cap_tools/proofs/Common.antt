@@ -4,10 +4,10 @@ pub use Rattle.std.proofs.lemmas.Grind.{common_steps}
 pub use Rattle.std.proofs.lemmas.List.{append_assoc, append-nil, map-append, length-map, length-set, length-append}
 pub use Rattle.std.proofs.lemmas.Option.{slice_get-map, slice_get_past, slice_get_read}
 pub use Rattle.std.specs.List.{slice_get, slice_set, All}
-pub use Rattle.std.specs.Option.{option_map, option_or, is_some, unwrap_or}
+pub use Rattle.std.specs.Option.{option_map, option_or, is_none, is_some, unwrap_or}
 pub use Rattle.cap_command.specs.Call.{Call, RunResult, call_of}
 pub use Rattle.cap_command.specs.Command.{is_proper, is_proper_edit, is_proper_print, most_inputs}
-pub use Rattle.cap_filter.specs.Compilation.{IsCompiled}
+pub use Rattle.cap_filter.specs.Expressions.{IsCompiled}
 pub use Rattle.cap_filter.specs.FilterRules.{Rule, by_reading, by_answer, refusal_status}
 pub use Rattle.cap_filter.specs.Filters.{AreNew, place_by, spent_on, programs_of, rule_of}
 pub use Rattle.cap_filter.specs.Programs.{spent_in, AreMade, ran_at, ran_if}
@@ -47,8 +47,7 @@ pub use Rattle.cap_process.proofs.Outcomes.{Grows, course-grows, progress-next, 
 pub use Rattle.cap_process.proofs.Outputs.{drained-text, PutOk, put-ok, WhyUnput, lines-more, unput, closing-some, ReportOk, report-ok, reports-more, lines-one}
 pub use Rattle.cap_tools.specs.Bounds.{most_turns, StepReads, reads_on, decides_one, leaves_one, reads_nothing, reads_of, IsBounded, IsLight, IsSmall, declared_weight, inputs_weight, names_weight, target_weight, is_fault}
 pub use Rattle.cap_tools.specs.Commands.{CompileGives, DecidedBy, ListsSome, PreparesBy, PreparesOnly, StepReadsBy, job_left, RefusesStart}
-pub use Rattle.cap_tools.specs.Jobs.{JobView, end_status, end_message, first_job, Decided, JobGives, EndsJob, state_at, StaysDecided}
-pub use Rattle.cap_tools.specs.Messages.{MessagesView}
+pub use Rattle.cap_tools.specs.Jobs.{JobView, end_status, end_message, first_job, Decided, JobGives, EndsJob, state_at, StaysDecided, MessagesView}
 pub use Rattle.cap_tools.specs.Packets.{JobState, Meets, a_packet, PacketsDecided, GoesOn, StopsWriting, EndLeaves, StepLeaves, progress_at, progress_of, progress_over, output_form, wholes_of, work_of, written_by, CompletesOutput, EndsByCut, WantsMemory, all_ends, an_end, failures_by, room_by, StepGives, AppendsOnce, BreaksAt, WhyBroken, asks_report, nothing, packet, report, closes, finish_at}
 pub use Rattle.cap_tools.specs.Run.{CommandRuns, HasLeft, HasLostOutput, IsPolicy, IsWhyRefused, IsWork, ends, fault_outcome, form_asked, listing_answer, listing_outcome, of_cut_input, of_events, of_listing, of_packets, of_refusal, output_failed, packets_answer, refusal_outcome, whole_inputs, of_nothing}
 pub use Rattle.cap_tools.specs.Start.{Assignment, Preparing, ReadsFilter, Compiles, assignment, preparing_of, asked_by}

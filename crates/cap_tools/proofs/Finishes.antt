@@ -1,8 +1,8 @@
 -- The step that ends the output.
-use Rattle.cap_tools.proofs.Coming.{true-whole, true-wholes, true-fit, true-fits}
+use Rattle.cap_tools.proofs.Coming.{true-whole, true-wholes, true-fit, true-fits, At}
 use Rattle.cap_tools.proofs.Common.{None, all_ends, ◌≡◌, ℕ, ◌+◌, List, [], ◌∷◌, ◌++◌, map, Option, Some, Result, Ok, Err, refl, sym, ◌∙◌, ap, subst, add-zero, append-nil, option_or, Stops, Captured, DeviceFault, Fault, WriteFailed, first_link_of, items, SinkView, FinishesEmpty, HasPackets, link_or_ethernet, file_start, text, Ended, finish-none, finish-none-writes, finish-some, Report, Event, InputItems, Complete, sequence_of, with_front, PacketOrder, Policy, SelectorState, AsCapture, JobProgress, closing_text, lines_text, end_with, final_text, first_link, Target, Capture, Text, Lines, HasWrittenTo, form_to, written_to, failures_to, EndsOutput, FinishesInto, InputView, Future, InputPast, AreInputsAfter, IsNext, AllEnded, actual_future, first_declared_link, next-is-of, reports_text, JobState, PacketsDecided, EndLeaves, end_of_write, StopsWriting, progress_at, progress_of, progress_over, wholes_of, Next}
-use Rattle.cap_tools.proofs.Fetches.{mk, inputs_at}
-use Rattle.cap_tools.proofs.{Laws.OverAt, Laws.over-at, Nexts.all-course, Nexts.stops-at, Nexts.once-closing, Splits.At}
+use Rattle.cap_tools.proofs.{Fetches.mk, Fetches.inputs_at, Laws.OverAt, Laws.over-at}
+use Rattle.cap_tools.proofs.Nexts.{all-course, stops-at, once-closing}
 
 -- all events came
 over-all : (ss : List InputPast) (before : List ℕ) (cursors : List InputView) (order : PacketOrder) (policy : Policy) (state : SelectorState) (names : List (List ℕ)) (output : Target) (decided : ℕ) → OverAt order cursors → (d : PacketsDecided ss before (mk cursors order policy state names output decided))

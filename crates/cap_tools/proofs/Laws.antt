@@ -1,7 +1,6 @@
 -- What a place says of what is left, for inputs in turn and for a merge.
-use Rattle.cap_tools.proofs.Coming.{from_turn, left-decided, turn-closes, turn-broken, hand_is}
+use Rattle.cap_tools.proofs.Coming.{from_turn, left-decided, turn-closes, turn-broken, hand_is, At, Fit, fits-join, rests-join, rests-length}
 use Rattle.cap_tools.proofs.Common.{append-nil, ◌≡◌, inl, inr, ℕ, zero, suc, ◌+◌, ◌≤◌, Bool, true, false, cond, not, max, List, [], ◌∷◌, ◌++◌, length, drop, Option, None, Some, refl, sym, ◌∙◌, ap, arith, subst, Captured, Fault, Kind, Declared, Items, no_items, kind_of, IsAt, Phase, Ended, InputItems, Event, Packet, InputEnd, SequenceEnd, Complete, FaultIn, PacketOrder, InTurn, ByTime, with_front, sequence_in_turn, sequence_by_time, fault_without_packets, sequence_of_entries, sort_entries, all_entries, unless_fault, Policy, Form, JobProgress, apply_events, end_input, unless_ended, InputView, InputPast, Future, AreFutures, AreInputsAfter, IsInput, ended_count, input_after_decided, is_open, items_left, inputs_left, key_of, sequence_left, packet_time, AllEnded, AllReady, IsNextIn, IsOpen, IsReady, KeysFrom, NoneEnded, NoneWaits, count-open, count-all, merged-broken, Placed, after_packets, first_end, waiting_packets, no_future, IsFrom, end_at, AllFrom, merged-next, Next}
-use Rattle.cap_tools.proofs.Splits.{At, Fit, fits-join, rests-join, rests-length}
 
 -- a packet waits, whose greatest time so far is at least the key; or the input is at its clean end
 pub data InputFrom (k : ℕ) (h : InputView) : Type 0 where

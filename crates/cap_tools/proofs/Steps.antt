@@ -1,10 +1,10 @@
 -- What a step does to a job, by the parts that it changes. `old` is the job as its invariant has it,
 -- and `now` the same job as contracts see it.
-use Rattle.cap_tools.proofs.{Answers.AnswerLeaves, Answers.answer-leaves, CommandStarts.ready-none}
+use Rattle.cap_tools.proofs.{Answers.AnswerLeaves, Answers.answer-leaves, Coming.get-input, CommandStarts.ready-none}
 use Rattle.cap_tools.proofs.Common.{is_none, ◌≡◌, ℕ, ◌+◌, ◌<◌, ◌≤◌, Bool, true, false, IsTrue, List, Captured, Option, None, Some, Result, Ok, Err, ◌&&◌, refl, sym, ◌∙◌, ap, arith, subst, All, Fault, InputView, InputsView, InputPast, IsInput, IsNext, IsSound, MarksDecided, ReadSteps, ReadsInput, steps_left, next-is-of, is_clean_end, input_after_decided, with_cursor, Policy, SelectorView, policy_state, GrowsByOne, HasFewMarks, HavePrograms, Spends, IsStep, JobEnd, JobState, JobView, PacketsDecided, StepGives, StepLeaves, state_at, asks_report, end_after, sieve, DecidesPacket, StepReads, reads_on, decides_one, leaves_one, is_fault, IsPaid, IsSmall, Target, HasFewOutputInterfaces, room_by, room_to, Next}
 use Rattle.cap_tools.proofs.Fetches.{Follows, among-same, read_input-leaves}
 use Rattle.cap_tools.proofs.Lefts.{counted-kept, few-kept, Goes, decided-on, read-on}
-use Rattle.cap_tools.proofs.{Splits.get-input, Weights.is-light, Weights.mark_decided-small, Weights.read_input-small}
+use Rattle.cap_tools.proofs.Weights.{is-light, mark_decided-small, read_input-small}
 use Rattle.cap_process.specs.declared.selector.Verdict as code
 use Rattle.cap_process.specs.inside.Selector.{FitsTally}
 use Rattle.cap_tools.specs.Bounds.{JudgesOne}

@@ -3,7 +3,7 @@ use Rattle.std.specs.Prelude.{◌≡◌, ◌⊎◌, ℕ, ◌+◌, ◌<◌, ◌�
 use Rattle.cap_octet.specs.{Device.Stops, declared.link.Link.Link}
 use Rattle.flt_bpf.specs.{Content.Content, Listing.listing, declared.insn.Insn.Insn}
 use Rattle.flt_words.specs.declared.fault.ExprFault.{ExprFault}
-use Rattle.cap_filter.specs.{Compilation.IsCompiled, Expressions.IsTextFault}
+use Rattle.cap_filter.specs.Expressions.{IsCompiled, IsTextFault}
 use Rattle.cap_filter.specs.FilterRules.{Rule, IsRule, IsWhy, refusal_status}
 use Rattle.cap_filter.specs.{Filters.AreNew, Programs.spent_in, declared.filter.Refusal.Refusal}
 use Rattle.cap_tools.specs.Bounds.{IsLight, StepReads, most_turns}

@@ -112,3 +112,8 @@ IsStatus (Turn.Done status) = status ≤ 2
 abbrev pub done_by : Turn → Option ℕ
 done_by Turn.More = None
 done_by (Turn.Done status) = Some status
+
+-- the names of the inputs, then of the output; and the device
+pub record MessagesView : Type 0 where
+  pub names : List (List ℕ)
+  pub device : OutputView

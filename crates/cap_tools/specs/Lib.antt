@@ -4,5 +4,4 @@ pub mod Jobs
 pub mod Run
 pub mod Start
 pub mod Packets
-pub mod Messages
 pub mod inside

@@ -8,7 +8,7 @@ use Rattle.cap_octet.specs.declared.link.Link.{Link}
 use Rattle.cap_io.specs.{Capture.Declared, Capture.Placed, Capture.Items, Position.IsCutShort, Position.MemoryEndsAt}
 use Rattle.cap_io.specs.{Reading.decisive_length, Sequence.Event, Sequence.InputItems, Sequence.whole_input}
 use Rattle.flt_bpf.specs.{Listing.listing, declared.insn.Insn.Insn}
-use Rattle.cap_filter.specs.{Compilation.IsCompiled, Expressions.IsTextFault}
+use Rattle.cap_filter.specs.Expressions.{IsCompiled, IsTextFault}
 use Rattle.cap_filter.specs.FilterRules.{Rule, IsRule, IsWhy, refusal_status}
 use Rattle.cap_filter.specs.declared.filter.Refusal.{Refusal}
 use Rattle.cap_process.specs.Messages.{fault_message, no_memory_message, refusal_message, write_failed_message, IsTold}

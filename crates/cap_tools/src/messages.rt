@@ -24,7 +24,7 @@ pub struct Messages<E: Output, A: Allocator> {
 impl<E: Output, A: Allocator> Model for Messages<E, A> {
     ghost use Rattle.std.specs.{Prelude.map, String.string_bytes};
     ghost use Rattle.cap_octet.specs.Views.{output_view};
-    ghost use Rattle.cap_tools.specs.Messages.{MessagesView};
+    ghost use Rattle.cap_tools.specs.Jobs.{MessagesView};
 
     ghost Value = { MessagesView };
 
