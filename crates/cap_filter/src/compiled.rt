@@ -1,5 +1,6 @@
 //! A compiled expression: its tree, and its program for each link.
-ghost use Rattle.std.specs.Prelude.{◌≡◌, ◌==◌, ◌<◌, All, IfOk, length, position, slice_index_or, ◌+◌, ◌≤◌};
+ghost use Rattle.std.specs.Prelude.{◌≡◌, ◌==◌, ◌<◌, All, IfOk, length, position, slice_index_or};
+ghost use Rattle.std.specs.Prelude.{◌+◌, ◌≤◌};
 ghost use Rattle.cap_octet.specs.{Link.link_type, Link.all_links, Packet.captured};
 ghost use Rattle.flt_bpf.specs.{Content.Content, Machine.Answered};
 ghost use Rattle.cap_filter.specs.FilterRules.{ReturnsDecision, by_reading, expression_decides};

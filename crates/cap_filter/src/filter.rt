@@ -1,7 +1,8 @@
 //! Filters: what decides which packets pass, made of an expression's words or of a listing, or why
 //! these are refused.
 ghost use Rattle.std.specs.Prelude.{◌≡◌, IfErr, IfOk, None, Some, ◌+◌, ◌≤◌};
-ghost use Rattle.cap_filter.specs.FilterRules.{ReturnsDecision, IsRule, IsWhy, by_reading, refusal_status, rule_decides};
+ghost use Rattle.cap_filter.specs.FilterRules.{ReturnsDecision, IsRule, IsWhy, by_reading};
+ghost use Rattle.cap_filter.specs.FilterRules.{refusal_status, rule_decides};
 ghost use Rattle.cap_filter.specs.Filters.{AreNew, programs_of, rule_of, most_cost, spent_on};
 ghost use Rattle.cap_filter.specs.Programs.{spent_in};
 ghost use Rattle.cap_octet.specs.Packet.{captured};

@@ -5,7 +5,10 @@
 //! before the first fault of an input, since a packet's number is below that. A `count` is 1 or
 //! more.
 ghost use Rattle.cap_process.specs.Lists.{CountsAll, EndsWithoutTime, HasLastMarks, PassesFiltered};
-ghost use Rattle.cap_process.specs.Whole.{EditWrites, InfosReports, MergeWrites, PrintLines, PrintWrites, EditKeeps, EditsAlike, MergesOne, CutsGivePrefixes, NegationParts, CopyEnds, EditEnds, InfosEnds, MergeEnds, PrintEnds};
+ghost use Rattle.cap_process.specs.Whole.{EditWrites, InfosReports, MergeWrites, PrintLines};
+ghost use Rattle.cap_process.specs.Whole.{PrintWrites, EditKeeps, EditsAlike, MergesOne};
+ghost use Rattle.cap_process.specs.Whole.{CutsGivePrefixes, NegationParts, CopyEnds, EditEnds};
+ghost use Rattle.cap_process.specs.Whole.{InfosEnds, MergeEnds, PrintEnds};
 
 use cap_io::laws::items_back;
 

@@ -6,7 +6,9 @@ ghost use Rattle.std.specs.Prelude.{◌≡◌, ◌+◌, ◌++◌, IsTrue, codes}
 ghost use Rattle.cap_octet.specs.Device.{AppendsOrStops, failures_of};
 ghost use Rattle.flt_bpf.specs.Message.{check_message, listing_message};
 ghost use Rattle.flt_words.specs.Messages.{message_of};
-ghost use Rattle.cap_process.specs.Messages.{fault_message, write_failed_message, no_memory_message, refusal_message, expression_message, code_message, line_feed};
+ghost use Rattle.cap_process.specs.Messages.{fault_message, write_failed_message};
+ghost use Rattle.cap_process.specs.Messages.{no_memory_message, refusal_message};
+ghost use Rattle.cap_process.specs.Messages.{expression_message, code_message, line_feed};
 
 use cap_filter::filter::Refusal;
 use cap_octet::{DeviceFault, Fault, Output, write_parts};

@@ -4,7 +4,8 @@
 ghost use Rattle.std.specs.Prelude.{◌≡◌, ◌+◌, IfErr, IsTrue, true};
 ghost use Rattle.cap_octet.specs.{Device.AppendsOrStops, Device.failures_of, Packet.captured};
 ghost use Rattle.cap_print.specs.Rendering.{printed_text};
-ghost use Rattle.cap_process.specs.Output.{Capture, HasFewOutputInterfaces, failures_to, room_to, target_at, written_to};
+ghost use Rattle.cap_process.specs.Output.{Capture, HasFewOutputInterfaces, failures_to, room_to};
+ghost use Rattle.cap_process.specs.Output.{target_at, written_to};
 ghost use Rattle.cap_process.specs.Reports.{file_report};
 ghost use Rattle.cap_process.specs.inside.Output.{EndsOutput, PutsIntoOutput, Reports, is_text};
 ghost use Rattle.flt_bpf.specs.Listing.{listing};

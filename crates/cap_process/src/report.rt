@@ -4,7 +4,8 @@
 //! that isn't the whole.
 ghost use Rattle.std.specs.Prelude.{◌≡◌, ◌+◌, ◌==◌, [], ◌∷◌, IsTrue, codes, if◌then◌else◌};
 ghost use Rattle.cap_octet.specs.Device.{AppendsOrStops, failures_of};
-ghost use Rattle.cap_process.specs.Reports.{file_report, kind_name, lines, size_lines, time_lines, yes_or_no};
+ghost use Rattle.cap_process.specs.Reports.{file_report, kind_name, lines, size_lines, time_lines};
+ghost use Rattle.cap_process.specs.Reports.{yes_or_no};
 
 use crate::tally::Tally;
 use cap_io::Kind;

@@ -1,13 +1,20 @@
 //! What becomes of each packet: a selector judges packets in turn by its policy, which is an edit,
 //! a filter, that all are kept, or that all are counted.
-ghost use Rattle.std.specs.Prelude.{◌≡◌, ℕ, ◌+◌, ◌-◌, ◌<◌, ◌≤◌, [], IfOk, None, Some, false, if◌then◌else◌, length};
+ghost use Rattle.std.specs.Prelude.{◌≡◌, ℕ, ◌+◌, ◌-◌, ◌<◌, ◌≤◌, [], IfOk, None, Some, false};
+ghost use Rattle.std.specs.Prelude.{if◌then◌else◌, length};
 ghost use Rattle.cap_octet.specs.Packet.{Captured, captured};
 ghost use Rattle.cap_io.specs.Reading.{most_in_unit};
 ghost use Rattle.cap_filter.specs.{Filters.programs_of, Filters.rule_of, Programs.spent_in};
 ghost use Rattle.cap_process.specs.Reports.{Tally};
-ghost use Rattle.cap_process.specs.Selector.{is_count, marks_in, most_spent, policy_of, programs_in, spent_by, state_of, window_of, SelectorView, spent_by_verdict};
-ghost use Rattle.cap_process.specs.Verdict.{is_last, judge_by, Filter as AskedFilter, initial_state, judge};
-ghost use Rattle.cap_process.specs.inside.Selector.{IsWindowFor, ReturnsVerdict, count_limit, verdict_if, verdict_of, FitsTally, GrowsByOne, HasFewMarks, IsVerdict, TakesTally, policy_state};
+ghost use Rattle.cap_process.specs.Selector.{is_count, marks_in, most_spent, policy_of};
+ghost use Rattle.cap_process.specs.Selector.{programs_in, spent_by, state_of, window_of};
+ghost use Rattle.cap_process.specs.Selector.{SelectorView, spent_by_verdict};
+ghost use Rattle.cap_process.specs.Verdict.{is_last, judge_by, Filter as AskedFilter};
+ghost use Rattle.cap_process.specs.Verdict.{initial_state, judge};
+ghost use Rattle.cap_process.specs.inside.Selector.{IsWindowFor, ReturnsVerdict, count_limit};
+ghost use Rattle.cap_process.specs.inside.Selector.{verdict_if, verdict_of, FitsTally, GrowsByOne};
+ghost use Rattle.cap_process.specs.inside.Selector.{HasFewMarks, IsVerdict, TakesTally};
+ghost use Rattle.cap_process.specs.inside.Selector.{policy_state};
 ghost use Rattle.cap_window.specs.View.{window};
 
 use crate::edit::edit_packet;
@@ -58,7 +65,8 @@ pub struct Selector<A: Allocator> {
 impl<A: Allocator> Model for Selector<A> {
     ghost use Rattle.std.specs.Coded.{codes};
     ghost use Rattle.cap_filter.specs.inside.Programs.{coded_expression};
-    ghost use Rattle.cap_process.specs.Selector.{SelectorView, policy_of, marks_in, programs_in, state_of, window_of};
+    ghost use Rattle.cap_process.specs.Selector.{SelectorView, policy_of, marks_in, programs_in};
+    ghost use Rattle.cap_process.specs.Selector.{state_of, window_of};
     ghost use Rattle.cap_process.specs.inside.Selector.{IsWindowFor};
 
     ghost Value = { SelectorView };
