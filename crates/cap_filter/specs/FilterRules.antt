@@ -9,7 +9,7 @@ use Rattle.flt_bpf.specs.Refusal as listing
 use Rattle.flt_ast.specs.Tree.{Expression, empty, truth}
 use Rattle.flt_gen.specs.{Elementary.MatchResult, Elementary.Yes, Elementary.No, Elementary.Rejected, Reading.holds}
 use Rattle.cap_filter.specs.Expressions.{IsExpression, IsTextFault}
-use Rattle.cap_filter.specs.declared.filter.Refusal.{Refusal, TheVariants.Expression, TheVariants.Listing}
+use Rattle.cap_filter.specs.declared.filter.Refusal.{Refusal}
 use Rattle.flt_words.specs.declared.fault.ExprFault.{ExprFault}
 
 -- what is decided of a packet: it is written, or not, or its fault ends the job
@@ -84,6 +84,6 @@ IsWhy words (Some text) (Refusal.Program fault at) =
 
 -- 1 if memory ran out, else 2
 abbrev pub refusal_status : Refusal → ℕ
-refusal_status (Expression ExprFault.Memory) = 1
-refusal_status (Listing ListingFault.Memory) = 1
+refusal_status (Refusal.Expression ExprFault.Memory) = 1
+refusal_status (Refusal.Listing ListingFault.Memory) = 1
 refusal_status _ = 2
