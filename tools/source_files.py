@@ -87,14 +87,16 @@ def imports_of(line, module_of):
     """Yields the names that a `use` line brings in, by what they stand for."""
     found = re.match(r"\s*(?:ghost )?use ([\w.]+?)(?:\.\{(.*)\}|( as (\w+))?);?$", line.replace("\n", " "))
     path, names, alias = found[1], found[2], found[4]
-    names_there = module_of(path)
-    if names_there is None:
-        return
     if names is None:
-        yield alias or path.split(".")[-1], names_there
+        if (names_there := module_of(path)) is not None:
+            yield alias or path.split(".")[-1], names_there
         return
     for name in filter(None, (name.strip() for name in names.split(","))):
         name, _, other = name.partition(" as ")
+        *inner, name = name.split(".")
+        names_there = module_of(".".join([path, *inner]))
+        if names_there is None:
+            continue
         target = names_there.get(name.strip("«»"), names_there.get(""))
         if target is None:
             raise LookupError(f"{path} has no {name}")

@@ -73,6 +73,8 @@ def named_by(target, fields):
     """The uses that a name with fields stands for: of an item, or of what a module or a type of src/ has."""
     if isinstance(target, dict):
         target = target.get(fields[0] if fields else "", target.get(""))
+    elif target and len(target) == 3 and fields and fields[0][0].isupper():
+        target = (*target, fields[0])
     return {target} if target else set()
 
 
