@@ -1,6 +1,6 @@
 -- The steps that read an input on.
 use Rattle.cap_tools.proofs.Coming.{carries-found, carries-closed, come-first, true-wholes, true-fits, finds, get-at, get-input, At, Fit, stands-split, stands-join, stands-length, fits-join, wholes-join, rests-join, finish-here, come-on}
-use Rattle.cap_tools.proofs.Common.{length-map, map-append, texts, Captured, greatest_of, an_end, InputEnd, ◌≡◌, inl, inr, ℕ, suc, ◌+◌, ◌<◌, ◌≤◌, Bool, true, false, List, [], ◌∷◌, ◌++◌, length, map, get_or, Option, None, Some, Result, Ok, Err, refl, sym, ◌∙◌, ap, arith, subst, append_assoc, append-nil, slice_set, HasGiven, Stops, DeviceFault, Fault, ReadFailed, Kind, Placed, Items, FaultAt, no_items, kind_of, after_packets, SourceView, Phase, Reading, Ended, Failed, Steps, FindsPacket, FindsEnd, FindsFault, Advances, IsAt, IsAt-found, IsAt-closed, IsAt-fault, JobEnd, Report, Tally, InputItems, Event, FaultIn, PacketOrder, InTurn, ByTime, Sequence, sequence_of, with_front, whole_input, Policy, Edit, Filter, KeepAll, Count, SelectorState, IsWithin, is_count, PolicyState, with_empty_tally, Form, JobProgress, cut_at, no_progress, apply_events, final_progress, end_with, final_text, output_text, first_link, Target, Capture, Text, Lines, HasWrittenTo, form_to, written_to, failures_to, Reports, InputView, InputsView, Future, InputPast, AreInputsAfter, AreSettled, IsInput, ReadsInput, waiting_packets, input_after, input_items, inputs_with, inputs_left, limits_of, sequence_left, IsNext, actual_future, is_in_turn, report_text, JobState, AppendsOnce, PacketsDecided, GoesOn, CompletesOutput, WhyBroken, StopsWriting, StepLeaves, asks_report, progress_at, progress_of, progress_over, output_form, failures_by, written_by, wholes_of, Closes, ClosesBy, unless_failed, sieve, report_at, drained-text, ReportOk, report-ok, progress-append, course-close, greatest-here, greatest-same, limits-at, limits-kept, set-here, next-is-of, Next}
+use Rattle.cap_tools.proofs.Common.{length-map, map-append, texts, Captured, greatest_of, an_end, InputEnd, ◌≡◌, inl, inr, ℕ, suc, ◌+◌, ◌<◌, ◌≤◌, Bool, true, false, List, [], ◌∷◌, ◌++◌, length, map, Option, None, Some, Result, Ok, Err, refl, sym, ◌∙◌, ap, arith, subst, append_assoc, append-nil, slice_set, HasGiven, Stops, DeviceFault, Fault, ReadFailed, Kind, Placed, Items, FaultAt, no_items, kind_of, after_packets, SourceView, Phase, Reading, Ended, Failed, Steps, FindsPacket, FindsEnd, FindsFault, Advances, IsAt, IsAt-found, IsAt-closed, IsAt-fault, JobEnd, Report, Tally, InputItems, Event, FaultIn, PacketOrder, InTurn, ByTime, Sequence, sequence_of, with_front, whole_input, Policy, Edit, Filter, KeepAll, Count, SelectorState, IsWithin, is_count, PolicyState, with_empty_tally, Form, JobProgress, cut_at, no_progress, apply_events, final_progress, end_with, final_text, output_text, first_link, Target, Capture, Text, Lines, HasWrittenTo, form_to, written_to, failures_to, Reports, InputView, InputsView, Future, InputPast, AreInputsAfter, AreSettled, IsInput, ReadsInput, waiting_packets, input_after, input_items, inputs_with, inputs_left, limits_of, sequence_left, IsNext, actual_future, is_in_turn, report_text, JobState, AppendsOnce, PacketsDecided, GoesOn, CompletesOutput, WhyBroken, StopsWriting, StepLeaves, asks_report, progress_at, progress_of, progress_over, output_form, failures_by, written_by, wholes_of, Closes, ClosesBy, unless_failed, sieve, report_at, drained-text, ReportOk, report-ok, progress-append, course-close, greatest-here, greatest-same, limits-at, limits-kept, set-here, next-is-of, Next}
 use Rattle.cap_tools.proofs.Laws.{ReadLaws, ReadAt, closed_in, read-at}
 use Rattle.cap_tools.proofs.Nexts.{report-answer, stops-at, once-nothing, once-report}
 use Rattle.cap_process.specs.inside.Selector as selecting_inside

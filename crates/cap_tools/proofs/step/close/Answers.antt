@@ -1,5 +1,5 @@
 use Rattle.cap_tools.proofs.Coming.{get-input}
-use Rattle.cap_tools.proofs.Common.{◌≡◌, ℕ, List, Option, true, Ok, Err, refl, sym, ◌∙◌, ap₂, subst, None, Some, is_in_turn, Reports, Tally, file_report, is_count, TakesTally, policy_state, JobEnd}
+use Rattle.cap_tools.proofs.Common.{◌≡◌, ℕ, List, Option, true, sym, ◌∙◌, ap₂, subst, is_in_turn, Reports, Tally, file_report, is_count, TakesTally, policy_state}
 use Rattle.cap_tools.proofs.Fetches.{closes-by, counted, uncounted, unreported}
 use Rattle.cap_process.proofs.Selectors.{closes-policy}
 use Rattle.cap_tools.proofs.step.close.Goals as goal

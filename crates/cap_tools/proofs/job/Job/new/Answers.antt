@@ -1,5 +1,5 @@
 use Rattle.cap_tools.proofs.CommandStarts.{few-inputs, first-decided, first-made, first-ready, first-few, first-left}
-use Rattle.cap_tools.proofs.Common.{length-map, most_inputs, ◌≡◌, ◌≤◌, List, map, length, string_bytes, sym, ap, subst, ◌∙◌, arith, All, option_map, Content, IsSmall, most_turns, steps_owed_in_all, HasFewOutputInterfaces, Target, nothing_counted, InputsView, steps_left, HavePrograms, SelectorView, policy_of, initial_state, HasFewMarks, PacketOrder, order_of, Assignment, preparing_of, Call, call_of, JobView, fresh_input, fresh_output, fresh_inputs, nothing_done, DecidedBy, IsReadyIf}
+use Rattle.cap_tools.proofs.Common.{length-map, most_inputs, ◌≡◌, ◌≤◌, List, map, length, string_bytes, sym, ap, subst, ◌∙◌, arith, All, option_map, Content, IsSmall, most_turns, steps_owed_in_all, HasFewOutputInterfaces, Target, InputsView, steps_left, HavePrograms, SelectorView, policy_of, initial_state, HasFewMarks, PacketOrder, order_of, Assignment, preparing_of, Call, call_of, JobView, fresh_input, fresh_output, fresh_inputs, nothing_done, DecidedBy, IsReadyIf}
 use Rattle.cap_tools.proofs.Weights.{few-first, small-first}
 use Rattle.cap_tools.proofs.job.Job.new.Goals as goal
 
