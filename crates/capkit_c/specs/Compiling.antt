@@ -1,15 +1,20 @@
 -- The result of a compilation for C.
-use Rattle.std.specs.List.{list_all}
 use Rattle.std.specs.Prelude.{◌≡◌, ℕ, ◌+◌, ◌<◌, ◌≤◌, ◌==◌, if◌then◌else◌, Bool, true, false, List, length, take, drop, None, Some, unwrap_or}
+use Rattle.std.specs.List.{list_all}
 use Rattle.std.specs.Str.{IsUtf8, IsValidUpTo}
 use Rattle.flt_bpf.specs.declared.insn.Insn.{Insn}
-use Rattle.flt_words.specs.{Characters.is_blank, declared.fault.ExprFault.ExprFault}
+use Rattle.flt_words.specs.declared.fault.ExprFault.TheVariants as fault
+use Rattle.flt_words.specs.Characters.{is_blank}
 use Rattle.flt_words.specs.Messages as messages
-use Rattle.cap_octet.specs.{Assigned.LINKTYPE_RAW, Link.link_of}
-use Rattle.cap_octet.specs.declared.link.Link.{Link, TheVariants.Ether}
-use Rattle.cap_filter.specs.Expressions.{IsCompiled, IsTextFault}
-use Rattle.capkit_c.specs.{Running.rule_number, declared.compiling.Failure.Failure}
+use Rattle.cap_octet.specs.Assigned.{LINKTYPE_RAW}
+use Rattle.cap_octet.specs.declared.link.Link.{Link}
+use Rattle.cap_octet.specs.declared.link.Link.TheVariants.{Ether}
+use Rattle.cap_filter.specs.Expressions.{IsCompiled}
+use Rattle.cap_filter.specs.Expressions.{IsTextFault}
+use Rattle.cap_octet.specs.Link.{link_of}
+use Rattle.capkit_c.specs.declared.compiling.Failure.{Failure}
 use Rattle.capkit_c.specs.declared.compiling.Failure.TheVariants.{Text, NotUtf8, LinkType, NoRoom, NotListing, Invalid}
+use Rattle.capkit_c.specs.Running.{rule_number}
 
 -- what libpcap's pcap_datalink() calls raw IP
 abbrev pub DLT_RAW : ℕ
@@ -73,19 +78,19 @@ IsFailure text link_type room failure = IsTextFailure text failure
 
 -- the status of a failure
 abbrev pub failure_status : Failure → ℕ
-failure_status (Text ExprFault.TooLong) = 1
-failure_status (Text (ExprFault.UnknownCharacter at)) = 2
-failure_status (Text (ExprFault.UnknownWord at)) = 3
-failure_status (Text (ExprFault.NumberTooLarge at)) = 4
-failure_status (Text ExprFault.NotAnExpression) = 5
-failure_status (Text ExprFault.NestedTooDeep) = 6
-failure_status (Text ExprFault.QualifiersDoNotFit) = 7
-failure_status (Text ExprFault.ValueOutOfRange) = 8
-failure_status (Text ExprFault.BitsPastMask) = 9
-failure_status (Text ExprFault.DivisionByZero) = 10
-failure_status (Text ExprFault.TooManyWords) = 11
-failure_status (Text ExprFault.ProgramTooLong) = 12
-failure_status (Text ExprFault.Memory) = 13
+failure_status (Text fault.TooLong) = 1
+failure_status (Text (fault.UnknownCharacter at)) = 2
+failure_status (Text (fault.UnknownWord at)) = 3
+failure_status (Text (fault.NumberTooLarge at)) = 4
+failure_status (Text fault.NotAnExpression) = 5
+failure_status (Text fault.NestedTooDeep) = 6
+failure_status (Text fault.QualifiersDoNotFit) = 7
+failure_status (Text fault.ValueOutOfRange) = 8
+failure_status (Text fault.BitsPastMask) = 9
+failure_status (Text fault.DivisionByZero) = 10
+failure_status (Text fault.TooManyWords) = 11
+failure_status (Text fault.ProgramTooLong) = 12
+failure_status (Text fault.Memory) = 13
 failure_status (NotUtf8 at) = 14
 failure_status LinkType = 15
 failure_status (NoRoom needed) = 16
