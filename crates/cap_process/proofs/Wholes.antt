@@ -1,6 +1,6 @@
 -- What whole commands write, and how they end: the verdicts on packets make a list, of which the form refuses the rest.
-use Rattle.cap_process.proofs.Common.{◌≡◌, ℕ, zero, suc, ◌+◌, ◌-◌, ◌^◌, ◌<◌, ◌&&◌, Bool, true, false, if◌then◌else◌, nat_le, max, List, [], ◌∷◌, ◌++◌, length, take, Option, None, Some, refl, sym, ◌∙◌, ap, arith, subst, append_assoc, append-nil, length-map, IfSome, unwrap_or, nat_lt, nat_eq, nat_tests, take-length, Captured, Fault, TooManyPackets, Format, Kind, Placed, Ending, End, FaultAt, items, kind_of, Carries, ItemsBack, text, Options, Rule, Event, Packet, InputEnd, SequenceEnd, Complete, FaultIn, Sequence, PacketOrder, InTurn, ByTime, InputItems, whole_input, Entry, packet_events, input_sequence, sequence_in_turn, sequence_of, end_of, end_after, entries_of, comes_before, insert_entry, sort_entries, sequence_of_entries, sequence_by_time, first_end, unless_fault, with_front, Policy, Edit, EditRule, Filter, KeepAll, Count, Judgement, SelectorState, initial_state, edited_packet_with, is_selected, judge, judge_by, passes, refuses, Report, Tally, nothing_counted, reports_text, Form, AsCapture, AsReports, AsLines, JobProgress, Work, no_progress, apply_verdict, apply_event, apply_events, next_progress, end_input, end_with, unless_ended, end_unless_ended, final_progress, output_text, text_at_end, first_link, lines_text, message, status, outcome_at, outcome, is_count, packets_selected, unique_after, at_most, end_at_time, first_without_time, packets_kept, packets_of, tally_of, Mark, mark_of, CopyEnds, EditEnds, EditKeeps, EditWrites, EditsAlike, EndsAs, EndsUnlessRefused, HasCarried, InfosEnds, MergeEnds, MergesOne, PrintEnds, copy_of, no_options, InfosReports, MergeWrites, PrintLines, PrintWrites, closing_if, edit_work, event_packets, infos_work, merge_work, file_packets, packets_in_order, print_work, reports_by, reports_of, packets_written, first_refusal, is_reached, rule_end, written_text, drop, map-append, take-append-drop, Items, items_from, CutsGivePrefixes}
-use Rattle.cap_process.proofs.Lists.{Comes, EndsSo, comes, count-packets, end-stays, ends_without_time, filtered-first, judged, judged_by, judged-is, none-refused, packets-of-input, policy_end, under_way, verdict_end}
+use Rattle.cap_process.proofs.Common.{◌≡◌, ℕ, zero, suc, ◌+◌, ◌-◌, ◌^◌, ◌<◌, ◌&&◌, Bool, true, false, if◌then◌else◌, nat_le, max, List, [], ◌∷◌, ◌++◌, length, take, Option, None, Some, refl, sym, ◌∙◌, ap, arith, subst, append_assoc, append-nil, length-map, IfSome, unwrap_or, nat_lt, nat_eq, nat_tests, take-length, Captured, Fault, TooManyPackets, Format, Kind, Placed, Ending, End, FaultAt, items, kind_of, ItemsBack, text, Options, Rule, Event, Packet, InputEnd, SequenceEnd, Complete, FaultIn, Sequence, PacketOrder, InTurn, ByTime, InputItems, whole_input, Entry, packet_events, input_sequence, sequence_in_turn, sequence_of, end_of, end_after, entries_of, comes_before, insert_entry, sort_entries, sequence_of_entries, sequence_by_time, first_end, unless_fault, with_front, Policy, Edit, EditRule, Filter, KeepAll, Count, Judgement, SelectorState, initial_state, edited_packet_with, is_selected, judge, judge_by, passes, refuses, Report, Tally, nothing_counted, reports_text, Form, AsCapture, AsReports, AsLines, JobProgress, Work, no_progress, apply_verdict, apply_event, apply_events, next_progress, end_input, end_with, unless_ended, end_unless_ended, final_progress, output_text, text_at_end, first_link, lines_text, message, status, outcome_at, outcome, is_count, packets_selected, unique_after, at_most, end_at_time, first_without_time, packets_kept, packets_of, tally_of, Mark, mark_of, CopyEnds, EditEnds, EditKeeps, EditWrites, EditsAlike, EndsAs, EndsUnlessRefused, HasCarried, InfosEnds, MergeEnds, MergesOne, PrintEnds, copy_of, no_options, InfosReports, MergeWrites, PrintLines, PrintWrites, closing_if, edit_work, event_packets, infos_work, merge_work, file_packets, packets_in_order, print_work, reports_by, reports_of, packets_written, first_refusal, written_text, drop, map-append, take-append-drop, Items, items_from, CutsGivePrefixes}
+use Rattle.cap_process.proofs.Lists.{EndsSo, comes, count-packets, end-stays, ends_without_time, filtered-first, judged, judged_by, judged-is, none-refused, packets-of-input, policy_end, under_way, verdict_end}
 use Rattle.cap_process.proofs.{Outcomes.progress-append, Selectors.upper_bound}
 use Rattle.std.proofs.lemmas.Bool.{and_right}
 use Rattle.cap_io.proofs.{Cuts.cut_tells, Cuts.has_cut, Items.items_from-units}

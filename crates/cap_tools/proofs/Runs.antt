@@ -1,7 +1,6 @@
 -- A run of a job, from its first view on, in terms of its call.
-use Rattle.cap_tools.proofs.Common.{◌≡◌, ℕ, Bool, zero, suc, List, [], ◌∷◌, map, Option, None, Some, IsTrue, refl, sym, ◌∙◌, ap, subst, Placed, InputPast, DeviceLimits, FreshInput, fresh_view, nothing_done, device_limits, Writing, target_at, written_to, failures_to, form_to, room_to, failures_by, finish_at, texts, work_of, JobView, Decided, JobGives, StaysDecided, first_job, Policy, IsPolicy, IsWork, form_asked, Call, Content, Assignment, Preparing, ReadsFilter, Compiles, Filter, DecidedBy, PreparesBy, inl, inr, ◌+◌, ◌-◌, ◌<◌, ◌≤◌, arith, false, ◌++◌, length, Ok, add-zero, append-nil, length-map, length-set, slice_get-map, slice_get, option_map, HasGiven, Stops, Fault, Declared, ReadFailsAt, given_in_all, decisive_length, Link, listing, Refusal, fault_message, refusal_message, write_failed_message, refusal_status, OutputView, IsTold, InputView, InputsView, input_after, limits_of, offset_of, offset_at, InputItems, Event, SequenceEnd, Complete, FaultIn, whole_input, RunResult, NoMemory, EndsJob, end_status, end_message, JobEnd, SourceView, JobState, PacketsDecided, CompletesOutput, EndLeaves, EndsByCut, Meets, StopsWriting, WantsMemory, a_packet, all_ends, an_end, output_form, wholes_of, written_by, Outcome, JobProgress, Work, IsNextAnswer, NeedsMemory, cut_at, message, outcome, status, text_after, text_of_progress, name_at, CommandRuns, HasLeft, HasLostOutput, IsWhyRefused, ends, fault_outcome, listing_answer, listing_outcome, of_cut_input, of_events, of_listing, of_packets, of_refusal, output_failed, packets_answer, refusal_outcome, whole_inputs, ListsSome, RefusesStart, drained-text, Turn}
+use Rattle.cap_tools.proofs.Common.{◌≡◌, ℕ, Bool, zero, suc, List, [], ◌∷◌, map, Option, None, Some, IsTrue, refl, sym, ◌∙◌, ap, subst, Placed, InputPast, DeviceLimits, FreshInput, fresh_view, nothing_done, device_limits, Writing, target_at, written_to, failures_to, form_to, room_to, failures_by, finish_at, texts, work_of, JobView, Decided, JobGives, StaysDecided, first_job, Policy, IsPolicy, IsWork, form_asked, Call, Content, Assignment, Preparing, ReadsFilter, Compiles, Filter, DecidedBy, PreparesBy, inl, inr, ◌+◌, ◌-◌, ◌<◌, ◌≤◌, arith, false, ◌++◌, length, Ok, add-zero, append-nil, length-map, length-set, slice_get-map, slice_get, option_map, HasGiven, Stops, Fault, Declared, ReadFailsAt, given_in_all, decisive_length, Link, listing, Refusal, fault_message, refusal_message, write_failed_message, refusal_status, OutputView, IsTold, InputView, InputsView, input_after, limits_of, offset_of, offset_at, InputItems, Event, SequenceEnd, Complete, FaultIn, whole_input, RunResult, NoMemory, EndsJob, end_status, end_message, JobEnd, SourceView, JobState, PacketsDecided, CompletesOutput, EndLeaves, EndsByCut, Meets, StopsWriting, WantsMemory, a_packet, all_ends, an_end, output_form, wholes_of, written_by, Outcome, JobProgress, Work, IsNextAnswer, NeedsMemory, cut_at, message, outcome, status, text_after, text_of_progress, name_at, CommandRuns, HasLeft, HasLostOutput, IsWhyRefused, ends, fault_outcome, listing_answer, listing_outcome, of_cut_input, of_events, of_listing, of_packets, of_refusal, output_failed, packets_answer, refusal_outcome, whole_inputs, ListsSome, RefusesStart, drained-text, Turn, MakesStep}
 use Rattle.cap_inputs.specs.inside.Fresh.{fresh_limits}
-use Rattle.cap_tools.specs.inside.Commands.{MakesStep}
 use Rattle.flt_words.specs.declared.fault.ExprFault.{ExprFault}
 use Rattle.flt_bpf.specs.declared.fault.ListingFault.{ListingFault}
 

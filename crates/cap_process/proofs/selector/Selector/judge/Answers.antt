@@ -1,7 +1,7 @@
 use Rattle.cap_process.proofs.Common.{◌≡◌, ℕ, Bool, true, false, Option, Ok, refl, ap, sym, ◌∙◌, subst, arith, Captured, captured, TooManyPackets, Judgement, SelectorState, is_last, judge_by, refuses, judge, SelectorView, policy_of, programs_in, spent_by_verdict, window_of, is_count, marks_in, state_of, GrowsByOne, HasFewMarks, ReturnsVerdict, IsVerdict, count_limit, verdict_if, verdict_of}
 use Rattle.cap_process.proofs.Selectors.{counted-spends, judged-spends, refused-spends, upper_bound, too-many, tells-count, tells-none, tells-passed, window-few}
 use Rattle.cap_process.proofs.selector.Selector.judge.Goals.{then-passed-number, else-passed-number}
-use Rattle.cap_process.specs.{declared.selector.Verdict.Verdict, inside.Reports.FitsTally}
+use Rattle.cap_process.specs.{declared.selector.Verdict.Verdict, inside.Selector.FitsTally}
 use Rattle.cap_process.proofs.selector.Selector.judge.Goals as goal
 
 pub returns-then-is_count-clause-exact : goal.returns-then-is_count-clause-exact

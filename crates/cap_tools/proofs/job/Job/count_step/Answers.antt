@@ -1,6 +1,6 @@
-use Rattle.cap_tools.proofs.Common.{◌+◌, sym, subst, Option, JobEnd, JobView, Turn}
+use Rattle.cap_tools.proofs.Common.{◌+◌, sym, subst, Option, JobEnd, JobView, Turn, MakesStep}
 use Rattle.cap_tools.proofs.Turns.{counted-more, counted-end}
-use Rattle.cap_tools.specs.inside.{Commands.MakesStep, Step.IsUncounted}
+use Rattle.cap_tools.specs.inside.Jobs.{IsUncounted}
 use Rattle.cap_tools.proofs.job.Job.count_step.Goals as goal
 
 pub returns-in-None : goal.returns-in-None
