@@ -523,7 +523,8 @@ impl<I: Input, O: Output, E: Output, A: Allocator + Copy + Drop> Job<I, O, E, A>
         ensures keeps { KeepsFirst self.old result self.new }
         ensures reads { ReadsNothing self.old self.new }
     {
-        self.end(end_of_write(self.output.list(program)))
+        let end = end_of_write(self.output.list(program));
+        self.end(end)
     }
 
     /// The inputs, the output and the messages' device, as the last step left them. It takes no

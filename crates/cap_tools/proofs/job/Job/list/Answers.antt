@@ -12,9 +12,9 @@ pub returns-clause-exact : goal.returns-clause-exact
 returns-clause-exact g c = λ to.
     let T : JobView → Type 0 = λ v. is_text v.state.output ≡ true in
     let P : JobView → Type 0 = λ v. EndsList c.args.program.now.insns g.E.Output.tells v (Turn.Done (end_status (end_of_write c.list.result))) c.end.new.self in
-    rw (c.end.ensures.done, c.end_of_write.ensures)
+    rw (c.end.ensures.done, c.end_of_write-end.ensures)
     (subst P c.self.view_is (listed c.args.program.now.insns g.E.Output.tells _ c.end.new.self c.list.new.self c.list.result (subst T (sym c.self.view_is) c.requires.text) (c.list.ensures.exact to)
-    (rw c.end_of_write.ensures at c.end.ensures.ended) (rw c.end_of_write.ensures at c.end.ensures.exact) (rw c.end_of_write.ensures at c.end.ensures.quiet)))
+    (rw c.end_of_write-end.ensures at c.end.ensures.ended) (rw c.end_of_write-end.ensures at c.end.ensures.exact) (rw c.end_of_write-end.ensures at c.end.ensures.quiet)))
 
 pub returns-clause-keeps : goal.returns-clause-keeps
 returns-clause-keeps g c = λ p.
