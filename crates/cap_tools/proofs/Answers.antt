@@ -9,6 +9,7 @@ use Rattle.cap_process.specs.inside.Selector.{FitsTally}
 use Rattle.cap_print.specs.Rendering.{printed_text}
 use Rattle.cap_process.specs.Outcome as course_spec
 use Rattle.cap_inputs.specs.inside.Inputs as input_spec
+use Rattle.cap_process.specs.declared.selector.Verdict.TheVariants as code_verdict
 
 -- ---- a packet that is judged
 
@@ -28,8 +29,8 @@ goes-by policy form w i x v state' one other = rw (one, other) refl
 
 -- the job goes on after it
 pub took : (policy : Policy) (w : JobProgress) (before : List ℕ) (i : ℕ) (x : Placed) (names : List (List ℕ)) (old new : Target) (state' : SelectorState) (v : code.Verdict) (q : Captured) → HasWrittenTo before names old w.packets w.reports
-    → IsVerdict (judge policy w.state (w.decided + 1) x.packet) (Ok v) q state' → Offers v q old (Ok tt) new → (v ≡ Verdict.PassLast → ⊥) → Took policy w before i x state' names old new
-took policy w before i x names old new state' Verdict.Pass q has exact offers on =
+    → IsVerdict (judge policy w.state (w.decided + 1) x.packet) (Ok v) q state' → Offers v q old (Ok tt) new → (v ≡ code_verdict.PassLast → ⊥) → Took policy w before i x state' names old new
+took policy w before i x names old new state' code_verdict.Pass q has exact offers on =
     let ok : PutOk before w.packets w.reports q names old new = put-ok before w.packets w.reports q names old new has offers in
     record {
       passed = q ∷ [];
@@ -39,8 +40,8 @@ took policy w before i x names old new state' Verdict.Pass q has exact offers on
       form = ok.form;
       failures = ok.failures;
     }
-took policy w before i x names old new state' Verdict.PassLast q has exact offers on = absurd (on refl)
-took policy w before i x names old new state' Verdict.Skip q has exact offers on =
+took policy w before i x names old new state' code_verdict.PassLast q has exact offers on = absurd (on refl)
+took policy w before i x names old new state' code_verdict.Skip q has exact offers on =
     let same : new ≡ old = offers.1 in
     rw same (record {
       passed = [];
@@ -238,13 +239,13 @@ answer-core : (us vs : List InputPast) (s : InputPast) (before : List ℕ) (xs y
     → (d : PacketsDecided (us ++ s ∷ vs) before (mk (xs ++ h ∷ ys) order policy state names output decided))
     → DecidesPacket (Some p) turn (decided + 1) (sieve (record { policy = policy; state = state }) output) r (sieve (record { policy = policy; state = state' }) output')
     → AnswerLeaves d r (mk (xs ++ input_after_decided h ∷ ys) order policy state' names output' (decided + 1)) (mk (xs ++ h ∷ ys) order policy state' names output' decided)
-answer-core us vs s before xs ys h order turn policy state state' names output output' decided p (Ok Verdict.Pass) laws tells front at back held within grows d decides =
+answer-core us vs s before xs ys h order turn policy state state' names output output' decided p (Ok code_verdict.Pass) laws tells front at back held within grows d decides =
     decided-goes us vs s before xs ys h order turn policy state state' names output output' decided p laws front at back held within grows d
-    (took policy (progress_at (mk (xs ++ h ∷ ys) order policy state names output decided) d.packets d.reports) before turn (record { offset = h.source.offset; packet = p }) names output output' state' Verdict.Pass decides.packet d.output decides.exact decides.offers (λ is. (cc)))
-answer-core us vs s before xs ys h order turn policy state state' names output output' decided p (Ok Verdict.Skip) laws tells front at back held within grows d decides =
+    (took policy (progress_at (mk (xs ++ h ∷ ys) order policy state names output decided) d.packets d.reports) before turn (record { offset = h.source.offset; packet = p }) names output output' state' code_verdict.Pass decides.packet d.output decides.exact decides.offers (λ is. (cc)))
+answer-core us vs s before xs ys h order turn policy state state' names output output' decided p (Ok code_verdict.Skip) laws tells front at back held within grows d decides =
     decided-goes us vs s before xs ys h order turn policy state state' names output output' decided p laws front at back held within grows d
-    (took policy (progress_at (mk (xs ++ h ∷ ys) order policy state names output decided) d.packets d.reports) before turn (record { offset = h.source.offset; packet = p }) names output output' state' Verdict.Skip decides.packet d.output decides.exact decides.offers (λ is. (cc)))
-answer-core us vs s before xs ys h order turn policy state state' names output output' decided p (Ok Verdict.PassLast) laws tells front at back held within grows d decides =
+    (took policy (progress_at (mk (xs ++ h ∷ ys) order policy state names output decided) d.packets d.reports) before turn (record { offset = h.source.offset; packet = p }) names output output' state' code_verdict.Skip decides.packet d.output decides.exact decides.offers (λ is. (cc)))
+answer-core us vs s before xs ys h order turn policy state state' names output output' decided p (Ok code_verdict.PassLast) laws tells front at back held within grows d decides =
     let w : JobProgress = progress_at (mk (xs ++ h ∷ ys) order policy state names output decided) d.packets d.reports in
     let x : Placed = record { offset = h.source.offset; packet = p } in
     let q : Captured = decides.packet in
@@ -287,13 +288,13 @@ answer-core us vs s before xs ys h order turn policy state state' names output o
     w = progress_at (mk (xs ++ h ∷ ys) order policy state names output decided) d.packets d.reports
 
     by_verdict_of : (fault : Fault) (v : code.Verdict) (q : Captured) → IsVerdict (judge policy state (decided + 1) p) (Ok v) q state' → Offers v q output (Err fault) output' → EndLeaves d (end_of_failed_write turn fault) failed
-    by_verdict_of fault Verdict.Pass q exact offers =
+    by_verdict_of fault code_verdict.Pass q exact offers =
         unput-leaves (us ++ s ∷ vs) before (xs ++ h ∷ ys) order turn policy state state' names output decided failed x q None fault d ahead
         (goes-by policy (form_to names output) w turn x (Pass q) state' exact.0 exact.1) (a_packet turn h p (next-is-of (inputs_at order (xs ++ h ∷ ys)) (Next.Decide turn) tells) here held refl) h here refl (let A : Verdict → Type 0 = λ v. PassesAs v q in subst A exact.0 refl) offers
-    by_verdict_of fault Verdict.PassLast q exact offers =
+    by_verdict_of fault code_verdict.PassLast q exact offers =
         unput-leaves (us ++ s ∷ vs) before (xs ++ h ∷ ys) order turn policy state state' names output decided failed x q (Some Complete) fault d ahead
         (goes-by policy (form_to names output) w turn x (PassLast q) state' exact.0 exact.1) (a_packet turn h p (next-is-of (inputs_at order (xs ++ h ∷ ys)) (Next.Decide turn) tells) here held refl) h here refl (let A : Verdict → Type 0 = λ v. PassesAs v q in subst A exact.0 refl) offers
-    by_verdict_of fault Verdict.Skip q exact offers = absurd (let e = offers.0 in cc)
+    by_verdict_of fault code_verdict.Skip q exact offers = absurd (let e = offers.0 in cc)
 
 pub answer-leaves : (ss : List InputPast) (before : List ℕ) (cursors : List InputView) (order : PacketOrder) (policy : Policy) (state : SelectorState) (names : List (List ℕ)) (output : Target) (decided i : ℕ) (r : Result code.Verdict JobEnd) (h : InputView) (selector' : PolicyState) (output' : Target)
     → input_spec.IsNext (inputs_at order cursors) (Next.Decide i) → IsInput cursors i h → selector'.policy ≡ policy → (state.passed ≤ decided + 1 → selector'.state.passed ≤ decided + 1) → GrowsByOne state.tally selector'.state.tally → decided ≤ most_steps

@@ -124,11 +124,11 @@ told-as tells old old' new message message' is same exact =
 
 -- a refusal has a status of its own
 never-zero : (why : Refusal) → refusal_status why ≡ 0 → ⊥
-never-zero (Refusal.Expression ExprFault.Memory) zero = (cc)
-never-zero (Refusal.Expression fault) zero = (cc)
-never-zero (Refusal.Listing ListingFault.Memory) zero = (cc)
-never-zero (Refusal.Listing fault) zero = (cc)
-never-zero (Refusal.Program fault at) zero = (cc)
+never-zero (Refusal.Expression ExprFault.Memory) none = (cc)
+never-zero (Refusal.Expression fault) none = (cc)
+never-zero (Refusal.Listing ListingFault.Memory) none = (cc)
+never-zero (Refusal.Listing fault) none = (cc)
+never-zero (Refusal.Program fault at) none = (cc)
 
 -- ---- one of the inputs
 
@@ -216,7 +216,7 @@ packets-run asked call job new r filled was ended is_left = by_end ended.end ref
           output = is_left.written ∙ comes.written ∙ ap (λ (o : Outcome). before ++ o.output) whole;
           failures = is_left.failures ∙ comes.device ∙ was.output;
           message = reported (says ∙ ap (message names) (sym comes.ends) ∙ ap (λ (o : Outcome). o.messages) whole);
-          quiet = λ zero. is_left.messages ∙ ended.quiet zero ∙ was.err;
+          quiet = λ none. is_left.messages ∙ ended.quiet none ∙ was.err;
           status = ended.status_is ∙ is ∙ ap status (sym comes.ends) ∙ ap (λ (o : Outcome). o.status) whole;
         }
 
@@ -265,7 +265,7 @@ packets-run asked call job new r filled was ended is_left = by_end ended.end ref
           message = reported (says input fault wants.packet.offset is (place ∙ wants.place)
               ∙ ap (λ (n : List (List ℕ)). fault_message (name_at n input) wants.packet.offset fault) was.names
               ∙ ap (fault_message (name_at call.names input) wants.packet.offset) wants.why);
-          quiet = λ zero. absurd (omega (arith, one, zero));
+          quiet = λ none. absurd (omega (arith, one, none));
           status = one;
         })
 
@@ -314,7 +314,7 @@ refused-run asked call new r why refused refuses left = ends (refusal_outcome wh
   output = left.written ∙ ap (λ (j : JobView). written_by j.state) refuses.new_is ∙ (first-output call.names asked.writing call.output.written call.output.failures call.room).written ∙ sym (append-nil call.output.written);
   failures = left.failures ∙ ap (λ (j : JobView). failures_by j.state) refuses.new_is ∙ (first-output call.names asked.writing call.output.written call.output.failures call.room).failures_are;
   message = (let T : OutputView → Type 0 = λ v. IsTold call.tells call.messages (refusal_message why) v in subst T (sym left.messages) refuses.exact);
-  quiet = λ zero. absurd (never-zero why (sym refuses.status_is ∙ zero));
+  quiet = λ none. absurd (never-zero why (sym refuses.status_is ∙ none));
   status = refuses.status_is;
 })
 
@@ -331,7 +331,7 @@ listed-run asked call new r words link filled is lists left =
             output = left.written ∙ whole.written ∙ ap (λ (l : List ℕ). l ++ bytes) written;
             failures = left.failures ∙ whole.failures ∙ failures;
             message = subst T (sym quiet) (record { answer = Ok tt; exact = λ te. sym (append-nil call.messages.written); counted = sym (add-zero call.messages.failures) });
-            quiet = λ zero. quiet;
+            quiet = λ none. quiet;
             status = whole.status_is;
           })
       | inr failed ↦
