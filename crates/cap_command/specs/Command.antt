@@ -1,14 +1,8 @@
--- Which commands may be run, and the listing of a print.
-use Rattle.std.specs.Prelude.{ℕ, ◌^◌, ◌&&◌, ◌||◌, Bool, true, not, List, length, nat_eq, nat_lt, nat_le, string_bytes, Option}
-use Rattle.std.specs.List.{list_all}
-use Rattle.std.specs.Option.{is_none, option_map, option_map_or}
+-- Which commands may be run, the listing of a print, and which packets an edit keeps.
+use Rattle.std.specs.{List.list_all, List.list_any, Option.is_none, Option.option_map, Option.option_map_or}
+use Rattle.std.specs.Prelude.{ℕ, ◌^◌, ◌&&◌, ◌||◌, Bool, true, not, List, length, nat_eq, nat_lt, nat_le, string_bytes, Option, if◌then◌else◌}
 use Rattle.cap_octet.specs.Date.{TIME_END}
-use Rattle.cap_command.specs.declared.command.Command.{Command}
-use Rattle.cap_command.specs.declared.command.Command.TheVariants as command
-use Rattle.cap_command.specs.declared.command.Edit.{Edit}
-use Rattle.cap_command.specs.declared.command.Print.{Print}
-use Rattle.cap_command.specs.declared.command.Shift.{Shift}
-use Rattle.cap_command.specs.declared.command.Shift.TheVariants as shift
+use Rattle.cap_command.specs.declared.command.{Command.Command, Edit.Edit, Print.Print, Shift.Shift}
 
 -- packets' numbers are below this
 abbrev pub PACKET_NUMBER_END : ℕ
@@ -41,9 +35,9 @@ is_time nanos = nat_lt nanos TIME_END
 
 -- the span of a shift, if it has one, is in its bounds
 abbrev pub is_proper_shift : Shift → Bool
-is_proper_shift shift.None = true
-is_proper_shift (shift.Later span) = is_time span
-is_proper_shift (shift.Earlier span) = is_time span
+is_proper_shift Shift.None = true
+is_proper_shift (Shift.Later span) = is_time span
+is_proper_shift (Shift.Earlier span) = is_time span
 
 -- 1 or more
 abbrev pub is_at_least_one : ℕ → Bool
@@ -88,12 +82,22 @@ is_proper_print print =
 
 -- the command may be run on this number of inputs
 abbrev pub is_proper : {Z : Type 0} → Command Z → ℕ → Bool
-is_proper (command.Edit edit) inputs = nat_eq inputs 1 && is_proper_edit edit
-is_proper (command.Merge merge) inputs = is_input_count inputs
-is_proper command.Infos inputs = is_input_count inputs
-is_proper (command.Print print) inputs = nat_eq inputs 1 && is_proper_print print
-is_proper (command.Compile compile) inputs = nat_eq inputs 0
+is_proper (Command.Edit edit) inputs = nat_eq inputs 1 && is_proper_edit edit
+is_proper (Command.Merge merge) inputs = is_input_count inputs
+is_proper Command.Infos inputs = is_input_count inputs
+is_proper (Command.Print print) inputs = nat_eq inputs 1 && is_proper_print print
+is_proper (Command.Compile compile) inputs = nat_eq inputs 0
 
 -- the bytes of a listing, if there is one
 abbrev pub listing_of : {Z : Type 0} → Print Z → Option (List ℕ)
 listing_of print = option_map (λ text. text.items) print.code
+
+-- ---- which packets an edit keeps
+
+-- some range has the number
+abbrev pub is_in_some_range : List (ℕ × ℕ) → ℕ → Bool
+is_in_some_range ranges number = list_any (λ range. nat_le range.0 number && nat_le number range.1) ranges
+
+-- the packet with this number is kept: the ranges name the deleted packets, or the only kept ones
+abbrev pub is_kept : List (ℕ × ℕ) → Bool → ℕ → Bool
+is_kept ranges keep number = if keep then is_in_some_range ranges number else not (is_in_some_range ranges number)

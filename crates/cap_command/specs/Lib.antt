@@ -1,3 +1,2 @@
 pub mod Call
 pub mod Command
-pub mod Selection

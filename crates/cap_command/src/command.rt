@@ -1,13 +1,11 @@
 //! Commands: what is asked for, as values, and which of them may be run.
+ghost use Rattle.std.specs.{List.list_all, Option.option_map_or};
 ghost use Rattle.std.specs.Prelude.{◌≡◌, string_bytes, true};
-ghost use Rattle.std.specs.List.{list_all};
-ghost use Rattle.std.specs.Option.{option_map_or};
-ghost use Rattle.cap_command.specs.Command.{is_proper, is_input_count, is_range};
-ghost use Rattle.cap_command.specs.Command.{is_time, is_at_least_one, is_window};
-ghost use Rattle.cap_command.specs.Command.{is_proper_shift, is_proper_edit, is_proper_print};
-ghost use Rattle.cap_command.specs.Command.{has_at_most_one_filter};
-ghost use Rattle.cap_command.specs.Command.{has_at_most_one_output, has_proper_ranges};
-ghost use Rattle.cap_command.specs.Selection.{is_in_some_range, is_kept};
+ghost use Rattle.cap_command.specs.Command.{is_proper, is_input_count, is_range, is_time};
+ghost use Rattle.cap_command.specs.Command.{is_at_least_one, is_window, is_proper_shift};
+ghost use Rattle.cap_command.specs.Command.{is_proper_edit, is_proper_print};
+ghost use Rattle.cap_command.specs.Command.{has_at_most_one_filter, has_at_most_one_output};
+ghost use Rattle.cap_command.specs.Command.{has_proper_ranges, is_in_some_range, is_kept};
 
 use cap_octet::date::TIME_END;
 use cap_octet::{Format, Link};

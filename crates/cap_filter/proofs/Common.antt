@@ -1,16 +1,12 @@
 -- The names that most proofs here cite, passed on from one place. Declares nothing.
 pub use Rattle.std.proofs.Common.{◌≡◌, ℕ, zero, suc, ◌+◌, ◌≤◌, List, [], ◌∷◌, ap, arith, ◌≢◌, ◌↔◌, ◌⊎◌, inl, inr, None, Some, Result, Ok, Err, ◌∙◌, sym, ◌<◌, All, ◌-◌, ◌^◌, Bool, cond, not, nat_eq, nat_lt, ◌==◌, true, false, ◌++◌, length, get_or, set, slice_get, take, drop, min, Option, refl, subst}
 pub use Rattle.std.proofs.lemmas.List.{take_more, get_or_default}
-pub use Rattle.cap_filter.specs.Programs.{AreMade, IsMade, steps_of_run, met_on, ran_at, spent_in, ran_if, ran_on}
-pub use Rattle.cap_filter.specs.inside.Programs.{HasPrograms}
 pub use Rattle.cap_filter.specs.FilterRules.{by_reading, expression_decides, decision_of, read_on}
 pub use Rattle.cap_filter.specs.Filters.{most_cost, program_place, spent_on}
-pub use Rattle.cap_octet.specs.Packet.{Captured, captured}
-pub use Rattle.cap_octet.specs.declared.link.Link.{Link}
-pub use Rattle.cap_octet.specs.Link.{all_links, link_of, link_type}
-pub use Rattle.cap_octet.specs.declared.link.Link.TheVariants.{Ether}
+pub use Rattle.cap_filter.specs.Programs.{AreMade, IsMade, steps_of_run, met_on, ran_at, spent_in, ran_if, ran_on}
+pub use Rattle.cap_filter.specs.inside.Programs.{HasPrograms}
+pub use Rattle.cap_octet.specs.{Link.all_links, Link.link_of, Link.link_type, Packet.Captured, Packet.captured}
+pub use Rattle.cap_octet.specs.declared.link.Link.{Link, TheVariants.Ether}
 pub use Rattle.flt_ast.specs.Tree.{Expression, empty, truth}
-pub use Rattle.flt_bpf.specs.Content.{Content}
-pub use Rattle.flt_bpf.specs.Machine.{machine, Answered}
-pub use Rattle.flt_words.specs.declared.token.Token.{Token}
-pub use Rattle.flt_words.specs.Tokens.{Tokens}
+pub use Rattle.flt_bpf.specs.{Content.Content, Machine.machine, Machine.Answered}
+pub use Rattle.flt_words.specs.{Tokens.Tokens, declared.token.Token.Token}

@@ -2,42 +2,38 @@
 use Rattle.cap_filter.proofs.Common.{◌≡◌, ◌≢◌, ◌↔◌, ◌⊎◌, inl, inr, List, ℕ, None, Some, Result, Ok, Err, ◌∙◌, sym, ap, Token, Tokens, Expression}
 use Rattle.std.specs.Result.{IfOk, IfErr}
 use Rattle.flt_words.specs.declared.fault.ExprFault.{ExprFault}
-use Rattle.flt_words.specs.declared.fault.ExprFault.TheVariants as fault
-use Rattle.flt_lang.specs.Grammar.{IsReadAs, kinds_of}
-use Rattle.flt_lang.specs.Nesting.{IsTooDeep}
-use Rattle.flt_ast.specs.Filled.{fill_expression}
-use Rattle.flt_ast.specs.Resolved.{fill_fault}
-use Rattle.flt_ast.specs.Checks.{check_fault}
+use Rattle.flt_lang.specs.{Grammar.IsReadAs, Grammar.kinds_of, Nesting.IsTooDeep}
+use Rattle.flt_ast.specs.{Checks.check_fault, Filled.fill_expression, Resolved.fill_fault}
 use Rattle.cap_filter.specs.Expressions.{HasTree, IsSettled, HasFault, IsExpression, IsTextRefused, by_tokens, too_deep, no_tree, by_tree, IsTextFault}
 
 pub reason : (text : List ℕ) (refusal : ExprFault) → IsTextRefused text refusal → IsTextFault text refusal
-reason text fault.Memory refused = tt
+reason text ExprFault.Memory refused = tt
 reason text refusal refused = refused
 
-pub lexed-reason : (text : List ℕ) (refusal : ExprFault) → (refusal ≢ fault.Memory → Tokens text (Err refusal)) → IsTextFault text refusal
-lexed-reason text fault.Memory tells = tt
+pub lexed-reason : (text : List ℕ) (refusal : ExprFault) → (refusal ≢ ExprFault.Memory → Tokens text (Err refusal)) → IsTextFault text refusal
+lexed-reason text ExprFault.Memory tells = tt
 lexed-reason text refusal tells = by_tokens (tells (λ same. (cc)))
 
 pub parsed-reads : (text : List ℕ) (tokens : List Token) (r : Result Expression ExprFault) → Tokens text (Ok tokens)
-    → (r ≡ Err fault.NestedTooDeep) ↔ IsTooDeep tokens → IfOk r (λ tree. IsReadAs (kinds_of tokens) tree) → IfOk r (λ tree. HasTree text tree)
+    → (r ≡ Err ExprFault.NestedTooDeep) ↔ IsTooDeep tokens → IfOk r (λ tree. IsReadAs (kinds_of tokens) tree) → IfOk r (λ tree. HasTree text tree)
 parsed-reads text tokens (Ok tree) lexed deep reads = record {
   tokens = tokens;
   lexed = lexed;
-  shallow = λ d. let same : Ok tree ≡ Err fault.NestedTooDeep = deep.1 d in absurd (cc);
+  shallow = λ d. let same : Ok tree ≡ Err ExprFault.NestedTooDeep = deep.1 d in absurd (cc);
   reads = reads;
 }
 parsed-reads text tokens (Err refusal) lexed deep reads = tt
 
 pub parsed-refused : (text : List ℕ) (tokens : List Token) (r : Result Expression ExprFault) → Tokens text (Ok tokens)
-    → (r ≡ Err fault.NestedTooDeep) ↔ IsTooDeep tokens
-    → (r ≡ Err fault.NotAnExpression → (tree : Expression) → IsReadAs (kinds_of tokens) tree → ⊥)
-    → IfErr r (λ f. (f ≡ fault.NestedTooDeep) ⊎ (f ≡ fault.NotAnExpression) ⊎ (f ≡ fault.Memory))
+    → (r ≡ Err ExprFault.NestedTooDeep) ↔ IsTooDeep tokens
+    → (r ≡ Err ExprFault.NotAnExpression → (tree : Expression) → IsReadAs (kinds_of tokens) tree → ⊥)
+    → IfErr r (λ f. (f ≡ ExprFault.NestedTooDeep) ⊎ (f ≡ ExprFault.NotAnExpression) ⊎ (f ≡ ExprFault.Memory))
     → IfErr r (IsTextFault text)
 parsed-refused text tokens (Ok tree) lexed deep none why = tt
 parsed-refused text tokens (Err refusal) lexed deep none why =
     elim why [
       | inl is ↦ rw is (too_deep lexed (deep.0 (ap Err is)))
-      | inr (inl is) ↦ rw is (no_tree lexed (λ d. let same : Err refusal ≡ Err fault.NestedTooDeep = deep.1 d in absurd (cc)) (none (ap Err is)))
+      | inr (inl is) ↦ rw is (no_tree lexed (λ d. let same : Err refusal ≡ Err ExprFault.NestedTooDeep = deep.1 d in absurd (cc)) (none (ap Err is)))
       | inr (inr is) ↦ rw is tt
     ]
 

@@ -1,18 +1,15 @@
 -- What runs of programs answer and cost.
-use Rattle.cap_filter.proofs.Common.{◌≡◌, ◌≢◌, ◌↔◌, ◌<◌, All, ℕ, zero, suc, ◌+◌, ◌-◌, ◌^◌, Bool, cond, not, nat_eq, nat_lt, ◌==◌, true, false, List, [], ◌∷◌, ◌++◌, length, get_or, set, slice_get, take, drop, min, Option, None, Some, Ok, Err, refl, sym, ◌∙◌, ap, arith, subst, Captured, Content, machine, Answered, Expression, empty, truth, Link, Ether, AreMade, IsMade, steps_of_run, met_on, ran_at, ran_if, ran_on, HasPrograms, all_links, link_of, link_type, by_reading, expression_decides, decision_of, read_on, program_place, spent_on}
+use Rattle.cap_filter.proofs.Common.{◌≡◌, ◌≢◌, ◌↔◌, ◌<◌, All, ℕ, zero, suc, ◌+◌, ◌-◌, ◌^◌, Bool, cond, not, nat_eq, nat_lt, ◌==◌, true, false, List, [], ◌∷◌, ◌++◌, length, get_or, set, slice_get, take, drop, min, Option, None, Some, Ok, Err, refl, sym, ◌∙◌, ap, arith, subst, Captured, Content, machine, Answered, Expression, empty, truth, Link, Ether, AreMade, IsMade, steps_of_run, met_on, ran_at, ran_if, ran_on, HasPrograms, all_links, link_of, link_type, by_reading, expression_decides, decision_of, read_on, program_place, spent_on, ◌≤◌, spent_in, most_cost}
 use Rattle.std.proofs.Math.Seq.{take-append_seam}
-use Rattle.std.proofs.lemmas.Bool.{ltb-true, ne_eqb}
-use Rattle.std.proofs.lemmas.List.Elements.{All-append}
-use Rattle.std.proofs.lemmas.Bool.Decides.{nat_tests}
-use Rattle.std.proofs.lemmas.List.Folds.{find_at}
-use Rattle.std.proofs.lemmas.Option.{slice_get-get_or, slice_get_past}
+use Rattle.std.proofs.lemmas.{Bool.ltb-true, Bool.ne_eqb, Bool.Decides.nat_tests, List.Elements.All-append}
+use Rattle.std.proofs.lemmas.{List.Folds.find_at, Option.slice_get-get_or, Option.slice_get_past}
 use Rattle.std.specs.List.{find, position, position_or_len}
 use Rattle.cap_octet.specs.declared.fault.Fault.TheVariants.{LinkTypeNotFiltered}
 use Rattle.flt_bpf.specs.declared.insn.Insn.{Insn}
 use Rattle.flt_gen.specs.Correct.{IsProgramOf}
-use Rattle.flt_gen.specs.Elementary.{MatchResult, Yes, No, Rejected}
-use Rattle.flt_gen.specs.Reading.{holds}
-use Rattle.cap_filter.specs.Decisions.{ReturnsDecision}
+use Rattle.flt_gen.specs.{Elementary.MatchResult, Elementary.Yes, Elementary.No, Elementary.Rejected, Reading.holds}
+use Rattle.cap_filter.specs.FilterRules.{ReturnsDecision}
+use Rattle.flt_ast.specs.Counts.{bound_of}
 
 -- ---- the answer
 
@@ -164,3 +161,19 @@ sound-ran e programs p i sound = record { some = sound.some; made = made-ran e a
 pub reading-spends : (e : Expression) (programs : List Content) (p : Captured) (place : Option ℕ) → HasPrograms e programs → program_place p.link ≡ place → spent_on (by_reading e) p programs ≡ ran_if place p programs
 reading-spends empty programs p place sound is = absurd sound.some
 reading-spends (truth a) programs p place sound is = rw is refl
+
+made-cost : (program : Content) (e : Expression) (link : Link) (p : Captured) → IsMade program e link → steps_of_run (met_on p program.insns) ≤ bound_of e
+made-cost program e link p made =
+    let d = made.right.decides p.bytes p.orig in
+    let is : steps_of_run (met_on p program.insns) ≡ d.count = ap steps_of_run d.answered in
+    omega (arith, is, d.upper_bound, made.right.bounded)
+
+cost-at : (e : Expression) (links : List Link) (programs : List Content) (i : ℕ) (p : Captured) → AreMade e links programs → spent_in (ran_at i p programs) ≤ spent_in programs + bound_of e
+cost-at e links [] i p made = omega arith
+cost-at e [] (program ∷ programs) i p made = absurd made
+cost-at e (link ∷ links) (program ∷ programs) zero p made = let upper_bound = made-cost program e link p made.0 in omega (arith, upper_bound)
+cost-at e (link ∷ links) (program ∷ programs) (suc i) p made = let upper_bound = cost-at e links programs i p made.1 in omega (arith, upper_bound)
+
+pub bounded-ran : (e : Expression) (programs : List Content) (i : ℕ) (p : Captured) → HasPrograms e programs → spent_in (ran_at i p programs) ≤ spent_in programs + most_cost (by_reading e)
+bounded-ran empty programs i p sound = absurd sound.some
+bounded-ran (truth a) programs i p sound = cost-at (truth a) all_links programs i p sound.made

@@ -1,4 +1,3 @@
 pub mod Common
-pub mod Costs
 pub mod Expressions
 pub mod Filters

@@ -1,15 +1,12 @@
 -- Which texts are expressions and which are programs, and why others are refused.
 use Rattle.std.specs.Prelude.{◌≡◌, ◌⊎◌, List, ℕ, None, Some, Ok, Err}
-use Rattle.flt_words.specs.declared.fault.ExprFault.{ExprFault}
-use Rattle.flt_words.specs.declared.fault.ExprFault.TheVariants as fault
-use Rattle.flt_words.specs.declared.token.Token.{Token}
-use Rattle.flt_words.specs.Tokens.{Tokens}
-use Rattle.flt_ast.specs.Tree.{Expression}
-use Rattle.flt_lang.specs.Grammar.{IsReadAs, kinds_of}
-use Rattle.flt_lang.specs.Nesting.{IsTooDeep}
-use Rattle.flt_ast.specs.Filled.{fill_expression}
-use Rattle.flt_ast.specs.Resolved.{fill_fault}
-use Rattle.flt_ast.specs.Checks.{check_fault}
+use Rattle.flt_words.specs.{Tokens.Tokens, declared.fault.ExprFault.ExprFault, declared.token.Token.Token}
+use Rattle.flt_ast.specs.{Checks.check_fault, Filled.fill_expression, Resolved.fill_fault, Tree.Expression}
+use Rattle.flt_lang.specs.{Grammar.IsReadAs, Grammar.kinds_of, Nesting.IsTooDeep}
+use Rattle.flt_bpf.specs.{Valid.IsValid, declared.insn.Insn.Insn}
+use Rattle.flt_ast.specs.Tree as tree
+use Rattle.cap_octet.specs.declared.link.Link.{Link}
+use Rattle.flt_gen.specs.Correct.{IsProgramOf}
 
 -- the text has tokens that aren't nested too deep, and they have this tree
 pub record HasTree (text : List ℕ) (tree : Expression) : Type 0 where
@@ -43,14 +40,23 @@ pub record IsExpression (text : List ℕ) (e : Expression) : Type 0 where
 pub data IsTextRefused (text : List ℕ) : ExprFault → Type 0 where
   by_tokens : {refusal : ExprFault} → Tokens text (Err refusal) → IsTextRefused text refusal
   too_deep : {tokens : List Token} → Tokens text (Ok tokens) → IsTooDeep tokens
-      → IsTextRefused text fault.NestedTooDeep
+      → IsTextRefused text ExprFault.NestedTooDeep
   no_tree : {tokens : List Token} → Tokens text (Ok tokens) → ¬ IsTooDeep tokens
       → ((tree : Expression) → IsReadAs (kinds_of tokens) tree → ⊥)
-      → IsTextRefused text fault.NotAnExpression
+      → IsTextRefused text ExprFault.NotAnExpression
   by_tree : {tree : Expression} {refusal : ExprFault} → HasTree text tree → HasFault tree refusal
       → IsTextRefused text refusal
 
 -- Why no expression is made of a text: it is refused; memory may be refused whatever the text is.
 abbrev pub IsTextFault : List ℕ → ExprFault → Type 0
-IsTextFault text fault.Memory = Unit {0}
+IsTextFault text ExprFault.Memory = Unit {0}
 IsTextFault text refusal = IsTextRefused text refusal
+
+-- a valid program for the expression that a text is: on packets of this link it accepts exactly
+-- those that the expression matches, and it has at most as many instructions as the expression's
+-- bound
+pub record IsCompiled (text : List ℕ) (link : Link) (prog : List Insn) : Type 0 where
+  pub e : tree.Expression
+  pub expression : IsExpression text e
+  pub valid : IsValid prog
+  pub program : IsProgramOf prog e link

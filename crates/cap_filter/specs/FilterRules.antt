@@ -1,21 +1,34 @@
 -- Which packets a filter keeps.
-use Rattle.std.specs.Prelude.{ℕ, ◌==◌, not, List, length, Option, None, Some}
-use Rattle.cap_octet.specs.Packet.{Captured}
-use Rattle.cap_octet.specs.declared.fault.Fault.TheVariants.{LinkTypeNotFiltered}
-use Rattle.flt_bpf.specs.declared.insn.Insn.{Insn}
-use Rattle.flt_bpf.specs.Listing.{IsListing}
-use Rattle.flt_bpf.specs.Machine.{machine, Progress, Answered}
-use Rattle.flt_bpf.specs.Refusal as listing
+use Rattle.std.specs.Prelude.{ℕ, ◌==◌, not, List, length, Option, None, Some, ◌≡◌, Bool, true, false, if◌then◌else◌, Result, Ok, Err}
+use Rattle.cap_octet.specs.{Link.link_of, Packet.Captured}
+use Rattle.cap_octet.specs.declared.{fault.Fault.Fault, fault.Fault.TheVariants.LinkTypeNotFiltered, link.Link.Link}
+use Rattle.flt_bpf.specs.{Listing.IsListing, Machine.machine, Machine.Progress, Machine.Answered}
 use Rattle.flt_bpf.specs.Valid.{IsValid, BreaksFirst}
+use Rattle.flt_bpf.specs.declared.{fault.ListingFault.ListingFault, insn.Insn.Insn}
+use Rattle.flt_bpf.specs.Refusal as listing
 use Rattle.flt_ast.specs.Tree.{Expression, empty, truth}
-use Rattle.cap_octet.specs.declared.link.Link.{Link}
-use Rattle.flt_gen.specs.Elementary.{MatchResult, Yes, No, Rejected}
-use Rattle.flt_gen.specs.Reading.{holds}
-use Rattle.cap_filter.specs.declared.filter.Refusal.{Refusal}
-use Rattle.cap_filter.specs.declared.filter.Refusal.TheVariants as refusal
-use Rattle.cap_filter.specs.Decisions.{Decision, Keep, Skip, Refuse, keep_if}
+use Rattle.flt_gen.specs.{Elementary.MatchResult, Elementary.Yes, Elementary.No, Elementary.Rejected, Reading.holds}
 use Rattle.cap_filter.specs.Expressions.{IsExpression, IsTextFault}
-use Rattle.cap_octet.specs.Link.{link_of}
+use Rattle.cap_filter.specs.declared.filter.Refusal.{Refusal}
+use Rattle.flt_words.specs.declared.fault.ExprFault.{ExprFault}
+
+-- what is decided of a packet: it is written, or not, or its fault ends the job
+pub data Decision : Type 0 where
+  Keep : Decision
+  Skip : Decision
+  Refuse : (fault : Fault) → Decision
+
+-- a packet is kept or skipped
+abbrev pub keep_if : Bool → Decision
+keep_if kept = if kept then Keep else Skip
+
+-- whether a packet is kept, by its decision: a refusal is returned as it is
+abbrev pub ReturnsDecision : Decision → Result Bool Fault → Type 0
+ReturnsDecision (Refuse refusal) r = r ≡ Err refusal
+ReturnsDecision Keep (Ok kept) = kept ≡ true
+ReturnsDecision Skip (Ok kept) = kept ≡ false
+ReturnsDecision Keep (Err fault) = ⊥
+ReturnsDecision Skip (Err fault) = ⊥
 
 -- ---- which packets pass
 
@@ -61,10 +74,16 @@ IsRule words (Some text) (by_answer prog) = IsListing text prog × IsValid prog
 
 -- why words, or a listing if there is one, are refused; memory may be lacking for any
 abbrev pub IsWhy : List ℕ → Option (List ℕ) → Refusal → Type 0
-IsWhy words None (refusal.Expression fault) = IsTextFault words fault
-IsWhy words None (refusal.Listing fault) = ⊥
-IsWhy words None (refusal.Program fault at) = ⊥
-IsWhy words (Some text) (refusal.Expression fault) = ⊥
-IsWhy words (Some text) (refusal.Listing fault) = listing.IsReasonFor text fault
-IsWhy words (Some text) (refusal.Program fault at) =
+IsWhy words None (Refusal.Expression fault) = IsTextFault words fault
+IsWhy words None (Refusal.Listing fault) = ⊥
+IsWhy words None (Refusal.Program fault at) = ⊥
+IsWhy words (Some text) (Refusal.Expression fault) = ⊥
+IsWhy words (Some text) (Refusal.Listing fault) = listing.IsReasonFor text fault
+IsWhy words (Some text) (Refusal.Program fault at) =
     (prog : List Insn) × IsListing text prog × BreaksFirst prog fault at
+
+-- 1 if memory ran out, else 2
+abbrev pub refusal_status : Refusal → ℕ
+refusal_status (Refusal.Expression ExprFault.Memory) = 1
+refusal_status (Refusal.Listing ListingFault.Memory) = 1
+refusal_status _ = 2

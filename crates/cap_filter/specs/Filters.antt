@@ -1,30 +1,26 @@
 -- What a contract sees of a filter: its rule and its programs, and what their runs cost.
-use Rattle.std.specs.Prelude.{◌≡◌, ◌==◌, ℕ, List, [], ◌∷◌, All, length, Option, None, Some}
-use Rattle.cap_octet.specs.Packet.{Captured}
-use Rattle.flt_bpf.specs.Content.{Content}
-use Rattle.flt_ast.specs.Counts.{bound_of}
-use Rattle.flt_ast.specs.Tree.{empty, truth}
-use Rattle.cap_filter.specs.declared.filter.Filter.{Filter}
-use Rattle.cap_filter.specs.declared.filter.Filter.TheVariants as filter
-use Rattle.cap_filter.specs.Programs.{AreMade, ran_if}
 use Rattle.std.specs.List.{position}
-use Rattle.cap_octet.specs.Link.{all_links, link_type}
+use Rattle.std.specs.Prelude.{◌≡◌, ◌==◌, ℕ, List, [], ◌∷◌, All, length, Option, None, Some}
+use Rattle.cap_octet.specs.{Link.all_links, Link.link_type, Packet.Captured}
+use Rattle.flt_bpf.specs.Content.{Content}
+use Rattle.flt_ast.specs.{Counts.bound_of, Tree.empty, Tree.truth}
 use Rattle.cap_filter.specs.FilterRules.{Rule, by_reading, by_answer}
+use Rattle.cap_filter.specs.{Programs.AreMade, Programs.ran_if, declared.filter.Filter.Filter}
 
 -- ---- the filter
 
 -- by what a filter judges; without an expression or a listing, by the empty expression
 abbrev pub rule_of : {Z : Type 0} → Filter Z → Rule
-rule_of filter.All = by_reading empty
-rule_of (filter.Expression compiled) = by_reading compiled.tree
-rule_of (filter.Listing program) = by_answer program.insns
+rule_of Filter.All = by_reading empty
+rule_of (Filter.Expression compiled) = by_reading compiled.tree
+rule_of (Filter.Listing program) = by_answer program.insns
 
 -- the programs of a filter: for an expression one for each link, in their order; the listing's; or
 -- none
 abbrev pub programs_of : {Z : Type 0} → Filter Z → List Content
-programs_of filter.All = []
-programs_of (filter.Expression compiled) = compiled.programs
-programs_of (filter.Listing program) = program ∷ []
+programs_of Filter.All = []
+programs_of (Filter.Expression compiled) = compiled.programs
+programs_of (Filter.Listing program) = program ∷ []
 
 -- the programs of a filter that is just made: they are programs for what the rule asks, and none
 -- has run

@@ -1,8 +1,5 @@
-pub mod Decisions
-pub mod Compilation
 pub mod Programs
 pub mod Expressions
 pub mod FilterRules
 pub mod Filters
-pub mod Refusals
 pub mod inside

@@ -1,12 +1,9 @@
 -- What a contract sees of an expression with its programs, and what their runs cost.
 use Rattle.std.specs.Prelude.{ℕ, suc, zero, ◌+◌, ◌-◌, ◌^◌, min, List, [], ◌∷◌, length, Option, None, Some}
-use Rattle.cap_octet.specs.Packet.{Captured}
-use Rattle.flt_bpf.specs.declared.insn.Insn.{Insn}
+use Rattle.cap_octet.specs.{Packet.Captured, declared.link.Link.Link}
 use Rattle.flt_bpf.specs.Content.{Content}
-use Rattle.flt_bpf.specs.Machine.{machine, Progress, Answered}
-use Rattle.flt_bpf.specs.Valid.{IsValid}
+use Rattle.flt_bpf.specs.{Machine.machine, Machine.Progress, Machine.Answered, Valid.IsValid, declared.insn.Insn.Insn}
 use Rattle.flt_ast.specs.Tree.{Expression}
-use Rattle.cap_octet.specs.declared.link.Link.{Link}
 use Rattle.flt_gen.specs.Correct.{IsProgramOf}
 
 -- an expression, and its programs in the order of the links

@@ -1,11 +1,12 @@
 //! A compiled expression: its tree, and its program for each link.
 ghost use Rattle.std.specs.Prelude.{◌≡◌, ◌==◌, ◌<◌, All, IfOk, length, position, slice_index_or};
-ghost use Rattle.cap_octet.specs.Packet.{captured};
-ghost use Rattle.flt_bpf.specs.Content.{Content};
-ghost use Rattle.flt_bpf.specs.Machine.{Answered};
-ghost use Rattle.cap_filter.specs.Programs.{AreMade, met_on, ran_at};
-ghost use Rattle.cap_filter.specs.Filters.{program_place};
-ghost use Rattle.cap_octet.specs.Link.{link_type};
+ghost use Rattle.std.specs.Prelude.{◌+◌, ◌≤◌};
+ghost use Rattle.cap_octet.specs.{Link.link_type, Link.all_links, Packet.captured};
+ghost use Rattle.flt_bpf.specs.{Content.Content, Machine.Answered};
+ghost use Rattle.cap_filter.specs.FilterRules.{ReturnsDecision, by_reading, expression_decides};
+ghost use Rattle.cap_filter.specs.Filters.{program_place, most_cost, spent_on};
+ghost use Rattle.cap_filter.specs.Programs.{AreMade, met_on, ran_at, spent_in};
+ghost use Rattle.cap_filter.specs.inside.Programs.{IsTruth};
 
 use cap_octet::{Fault, Link, Packet};
 use flt_bpf::{Program, run};
@@ -87,15 +88,6 @@ fn run_at<A: Allocator>(
 }
 
 impl<A: Allocator> Compiled<A> {
-    ghost use Rattle.std.specs.Prelude.{◌≡◌, ◌+◌, ◌≤◌, All, IfOk};
-    ghost use Rattle.cap_octet.specs.Packet.{captured};
-    ghost use Rattle.cap_filter.specs.Decisions.{ReturnsDecision};
-    ghost use Rattle.cap_filter.specs.Programs.{AreMade, spent_in};
-    ghost use Rattle.cap_filter.specs.inside.Programs.{IsTruth};
-    ghost use Rattle.cap_octet.specs.Link.{all_links};
-    ghost use Rattle.cap_filter.specs.FilterRules.{by_reading, expression_decides};
-    ghost use Rattle.cap_filter.specs.Filters.{most_cost, spent_on};
-
     /// Makes the programs of a checked tree, whose expression isn't empty; none has run yet. An
     /// error means that memory ran out.
     #[tactic(auto, unfolding(cap_octet::specs::Link::all_links))]

@@ -1,8 +1,7 @@
 //! Expressions, from their text to a checked tree, or to a program.
 ghost use Rattle.std.specs.Prelude.{IfOk, IfErr};
-ghost use Rattle.cap_filter.specs.Compilation.{IsCompiled};
-ghost use Rattle.cap_filter.specs.Expressions.{HasFault, IsExpression, HasTree, IsTextFault};
-ghost use Rattle.cap_filter.specs.Expressions.{IsSettled};
+ghost use Rattle.cap_filter.specs.Expressions.{IsCompiled, HasFault, IsExpression, HasTree};
+ghost use Rattle.cap_filter.specs.Expressions.{IsTextFault, IsSettled};
 
 use cap_octet::Link;
 use flt_bpf::Program;

@@ -1,9 +1,11 @@
 //! Filters: what decides which packets pass, made of an expression's words or of a listing, or why
 //! these are refused.
-ghost use Rattle.std.specs.Prelude.{◌≡◌, IfErr, IfOk, None, Some};
-ghost use Rattle.cap_filter.specs.FilterRules.{IsRule, IsWhy, by_reading};
-ghost use Rattle.cap_filter.specs.Filters.{AreNew, programs_of, rule_of};
-ghost use Rattle.cap_filter.specs.Refusals.{refusal_status};
+ghost use Rattle.std.specs.Prelude.{◌≡◌, IfErr, IfOk, None, Some, ◌+◌, ◌≤◌};
+ghost use Rattle.cap_filter.specs.FilterRules.{ReturnsDecision, IsRule, IsWhy, by_reading};
+ghost use Rattle.cap_filter.specs.FilterRules.{refusal_status, rule_decides};
+ghost use Rattle.cap_filter.specs.Filters.{AreNew, programs_of, rule_of, most_cost, spent_on};
+ghost use Rattle.cap_filter.specs.Programs.{spent_in};
+ghost use Rattle.cap_octet.specs.Packet.{captured};
 
 use crate::compiled::Compiled;
 use crate::expression::read_expression;
@@ -25,13 +27,6 @@ pub enum Filter<A: Allocator> {
 }
 
 impl<A: Allocator> Filter<A> {
-    ghost use Rattle.std.specs.Prelude.{◌≡◌, ◌+◌, ◌≤◌};
-    ghost use Rattle.cap_octet.specs.Packet.{captured};
-    ghost use Rattle.cap_filter.specs.Decisions.{ReturnsDecision};
-    ghost use Rattle.cap_filter.specs.FilterRules.{rule_decides};
-    ghost use Rattle.cap_filter.specs.Programs.{spent_in};
-    ghost use Rattle.cap_filter.specs.Filters.{most_cost, programs_of, rule_of, spent_on};
-
     /// Whether a packet passes, by at most one run of a program. It takes no memory.
     ///
     /// The one error is `LinkTypeNotFiltered`: an expression isn't read on packets of this link

@@ -1,14 +1,8 @@
 pub mod Common
 pub mod Outcomes
 pub mod Outputs
-pub mod Edits
-pub mod Growing
 pub mod Selectors
 pub mod Lines
 pub mod Lists
 pub mod Wholes
-pub mod Closings
 pub mod Negations
-pub mod Prefixes
-pub mod EditRules
-pub mod Refusals

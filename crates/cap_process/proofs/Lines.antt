@@ -1,6 +1,9 @@
--- Lines that are written in parts.
-use Rattle.cap_process.proofs.Common.{◌≡◌, refl, ℕ, List, [], ◌∷◌, ◌++◌, codes, Option, Err, append_assoc, Stops, appends-following, Kind, Tally, lines, size_lines, time_lines}
-use Rattle.cap_process.specs.Reports.{file_report}
+-- Lines and messages that are written in parts.
+use Rattle.cap_process.proofs.Common.{◌≡◌, refl, ℕ, List, [], ◌∷◌, ◌++◌, codes, Bool, true, false, if◌then◌else◌, Option, None, Some, Err, ap, sym, ◌∙◌, append_assoc, Stops, appends-following, Kind, Tally, lines, size_lines, time_lines}
+use Rattle.cap_process.specs.{Messages.code_message, Messages.line_feed, Reports.file_report}
+use Rattle.std.specs.Fmt.{decimal}
+use Rattle.flt_bpf.specs.Message.{check_text, has_index, check_message, listing_text, wrong_line, at_line, listing_message}
+use Rattle.flt_bpf.specs.declared.fault.{CheckFault.CheckFault, ListingFault.ListingFault}
 
 lines-append : (xs ys : List (List ℕ × List ℕ)) (following : List ℕ) → lines xs [] ++ lines ys following ≡ lines (xs ++ ys) following
 lines-append [] ys following = refl
@@ -17,3 +20,40 @@ report-joined name kind size t =
 -- a prefix of a part after one that was written
 pub stops-following : (written done part mid written' : List ℕ) → mid ≡ written ++ done → Stops mid part written' → Stops written (done ++ part) written'
 stops-following written done part mid written' first stops = appends-following {E = ℕ} (Err 0) written done part mid written' first stops
+
+-- the bytes of a refusal's message, in its parts
+abbrev pub parts : List ℕ → List ℕ → List ℕ → List ℕ
+parts text words digits = codes "capkit: " ++ codes "code" ++ codes ": " ++ text ++ words ++ digits ++ line_feed
+
+joined : (text words digits : List ℕ) → parts text words digits ≡ code_message (text ++ (words ++ digits))
+joined text words digits = simp append_assoc
+
+pub check-indexed : (fault : CheckFault) (at : ℕ) (text digits : List ℕ) → text ≡ check_text fault → digits ≡ decimal at → has_index fault ≡ true
+    → parts text (codes " at ") digits ≡ code_message (check_message fault at)
+check-indexed fault at text digits same number is =
+    joined text (codes " at ") digits
+    ∙ ap (λ (l : List ℕ). code_message (l ++ (codes " at " ++ digits))) same
+    ∙ ap (λ (l : List ℕ). code_message (check_text fault ++ (codes " at " ++ l))) number
+    ∙ ap (λ (b : Bool). code_message (check_text fault ++ (if b then codes " at " ++ decimal at else []))) (sym is)
+
+pub check-whole : (fault : CheckFault) (at : ℕ) (text : List ℕ) → text ≡ check_text fault → has_index fault ≡ false
+    → parts text [] [] ≡ code_message (check_message fault at)
+check-whole fault at text same is =
+    joined text [] []
+    ∙ ap (λ (l : List ℕ). code_message (l ++ [])) same
+    ∙ ap (λ (b : Bool). code_message (check_text fault ++ (if b then codes " at " ++ decimal at else []))) (sym is)
+
+pub listing-lined : (fault : ListingFault) (line : ℕ) (text digits : List ℕ) → text ≡ listing_text fault → digits ≡ decimal line → wrong_line fault ≡ Some line
+    → parts text (codes " at line ") digits ≡ code_message (listing_message fault)
+listing-lined fault line text digits same number is =
+    joined text (codes " at line ") digits
+    ∙ ap (λ (l : List ℕ). code_message (l ++ (codes " at line " ++ digits))) same
+    ∙ ap (λ (l : List ℕ). code_message (listing_text fault ++ (codes " at line " ++ l))) number
+    ∙ ap (λ (o : Option ℕ). code_message (listing_text fault ++ at_line o)) (sym is)
+
+pub listing-whole : (fault : ListingFault) (text : List ℕ) → text ≡ listing_text fault → wrong_line fault ≡ None
+    → parts text [] [] ≡ code_message (listing_message fault)
+listing-whole fault text same is =
+    joined text [] []
+    ∙ ap (λ (l : List ℕ). code_message (l ++ [])) same
+    ∙ ap (λ (o : Option ℕ). code_message (listing_text fault ++ at_line o)) (sym is)

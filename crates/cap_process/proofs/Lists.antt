@@ -1,10 +1,9 @@
--- What is counted, kept and searched of packets that come one after another.
-use Rattle.cap_process.proofs.Common.{map-append, ◌≡◌, ℕ, zero, suc, drop, ◌+◌, ◌-◌, ◌^◌, ◌<◌, ◌==◌, ◌&&◌, Bool, true, false, if◌then◌else◌, nat_le, min, max, Option, None, Some, List, [], ◌∷◌, ◌++◌, length, refl, sym, ◌∙◌, ap, arith, subst, nat_tests, append_assoc, append-nil, sum_by-append, take-nil, sum_by, IfSome, Captured, TimeOutOfRange, Placed, Decision, Keep, Rule, rule_decides, Mark, mark_of, has_same, last, last-last, Event, Packet, Complete, FaultIn, Policy, Count, Filter, Edit, EditRule, Judgement, PassLast, Pass, SelectorState, initial_state, edited_packet_with, filters, is_last, is_selected, judge_by, shifted_time, passes, refuses, selects, skip_judgement, unique, with_mark, Tally, tally_with, Form, AsReports, JobProgress, apply_verdict, next_progress, end_with, apply_events, coming, is_repeated, packets_selected, unique_after, is_count}
+-- What is counted, kept and searched of packets that come one after another, and how the verdicts on them end a job.
+use Rattle.cap_process.proofs.Common.{map-append, ◌≡◌, ℕ, zero, suc, drop, ◌+◌, ◌-◌, ◌^◌, ◌<◌, ◌≤◌, ◌==◌, ◌&&◌, Bool, true, false, if◌then◌else◌, nat_le, min, max, Option, None, Some, option_or, unwrap_or, List, [], ◌∷◌, ◌++◌, length, refl, sym, ◌∙◌, ap, arith, subst, nat_tests, append_assoc, append-nil, sum_by-append, take-nil, sum_by, IfSome, Captured, Fault, TimeOutOfRange, Kind, Placed, Ending, End, Decision, Keep, Rule, rule_decides, Mark, mark_of, has_same, last, last-last, Event, Packet, InputEnd, SequenceEnd, Complete, FaultIn, end_of, packet_events, Policy, Count, Filter, KeepAll, Edit, EditRule, Judgement, Verdict, PassLast, Pass, Skip, Refuse, SelectorState, initial_state, edited_packet_with, filters, is_last, is_selected, judge, judge_by, shifted_time, passes, refuses, selects, skip_judgement, unique, with_mark, Tally, tally_with, Report, Form, AsReports, JobProgress, no_progress, form_refuses, unless_refused, decide, apply_verdict, next_progress, end_input, end_with, apply_events, is_repeated, packets_selected, unique_after, is_count, kept_by, event_packets, packets_written, written_unless, first_refusal, end_by_decision, is_reached, rule_end, at_most, end_at_time, first_without_time, packets_of, tally_of}
+use Rattle.cap_process.proofs.{Outcomes.progress-ended, Selectors.upper_bound}
 use Rattle.std.proofs.lemmas.List.{length-append}
-use Rattle.cap_filter.specs.Decisions as chosen
-use Rattle.cap_process.specs.Lists.{CountsAll, EndsWithoutTime, HasLastMarks, PassesFiltered, arriving, ascends, at_most, end_at_time, final, first_without_time, greatest, packets_kept as kept, least, marks, packets_of, tally_of, times}
-use Rattle.cap_process.proofs.Outcomes.{progress-ended}
-use Rattle.cap_process.proofs.Selectors.{upper_bound}
+use Rattle.cap_filter.specs.FilterRules as chosen
+use Rattle.cap_process.specs.Lists.{CountsAll, EndsWithoutTime, HasLastMarks, PassesFiltered, ascends, final, greatest, packets_kept as kept, least, marks, times}
 
 -- ---- what is counted
 
@@ -64,129 +63,256 @@ counted-next ps p =
     let g = ascends-next (times ps) p.time in
     rw (times-next ps p, a, b, c, d, e, f, g) refl
 
-abbrev under_way : ℕ → SelectorState → List Captured → JobProgress
-under_way k state out = record { decided = k; state = state; packets = out; reports = []; end = None }
+abbrev pub under_way : ℕ → SelectorState → List Captured → List Report → JobProgress
+under_way k state out reports = record { decided = k; state = state; packets = out; reports = reports; end = None }
 
-counts-all : (names : List (List ℕ)) (k : ℕ) (state : SelectorState) (out front ps : List Captured) → state.tally ≡ tally_of front
-    → (apply_events Count (AsReports names) (under_way k state out) (coming ps)).state.tally ≡ tally_of (front ++ ps)
-counts-all names k state out front [] is = is ∙ ap tally_of (sym (append-nil front))
-counts-all names k state out front (p ∷ ps) is =
-    counts-all names (k + 1) (record { passed = state.passed; window = state.window; tally = tally_with state.tally p }) (out ++ []) (front ++ p ∷ []) ps
-    (ap (λ (t : Tally). tally_with t p) is ∙ counted-next front p) ∙ ap tally_of (append_assoc front (p ∷ []) ps)
+-- the packets of an input are counted, whatever comes after them
+pub count-packets : (P : JobProgress → Type 0) (names : List (List ℕ)) (input : ℕ) (ps : List Placed) (k : ℕ) (state : SelectorState) (front : List Captured) (reports : List Report) (es : List Event)
+    → state.tally ≡ tally_of front
+    → ((k' : ℕ) (state' : SelectorState) → state'.tally ≡ tally_of (front ++ packets_of ps) → P (apply_events Count (AsReports names) (under_way k' state' [] reports) es))
+    → P (apply_events Count (AsReports names) (under_way k state [] reports) (packet_events input ps ++ es))
+count-packets P names input [] k state front reports es is next = next k state (is ∙ ap tally_of (sym (append-nil front)))
+count-packets P names input (p ∷ ps) k state front reports es is next =
+    count-packets P names input ps (k + 1) (record { passed = state.passed; window = state.window; tally = tally_with state.tally p.packet }) (front ++ p.packet ∷ []) reports es
+    (ap (λ (t : Tally). tally_with t p.packet) is ∙ counted-next front p.packet)
+    (λ k' state' is'. next k' state' (is' ∙ ap tally_of (append_assoc front (p.packet ∷ []) (packets_of ps))))
 
 pub counts_all : CountsAll
-counts_all names ps = counts-all names 0 initial_state [] [] ps refl
+counts_all names ps =
+    ap (λ (es : List Event). (apply_events Count (AsReports names) no_progress es).state.tally) (sym (append-nil (packet_events 0 ps)))
+    ∙ count-packets (λ w. w.state.tally ≡ tally_of (packets_of ps)) names 0 ps 0 initial_state [] [] [] refl (λ k state is. is)
 
--- ---- one packet
+-- ---- the verdicts
+
+abbrev pub judged_by : Verdict → List Captured → List Captured
+judged_by (Pass p) rest = p ∷ rest
+judged_by (PassLast p) rest = p ∷ []
+judged_by Skip rest = rest
+judged_by (Refuse fault) rest = []
+
+-- the packets that pass, of these after that many that were decided
+abbrev pub judged : Policy → ℕ → SelectorState → List Captured → List Captured
+judged a k state [] = []
+judged a k state (p ∷ ps) = judged_by (judge a state (k + 1) p).verdict (judged a (k + 1) (judge a state (k + 1) p).state ps)
+
+abbrev pub verdict_end : ℕ → Placed → Verdict → Option SequenceEnd → Option SequenceEnd
+verdict_end input p (Pass q) later = later
+verdict_end input p (PassLast q) later = Some Complete
+verdict_end input p Skip later = later
+verdict_end input p (Refuse fault) later = Some (FaultIn input fault p.offset)
+
+-- how the verdicts end a job, after that many packets that were decided; None where it goes on
+abbrev pub policy_end : Policy → ℕ → SelectorState → List Event → Option SequenceEnd
+policy_end a k state [] = None
+policy_end a k state (Packet input p ∷ es) =
+    verdict_end input p (judge a state (k + 1) p.packet).verdict (policy_end a (k + 1) (judge a state (k + 1) p.packet).state es)
+policy_end a k state (InputEnd input kind size ∷ es) = policy_end a k state es
+
+-- it ends at a packet that is refused for this; where none is, so
+abbrev pub EndsSo : Option Fault → Option SequenceEnd → Option SequenceEnd → Type 0
+EndsSo None e end = end ≡ e
+EndsSo (Some fault) e end = (input : ℕ) × (offset : ℕ) × (end ≡ Some (FaultIn input fault offset))
+
+-- a job has these packets, and ends at one that is refused, or so
+abbrev pub Comes : List Captured → Option Fault → Option SequenceEnd → JobProgress → Type 0
+Comes written refusal e w = (w.packets ≡ written) × EndsSo refusal e w.end
+
+abbrev Judged : Policy → Form → ℕ → SelectorState → List Captured → List Report → List Event → Type 0
+Judged a f k state out reports es =
+    Comes (out ++ packets_written f out (judged a k state (event_packets es))) (first_refusal f out (judged a k state (event_packets es))) (policy_end a k state es) (apply_events a f (under_way k state out reports) es)
+
+-- one packet, where those after it come so
+packet-next : (a : Policy) (f : Form) (k : ℕ) (state : SelectorState) (out : List Captured) (reports : List Report) (input : ℕ) (p : Placed) (es : List Event)
+    → ((state' : SelectorState) (out' : List Captured) → Judged a f (k + 1) state' out' reports es) → Judged a f k state out reports (Packet input p ∷ es)
+packet-next a f k state out reports input p es next = by_verdict (judge a state (k + 1) p.packet).verdict refl
+  where
+    w : JobProgress
+    w = under_way k state out reports
+
+    after : SelectorState
+    after = (judge a state (k + 1) p.packet).state
+
+    rest : List Captured
+    rest = judged a (k + 1) after (event_packets es)
+
+    more : Option SequenceEnd
+    more = policy_end a (k + 1) after es
+
+    By : Verdict → Type 0
+    By v = Comes (out ++ packets_written f out (judged_by v rest)) (first_refusal f out (judged_by v rest)) (verdict_end input p v more) (apply_events a f (apply_verdict f w input p v after) es)
+
+    stopped : (fault : Fault) → apply_events a f (end_with w (FaultIn input fault p.offset)) es ≡ end_with w (FaultIn input fault p.offset)
+    stopped fault = progress-ended a f (end_with w (FaultIn input fault p.offset)) es (FaultIn input fault p.offset) refl
+
+    refused : (fault : Fault) (e : Option SequenceEnd) → Comes (out ++ []) (Some fault) e (apply_events a f (end_with w (FaultIn input fault p.offset)) es)
+    refused fault e = (ap (λ (u : JobProgress). u.packets) (stopped fault) ∙ sym (append-nil out), (input, p.offset, ap (λ (u : JobProgress). u.end) (stopped fault)))
+
+    passing : (q : Captured) (o : Option Fault)
+        → Comes (out ++ written_unless o q (packets_written f (out ++ q ∷ []) rest)) (option_or o (first_refusal f (out ++ q ∷ []) rest)) more (apply_events a f (unless_refused o w input p (decide w after (q ∷ []) None)) es)
+    passing q None = let n = next after (out ++ q ∷ []) in (n.0 ∙ append_assoc out (q ∷ []) (packets_written f (out ++ q ∷ []) rest), n.1)
+    passing q (Some fault) = refused fault more
+
+    last_one : (q : Captured) (o : Option Fault)
+        → Comes (out ++ written_unless o q []) (option_or o None) (Some Complete) (apply_events a f (unless_refused o w input p (decide w after (q ∷ []) (Some Complete))) es)
+    last_one q None =
+        let ended = progress-ended a f (decide w after (q ∷ []) (Some Complete)) es Complete refl in
+        (ap (λ (u : JobProgress). u.packets) ended, ap (λ (u : JobProgress). u.end) ended)
+    last_one q (Some fault) = refused fault (Some Complete)
+
+    by : (v : Verdict) → By v
+    by (Pass q) = passing q (form_refuses f out q)
+    by (PassLast q) = last_one q (form_refuses f out q)
+    by Skip =
+        subst (λ (o : List Captured). Comes (o ++ packets_written f o rest) (first_refusal f o rest) more (apply_events a f (under_way (k + 1) after (out ++ []) reports) es)) (append-nil out) (next after (out ++ []))
+    by (Refuse fault) = (ap (λ (u : JobProgress). u.packets) (stopped fault) ∙ sym (append-nil out), ap (λ (u : JobProgress). u.end) (stopped fault))
+
+    by_verdict : (v : Verdict) → (judge a state (k + 1) p.packet).verdict ≡ v → Judged a f k state out reports (Packet input p ∷ es)
+    by_verdict v is = subst By (sym is) (by v)
+
+pub end-stays : (a : Policy) (w : JobProgress) (input : ℕ) (kind : Option Kind) (size : ℕ) → is_count a ≡ false → end_input a w input kind size ≡ w
+end-stays (Edit s) w input kind size judges = refl
+end-stays (Filter rule count) w input kind size judges = refl
+end-stays KeepAll w input kind size judges = refl
+end-stays Count w input kind size judges = (cc)
+
+-- what is written of what passes is all up to the first that the form refuses, at which the job ends; where it refuses
+-- none, the verdicts end it
+pub comes : (a : Policy) (f : Form) (k : ℕ) (state : SelectorState) (out : List Captured) (reports : List Report) (es : List Event) → is_count a ≡ false → Judged a f k state out reports es
+comes a f k state out reports [] judges = (sym (append-nil out), refl)
+comes a f k state out reports (Packet input p ∷ es) judges =
+    packet-next a f k state out reports input p es (λ state' out'. comes a f (k + 1) state' out' reports es judges)
+comes a f k state out reports (InputEnd input kind size ∷ es) judges =
+    subst (λ (w : JobProgress). Comes (out ++ packets_written f out (judged a k state (event_packets es))) (first_refusal f out (judged a k state (event_packets es))) (policy_end a k state es) (apply_events a f w es))
+    (sym (end-stays a (under_way k state out reports) input kind size judges)) (comes a f k state out reports es judges)
+
+-- packets of which the form refuses none, wherever it comes among them, are all written
+pub none-refused : (f : Form) (before ps : List Captured) → ((xs : List Captured) (p : Captured) (ys : List Captured) → before ++ ps ≡ xs ++ p ∷ ys → form_refuses f xs p ≡ None)
+    → (packets_written f before ps ≡ ps) × (first_refusal f before ps ≡ None)
+none-refused f before [] none = (refl, refl)
+none-refused f before (p ∷ ps) none =
+    let more = none-refused f (before ++ p ∷ []) ps (λ xs q ys is. none xs q ys (sym (append_assoc before (p ∷ []) ps) ∙ is)) in
+    let one : form_refuses f before p ≡ None = none before p ps refl in (
+      ap (λ (o : Option Fault). written_unless o p (packets_written f (before ++ p ∷ []) ps)) one ∙ ap (λ (l : List Captured). p ∷ l) more.0,
+      ap (λ (o : Option Fault). option_or o (first_refusal f (before ++ p ∷ []) ps)) one ∙ more.1,
+    )
+
+pub packets-of-input : (input : ℕ) (ps : List Placed) → event_packets (packet_events input ps) ≡ packets_of ps
+packets-of-input input [] = refl
+packets-of-input input (p ∷ ps) = ap (λ (l : List Captured). p.packet ∷ l) (packets-of-input input ps)
+
+-- what the verdicts say is seen where nothing is refused in writing
+pub judged-is : (a : Policy) (ps : List Placed) → is_count a ≡ false
+    → ((apply_events a (AsReports []) no_progress (packet_events 0 ps)).packets ≡ judged a 0 initial_state (packets_of ps))
+    × ((apply_events a (AsReports []) no_progress (packet_events 0 ps)).end ≡ policy_end a 0 initial_state (packet_events 0 ps))
+judged-is a ps judges =
+    let c = comes a (AsReports []) 0 initial_state [] [] (packet_events 0 ps) judges in
+    let none = none-refused (AsReports []) [] (judged a 0 initial_state (event_packets (packet_events 0 ps))) (λ xs p ys is. refl) in (
+      c.0 ∙ none.0 ∙ ap (judged a 0 initial_state) (packets-of-input 0 ps),
+      subst (λ (r : Option Fault). EndsSo r (policy_end a 0 initial_state (packet_events 0 ps)) (apply_events a (AsReports []) no_progress (packet_events 0 ps)).end) none.1 c.1,
+    )
+
+-- ---- what a filter keeps
+
+-- how many more pass
+abbrev still : Option ℕ → ℕ → Option ℕ
+still None passed = None
+still (Some n) passed = Some (n - passed)
+
+abbrev IsBelow : Option ℕ → ℕ → Type 0
+IsBelow None passed = Unit {0}
+IsBelow (Some n) passed = passed < n
+
+at-last : (count : Option ℕ) (passed : ℕ) (p : Captured) (l : List Captured) → is_last count (passed + 1) ≡ true
+    → (at_most (still count passed) (p ∷ l) ≡ p ∷ []) × (is_reached (still count passed) (suc (length l)) ≡ true)
+at-last None passed p l is = (cc)
+at-last (Some n) passed p l is =
+    let e : passed + 1 ≡ n = grind (arith, nat_tests, is) in
+    let one : n - passed ≡ 1 = omega (arith, e) in
+    let less : n - passed ≤ suc (length l) = omega (arith, e) in
+    (rw one refl, grind (arith, nat_tests, less))
+
+before-last : (count : Option ℕ) (passed : ℕ) (p : Captured) (l : List Captured) → IsBelow count passed → is_last count (passed + 1) ≡ false
+    → (at_most (still count passed) (p ∷ l) ≡ p ∷ at_most (still count (passed + 1)) l)
+    × (is_reached (still count (passed + 1)) (length l) ≡ is_reached (still count passed) (suc (length l))) × IsBelow count (passed + 1)
+before-last None passed p l below is = (refl, refl, tt)
+before-last (Some n) passed p l below is =
+    let e : passed + 1 < n = grind (arith, nat_tests, is, below) in
+    let more : n - passed ≡ suc (n - (passed + 1)) = omega (arith, e) in
+    let same : nat_le (n - (passed + 1)) (length l) ≡ nat_le (suc (n - (passed + 1))) (suc (length l)) = grind (arith, nat_tests) in
+    (rw more refl, same ∙ ap (λ (m : ℕ). nat_le m (suc (length l))) (sym more), e)
+
+at-none : (count : Option ℕ) (passed : ℕ) → IsBelow count passed → (at_most (still count passed) [] ≡ []) × (is_reached (still count passed) 0 ≡ false)
+at-none None passed below = (refl, refl)
+at-none (Some n) passed below = let more : 0 < n - passed = omega (arith, below) in (take-nil (n - passed), grind (arith, nat_tests, more))
+
+-- a filter passes the packets that it keeps, and ends as they say
+abbrev Filtered : Rule → Option ℕ → Ending → ℕ → SelectorState → List Placed → Type 0
+Filtered rule count ending k state ps =
+    (judged (Filter rule count) k state (packets_of ps) ≡ at_most (still count state.passed) (kept rule (packets_of ps)))
+    × (unwrap_or (policy_end (Filter rule count) k state (packet_events 0 ps)) (end_of 0 ending) ≡ (if is_reached (still count state.passed) (length (kept rule (packets_of ps))) then Complete else rule_end rule ending ps))
+
+-- one packet, where those after it are filtered so
+filtered-next : (rule : Rule) (count : Option ℕ) (ending : Ending) (k : ℕ) (state : SelectorState) (p : Placed) (ps : List Placed) → IsBelow count state.passed
+    → ((state' : SelectorState) → IsBelow count state'.passed → Filtered rule count ending (k + 1) state' ps) → (d : Decision)
+    → (judged_by (filters d count state p.packet).verdict (judged (Filter rule count) (k + 1) (filters d count state p.packet).state (packets_of ps)) ≡ at_most (still count state.passed) (kept_by d p.packet (kept rule (packets_of ps))))
+    × (unwrap_or (verdict_end 0 p (filters d count state p.packet).verdict (policy_end (Filter rule count) (k + 1) (filters d count state p.packet).state (packet_events 0 ps))) (end_of 0 ending)
+    ≡ (if is_reached (still count state.passed) (length (kept_by d p.packet (kept rule (packets_of ps)))) then Complete else end_by_decision d p (rule_end rule ending ps)))
+filtered-next rule count ending k state p ps below next Keep = by_last (is_last count (state.passed + 1)) refl
+  where
+    after : SelectorState
+    after = (filters Keep count state p.packet).state
+
+    rest : List Captured
+    rest = kept rule (packets_of ps)
+
+    by_last : (b : Bool) → is_last count (state.passed + 1) ≡ b
+        → (judged_by (if b then PassLast p.packet else Pass p.packet) (judged (Filter rule count) (k + 1) after (packets_of ps)) ≡ at_most (still count state.passed) (p.packet ∷ rest))
+        × (unwrap_or (verdict_end 0 p (if b then PassLast p.packet else Pass p.packet) (policy_end (Filter rule count) (k + 1) after (packet_events 0 ps))) (end_of 0 ending)
+        ≡ (if is_reached (still count state.passed) (suc (length rest)) then Complete else rule_end rule ending ps))
+    by_last true is =
+        let one = at-last count state.passed p.packet rest is in
+        (sym one.0, ap (λ (b : Bool). if b then Complete else rule_end rule ending ps) (sym one.1))
+    by_last false is =
+        let one = before-last count state.passed p.packet rest below is in
+        let more = next after one.2 in
+        (ap (λ (l : List Captured). p.packet ∷ l) more.0 ∙ sym one.0, more.1 ∙ ap (λ (b : Bool). if b then Complete else rule_end rule ending ps) one.1)
+filtered-next rule count ending k state p ps below next chosen.Skip = next state below
+filtered-next rule count ending k state p ps below next (chosen.Refuse fault) =
+    let none = at-none count state.passed below in
+    (sym none.0, ap (λ (b : Bool). if b then Complete else FaultIn 0 fault p.offset) (sym none.1))
+
+filtered : (rule : Rule) (count : Option ℕ) (ending : Ending) (k : ℕ) (state : SelectorState) (ps : List Placed) → k + length ps < 2 ^ 63 → IsBelow count state.passed → Filtered rule count ending k state ps
+filtered rule count ending k state [] less below =
+    let none = at-none count state.passed below in
+    (sym none.0, ap (λ (b : Bool). if b then Complete else end_of 0 ending) (sym none.1))
+filtered rule count ending k state (p ∷ ps) less below =
+    subst (λ (j : Judgement).
+    (judged_by j.verdict (judged (Filter rule count) (k + 1) j.state (packets_of ps)) ≡ at_most (still count state.passed) (kept rule (packets_of (p ∷ ps))))
+    × (unwrap_or (verdict_end 0 p j.verdict (policy_end (Filter rule count) (k + 1) j.state (packet_events 0 ps))) (end_of 0 ending) ≡ (if is_reached (still count state.passed) (length (kept rule (packets_of (p ∷ ps)))) then Complete else rule_end rule ending (p ∷ ps))))
+    (sym (upper_bound (Filter rule count) state (k + 1) p.packet refl (omega (arith, less))))
+    (filtered-next rule count ending k state p ps below (λ state' below'. filtered rule count ending (k + 1) state' ps (omega (arith, less)) below') (rule_decides rule p.packet))
+
+-- the same from the first packet on
+pub filtered-first : (rule : Rule) (count : Option ℕ) (ending : Ending) (ps : List Placed) → IfSome count (λ (n : ℕ). 0 < n) → length ps < 2 ^ 63
+    → (judged (Filter rule count) 0 initial_state (packets_of ps) ≡ at_most count (kept rule (packets_of ps)))
+    × (unwrap_or (policy_end (Filter rule count) 0 initial_state (packet_events 0 ps)) (end_of 0 ending) ≡ (if is_reached count (length (kept rule (packets_of ps))) then Complete else rule_end rule ending ps))
+filtered-first rule None ending ps some less = filtered rule None ending 0 initial_state ps (omega (arith, less)) tt
+filtered-first rule (Some n) ending ps some less =
+    let e : n - 0 ≡ n = omega arith in
+    rw e at (filtered rule (Some n) ending 0 initial_state ps (omega (arith, less)) some)
+
+pub passes_filtered : PassesFiltered
+passes_filtered rule count ps some less = (judged-is (Filter rule count) ps refl).0 ∙ (filtered-first rule count End ps some less).0
+
+-- ---- an edit
 
 abbrev reports : Form
 reports = AsReports []
 
 step-is : (a : Policy) (k : ℕ) (state : SelectorState) (out : List Captured) (p : Placed) (j : Judgement) → is_count a ≡ false → k + 1 < 2 ^ 63 → judge_by a state (k + 1) p.packet ≡ j
-    → next_progress a reports (under_way k state out) (Packet 0 p) ≡ apply_verdict reports (under_way k state out) 0 p j.verdict j.state
+    → next_progress a reports (under_way k state out []) (Packet 0 p) ≡ apply_verdict reports (under_way k state out []) 0 p j.verdict j.state
 step-is a k state out p j judges less is =
-    ap (λ (v : Judgement). apply_verdict reports (under_way k state out) 0 p v.verdict v.state) (upper_bound a state (k + 1) p.packet judges less ∙ is)
-
--- ---- what a filter keeps
-
-abbrev placed : Captured → Placed
-placed p = record { offset = 0; packet = p }
-
--- how many more pass
-abbrev pub still : Option ℕ → ℕ → Option ℕ
-still None passed = None
-still (Some n) passed = Some (n - passed)
-
-abbrev pub IsBelow : Option ℕ → ℕ → Type 0
-IsBelow None passed = Unit {0}
-IsBelow (Some n) passed = passed < n
-
-at-last : (count : Option ℕ) (passed : ℕ) (p : Captured) (l : List Captured) → is_last count (passed + 1) ≡ true → at_most (still count passed) (p ∷ l) ≡ p ∷ []
-at-last None passed p l is = (cc)
-at-last (Some n) passed p l is =
-    let e : passed + 1 ≡ n = grind (arith, nat_tests, is) in
-    let one : n - passed ≡ 1 = omega (arith, e) in
-    rw one refl
-
-before-last : (count : Option ℕ) (passed : ℕ) (p : Captured) (l : List Captured) → IsBelow count passed → is_last count (passed + 1) ≡ false
-    → (at_most (still count passed) (p ∷ l) ≡ p ∷ at_most (still count (passed + 1)) l) × IsBelow count (passed + 1)
-before-last None passed p l below is = (refl, tt)
-before-last (Some n) passed p l below is =
-    let e : passed + 1 < n = grind (arith, nat_tests, is, below) in
-    let more : n - passed ≡ suc (n - (passed + 1)) = omega (arith, e) in
-    (rw more refl, e)
-
-at-none : (o : Option ℕ) → at_most o [] ≡ []
-at-none None = refl
-at-none (Some n) = take-nil n
-
-abbrev Filtered : Rule → Option ℕ → ℕ → SelectorState → List Captured → List Captured → Type 0
-Filtered rule count k state out ps = (apply_events (Filter rule count) reports (under_way k state out) (coming ps)).packets ≡ out ++ at_most (still count state.passed) (kept rule ps)
-
-abbrev one-more : SelectorState → SelectorState
-one-more state = record { passed = state.passed + 1; window = state.window; tally = state.tally }
-
--- one packet, where those after it are filtered so
-filtered-next : (rule : Rule) (count : Option ℕ) (k : ℕ) (state : SelectorState) (out : List Captured) (p : Captured) (ps : List Captured) → k + 1 < 2 ^ 63 → IsBelow count state.passed
-    → ((state' : SelectorState) (out' : List Captured) → IsBelow count state'.passed → Filtered rule count (k + 1) state' out' ps) → Filtered rule count k state out (p ∷ ps)
-filtered-next rule count k state out p ps near below next = by_decision (rule_decides rule p) refl
-  where
-    following : Judgement → JobProgress
-    following j = apply_events (Filter rule count) reports (apply_verdict reports (under_way k state out) 0 (placed p) j.verdict j.state) (coming ps)
-
-    to : (j : Judgement) → filters (rule_decides rule p) count state p ≡ j → (apply_events (Filter rule count) reports (under_way k state out) (coming (p ∷ ps))).packets ≡ (following j).packets
-    to j is = ap (λ (w : JobProgress). (apply_events (Filter rule count) reports w (coming ps)).packets) (step-is (Filter rule count) k state out (placed p) j refl near is)
-
-    by_count : rule_decides rule p ≡ Keep → (b : Bool) → is_last count (state.passed + 1) ≡ b → Filtered rule count k state out (p ∷ ps)
-    by_count is true last =
-        let j : Judgement = record { verdict = PassLast p; state = one-more state } in
-        let rest : at_most (still count state.passed) (kept rule (p ∷ ps)) ≡ p ∷ [] = rw is (at-last count state.passed p (kept rule ps) last) in
-        to j (rw (is, last) refl)
-        ∙ ap (λ (w : JobProgress). w.packets) (progress-ended (Filter rule count) reports (apply_verdict reports (under_way k state out) 0 (placed p) (PassLast p) (one-more state)) (coming ps) Complete refl)
-        ∙ ap (λ (l : List Captured). out ++ l) (sym rest)
-    by_count is false last =
-        let j : Judgement = record { verdict = Pass p; state = one-more state } in
-        let more = before-last count state.passed p (kept rule ps) below last in
-        let rest : at_most (still count state.passed) (kept rule (p ∷ ps)) ≡ p ∷ at_most (still count (state.passed + 1)) (kept rule ps) = rw is more.0 in
-        to j (rw (is, last) refl)
-        ∙ next (one-more state) (out ++ p ∷ []) more.1
-        ∙ append_assoc out (p ∷ []) (at_most (still count (state.passed + 1)) (kept rule ps))
-        ∙ ap (λ (l : List Captured). out ++ l) (sym rest)
-
-    by_decision : (d : Decision) → rule_decides rule p ≡ d → Filtered rule count k state out (p ∷ ps)
-    by_decision Keep is = by_count is (is_last count (state.passed + 1)) refl
-    by_decision chosen.Skip is =
-        let rest : kept rule (p ∷ ps) ≡ kept rule ps = rw is refl in
-        to (skip_judgement state) (rw is refl)
-        ∙ next state (out ++ []) below
-        ∙ ap (λ (o : List Captured). o ++ at_most (still count state.passed) (kept rule ps)) (append-nil out)
-        ∙ ap (λ (l : List Captured). out ++ at_most (still count state.passed) l) (sym rest)
-    by_decision (chosen.Refuse fault) is =
-        let rest : kept rule (p ∷ ps) ≡ [] = rw is refl in
-        to (refuses state fault) (rw is refl)
-        ∙ ap (λ (w : JobProgress). w.packets) (progress-ended (Filter rule count) reports (end_with (under_way k state out) (FaultIn 0 fault 0)) (coming ps) (FaultIn 0 fault 0) refl)
-        ∙ sym (append-nil out)
-        ∙ ap (λ (l : List Captured). out ++ l) (sym (at-none (still count state.passed)))
-        ∙ ap (λ (l : List Captured). out ++ at_most (still count state.passed) l) (sym rest)
-
-filtered : (rule : Rule) (count : Option ℕ) (k : ℕ) (state : SelectorState) (out ps : List Captured) → k + length ps < 2 ^ 63 → IsBelow count state.passed → Filtered rule count k state out ps
-filtered rule count k state out [] less below = sym (append-nil out) ∙ ap (λ (l : List Captured). out ++ l) (sym (at-none (still count state.passed)))
-filtered rule count k state out (p ∷ ps) less below =
-    filtered-next rule count k state out p ps (omega arith) below (λ state' out' below'. filtered rule count (k + 1) state' out' ps (omega arith) below')
-
-pub all-still : (count : Option ℕ) → still count 0 ≡ count
-all-still None = refl
-all-still (Some n) = let e : n - 0 ≡ n = omega arith in ap Some e
-
-pub below-first : (count : Option ℕ) → IfSome count (λ (n : ℕ). 0 < n) → IsBelow count 0
-below-first None some = tt
-below-first (Some n) some = some
-
-pub passes_filtered : PassesFiltered
-passes_filtered rule count ps some less =
-    filtered rule count 0 initial_state [] ps (omega arith) (below-first count some) ∙ ap (λ (o : Option ℕ). at_most o (kept rule ps)) (all-still count)
-
--- ---- an edit
+    ap (λ (v : Judgement). apply_verdict reports (under_way k state out []) 0 p v.verdict v.state) (upper_bound a state (k + 1) p.packet judges less ∙ is)
 
 -- the window has the marks just before
 abbrev IsKept : Option ℕ → List Mark → List Mark → Type 0
@@ -221,7 +347,7 @@ record Follows (s : EditRule) (number : ℕ) (before : List Mark) (out : List Ca
   end : w.end ≡ end_at_time (first_without_time s number ps)
 
 abbrev Goes : EditRule → ℕ → SelectorState → List Mark → List Captured → List Placed → Type 0
-Goes s k state before out ps = Follows s (k + 1) before out ps (apply_events (Edit s) reports (under_way k state out) (arriving ps))
+Goes s k state before out ps = Follows s (k + 1) before out ps (apply_events (Edit s) reports (under_way k state out []) (packet_events 0 ps))
 
 -- one packet, where those after it are followed so
 follows-next : (s : EditRule) (k : ℕ) (state : SelectorState) (before : List Mark) (out : List Captured) (p : Placed) (ps : List Placed) → k + 1 < 2 ^ 63 → IsKept s.window before state.window
@@ -232,10 +358,10 @@ follows-next s k state before out p ps near kept next = by_selected (is_selected
     To w = Follows s (k + 1) before out (p ∷ ps) w
 
     following : Judgement → JobProgress
-    following j = apply_events (Edit s) reports (apply_verdict reports (under_way k state out) 0 p j.verdict j.state) (arriving ps)
+    following j = apply_events (Edit s) reports (apply_verdict reports (under_way k state out []) 0 p j.verdict j.state) (packet_events 0 ps)
 
     to : (j : Judgement) → selects s state (k + 1) p.packet ≡ j → To (following j) → Goes s k state before out (p ∷ ps)
-    to j is follows = subst To (sym (ap (λ (w : JobProgress). apply_events (Edit s) reports w (arriving ps)) (step-is (Edit s) k state out p j refl near is))) follows
+    to j is follows = subst To (sym (ap (λ (w : JobProgress). apply_events (Edit s) reports w (packet_events 0 ps)) (step-is (Edit s) k state out p j refl near is))) follows
 
     -- what is selected after the packet
     more : List Captured
@@ -274,7 +400,7 @@ follows-next s k state before out p ps near kept next = by_selected (is_selected
     by_moved : is_selected s (k + 1) p.packet ≡ true → (o : Option ℕ) → shifted_time s.shift p.packet.time ≡ o → Goes s k state before out (p ∷ ps)
     by_moved is None beyond =
         let none : packets_selected s (k + 1) (packets_of (p ∷ ps)) ≡ [] = rw (is, beyond) refl in
-        let ended : JobProgress = end_with (under_way k state out) (FaultIn 0 TimeOutOfRange p.offset) in
+        let ended : JobProgress = end_with (under_way k state out []) (FaultIn 0 TimeOutOfRange p.offset) in
         let here : To ended = record {
           passed = sym (append-nil out) ∙ ap (λ (l : List Captured). out ++ unique_after s.window before l) (sym none);
           kept = kept-as s.window before (before ++ marks (packets_selected s (k + 1) (packets_of (p ∷ ps)))) state.window
@@ -282,7 +408,7 @@ follows-next s k state before out p ps near kept next = by_selected (is_selected
           end = rw (is, beyond) refl;
         } in
         to (refuses state TimeOutOfRange) (rw (is, beyond) refl)
-        (subst To (sym (progress-ended (Edit s) reports ended (arriving ps) (FaultIn 0 TimeOutOfRange p.offset) refl)) here)
+        (subst To (sym (progress-ended (Edit s) reports ended (packet_events 0 ps) (FaultIn 0 TimeOutOfRange p.offset) refl)) here)
     by_moved is (Some time) timed = by_unique time is timed (is_repeated s.window before (mark_of (edited_packet_with s p.packet time).bytes)) refl
 
     by_selected : (b : Bool) → is_selected s (k + 1) p.packet ≡ b → Goes s k state before out (p ∷ ps)
@@ -324,31 +450,6 @@ follows-first s ps less = follows s 0 initial_state [] [] ps (omega arith) (kept
 pub ends_without_time : EndsWithoutTime
 ends_without_time s ps less = let f = follows-first s ps less in (f.end, f.passed)
 
--- ---- packets without places
-
-abbrev places : List Captured → List Placed
-places [] = []
-places (p ∷ ps) = placed p ∷ places ps
-
-coming-as : (ps : List Captured) → coming ps ≡ arriving (places ps)
-coming-as [] = refl
-coming-as (p ∷ ps) = ap (λ (es : List Event). Packet 0 (placed p) ∷ es) (coming-as ps)
-
-packets-as : (ps : List Captured) → packets_of (places ps) ≡ ps
-packets-as [] = refl
-packets-as (p ∷ ps) = ap (λ (qs : List Captured). p ∷ qs) (packets-as ps)
-
-places-length : (ps : List Captured) → length (places ps) ≡ length ps
-places-length [] = refl
-places-length (p ∷ ps) = ap suc (places-length ps)
-
-window-as : (n : ℕ) (o : Option ℕ) (before window : List Mark) → o ≡ Some n → IsKept o before window → window ≡ last (n - 1) before
-window-as n o before window is kept = subst (λ (x : Option ℕ). IsKept x before window) is kept
-
 pub has_last_marks : HasLastMarks
 has_last_marks s n ps is less =
-    let same = places-length ps in
-    let f = follows-first s (places ps) (omega (arith, same, less)) in
-    ap (λ (es : List Event). (apply_events (Edit s) reports (under_way 0 initial_state []) es).state.window) (coming-as ps)
-    ∙ window-as n s.window (marks (packets_selected s 1 (packets_of (places ps)))) (apply_events (Edit s) reports (under_way 0 initial_state []) (arriving (places ps))).state.window is f.kept
-    ∙ ap (λ (qs : List Captured). last (n - 1) (marks (packets_selected s 1 qs))) (packets-as ps)
+    subst (λ (o : Option ℕ). IsKept o (marks (packets_selected s 1 (packets_of ps))) (apply_events (Edit s) reports no_progress (packet_events 0 ps)).state.window) is (follows-first s ps less).kept

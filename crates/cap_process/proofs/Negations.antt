@@ -1,11 +1,9 @@
 -- An expression, its negation and rejection part packets.
 use Rattle.cap_process.proofs.Common.{◌≡◌, ℕ, ◌+◌, true, false, if◌then◌else◌, List, [], ◌∷◌, Option, None, Some, refl, sym, ◌∙◌, ap, subst, arith, sum_by, sum_by-append, is_some, Captured, by_reading, decision_of, read_on, kept_by, packets_kept, AreRead, NegationParts, is_rejected_on, is_rejection, packets_rejected}
-use Rattle.cap_octet.specs.declared.link.Link.{Link}
+use Rattle.cap_octet.specs.{Link.link_of, declared.link.Link.Link}
 use Rattle.flt_ast.specs.Tree.{TruthTree, denied, truth}
 use Rattle.flt_gen.specs.Elementary.{MatchResult, Yes, No, Rejected}
-use Rattle.flt_gen.specs.Formula.{negation}
-use Rattle.flt_gen.specs.Reading.{holds}
-use Rattle.cap_octet.specs.Link.{link_of}
+use Rattle.flt_gen.specs.{Formula.negation, Reading.holds}
 
 false-not-true : false ≡ true → ⊥
 false-not-true e = cc

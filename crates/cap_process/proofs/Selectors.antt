@@ -1,45 +1,40 @@
 -- What a selector returns.
-use Rattle.cap_process.proofs.Common.{◌≡◌, ℕ, ◌+◌, ◌^◌, ◌<◌, ◌≤◌, nat_le, Bool, true, false, length, if◌then◌else◌, List, Option, None, Some, Ok, refl, sym, ◌∙◌, ap, arith, nat_tests, Captured, TooManyPackets, WindowView, Mark, Policy, Edit, Filter, KeepAll, Count, SelectorState, Judgement, Pass, PassLast, Skip, judge, judge_by, refuses, is_last, Tally, tally_with, is_count, spent_by, spent_by_verdict, marks_in, places, state_of, PolicyState, IsWindowFor, ReturnsVerdict, count_limit, TakesTally, verdict_if, verdict_of, IsVerdict}
+use Rattle.cap_process.proofs.Common.{◌≡◌, ℕ, ◌+◌, ◌^◌, ◌<◌, ◌≤◌, nat_le, Bool, true, false, length, if◌then◌else◌, List, Option, None, Some, Ok, refl, sym, ◌∙◌, ap, arith, nat_tests, Captured, TooManyPackets, WindowView, Mark, Policy, Edit, Filter, KeepAll, Count, SelectorState, Judgement, Pass, PassLast, Skip, is_too_many, judge, judge_by, refuses, is_last, Tally, tally_with, is_count, spent_by, spent_by_verdict, marks_in, places, state_of, PolicyState, IsWindowFor, ReturnsVerdict, count_limit, TakesTally, verdict_if, verdict_of, IsVerdict, ◌↔◌, ◌-◌, not, IsTrue, [], ◌∷◌, ◌++◌, Contains, has_same, last, mark_of, window, answers-has_same, unique, skip_judgement, passes}
 use Rattle.flt_bpf.specs.Content.{Content}
 use Rattle.cap_process.specs.declared.selector.Verdict as code
 
-nat_le-true : (a b : ℕ) → a ≤ b → nat_le a b ≡ true
-nat_le-true a b h = grind (arith, nat_tests, h)
+-- where packets aren't only counted, a number may be too great
+numbered : (policy : Policy) (number : ℕ) → is_count policy ≡ false → is_too_many policy number ≡ nat_le (2 ^ 63) number
+numbered (Edit s) number judges = refl
+numbered (Filter rule count) number judges = refl
+numbered KeepAll number judges = refl
+numbered Count number judges = (cc)
 
-nat_le-false : (a b : ℕ) → b < a → nat_le a b ≡ false
-nat_le-false a b h = grind (arith, nat_tests, h)
+too-great : (policy : Policy) (number : ℕ) → is_count policy ≡ false → 2 ^ 63 ≤ number → is_too_many policy number ≡ true
+too-great policy number judges h = let e : nat_le (2 ^ 63) number ≡ true = grind (arith, nat_tests, h) in numbered policy number judges ∙ e
+
+not-too-great : (policy : Policy) (number : ℕ) → is_count policy ≡ false → number < 2 ^ 63 → is_too_many policy number ≡ false
+not-too-great policy number judges h = let e : nat_le (2 ^ 63) number ≡ false = grind (arith, nat_tests, h) in numbered policy number judges ∙ e
 
 pub too-many : (policy : Policy) (state : SelectorState) (number : ℕ) (p : Captured) → is_count policy ≡ false → 2 ^ 63 ≤ number → judge policy state number p ≡ refuses state TooManyPackets
-too-many (Edit s) state number p judges h = rw (nat_le-true (2 ^ 63) number h) refl
-too-many (Filter rule count) state number p judges h = rw (nat_le-true (2 ^ 63) number h) refl
-too-many KeepAll state number p judges h = rw (nat_le-true (2 ^ 63) number h) refl
-too-many Count state number p judges h = (cc)
+too-many policy state number p judges h = ap (λ (b : Bool). if b then refuses state TooManyPackets else judge_by policy state number p) (too-great policy number judges h)
 
 pub upper_bound : (policy : Policy) (state : SelectorState) (number : ℕ) (p : Captured) → is_count policy ≡ false → number < 2 ^ 63 → judge policy state number p ≡ judge_by policy state number p
-upper_bound (Edit s) state number p judges h = rw (nat_le-false (2 ^ 63) number h) refl
-upper_bound (Filter rule count) state number p judges h = rw (nat_le-false (2 ^ 63) number h) refl
-upper_bound KeepAll state number p judges h = rw (nat_le-false (2 ^ 63) number h) refl
-upper_bound Count state number p judges h = (cc)
+upper_bound policy state number p judges h = ap (λ (b : Bool). if b then refuses state TooManyPackets else judge_by policy state number p) (not-too-great policy number judges h)
 
 -- ---- what judging costs
 
 pub counted-spends : (policy : Policy) (number : ℕ) (p : Captured) (programs : List Content) → is_count policy ≡ true → programs ≡ spent_by_verdict policy number p programs
+counted-spends Count number p programs is = refl
 counted-spends (Edit s) number p programs is = (cc)
 counted-spends (Filter rule count) number p programs is = (cc)
 counted-spends KeepAll number p programs is = (cc)
-counted-spends Count number p programs is = refl
 
 pub refused-spends : (policy : Policy) (number : ℕ) (p : Captured) (programs : List Content) → is_count policy ≡ false → 2 ^ 63 ≤ number → programs ≡ spent_by_verdict policy number p programs
-refused-spends (Edit s) number p programs judges h = rw (nat_le-true (2 ^ 63) number h) refl
-refused-spends (Filter rule count) number p programs judges h = rw (nat_le-true (2 ^ 63) number h) refl
-refused-spends KeepAll number p programs judges h = rw (nat_le-true (2 ^ 63) number h) refl
-refused-spends Count number p programs judges h = (cc)
+refused-spends policy number p programs judges h = ap (λ (b : Bool). if b then programs else spent_by policy p programs) (sym (too-great policy number judges h))
 
 pub judged-spends : (policy : Policy) (number : ℕ) (p : Captured) (programs : List Content) → is_count policy ≡ false → number < 2 ^ 63 → spent_by policy p programs ≡ spent_by_verdict policy number p programs
-judged-spends (Edit s) number p programs judges h = rw (nat_le-false (2 ^ 63) number h) refl
-judged-spends (Filter rule count) number p programs judges h = rw (nat_le-false (2 ^ 63) number h) refl
-judged-spends KeepAll number p programs judges h = rw (nat_le-false (2 ^ 63) number h) refl
-judged-spends Count number p programs judges h = (cc)
+judged-spends policy number p programs judges h = ap (λ (b : Bool). if b then programs else spent_by policy p programs) (sym (not-too-great policy number judges h))
 
 -- ---- what is returned
 
@@ -84,3 +79,21 @@ tells-count KeepAll passed marks tally tally' number p v is skips more = (cc)
 pub closes-policy : (b : Bool) (old new : PolicyState) (r : Option Tally) → TakesTally b old r new → new.policy ≡ old.policy
 closes-policy false old new r c = ap (λ (v : PolicyState). v.policy) c.1
 closes-policy true old new r c = ap (λ (v : PolicyState). v.policy) c.1
+
+pub unique-seen : (n : Option ℕ) (w new : WindowView) (passed : ℕ) (tally : Tally) (p : Captured) (seen : Bool) → IsWindowFor n (Some w) → IsTrue seen ↔ Contains w.marks (mark_of p.bytes)
+    → new ≡ window (last w.capacity (w.marks ++ mark_of p.bytes ∷ [])) w.capacity
+    → unique n (state_of passed w.marks tally) p ≡ (if seen then skip_judgement (state_of passed new.marks tally) else passes (state_of passed new.marks tally) p)
+unique-seen None w new passed tally p seen is answers new_is = absurd is
+unique-seen (Some n) w new passed tally p seen is answers new_is =
+    let same : seen ≡ has_same w.marks (mark_of p.bytes) = answers-has_same w.marks (mark_of p.bytes) seen answers in
+    let marks : new.marks ≡ last (n - 1) (w.marks ++ mark_of p.bytes ∷ []) = ap (λ (v : WindowView). v.marks) new_is ∙ ap (λ (k : ℕ). last k (w.marks ++ mark_of p.bytes ∷ [])) is.0 in
+    rw (marks, same) refl
+
+-- a packet that was not seen is kept
+pub unique-keeps : (n : Option ℕ) (w new : WindowView) (passed : ℕ) (tally : Tally) (p : Captured) (seen : Bool) → IsWindowFor n (Some w) → IsTrue seen ↔ Contains w.marks (mark_of p.bytes)
+    → new ≡ window (last w.capacity (w.marks ++ mark_of p.bytes ∷ [])) w.capacity
+    → ReturnsVerdict None (unique n (state_of passed w.marks tally) p) (Ok (not seen)) p (state_of passed new.marks tally)
+unique-keeps n w new passed tally p true is answers new_is =
+    let j = unique-seen n w new passed tally p true is answers new_is in
+    (ap (λ (v : Judgement). v.verdict) j, ap (λ (v : Judgement). v.state) j)
+unique-keeps n w new passed tally p false is answers new_is = unique-seen n w new passed tally p false is answers new_is

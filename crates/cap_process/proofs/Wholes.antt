@@ -1,112 +1,25 @@
--- What whole commands write: the verdicts on packets make a list, of which the form refuses the
--- rest.
-use Rattle.cap_process.proofs.Common.{◌≡◌, ℕ, zero, suc, ◌+◌, ◌-◌, ◌^◌, ◌<◌, Bool, true, false, if◌then◌else◌, nat_le, max, List, [], ◌∷◌, ◌++◌, length, take, Option, None, Some, refl, sym, ◌∙◌, ap, arith, subst, append_assoc, append-nil, IfSome, nat_lt, nat_eq, nat_tests, take-length, Captured, Fault, TooManyPackets, Format, Kind, Placed, Ending, End, FaultAt, items, kind_of, Carries, ItemsBack, text, Options, Rule, Event, Packet, InputEnd, SequenceEnd, Complete, FaultIn, Sequence, PacketOrder, InTurn, ByTime, InputItems, whole_input, Entry, packet_events, input_sequence, sequence_in_turn, sequence_of, end_of, end_after, entries_of, comes_before, insert_entry, sort_entries, sequence_of_entries, sequence_by_time, first_end, unless_fault, with_front, Policy, Edit, Filter, KeepAll, Count, Judgement, SelectorState, initial_state, Verdict, Pass, PassLast, Skip, Refuse, edited_packet_with, judge, judge_by, passes, refuses, Report, Tally, nothing_counted, tally_with, reports_text, Form, AsCapture, AsReports, AsLines, JobProgress, Work, no_progress, form_refuses, unless_refused, decide, end_with, apply_verdict, apply_event, apply_events, next_progress, end_input, unless_ended, end_unless_ended, final_progress, output_text, text_at_end, first_link, lines_text, status, outcome_at, outcome, is_count, coming, packets_selected, unique_after, at_most, packets_kept, packets_of, tally_of, Mark, mark_of, EditKeeps, EditWrites, EditsAlike, HasCarried, MergesOne, copy_of, no_options, InfosReports, MergeWrites, PrintLines, PrintWrites, closing_if, edit_work, event_packets, merge_work, file_packets, packets_in_order, print_work, reports_by, reports_of, packets_written, written_text, written_unless}
+-- What whole commands write, and how they end: the verdicts on packets make a list, of which the form refuses the rest.
+use Rattle.cap_process.proofs.Common.{◌≡◌, ℕ, zero, suc, ◌+◌, ◌-◌, ◌^◌, ◌<◌, ◌&&◌, Bool, true, false, if◌then◌else◌, nat_le, max, List, [], ◌∷◌, ◌++◌, length, take, Option, None, Some, refl, sym, ◌∙◌, ap, arith, subst, append_assoc, append-nil, length-map, IfSome, unwrap_or, nat_lt, nat_eq, nat_tests, take-length, Captured, Fault, TooManyPackets, Format, Kind, Placed, Ending, End, FaultAt, items, kind_of, ItemsBack, text, Options, Rule, Event, Packet, InputEnd, SequenceEnd, Complete, FaultIn, Sequence, PacketOrder, InTurn, ByTime, InputItems, whole_input, Entry, packet_events, input_sequence, sequence_in_turn, sequence_of, end_of, end_after, entries_of, comes_before, insert_entry, sort_entries, sequence_of_entries, sequence_by_time, first_end, unless_fault, with_front, Policy, Edit, EditRule, Filter, KeepAll, Count, Judgement, SelectorState, initial_state, edited_packet_with, is_selected, judge, judge_by, passes, refuses, Report, Tally, nothing_counted, reports_text, Form, AsCapture, AsReports, AsLines, JobProgress, Work, no_progress, apply_verdict, apply_event, apply_events, next_progress, end_input, end_with, unless_ended, end_unless_ended, final_progress, output_text, text_at_end, first_link, lines_text, message, status, outcome_at, outcome, is_count, packets_selected, unique_after, at_most, end_at_time, first_without_time, packets_kept, packets_of, tally_of, Mark, mark_of, CopyEnds, EditEnds, EditKeeps, EditWrites, EditsAlike, EndsAs, EndsUnlessRefused, HasCarried, InfosEnds, MergeEnds, MergesOne, PrintEnds, copy_of, no_options, InfosReports, MergeWrites, PrintLines, PrintWrites, closing_if, edit_work, event_packets, infos_work, merge_work, file_packets, packets_in_order, print_work, reports_by, reports_of, packets_written, first_refusal, written_text, drop, map-append, take-append-drop, Items, items_from, CutsGivePrefixes}
+use Rattle.cap_process.proofs.Lists.{EndsSo, comes, count-packets, end-stays, ends_without_time, filtered-first, judged, judged_by, judged-is, none-refused, packets-of-input, policy_end, under_way, verdict_end}
+use Rattle.cap_process.proofs.{Outcomes.progress-append, Selectors.upper_bound}
 use Rattle.std.proofs.lemmas.Bool.{and_right}
-use Rattle.cap_process.proofs.Edits.{passes_unique}
-use Rattle.cap_process.proofs.Lists.{passes_filtered, counted-next}
-use Rattle.cap_process.proofs.Outcomes.{progress-append, progress-ended}
-use Rattle.cap_process.proofs.Selectors.{upper_bound}
+use Rattle.cap_io.proofs.{Cuts.cut_tells, Cuts.has_cut, Cuts.items_from-units}
 
--- ---- the verdicts
+-- ---- the packets that a merge passes
 
-abbrev pub judged_by : Verdict → List Captured → List Captured
-judged_by (Pass p) rest = p ∷ rest
-judged_by (PassLast p) rest = p ∷ []
-judged_by Skip rest = rest
-judged_by (Refuse fault) rest = []
+-- all of fewer than 2^63, and it goes on
+merged : (k : ℕ) (state : SelectorState) (es : List Event) → k + length (event_packets es) < 2 ^ 63
+    → (judged KeepAll k state (event_packets es) ≡ event_packets es) × (policy_end KeepAll k state es ≡ None)
+merged k state [] less = (refl, refl)
+merged k state (Packet input p ∷ es) less =
+    let one = upper_bound KeepAll state (k + 1) p.packet refl (omega (arith, less)) in
+    let more = merged (k + 1) (passes state p.packet).state es (omega (arith, less)) in (
+      ap (λ (j : Judgement). judged_by j.verdict (judged KeepAll (k + 1) j.state (event_packets es))) one ∙ ap (λ (l : List Captured). p.packet ∷ l) more.0,
+      ap (λ (j : Judgement). verdict_end input p j.verdict (policy_end KeepAll (k + 1) j.state es)) one ∙ more.1,
+    )
+merged k state (InputEnd input kind size ∷ es) less = merged k state es less
 
--- the packets that pass, of these after that many that were decided
-abbrev pub judged : Policy → ℕ → SelectorState → List Captured → List Captured
-judged a k state [] = []
-judged a k state (p ∷ ps) = judged_by (judge a state (k + 1) p).verdict (judged a (k + 1) (judge a state (k + 1) p).state ps)
-
-abbrev pub under_way : ℕ → SelectorState → List Captured → List Report → JobProgress
-under_way k state out reports = record { decided = k; state = state; packets = out; reports = reports; end = None }
-
-pub end-stays : (a : Policy) (w : JobProgress) (input : ℕ) (kind : Option Kind) (size : ℕ) → is_count a ≡ false → end_input a w input kind size ≡ w
-end-stays (Edit s) w input kind size judges = refl
-end-stays (Filter rule count) w input kind size judges = refl
-end-stays KeepAll w input kind size judges = refl
-end-stays Count w input kind size judges = (cc)
-
-abbrev Writes : Policy → Form → ℕ → SelectorState → List Captured → List Report → List Event → Type 0
-Writes a f k state out reports es = (apply_events a f (under_way k state out reports) es).packets ≡ out ++ packets_written f out (judged a k state (event_packets es))
-
--- one packet, where those after it are written so
-packet-next : (a : Policy) (f : Form) (k : ℕ) (state : SelectorState) (out : List Captured) (reports : List Report) (input : ℕ) (p : Placed) (es : List Event)
-    → ((state' : SelectorState) (out' : List Captured) → Writes a f (k + 1) state' out' reports es)
-    → Writes a f k state out reports (Packet input p ∷ es)
-packet-next a f k state out reports input p es next = by_verdict (judge a state (k + 1) p.packet).verdict refl
-  where
-    w : JobProgress
-    w = under_way k state out reports
-
-    after : SelectorState
-    after = (judge a state (k + 1) p.packet).state
-
-    rest : List Captured
-    rest = judged a (k + 1) after (event_packets es)
-
-    following : Verdict → List Captured
-    following v = (apply_events a f (apply_verdict f w input p v after) es).packets
-
-    whole : Verdict → List Captured
-    whole v = out ++ packets_written f out (judged_by v rest)
-
-    between : (v : Verdict) → (judge a state (k + 1) p.packet).verdict ≡ v → following v ≡ whole v → Writes a f k state out reports (Packet input p ∷ es)
-    between v is same = ap following is ∙ same ∙ sym (ap whole is)
-
-    ended : (e : JobProgress) (c : SequenceEnd) → e.end ≡ Some c → (apply_events a f e es).packets ≡ e.packets
-    ended e c is = ap (λ (u : JobProgress). u.packets) (progress-ended a f e es c is)
-
-    passing : (q : Captured) (o : Option Fault) → form_refuses f out q ≡ o → (apply_events a f (unless_refused o w input p (decide w after (q ∷ []) None)) es).packets ≡ out ++ written_unless o q (packets_written f (out ++ q ∷ []) rest)
-    passing q None is = next after (out ++ q ∷ []) ∙ append_assoc out (q ∷ []) (packets_written f (out ++ q ∷ []) rest)
-    passing q (Some fault) is = ended (end_with w (FaultIn input fault p.offset)) (FaultIn input fault p.offset) refl ∙ sym (append-nil out)
-
-    last : (q : Captured) (o : Option Fault) → (apply_events a f (unless_refused o w input p (decide w after (q ∷ []) (Some Complete))) es).packets ≡ out ++ written_unless o q []
-    last q None = ended (decide w after (q ∷ []) (Some Complete)) Complete refl
-    last q (Some fault) = ended (end_with w (FaultIn input fault p.offset)) (FaultIn input fault p.offset) refl ∙ sym (append-nil out)
-
-    by_verdict : (v : Verdict) → (judge a state (k + 1) p.packet).verdict ≡ v → Writes a f k state out reports (Packet input p ∷ es)
-    by_verdict (Pass q) is = between (Pass q) is (passing q (form_refuses f out q) refl)
-    by_verdict (PassLast q) is = between (PassLast q) is (last q (form_refuses f out q))
-    by_verdict Skip is =
-        between Skip is
-        (next after (out ++ [])
-        ∙ ap (λ (o : List Captured). o ++ packets_written f o rest) (append-nil out))
-    by_verdict (Refuse fault) is = between (Refuse fault) is (ended (end_with w (FaultIn input fault p.offset)) (FaultIn input fault p.offset) refl ∙ sym (append-nil out))
-
-writes : (a : Policy) (f : Form) (k : ℕ) (state : SelectorState) (out : List Captured) (reports : List Report) (es : List Event) → is_count a ≡ false → Writes a f k state out reports es
-writes a f k state out reports [] judges = sym (append-nil out)
-writes a f k state out reports (Packet input p ∷ es) judges =
-    packet-next a f k state out reports input p es (λ state' out'. writes a f (k + 1) state' out' reports es judges)
-writes a f k state out reports (InputEnd input kind size ∷ es) judges =
-    ap (λ (w : JobProgress). (apply_events a f w es).packets) (end-stays a (under_way k state out reports) input kind size judges)
-    ∙ writes a f k state out reports es judges
-
--- ---- the verdicts as lists
-
-none-refused : (names : List (List ℕ)) (out ps : List Captured) → packets_written (AsReports names) out ps ≡ ps
-none-refused names out [] = refl
-none-refused names out (p ∷ ps) = ap (λ (l : List Captured). p ∷ l) (none-refused names (out ++ p ∷ []) ps)
-
-coming-packets : (ps : List Captured) → event_packets (coming ps) ≡ ps
-coming-packets [] = refl
-coming-packets (p ∷ ps) = ap (λ (l : List Captured). p ∷ l) (coming-packets ps)
-
-pub judged-is : (a : Policy) (ps : List Captured) → is_count a ≡ false → judged a 0 initial_state ps ≡ (apply_events a (AsReports []) no_progress (coming ps)).packets
-judged-is a ps judges =
-    ap (judged a 0 initial_state) (sym (coming-packets ps))
-    ∙ sym (none-refused [] [] (judged a 0 initial_state (event_packets (coming ps))))
-    ∙ sym (writes a (AsReports []) 0 initial_state [] [] (coming ps) judges)
-
-pub judged-all : (k : ℕ) (state : SelectorState) (ps : List Captured) → k + length ps < 2 ^ 63 → judged KeepAll k state ps ≡ ps
-judged-all k state [] less = refl
-judged-all k state (p ∷ ps) less =
-    ap (λ (j : Judgement). judged_by j.verdict (judged KeepAll (k + 1) j.state ps)) (upper_bound KeepAll state (k + 1) p refl (omega arith))
-    ∙ ap (λ (l : List Captured). p ∷ l) (judged-all (k + 1) (passes state p).state ps (omega arith))
-
--- ---- the end
+-- ---- commands that write packets
 
 same-packets : (o : Option SequenceEnd) (w : JobProgress) (c : SequenceEnd) → (unless_ended o w (end_with w c)).packets ≡ w.packets
 same-packets None w c = refl
@@ -123,8 +36,6 @@ final-end f link ps (Some d) w c is =
     ap (λ (e : Option SequenceEnd). text_at_end e f link ps) is
     ∙ at-end f link ps d
     ∙ ap (λ (e : Option SequenceEnd). closing_if (status e) f link ps) (sym is)
-
--- ---- commands that write packets
 
 -- a form of writing in which reports have no bytes
 abbrev IsOfPackets : Form → Type 0
@@ -149,7 +60,7 @@ command-writes work names rs ps judges of_packets is =
     packets : final.packets ≡ packets_written work.form [] ps
     packets =
         same-packets w.end w s.end
-        ∙ writes work.policy work.form 0 initial_state [] [] s.events judges
+        ∙ (comes work.policy work.form 0 initial_state [] [] s.events judges).0
         ∙ ap (packets_written work.form []) is
 
 capture-of-packets : (format : Format) → IsOfPackets (AsCapture format)
@@ -158,16 +69,48 @@ capture-of-packets format ps rs = refl
 lines-of-packets : (options : Options) → IsOfPackets (AsLines options)
 lines-of-packets options ps rs = refl
 
+final-is : (o : Option SequenceEnd) (w : JobProgress) (close : SequenceEnd) → w.end ≡ o → (unless_ended o w (end_with w close)).end ≡ Some (unwrap_or o close)
+final-is None w close is = refl
+final-is (Some c) w close is = is
+
+ends-as : (work : Work) (names : List (List ℕ)) (rs : List InputItems) (w : JobProgress) (c : SequenceEnd) → w.end ≡ Some c → EndsAs names c (outcome_at work names rs w)
+ends-as work names rs w Complete is = record { messages = ap (message names) is; status = ap status is }
+ends-as work names rs w (FaultIn input fault offset) is = record { messages = ap (message names) is; status = ap status is }
+
+command-ends : (work : Work) (names : List (List ℕ)) (rs : List InputItems) (ps : List Captured) → is_count work.policy ≡ false
+    → judged work.policy 0 initial_state (event_packets (sequence_of work.order rs).events) ≡ ps
+    → EndsUnlessRefused names (first_refusal work.form [] ps) (unwrap_or (policy_end work.policy 0 initial_state (sequence_of work.order rs).events) (sequence_of work.order rs).end) (outcome work names rs)
+command-ends work names rs ps judges is =
+    by_refusal (first_refusal work.form [] ps)
+    (subst (λ (l : List Captured). EndsSo (first_refusal work.form [] l) by_policy w.end) is (comes work.policy work.form 0 initial_state [] [] s.events judges).1)
+  where
+    s : Sequence
+    s = sequence_of work.order rs
+
+    w : JobProgress
+    w = apply_events work.policy work.form no_progress s.events
+
+    by_policy : Option SequenceEnd
+    by_policy = policy_end work.policy 0 initial_state s.events
+
+    final : (o : Option SequenceEnd) → w.end ≡ o → (final_progress work.policy work.form s).end ≡ Some (unwrap_or o s.end)
+    final o ends =
+        final-is w.end w s.end refl ∙ ap (λ (e : Option SequenceEnd). Some (unwrap_or e s.end)) ends
+
+    by_refusal : (r : Option Fault) → EndsSo r by_policy w.end → EndsUnlessRefused names r (unwrap_or by_policy s.end) (outcome work names rs)
+    by_refusal None so = ends-as work names rs (final_progress work.policy work.form s) (unwrap_or by_policy s.end) (final by_policy so)
+    by_refusal (Some fault) so = record {
+      input = so.0;
+      offset = so.1;
+      by = ends-as work names rs (final_progress work.policy work.form s) (FaultIn so.0 fault so.1) (final (Some (FaultIn so.0 fault so.1)) so.2);
+    }
+
 -- ---- one input
 
 event-packets-append : (es fs : List Event) → event_packets (es ++ fs) ≡ event_packets es ++ event_packets fs
 event-packets-append [] fs = refl
 event-packets-append (Packet input p ∷ es) fs = ap (λ (l : List Captured). p.packet ∷ l) (event-packets-append es fs)
 event-packets-append (InputEnd input kind size ∷ es) fs = event-packets-append es fs
-
-packets-of-input : (input : ℕ) (ps : List Placed) → event_packets (packet_events input ps) ≡ packets_of ps
-packets-of-input input [] = refl
-packets-of-input input (p ∷ ps) = ap (λ (l : List Captured). p.packet ∷ l) (packets-of-input input ps)
 
 one-input : (r : InputItems) (e : Ending) → event_packets (input_sequence 0 r e (sequence_in_turn 1 [])).events ≡ packets_of r.items.packets
 one-input r End =
@@ -177,27 +120,52 @@ one-input r End =
     ∙ packets-of-input 0 r.items.packets
 one-input r (FaultAt fault offset) = packets-of-input 0 r.items.packets
 
-pub in-file : (a : Policy) (file : List ℕ) → judged a 0 initial_state (event_packets (sequence_in_turn 0 (whole_input file ∷ [])).events) ≡ judged a 0 initial_state (file_packets file)
+in-file : (a : Policy) (file : List ℕ) → judged a 0 initial_state (event_packets (sequence_in_turn 0 (whole_input file ∷ [])).events) ≡ judged a 0 initial_state (file_packets file)
 in-file a file = ap (judged a 0 initial_state) (one-input (whole_input file) (items file).ending)
 
-pub edit_writes : EditWrites
-edit_writes s format names file less =
-    command-writes (edit_work s format) names (whole_input file ∷ []) (unique_after s.window [] (packets_selected s 1 (file_packets file))) refl (capture-of-packets format)
-    (in-file (Edit s) file ∙ judged-is (Edit s) (file_packets file) refl ∙ passes_unique s (file_packets file) less)
+before-end : (a : Policy) (k : ℕ) (state : SelectorState) (ps : List Placed) (kind : Option Kind) (size : ℕ) → policy_end a k state (packet_events 0 ps ++ InputEnd 0 kind size ∷ []) ≡ policy_end a k state (packet_events 0 ps)
+before-end a k state [] kind size = refl
+before-end a k state (p ∷ ps) kind size = ap (verdict_end 0 p (judge a state (k + 1) p.packet).verdict) (before-end a (k + 1) (judge a state (k + 1) p.packet).state ps kind size)
 
-pub printed : (rule : Rule) (count : Option ℕ) (file : List ℕ) → IfSome count (λ (n : ℕ). 0 < n) → length (file_packets file) < 2 ^ 63
+one-end : (a : Policy) (r : InputItems) (e : Ending) → unwrap_or (policy_end a 0 initial_state (input_sequence 0 r e (sequence_in_turn 1 [])).events) (input_sequence 0 r e (sequence_in_turn 1 [])).end
+    ≡ unwrap_or (policy_end a 0 initial_state (packet_events 0 r.items.packets)) (end_of 0 e)
+one-end a r End =
+    ap (λ (es : List Event). unwrap_or (policy_end a 0 initial_state es) Complete) (append-nil (packet_events 0 r.items.packets ++ InputEnd 0 (kind_of r.items.declared) r.size ∷ []))
+    ∙ ap (λ (o : Option SequenceEnd). unwrap_or o Complete) (before-end a 0 initial_state r.items.packets (kind_of r.items.declared) r.size)
+one-end a r (FaultAt fault offset) = refl
+
+few-placed : (file : List ℕ) → length (file_packets file) < 2 ^ 63 → length (items file).packets < 2 ^ 63
+few-placed file less = let e = length-map (items file).packets (λ (p : Placed). p.packet) in omega (arith, e, less)
+
+-- ---- edit
+
+edited : (s : EditRule) (file : List ℕ) → length (file_packets file) < 2 ^ 63
+    → judged (Edit s) 0 initial_state (event_packets (sequence_in_turn 0 (whole_input file ∷ [])).events) ≡ unique_after s.window [] (packets_selected s 1 (file_packets file))
+edited s file less = in-file (Edit s) file ∙ sym (judged-is (Edit s) (items file).packets refl).0 ∙ (ends_without_time s (items file).packets (few-placed file less)).1
+
+pub edit_writes : EditWrites
+edit_writes s format names file less = command-writes (edit_work s format) names (whole_input file ∷ []) _ refl (capture-of-packets format) (edited s file less)
+
+pub edit_ends : EditEnds
+edit_ends s format names file less =
+    let r = whole_input file in
+    let ps = unique_after s.window [] (packets_selected s 1 (file_packets file)) in
+    subst (λ (c : SequenceEnd). EndsUnlessRefused names (first_refusal (AsCapture format) [] ps) c (outcome (edit_work s format) names (r ∷ [])))
+    (one-end (Edit s) r r.items.ending
+    ∙ ap (λ (o : Option SequenceEnd). unwrap_or o (end_of 0 r.items.ending)) (sym (judged-is (Edit s) r.items.packets refl).1 ∙ (ends_without_time s r.items.packets (few-placed file less)).0))
+    (command-ends (edit_work s format) names (r ∷ []) ps refl (edited s file less))
+
+-- ---- print
+
+printed : (rule : Rule) (count : Option ℕ) (file : List ℕ) → IfSome count (λ (n : ℕ). 0 < n) → length (file_packets file) < 2 ^ 63
     → judged (Filter rule count) 0 initial_state (event_packets (sequence_in_turn 0 (whole_input file ∷ [])).events) ≡ at_most count (packets_kept rule (file_packets file))
-printed rule count file some less = in-file (Filter rule count) file ∙ judged-is (Filter rule count) (file_packets file) refl ∙ passes_filtered rule count (file_packets file) some less
+printed rule count file some less = in-file (Filter rule count) file ∙ (filtered-first rule count End (items file).packets some (few-placed file less)).0
 
 pub print_writes : PrintWrites
 print_writes rule count format names file some less =
-    command-writes (print_work rule count (AsCapture format)) names (whole_input file ∷ []) (at_most count (packets_kept rule (file_packets file))) refl (capture-of-packets format) (printed rule count file some less)
+    command-writes (print_work rule count (AsCapture format)) names (whole_input file ∷ []) _ refl (capture-of-packets format) (printed rule count file some less)
 
--- no line is refused, and lines have no start
-all-lines : (options : Options) (out ps : List Captured) → packets_written (AsLines options) out ps ≡ ps
-all-lines options out [] = refl
-all-lines options out (p ∷ ps) = ap (λ (l : List Captured). p ∷ l) (all-lines options (out ++ p ∷ []) ps)
-
+-- lines have no start
 no-close : (options : Options) (n : ℕ) (link : Option ℕ) (ps : List Captured) → closing_if n (AsLines options) link ps ≡ []
 no-close options zero link [] = refl
 no-close options zero link (p ∷ ps) = refl
@@ -210,25 +178,32 @@ print_lines rule count options names file some less =
     let link = first_link (whole_input file ∷ []) in
     let code = (outcome work names (whole_input file ∷ [])).status in
     command-writes work names (whole_input file ∷ []) kept refl (lines-of-packets options) (printed rule count file some less)
-    ∙ ap (written_text (AsLines options) code link) (all-lines options [] kept)
+    ∙ ap (written_text (AsLines options) code link) (none-refused (AsLines options) [] kept (λ xs p ys is. refl)).0
     ∙ ap (λ (l : List ℕ). lines_text options kept ++ l) (no-close options code link kept)
     ∙ append-nil (lines_text options kept)
 
+pub print_ends : PrintEnds
+print_ends rule count form names file some less =
+    let r = whole_input file in
+    let ps = at_most count (packets_kept rule (file_packets file)) in
+    subst (λ (c : SequenceEnd). EndsUnlessRefused names (first_refusal form [] ps) c (outcome (print_work rule count form) names (r ∷ [])))
+    (one-end (Filter rule count) r r.items.ending ∙ (filtered-first rule count r.items.ending r.items.packets some (few-placed file less)).1)
+    (command-ends (print_work rule count form) names (r ∷ []) ps refl (printed rule count file some less))
+
+-- ---- merge
+
 pub merge_writes : MergeWrites
 merge_writes order format names rs less =
-    command-writes (merge_work order format) names rs (packets_in_order order rs) refl (capture-of-packets format) (judged-all 0 initial_state (packets_in_order order rs) (omega (arith, less)))
+    command-writes (merge_work order format) names rs (packets_in_order order rs) refl (capture-of-packets format) (merged 0 initial_state (sequence_of order rs).events (omega (arith, less))).0
 
--- ---- reports
+pub merge_ends : MergeEnds
+merge_ends order format names rs less =
+    let s = sequence_of order rs in
+    let all = merged 0 initial_state s.events (omega (arith, less)) in
+    subst (λ (e : Option SequenceEnd). EndsUnlessRefused names (first_refusal (AsCapture format) [] (packets_in_order order rs)) (unwrap_or e s.end) (outcome (merge_work order format) names rs)) all.1
+    (command-ends (merge_work order format) names rs (packets_in_order order rs) refl all.0)
 
--- the packets of an input are counted
-count-packets : (names : List (List ℕ)) (input : ℕ) (ps : List Placed) (k : ℕ) (state : SelectorState) (front : List Captured) (reports goal : List Report) (es : List Event) → state.tally ≡ tally_of front
-    → ((k' : ℕ) (state' : SelectorState) → state'.tally ≡ tally_of (front ++ packets_of ps) → (apply_events Count (AsReports names) (under_way k' state' [] reports) es).reports ≡ goal)
-    → (apply_events Count (AsReports names) (under_way k state [] reports) (packet_events input ps ++ es)).reports ≡ goal
-count-packets names input [] k state front reports goal es is next = next k state (is ∙ ap tally_of (sym (append-nil front)))
-count-packets names input (p ∷ ps) k state front reports goal es is next =
-    count-packets names input ps (k + 1) (record { passed = state.passed; window = state.window; tally = tally_with state.tally p.packet }) (front ++ p.packet ∷ []) reports goal es
-    (ap (λ (t : Tally). tally_with t p.packet) is ∙ counted-next front p.packet)
-    (λ k' state' is'. next k' state' (is' ∙ ap tally_of (append_assoc front (p.packet ∷ []) (packets_of ps))))
+-- ---- infos
 
 abbrev report : ℕ → InputItems → Tally → Report
 report input r t = record { input = input; kind = kind_of r.items.declared; size = r.size; tally = t }
@@ -256,13 +231,13 @@ report-next names input r rs next k state reports none = by_ending r.items.endin
     by_ending : (e : Ending) → (apply_events Count (AsReports names) (under_way k state [] reports) (input_sequence input r e (sequence_in_turn (input + 1) rs)).events).reports ≡ reports ++ reports_by e (report input r (tally_of (packets_of r.items.packets))) more
     by_ending End =
         ap (λ (es : List Event). (apply_events Count (AsReports names) (under_way k state [] reports) es).reports) (append_assoc (packet_events input r.items.packets) (ended ∷ []) later)
-        ∙ count-packets names input r.items.packets k state [] reports (whole (tally_of (packets_of r.items.packets))) (ended ∷ later) none
+        ∙ count-packets (λ w. w.reports ≡ whole (tally_of (packets_of r.items.packets))) names input r.items.packets k state [] reports (ended ∷ later) none
         (λ k' state' is. next k' (record { passed = state'.passed; window = state'.window; tally = nothing_counted }) (reports ++ report input r state'.tally ∷ []) refl
         ∙ append_assoc reports (report input r state'.tally ∷ []) more
         ∙ ap whole is)
     by_ending (FaultAt fault offset) =
         ap (λ (es : List Event). (apply_events Count (AsReports names) (under_way k state [] reports) es).reports) (sym (append-nil (packet_events input r.items.packets)))
-        ∙ count-packets names input r.items.packets k state [] reports (reports ++ []) [] none (λ k' state' is. sym (append-nil reports))
+        ∙ count-packets (λ w. w.reports ≡ reports ++ []) names input r.items.packets k state [] reports [] none (λ k' state' is. sym (append-nil reports))
 
 reported : (names : List (List ℕ)) (input : ℕ) (rs : List InputItems) → Reported names input rs
 reported names input [] = λ k state reports none. sym (append-nil reports)
@@ -294,6 +269,19 @@ infos_reports names rs =
 
     final : JobProgress
     final = final_progress Count (AsReports names) s
+
+infos-go-on : (names : List (List ℕ)) (k : ℕ) (state : SelectorState) (reports : List Report) (es : List Event) → (apply_events Count (AsReports names) (under_way k state [] reports) es).end ≡ None
+infos-go-on names k state reports [] = refl
+infos-go-on names k state reports (Packet input p ∷ es) = infos-go-on names (k + 1) (judge Count state (k + 1) p.packet).state reports es
+infos-go-on names k state reports (InputEnd input kind size ∷ es) =
+    infos-go-on names k (apply_event Count (AsReports names) (under_way k state [] reports) (InputEnd input kind size)).state (apply_event Count (AsReports names) (under_way k state [] reports) (InputEnd input kind size)).reports es
+
+pub infos_ends : InfosEnds
+infos_ends names rs =
+    let s = sequence_in_turn 0 rs in
+    let w = apply_events Count (AsReports names) no_progress s.events in
+    ends-as (infos_work names) names rs (final_progress Count (AsReports names) s) s.end
+    (final-is w.end w s.end refl ∙ ap (λ (e : Option SequenceEnd). Some (unwrap_or e s.end)) (infos-go-on names 0 initial_state [] s.events))
 
 -- ---- edits without options
 
@@ -402,33 +390,37 @@ merges_one order format names file =
 
 -- ---- what a format carries
 
-pub all-selected : (number : ℕ) (ps : List Captured) → packets_selected no_options number ps ≡ ps
+all-selected : (number : ℕ) (ps : List Captured) → packets_selected no_options number ps ≡ ps
 all-selected number [] = refl
 all-selected number (p ∷ ps) = ap (λ (q : Captured). q ∷ packets_selected no_options (number + 1) ps) (same-packet p) ∙ ap (λ (l : List Captured). p ∷ l) (all-selected (number + 1) ps)
 
-pub all-unique : (before : List Mark) (ps : List Captured) → unique_after None before ps ≡ ps
+all-unique : (before : List Mark) (ps : List Captured) → unique_after None before ps ≡ ps
 all-unique before [] = refl
 all-unique before (p ∷ ps) = ap (λ (l : List Captured). p ∷ l) (all-unique (before ++ mark_of p.bytes ∷ []) ps)
-
-all-carried : (format : Format) (before ps whole : List Captured) → whole ≡ before ++ ps → Carries format whole → packets_written (AsCapture format) before ps ≡ ps
-all-carried format before [] whole is c = refl
-all-carried format before (p ∷ ps) whole is c =
-    ap (λ (o : Option Fault). written_unless o p (packets_written (AsCapture format) (before ++ p ∷ []) ps)) (c.each before p ps is).taken
-    ∙ ap (λ (l : List Captured). p ∷ l) (all-carried format (before ++ p ∷ []) ps whole (is ∙ sym (append_assoc before (p ∷ []) ps)) c)
 
 nothing-closes : (format : Format) (n : ℕ) (link : Option ℕ) (p : Captured) (ps : List Captured) → closing_if n (AsCapture format) link (p ∷ ps) ≡ []
 nothing-closes format zero link p ps = refl
 nothing-closes format (suc n) link p ps = refl
+
+-- the packets of such a file are all unique and selected, and none is refused
+copied : (format : Format) (file : List ℕ) (p : Captured) (ps : List Captured) → HasCarried format file p ps
+    → (unique_after None [] (packets_selected no_options 1 (file_packets file)) ≡ p ∷ ps) × (packets_written (AsCapture format) [] (p ∷ ps) ≡ p ∷ ps) × (first_refusal (AsCapture format) [] (p ∷ ps) ≡ None)
+copied format file p ps h =
+    let none = none-refused (AsCapture format) [] (p ∷ ps) (λ xs q ys is. (h.carried.each xs q ys is).taken) in
+    (ap (λ (l : List Captured). unique_after None [] (packets_selected no_options 1 l)) h.packets ∙ ap (unique_after None []) (all-selected 1 (p ∷ ps)) ∙ all-unique [] (p ∷ ps), none.0, none.1)
+
+few-carried : (format : Format) (file : List ℕ) (p : Captured) (ps : List Captured) → HasCarried format file p ps → length (file_packets file) < 2 ^ 63
+few-carried format file p ps h = subst (λ (l : List Captured). length l < 2 ^ 63) (sym h.packets) h.few
 
 -- the text of the packets is written
 copy-is : (format : Format) (names : List (List ℕ)) (file : List ℕ) (p : Captured) (ps : List Captured) → HasCarried format file p ps → copy_of format names file ≡ text format (p ∷ ps)
 copy-is format names file p ps h =
     let code = (outcome (edit_work no_options format) names (whole_input file ∷ [])).status in
     let link = first_link (whole_input file ∷ []) in
-    let kept : unique_after None [] (packets_selected no_options 1 (file_packets file)) ≡ p ∷ ps = ap (λ (l : List Captured). unique_after None [] (packets_selected no_options 1 l)) h.packets ∙ ap (unique_after None []) (all-selected 1 (p ∷ ps)) ∙ all-unique [] (p ∷ ps) in
-    edit_writes no_options format names file (subst (λ (l : List Captured). length l < 2 ^ 63) (sym h.packets) h.few)
-    ∙ ap (λ (l : List Captured). written_text (AsCapture format) code link (packets_written (AsCapture format) [] l)) kept
-    ∙ ap (written_text (AsCapture format) code link) (all-carried format [] (p ∷ ps) (p ∷ ps) refl h.carried)
+    let all = copied format file p ps h in
+    edit_writes no_options format names file (few-carried format file p ps h)
+    ∙ ap (λ (l : List Captured). written_text (AsCapture format) code link (packets_written (AsCapture format) [] l)) all.0
+    ∙ ap (written_text (AsCapture format) code link) all.1
     ∙ ap (λ (l : List ℕ). text format (p ∷ ps) ++ l) (nothing-closes format code link p ps)
     ∙ append-nil (text format (p ∷ ps))
 
@@ -442,3 +434,30 @@ pub edits_alike : ItemsBack → EditsAlike
 edits_alike back format names file p ps h =
     copy-is format names (copy_of format names file) p ps (record { packets = copy-packets format names file p ps back h; few = h.few; carried = h.carried })
     ∙ sym (copy-is format names file p ps h)
+
+all-in-time : (number : ℕ) (ps : List Placed) → first_without_time no_options number ps ≡ None
+all-in-time number [] = refl
+all-in-time number (p ∷ ps) = by_selection (all-in-time (number + 1) ps) (is_selected no_options number p.packet)
+  where
+    by_selection : first_without_time no_options (number + 1) ps ≡ None → (b : Bool) → (if b && false then Some p.offset else first_without_time no_options (number + 1) ps) ≡ None
+    by_selection more true = more
+    by_selection more false = more
+
+pub copy_ends : CopyEnds
+copy_ends format names file p ps h =
+    let r = whole_input file in
+    let all = copied format file p ps h in
+    let selected = packets_selected no_options 1 (file_packets file) in
+    subst (λ (t : Option Fault). EndsUnlessRefused names t (end_of 0 r.items.ending) (outcome (edit_work no_options format) names (r ∷ []))) (ap (first_refusal (AsCapture format) []) all.0 ∙ all.2)
+    (subst (λ (t : Option ℕ). EndsUnlessRefused names (first_refusal (AsCapture format) [] (unique_after None [] selected)) (unwrap_or (end_at_time t) (end_of 0 r.items.ending)) (outcome (edit_work no_options format) names (r ∷ []))) (all-in-time 1 r.items.packets)
+    (edit_ends no_options format names file (few-carried format file p ps h)))
+
+pub cuts_give_prefixes : CutsGivePrefixes
+cuts_give_prefixes file n =
+    let c = has_cut (take n file) in
+    let rest : List ℕ = c.rest ++ drop n file in
+    let following : List Placed = (items_from c.declared (0 + length c.done) rest).packets in
+    let file_is : file ≡ c.done ++ rest = sym (take-append-drop n file) ∙ ap (λ (l : List ℕ). l ++ drop n file) c.cut.joined ∙ append_assoc c.done c.rest (drop n file) in
+    let whole : file_packets file ≡ packets_of (c.packets ++ following) = ap (λ (i : Items). packets_of i.packets) (ap items file_is ∙ items_from-units c.cut.units rest) in
+    let front : file_packets (take n file) ≡ packets_of c.packets = ap (λ (i : Items). packets_of i.packets) (cut_tells (take n file) c).items in
+    (packets_of following, whole ∙ map-append (λ (p : Placed). p.packet) c.packets following ∙ ap (λ (l : List Captured). l ++ packets_of following) (sym front))

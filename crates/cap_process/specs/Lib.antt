@@ -1,6 +1,5 @@
 pub mod Outcome
 pub mod Output
-pub mod Edits
 pub mod Selector
 pub mod Lists
 pub mod Whole

@@ -1,19 +1,16 @@
 -- What is counted, kept and searched of packets that come one after another, as lists.
-use Rattle.std.specs.Prelude.{◌≡◌, ℕ, ◌+◌, ◌-◌, ◌^◌, ◌<◌, ◌&&◌, Bool, true, if◌then◌else◌, nat_le, min, max, List, [], ◌∷◌, length, map, take, Option, None, Some, IfSome}
-use Rattle.std.specs.List.{sum_by}
-use Rattle.std.specs.Option.{is_none}
-use Rattle.cap_octet.specs.Packet.{Captured}
-use Rattle.cap_octet.specs.declared.fault.Fault.TheVariants.{TimeOutOfRange}
-use Rattle.cap_io.specs.Capture.{Placed}
-use Rattle.cap_filter.specs.Decisions.{Decision, Keep, Skip, Refuse}
-use Rattle.cap_filter.specs.FilterRules.{Rule, rule_decides}
-use Rattle.cap_window.specs.declared.mark.Mark.{Mark}
-use Rattle.cap_window.specs.Marks.{mark_of, last}
-use Rattle.cap_io.specs.Sequence.{Event, Packet, SequenceEnd, FaultIn}
-use Rattle.cap_process.specs.Verdict.{Count, Filter, Edit, EditRule, is_selected, shifted_time}
-use Rattle.cap_process.specs.Reports.{Tally}
-use Rattle.cap_process.specs.Outcome.{AsReports, no_progress, apply_events}
-use Rattle.cap_process.specs.Edits.{coming, packets_selected, unique_after}
+use Rattle.std.specs.{List.sum_by, Option.is_none, Option.option_map}
+use Rattle.std.specs.Prelude.{◌≡◌, ℕ, ◌+◌, ◌-◌, ◌^◌, ◌<◌, ◌&&◌, Bool, true, false, if◌then◌else◌, nat_le, min, max, List, [], ◌∷◌, ◌++◌, length, map, take, Option, None, Some, IfSome}
+use Rattle.cap_octet.specs.{Packet.Captured, declared.fault.Fault.TheVariants.TimeOutOfRange}
+use Rattle.cap_io.specs.{Capture.Placed, Sequence.SequenceEnd, Sequence.FaultIn, Sequence.packet_events}
+use Rattle.cap_filter.specs.FilterRules.{Decision, Keep, Skip, Refuse, Rule, rule_decides}
+use Rattle.cap_window.specs.{Marks.mark_of, Marks.has_same, Marks.last, declared.mark.Mark.Mark}
+use Rattle.cap_process.specs.{Outcome.AsReports, Outcome.no_progress, Outcome.apply_events, Reports.Tally}
+use Rattle.cap_process.specs.Verdict.{Count, Filter, Edit, EditRule, edited_packet_with, is_selected, shifted_time}
+
+-- the packets without their places
+abbrev pub packets_of : List Placed → List Captured
+packets_of ps = map (λ (p : Placed). p.packet) ps
 
 -- ---- what is counted
 
@@ -60,8 +57,9 @@ tally_of ps = record {
 -- the tally after any number of counted packets is `tally_of` them
 abbrev pub CountsAll : Type 0
 CountsAll =
-    (names : List (List ℕ)) (ps : List Captured)
-    → (apply_events Count (AsReports names) no_progress (coming ps)).state.tally ≡ tally_of ps
+    (names : List (List ℕ)) (ps : List Placed)
+    → (apply_events Count (AsReports names) no_progress (packet_events 0 ps)).state.tally
+    ≡ tally_of (packets_of ps)
 
 -- ---- what a filter keeps
 
@@ -86,12 +84,40 @@ at_most (Some n) ps = take n ps
 -- first of them if a count, which is at least 1, is given
 abbrev pub PassesFiltered : Type 0
 PassesFiltered =
-    (rule : Rule) (count : Option ℕ) (ps : List Captured) → IfSome count (λ (n : ℕ). 0 < n)
+    (rule : Rule) (count : Option ℕ) (ps : List Placed) → IfSome count (λ (n : ℕ). 0 < n)
     → length ps < 2 ^ 63
-    → (apply_events (Filter rule count) (AsReports []) no_progress (coming ps)).packets
-    ≡ at_most count (packets_kept rule ps)
+    → (apply_events (Filter rule count) (AsReports []) no_progress (packet_events 0 ps)).packets
+    ≡ at_most count (packets_kept rule (packets_of ps))
 
--- ---- the window of an edit
+-- ---- what an edit selects
+
+-- a selected packet at its moved time, before the rest; if it has no such time, neither it nor
+-- the rest
+abbrev pub selected_at : EditRule → Captured → Option ℕ → List Captured → List Captured
+selected_at s p None rest = []
+selected_at s p (Some time) rest = edited_packet_with s p time ∷ rest
+
+-- of packets that are numbered on from `number` those that are selected, as the edit changes them;
+-- up to the first selected one whose moved time is out of range
+abbrev pub packets_selected : EditRule → ℕ → List Captured → List Captured
+packets_selected s number [] = []
+packets_selected s number (p ∷ ps) =
+    if is_selected s number p then selected_at s p (shifted_time s.shift p.time)
+    (packets_selected s (number + 1) ps) else packets_selected s (number + 1) ps
+
+-- whether one of the n - 1 marks just before is the same; without an n none is looked up
+abbrev pub is_repeated : Option ℕ → List Mark → Mark → Bool
+is_repeated None before m = false
+is_repeated (Some n) before m = has_same (last (n - 1) before) m
+
+-- the packets whose mark (length and digest) none of the n - 1 marks just before has; `before` are
+-- the marks before the first packet; all packets without an n
+abbrev pub unique_after : Option ℕ → List Mark → List Captured → List Captured
+unique_after n before [] = []
+unique_after n before (p ∷ ps) =
+    if is_repeated n before (mark_of p.bytes) then unique_after n
+    (before ++ mark_of p.bytes ∷ []) ps else p
+    ∷ unique_after n (before ++ mark_of p.bytes ∷ []) ps
 
 -- the marks of packets
 abbrev pub marks : List Captured → List Mark
@@ -100,20 +126,11 @@ marks ps = map (λ (p : Captured). mark_of p.bytes) ps
 -- after fewer than 2^63 packets the window has the marks of the last n - 1 that were selected, with
 -- their bytes as they were cut, up to the first whose moved time is out of range
 abbrev pub HasLastMarks : Type 0
-HasLastMarks = (s : EditRule) (n : ℕ) (ps : List Captured) → s.window ≡ Some n → length ps < 2 ^ 63
-    → (apply_events (Edit s) (AsReports []) no_progress (coming ps)).state.window
-    ≡ last (n - 1) (marks (packets_selected s 1 ps))
+HasLastMarks = (s : EditRule) (n : ℕ) (ps : List Placed) → s.window ≡ Some n → length ps < 2 ^ 63
+    → (apply_events (Edit s) (AsReports []) no_progress (packet_events 0 ps)).state.window
+    ≡ last (n - 1) (marks (packets_selected s 1 (packets_of ps)))
 
 -- ---- how an edit ends
-
--- packets of input 0, each with its place, as events one after another
-abbrev pub arriving : List Placed → List Event
-arriving [] = []
-arriving (p ∷ ps) = Packet 0 p ∷ arriving ps
-
--- the packets without their places
-abbrev pub packets_of : List Placed → List Captured
-packets_of ps = map (λ (p : Placed). p.packet) ps
 
 -- whether the packet with this number is selected, and the shift moves its time below 0, or to 2^63
 -- nanoseconds or later
@@ -129,15 +146,14 @@ first_without_time s number (p ∷ ps) =
 
 -- the end of a job by the place of such a packet: `TimeOutOfRange` at it; None without one
 abbrev pub end_at_time : Option ℕ → Option SequenceEnd
-end_at_time None = None
-end_at_time (Some offset) = Some (FaultIn 0 TimeOutOfRange offset)
+end_at_time place = option_map (FaultIn 0 TimeOutOfRange) place
 
 -- An edit of fewer than 2^63 packets ends by a fault at the first that is selected and whose moved
 -- time is below 0 or above 2^63 - 1 nanoseconds, and goes on if there is none; those that pass are
 -- the unique ones of those selected before it.
 abbrev pub EndsWithoutTime : Type 0
 EndsWithoutTime = (s : EditRule) (ps : List Placed) → length ps < 2 ^ 63
-    → ((apply_events (Edit s) (AsReports []) no_progress (arriving ps)).end
+    → ((apply_events (Edit s) (AsReports []) no_progress (packet_events 0 ps)).end
     ≡ end_at_time (first_without_time s 1 ps))
-    × ((apply_events (Edit s) (AsReports []) no_progress (arriving ps)).packets
+    × ((apply_events (Edit s) (AsReports []) no_progress (packet_events 0 ps)).packets
     ≡ unique_after s.window [] (packets_selected s 1 (packets_of ps)))

@@ -1,15 +1,10 @@
 -- The messages on the end of a command.
-use Rattle.std.specs.Prelude.{◌≡◌, ℕ, ◌+◌, Bool, IsTrue, List, [], ◌∷◌, ◌++◌, Result, codes}
 use Rattle.std.specs.Fmt.{decimal}
-use Rattle.cap_octet.specs.declared.fault.Fault.{Fault}
-use Rattle.cap_octet.specs.Device.{AppendsOrStops, failures_of}
-use Rattle.cap_octet.specs.Fault.{fault_text}
-use Rattle.cap_octet.specs.Views.{OutputView}
-use Rattle.cap_octet.specs.declared.device.DeviceFault.{DeviceFault}
-use Rattle.flt_words.specs.declared.fault.ExprFault.TheVariants as expression
-use Rattle.flt_words.specs.Messages.{message_of}
-use Rattle.flt_bpf.specs.declared.fault.ListingFault.TheVariants as listing
-use Rattle.flt_bpf.specs.Message.{check_message, listing_message}
+use Rattle.std.specs.Prelude.{◌≡◌, ℕ, ◌+◌, Bool, IsTrue, List, [], ◌∷◌, ◌++◌, Result, codes}
+use Rattle.cap_octet.specs.{Device.AppendsOrStops, Device.failures_of, Fault.fault_text, Views.OutputView}
+use Rattle.cap_octet.specs.declared.{device.DeviceFault.DeviceFault, fault.Fault.Fault}
+use Rattle.flt_words.specs.{Messages.message_of, declared.fault.ExprFault.ExprFault}
+use Rattle.flt_bpf.specs.{Message.check_message, Message.listing_message, declared.fault.ListingFault.ListingFault}
 use Rattle.cap_filter.specs.declared.filter.Refusal.{Refusal}
 use Rattle.cap_filter.specs.declared.filter.Refusal.TheVariants.{Expression, Listing, Program}
 
@@ -41,9 +36,9 @@ code_message text = codes "capkit: code: " ++ text ++ line_feed
 
 -- a refused filter, or an expression that isn't compiled, or out of memory for it
 abbrev pub refusal_message : Refusal → List ℕ
-refusal_message (Expression expression.Memory) = no_memory_message
+refusal_message (Expression ExprFault.Memory) = no_memory_message
 refusal_message (Expression fault) = expression_message (message_of fault)
-refusal_message (Listing listing.Memory) = no_memory_message
+refusal_message (Listing ListingFault.Memory) = no_memory_message
 refusal_message (Listing fault) = code_message (listing_message fault)
 refusal_message (Program fault at) = code_message (check_message fault at)
 

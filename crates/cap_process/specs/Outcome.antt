@@ -1,20 +1,16 @@
 -- The outcome of a job on its packets: the output, the message and the status.
+use Rattle.std.specs.{List.flat_map, Option.option_or}
 use Rattle.std.specs.Prelude.{◌≡◌, ℕ, zero, suc, ◌+◌, List, [], ◌∷◌, ◌++◌, Option, None, Some, Bool, true, false}
-use Rattle.std.specs.List.{flat_map}
-use Rattle.std.specs.Option.{option_or}
-use Rattle.cap_octet.specs.Packet.{Captured}
-use Rattle.cap_octet.specs.declared.fault.Fault.{Fault}
-use Rattle.cap_octet.specs.declared.format.Format.{Format}
-use Rattle.cap_io.specs.declared.source.Kind.{Kind}
+use Rattle.cap_octet.specs.{Packet.Captured, declared.fault.Fault.Fault, declared.format.Format.Format}
 use Rattle.cap_io.specs.Capture.{Placed, Items, first_link_of}
+use Rattle.cap_io.specs.Sequence.{Event, Packet, InputEnd, SequenceEnd, Complete, FaultIn, Sequence, InputItems, PacketOrder, sequence_of, with_front}
 use Rattle.cap_io.specs.Sink.{link_or_ethernet}
 use Rattle.cap_io.specs.Text.{takes_memory, added_text, file_start, text, refusal_of}
-use Rattle.cap_print.specs.declared.print.Options.{Options}
-use Rattle.cap_print.specs.Rendering.{printed_text}
-use Rattle.cap_io.specs.Sequence.{Event, Packet, InputEnd, SequenceEnd, Complete, FaultIn, Sequence, InputItems, PacketOrder, sequence_of, with_front}
+use Rattle.cap_io.specs.declared.source.Kind.{Kind}
+use Rattle.cap_print.specs.{Rendering.printed_text, declared.print.Options.Options}
 use Rattle.cap_process.specs.Messages.{fault_message}
-use Rattle.cap_process.specs.Verdict.{Policy, Count, SelectorState, initial_state, Verdict, Pass, PassLast, PassesAs, Skip, Refuse, judge}
 use Rattle.cap_process.specs.Reports.{Report, nothing_counted, report_text, reports_text, name_at}
+use Rattle.cap_process.specs.Verdict.{Policy, Count, SelectorState, initial_state, Verdict, Pass, PassLast, PassesAs, Skip, Refuse, judge}
 
 -- ---- forms
 

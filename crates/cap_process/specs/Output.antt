@@ -2,14 +2,10 @@
 use Rattle.std.specs.Prelude.{◌≡◌, ℕ, List, ◌++◌}
 use Rattle.cap_octet.specs.Packet.{Captured}
 use Rattle.cap_print.specs.declared.print.Options.{Options}
-use Rattle.cap_io.specs.Sink.{SinkView, HasPackets, sink_at}
-use Rattle.cap_io.specs.Text.{FitFile}
-use Rattle.cap_process.specs.declared.output.Device.{Device}
-use Rattle.cap_process.specs.declared.output.Device.TheVariants as device
-use Rattle.cap_process.specs.declared.output.Writing.{Writing}
-use Rattle.cap_process.specs.declared.output.Writing.TheVariants as writing
+use Rattle.cap_io.specs.{Sink.SinkView, Sink.HasPackets, Sink.sink_at, Text.FitFile}
 use Rattle.cap_process.specs.Outcome.{Form, AsCapture, AsReports, AsLines, lines_text}
 use Rattle.cap_process.specs.Reports.{Report, reports_text}
+use Rattle.cap_process.specs.declared.output.{Device.Device, Writing.Writing}
 
 -- The view of an output: a capture, a text or the lines of packets. A text and lines have the bytes
 -- written, the number of failures, and the number of bytes in all that the output takes at least
@@ -21,18 +17,18 @@ pub data Target : Type 0 where
 
 -- the view of a `Device`, from the bytes written, the failures and the room of its output
 abbrev pub target_of : {O Z : Type 0} → (O → List ℕ) → (O → ℕ) → (O → ℕ) → Device O Z → Target
-target_of written failures room (device.Capture sink) = Capture sink
-target_of written failures room (device.Text output) =
+target_of written failures room (Device.Capture sink) = Capture sink
+target_of written failures room (Device.Text output) =
     Text (written output) (failures output) (room output)
-target_of written failures room (device.Lines options line output) =
+target_of written failures room (Device.Lines options line output) =
     Lines options (written output) (failures output) (room output)
 
 -- the target with which a job begins; its output took these bytes before
 abbrev pub target_at : Writing → List ℕ → ℕ → ℕ → Target
-target_at (writing.Capture format) written failures room =
+target_at (Writing.Capture format) written failures room =
     Capture (sink_at format written failures room)
-target_at writing.Text written failures room = Text written failures room
-target_at (writing.Lines options) written failures room = Lines options written failures room
+target_at Writing.Text written failures room = Text written failures room
+target_at (Writing.Lines options) written failures room = Lines options written failures room
 
 -- the form in which packets and reports are written to a target
 abbrev pub form_to : List (List ℕ) → Target → Form

@@ -1,13 +1,9 @@
 -- Reports of files.
+use Rattle.std.specs.{Fmt.decimal, List.flat_map, List.slice_get}
 use Rattle.std.specs.Prelude.{ℕ, ◌+◌, ◌-◌, ◌/◌, ◌%◌, ◌==◌, ◌&&◌, Bool, true, false, if◌then◌else◌, nat_le, min, max, List, [], ◌∷◌, ◌++◌, length, codes, Option, None, Some, unwrap_or}
-use Rattle.std.specs.List.{flat_map, slice_get}
-use Rattle.std.specs.Fmt.{decimal}
 use Rattle.cap_octet.specs.Date.{NANOS_PER_SECOND, date_text, digits}
-use Rattle.cap_octet.specs.Format.{format_name}
-use Rattle.cap_octet.specs.Packet.{Captured}
-use Rattle.cap_octet.specs.declared.format.Format.TheVariants as format
+use Rattle.cap_octet.specs.{Format.format_name, Packet.Captured, declared.format.Format.Format}
 use Rattle.cap_io.specs.declared.source.Kind.{Kind}
-use Rattle.cap_io.specs.declared.source.Kind.TheVariants as kind
 
 -- the counts of the packets of a file: their number, the sums of original and captured lengths,
 -- the least, the greatest and the last time, and whether no time is less than the one before it
@@ -56,9 +52,9 @@ pub record Report : Type 0 where
 -- the name of a format; a file of no format has a fault, and no report
 abbrev pub kind_name : Option Kind → List ℕ
 kind_name None = []
-kind_name (Some kind.Pcap) = format_name format.Pcap
-kind_name (Some kind.NsecPcap) = format_name format.NsecPcap
-kind_name (Some kind.Pcapng) = format_name format.Pcapng
+kind_name (Some Kind.Pcap) = format_name Format.Pcap
+kind_name (Some Kind.NsecPcap) = format_name Format.NsecPcap
+kind_name (Some Kind.Pcapng) = format_name Format.Pcapng
 
 -- a time as a date, or "none" of no packets
 abbrev pub date_or_none : ℕ → ℕ → List ℕ

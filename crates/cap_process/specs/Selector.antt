@@ -1,20 +1,18 @@
 -- The view of a selector.
 use Rattle.std.specs.Prelude.{◌≡◌, ℕ, ◌-◌, ◌^◌, ◌≤◌, Bool, true, false, if◌then◌else◌, List, [], ◌∷◌, map, Option, None, ◌*◌, Some}
-use Rattle.cap_octet.specs.Packet.{Captured}
-use Rattle.cap_window.specs.declared.mark.Mark.{Mark}
-use Rattle.cap_window.specs.View.{WindowView}
+use Rattle.cap_octet.specs.{Link.all_links, Packet.Captured}
+use Rattle.cap_window.specs.{View.WindowView, declared.mark.Mark.Mark}
 use Rattle.flt_bpf.specs.Content.{Content}
 use Rattle.cap_command.specs.declared.command.Edit as command_edit
 use Rattle.flt_ast.specs.Tree.{empty, truth}
 use Rattle.cap_filter.specs.FilterRules as rules
 use Rattle.cap_filter.specs.FilterRules.{by_reading, by_answer}
-use Rattle.cap_octet.specs.Link.{all_links}
-use Rattle.cap_filter.specs.Programs.{AreMade}
 use Rattle.cap_filter.specs.Filters.{most_cost, programs_of, rule_of, spent_on}
+use Rattle.cap_filter.specs.Programs.{AreMade}
 use Rattle.cap_process.specs.declared.selector.Policy as code_policy
 use Rattle.cap_process.specs.declared.selector.Policy.TheVariants as policy
-use Rattle.cap_process.specs.Verdict.{Policy, Edit, Filter, KeepAll, Count, EditRule, SelectorState, is_too_many}
 use Rattle.cap_process.specs.Reports.{Tally}
+use Rattle.cap_process.specs.Verdict.{Policy, Edit, Filter, KeepAll, Count, EditRule, SelectorState, is_too_many}
 use Rattle.cap_io.specs.Reading.{most_in_unit}
 
 -- a selector: its policy, its state, and the programs of its filter

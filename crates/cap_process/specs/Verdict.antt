@@ -1,20 +1,13 @@
 -- The verdict on each packet of a job: by the job's policy, the state after the packets before, and
 -- the packet with its number.
 use Rattle.std.specs.Prelude.{◌≡◌, ℕ, ◌+◌, ◌-◌, ◌==◌, ◌&&◌, Bool, true, false, if◌then◌else◌, nat_lt, nat_le, List, [], ◌∷◌, ◌++◌, length, take, drop, Option, None, Some}
-use Rattle.cap_octet.specs.Date.{TIME_END}
-use Rattle.cap_octet.specs.Packet.{Captured}
-use Rattle.cap_octet.specs.declared.fault.Fault.{Fault}
-use Rattle.cap_octet.specs.declared.fault.Fault.TheVariants.{TimeOutOfRange, TooManyPackets}
-use Rattle.cap_command.specs.declared.command.Shift.{Shift}
-use Rattle.cap_command.specs.declared.command.Shift.TheVariants as shift
-use Rattle.cap_filter.specs.Decisions as chosen
-use Rattle.cap_filter.specs.Decisions.{Decision}
-use Rattle.cap_filter.specs.FilterRules.{Rule, rule_decides}
-use Rattle.cap_command.specs.Command.{PACKET_NUMBER_END}
-use Rattle.cap_command.specs.Selection.{is_kept}
+use Rattle.cap_octet.specs.{Date.TIME_END, Packet.Captured}
+use Rattle.cap_octet.specs.declared.fault.Fault.{Fault, TheVariants.TimeOutOfRange, TheVariants.TooManyPackets}
+use Rattle.cap_command.specs.{Command.PACKET_NUMBER_END, Command.is_kept, declared.command.Shift.Shift}
+use Rattle.cap_filter.specs.FilterRules as chosen
+use Rattle.cap_filter.specs.FilterRules.{Decision, Rule, rule_decides}
 use Rattle.cap_process.specs.Reports.{Tally, nothing_counted, tally_with}
-use Rattle.cap_window.specs.declared.mark.Mark.{Mark}
-use Rattle.cap_window.specs.Marks.{mark_of, has_same, last}
+use Rattle.cap_window.specs.{Marks.mark_of, Marks.has_same, Marks.last, declared.mark.Mark.Mark}
 
 -- ---- policies
 
@@ -118,9 +111,9 @@ edited_packet_with s p time =
 -- a time as a shift moves it; None if a later one would be 2^63 nanoseconds or more, or an
 -- earlier one below 0
 abbrev pub shifted_time : Shift → ℕ → Option ℕ
-shifted_time shift.None time = Some time
-shifted_time (shift.Later by) time = if nat_lt (time + by) TIME_END then Some (time + by) else None
-shifted_time (shift.Earlier by) time = if nat_le by time then Some (time - by) else None
+shifted_time Shift.None time = Some time
+shifted_time (Shift.Later by) time = if nat_lt (time + by) TIME_END then Some (time + by) else None
+shifted_time (Shift.Earlier by) time = if nat_le by time then Some (time - by) else None
 
 -- the state with one mark more in its window, of which the last `most` are kept
 abbrev pub with_mark : ℕ → Mark → SelectorState → SelectorState

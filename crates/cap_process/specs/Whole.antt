@@ -1,30 +1,22 @@
 -- The output of whole commands, as lists: the packets of their inputs that pass, up to the first
 -- that isn't written.
+use Rattle.std.specs.{List.sum_by, Option.is_some, Option.option_or, Option.unwrap_or}
 use Rattle.std.specs.Prelude.{◌≡◌, ℕ, zero, suc, ◌+◌, ◌^◌, ◌<◌, Bool, true, false, if◌then◌else◌, nat_le, List, [], ◌∷◌, ◌++◌, length, take, Option, None, Some, IfSome}
-use Rattle.std.specs.List.{sum_by}
-use Rattle.std.specs.Option.{is_some, option_or}
-use Rattle.cap_octet.specs.Packet.{Captured}
-use Rattle.cap_octet.specs.declared.fault.Fault.{Fault}
-use Rattle.cap_octet.specs.declared.fault.Fault.TheVariants.{TimeOutOfRange}
-use Rattle.cap_octet.specs.declared.format.Format.{Format}
-use Rattle.cap_octet.specs.declared.link.Link.{Link}
+use Rattle.cap_octet.specs.{Link.link_of, Packet.Captured}
+use Rattle.cap_octet.specs.declared.{fault.Fault.Fault, format.Format.Format, link.Link.Link}
 use Rattle.cap_io.specs.Capture.{Ending, End, FaultAt, Items, Placed, items, kind_of}
 use Rattle.cap_io.specs.RoundTrip.{Carries}
-use Rattle.cap_command.specs.declared.command.Shift.TheVariants as shift
+use Rattle.cap_io.specs.Sequence.{Event, Packet, InputEnd, SequenceEnd, Complete, FaultIn, PacketOrder, InTurn, InputItems, end_of, whole_input, sequence_of}
+use Rattle.cap_command.specs.declared.command.Shift.{Shift}
 use Rattle.cap_print.specs.declared.print.Options.{Options}
 use Rattle.flt_ast.specs.Tree.{TruthTree, denied, truth}
-use Rattle.flt_gen.specs.Elementary.{MatchResult, Rejected}
-use Rattle.flt_gen.specs.Reading.{holds}
-use Rattle.cap_filter.specs.Decisions.{Decision, Refuse}
-use Rattle.cap_filter.specs.FilterRules.{Rule, by_reading, rule_decides}
-use Rattle.cap_io.specs.Sequence.{Event, Packet, InputEnd, SequenceEnd, Complete, FaultIn, PacketOrder, InTurn, InputItems, end_of, whole_input, sequence_of}
-use Rattle.cap_octet.specs.Link.{link_of}
-use Rattle.cap_process.specs.Verdict.{Edit, EditRule, Filter, KeepAll, Count}
+use Rattle.flt_gen.specs.{Elementary.MatchResult, Elementary.Rejected, Reading.holds}
+use Rattle.cap_filter.specs.FilterRules.{Decision, Refuse, Rule, by_reading, rule_decides}
+use Rattle.cap_process.specs.Lists.{at_most, end_at_time, first_without_time, packets_kept, packets_of, packets_selected, tally_of, unique_after}
 use Rattle.cap_process.specs.Messages.{fault_message}
-use Rattle.cap_process.specs.Reports.{Report, name_at, reports_text}
 use Rattle.cap_process.specs.Outcome.{Form, AsCapture, AsReports, AsLines, Outcome, Work, form_refuses, output_text, closing_text, first_link, lines_text, outcome}
-use Rattle.cap_process.specs.Edits.{packets_selected, unique_after}
-use Rattle.cap_process.specs.Lists.{at_most, first_without_time, packets_kept, packets_of, tally_of}
+use Rattle.cap_process.specs.Reports.{Report, name_at, reports_text}
+use Rattle.cap_process.specs.Verdict.{Edit, EditRule, Filter, KeepAll, Count}
 
 -- ---- what is written of packets that pass
 
@@ -109,12 +101,6 @@ EditWrites =
     (packets_written (AsCapture format) []
     (unique_after s.window [] (packets_selected s 1 (file_packets file))))
 
--- the end of an edit whose packets are all written: at the place of a packet whose moved time is
--- out of range, if there is one, else that of the file
-abbrev pub edit_end : Option ℕ → Ending → SequenceEnd
-edit_end (Some offset) ending = FaultIn 0 TimeOutOfRange offset
-edit_end None ending = end_of 0 ending
-
 -- Such an edit ends at the first packet that the format refuses; if it refuses none, at the
 -- first that is selected and whose moved time is out of range; if there is none, as the file
 -- does: cleanly, with status 0, or by its fault.
@@ -125,7 +111,8 @@ EditEnds =
     → EndsUnlessRefused names
     (first_refusal (AsCapture format) []
     (unique_after s.window [] (packets_selected s 1 (file_packets file))))
-    (edit_end (first_without_time s 1 (items file).packets) (items file).ending)
+    (unwrap_or (end_at_time (first_without_time s 1 (items file).packets))
+    (end_of 0 (items file).ending))
     (outcome (edit_work s format) names (whole_input file ∷ []))
 
 -- ---- print
@@ -275,7 +262,7 @@ no_options = record {
   chop_start = 0;
   chop_end = 0;
   snap = None;
-  shift = shift.None;
+  shift = Shift.None;
   window = None;
 }
 

@@ -1,16 +1,13 @@
 //! What an edit makes of packets: which it keeps, how it changes them, and which are duplicates.
-ghost use Rattle.std.specs.Prelude.{ℕ, ◌≡◌, ◌^◌, ◌<◌, ◌≤◌, IfSome, None, Ok, Option, drop};
-ghost use Rattle.std.specs.Prelude.{length};
+ghost use Rattle.std.specs.Prelude.{ℕ, ◌≡◌, ◌^◌, ◌<◌, ◌≤◌, IfSome, None, Ok, Option, drop, length};
 ghost use Rattle.cap_octet.specs.Packet.{captured};
 ghost use Rattle.cap_io.specs.Reading.{most_in_unit};
-ghost use Rattle.cap_process.specs.Verdict.{edited_packet_with, is_before_stop, is_from_start};
-ghost use Rattle.cap_process.specs.Verdict.{is_selected, shifted_time, selects};
-ghost use Rattle.cap_process.specs.Verdict.{bytes_within_snap, unique, without_last};
-ghost use Rattle.cap_process.specs.Selector.{marks_in, edit_rule_of};
-ghost use Rattle.cap_process.specs.inside.Selector.{IsWindowFor, ReturnsVerdict};
-ghost use Rattle.cap_process.specs.Selector.{state_of};
-ghost use Rattle.cap_process.specs.inside.Edits.{PassesUnique};
 ghost use Rattle.cap_process.specs.Reports.{Tally};
+ghost use Rattle.cap_process.specs.Selector.{marks_in, edit_rule_of, state_of};
+ghost use Rattle.cap_process.specs.Verdict.{edited_packet_with, is_before_stop, is_from_start};
+ghost use Rattle.cap_process.specs.Verdict.{is_selected, shifted_time, selects, bytes_within_snap};
+ghost use Rattle.cap_process.specs.Verdict.{unique, without_last};
+ghost use Rattle.cap_process.specs.inside.Selector.{IsWindowFor, ReturnsVerdict};
 
 use cap_command::{Edit, Shift};
 use cap_octet::date::TIME_END;
@@ -175,10 +172,3 @@ pub(crate) fn edit_packet<A: Allocator>(
     change_packet(edit, packet, time);
     Ok(mark_and_check_unique(window, packet))
 }
-
-/// A law of the definitions, the contract of a function that does nothing: what passes of an edit
-/// of fewer than 2^63 packets, decided packet by packet, is what is unique of what is selected, as
-/// lists. Laws of whole commands are in `law`.
-pub fn edit_passes_unique()
-    ensures { PassesUnique }
-{}

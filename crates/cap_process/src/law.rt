@@ -7,8 +7,8 @@
 ghost use Rattle.cap_process.specs.Lists.{CountsAll, EndsWithoutTime, HasLastMarks, PassesFiltered};
 ghost use Rattle.cap_process.specs.Whole.{EditWrites, InfosReports, MergeWrites, PrintLines};
 ghost use Rattle.cap_process.specs.Whole.{PrintWrites, EditKeeps, EditsAlike, MergesOne};
-ghost use Rattle.cap_process.specs.Whole.{CutsGivePrefixes, NegationParts};
-ghost use Rattle.cap_process.specs.Whole.{CopyEnds, EditEnds, InfosEnds, MergeEnds, PrintEnds};
+ghost use Rattle.cap_process.specs.Whole.{CutsGivePrefixes, NegationParts, CopyEnds, EditEnds};
+ghost use Rattle.cap_process.specs.Whole.{InfosEnds, MergeEnds, PrintEnds};
 
 use cap_io::laws::items_back;
 

@@ -2,11 +2,12 @@
 //!
 //! An error of these functions means that the device failed, unless a function says otherwise.
 ghost use Rattle.std.specs.Prelude.{◌≡◌, ◌+◌, IfErr, IsTrue, true};
-ghost use Rattle.cap_octet.specs.Device.{AppendsOrStops, failures_of};
-ghost use Rattle.cap_octet.specs.Packet.{captured};
+ghost use Rattle.cap_octet.specs.{Device.AppendsOrStops, Device.failures_of, Packet.captured};
 ghost use Rattle.cap_print.specs.Rendering.{printed_text};
-ghost use Rattle.cap_process.specs.Output.{Capture, HasFewOutputInterfaces};
-ghost use Rattle.cap_process.specs.inside.Output.{EndsOutput};
+ghost use Rattle.cap_process.specs.Output.{Capture, HasFewOutputInterfaces, failures_to, room_to};
+ghost use Rattle.cap_process.specs.Output.{target_at, written_to};
+ghost use Rattle.cap_process.specs.Reports.{file_report};
+ghost use Rattle.cap_process.specs.inside.Output.{EndsOutput, PutsIntoOutput, Reports, is_text};
 ghost use Rattle.flt_bpf.specs.Listing.{listing};
 
 use crate::report::{Report, write_report};
@@ -52,14 +53,6 @@ impl<O: Output, A: Allocator> Model for JobOutput<O, A> {
 }
 
 impl<O: Output, A: Allocator> JobOutput<O, A> {
-    ghost use Rattle.std.specs.Prelude.{◌≡◌, IsTrue, true};
-    ghost use Rattle.cap_octet.specs.Packet.{captured};
-    ghost use Rattle.cap_process.specs.inside.Output.{EndsOutput, PutsIntoOutput, Reports, is_text};
-    ghost use Rattle.cap_process.specs.Output.{HasFewOutputInterfaces, failures_to, room_to};
-    ghost use Rattle.cap_process.specs.Output.{target_at, written_to};
-    ghost use Rattle.cap_process.specs.Reports.{file_report};
-    ghost use Rattle.flt_bpf.specs.Listing.{listing};
-
     /// An output to which nothing is written yet: `output` is the device, `writing` what must be
     /// written. It takes no memory.
     pub fn new(alloc: A, writing: Writing, output: O) -> Self

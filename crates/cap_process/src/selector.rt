@@ -4,17 +4,17 @@ ghost use Rattle.std.specs.Prelude.{◌≡◌, ℕ, ◌+◌, ◌-◌, ◌<◌, �
 ghost use Rattle.std.specs.Prelude.{if◌then◌else◌, length};
 ghost use Rattle.cap_octet.specs.Packet.{Captured, captured};
 ghost use Rattle.cap_io.specs.Reading.{most_in_unit};
-ghost use Rattle.cap_filter.specs.Programs.{spent_in};
-ghost use Rattle.cap_process.specs.Verdict.{is_last, judge_by};
-ghost use Rattle.cap_process.specs.Selector.{is_count};
+ghost use Rattle.cap_filter.specs.{Filters.programs_of, Filters.rule_of, Programs.spent_in};
+ghost use Rattle.cap_process.specs.Reports.{Tally};
+ghost use Rattle.cap_process.specs.Selector.{is_count, marks_in, most_spent, policy_of};
+ghost use Rattle.cap_process.specs.Selector.{programs_in, spent_by, state_of, window_of};
+ghost use Rattle.cap_process.specs.Selector.{SelectorView, spent_by_verdict};
+ghost use Rattle.cap_process.specs.Verdict.{is_last, judge_by, Filter as AskedFilter};
+ghost use Rattle.cap_process.specs.Verdict.{initial_state, judge};
 ghost use Rattle.cap_process.specs.inside.Selector.{IsWindowFor, ReturnsVerdict, count_limit};
-ghost use Rattle.cap_process.specs.Selector.{marks_in};
-ghost use Rattle.cap_process.specs.Selector.{most_spent, policy_of, programs_in};
-ghost use Rattle.cap_process.specs.inside.Selector.{verdict_if};
-ghost use Rattle.cap_process.specs.Selector.{spent_by};
-ghost use Rattle.cap_process.specs.Selector.{state_of, window_of};
-ghost use Rattle.cap_process.specs.inside.Selector.{verdict_of};
-ghost use Rattle.cap_process.specs.Reports.{Tally, nothing_counted};
+ghost use Rattle.cap_process.specs.inside.Selector.{verdict_if, verdict_of, FitsTally, GrowsByOne};
+ghost use Rattle.cap_process.specs.inside.Selector.{HasFewMarks, IsVerdict, TakesTally};
+ghost use Rattle.cap_process.specs.inside.Selector.{policy_state};
 ghost use Rattle.cap_window.specs.View.{window};
 
 use crate::edit::edit_packet;
@@ -65,9 +65,9 @@ pub struct Selector<A: Allocator> {
 impl<A: Allocator> Model for Selector<A> {
     ghost use Rattle.std.specs.Coded.{codes};
     ghost use Rattle.cap_filter.specs.inside.Programs.{coded_expression};
-    ghost use Rattle.cap_process.specs.Selector.{SelectorView, policy_of, marks_in};
+    ghost use Rattle.cap_process.specs.Selector.{SelectorView, policy_of, marks_in, programs_in};
+    ghost use Rattle.cap_process.specs.Selector.{state_of, window_of};
     ghost use Rattle.cap_process.specs.inside.Selector.{IsWindowFor};
-    ghost use Rattle.cap_process.specs.Selector.{programs_in, state_of, window_of};
 
     ghost Value = { SelectorView };
 
@@ -177,17 +177,6 @@ impl<A: Allocator> Policy<A> {
 }
 
 impl<A: Allocator> Selector<A> {
-    ghost use Rattle.std.specs.Prelude.{IfOk};
-    ghost use Rattle.cap_filter.specs.Filters.{programs_of, rule_of};
-    ghost use Rattle.cap_process.specs.inside.Reports.{FitsTally};
-    ghost use Rattle.cap_process.specs.Verdict.{Filter as AskedFilter, judge};
-    ghost use Rattle.cap_process.specs.inside.Selector.{GrowsByOne, HasFewMarks, IsVerdict};
-    ghost use Rattle.cap_process.specs.inside.Reports.{FitsTally};
-    ghost use Rattle.cap_process.specs.Selector.{SelectorView};
-    ghost use Rattle.cap_process.specs.inside.Selector.{TakesTally, policy_state};
-    ghost use Rattle.cap_process.specs.Selector.{spent_by_verdict};
-    ghost use Rattle.cap_process.specs.inside.Selector.{state_with};
-
     /// A selector by which no packet was judged yet. If it looks for duplicates it takes the
     /// memory of their window here; the error means that memory ran out.
     pub fn new(alloc: A, policy: Policy<A>) -> Result<Self, AllocError>
@@ -195,8 +184,7 @@ impl<A: Allocator> Selector<A> {
         A: Copy + Drop,
         ensures { IfOk result (λ selector. selector ≡ record {
           policy = policy_of policy;
-          state = state_with 0
-              nothing_counted;
+          state = initial_state;
           programs = programs_in policy;
         }) }
     {
@@ -214,8 +202,7 @@ impl<A: Allocator> Selector<A> {
     pub fn filtering(filter: Filter<A>, count: Option<u64>) -> Self
         ensures { result ≡ record {
           policy = AskedFilter (rule_of filter) count;
-          state = state_with 0
-              nothing_counted;
+          state = initial_state;
           programs = programs_of filter;
         } }
     {

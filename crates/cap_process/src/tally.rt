@@ -53,7 +53,7 @@ impl Tally {
     ghost use Rattle.std.specs.Prelude.{◌≡◌, ◌+◌, ◌^◌, ◌≤◌, length};
     ghost use Rattle.cap_octet.specs.Packet.{captured};
     ghost use Rattle.cap_process.specs.Reports.{tally_with, nothing_counted};
-    ghost use Rattle.cap_process.specs.inside.Reports.{FitsTally};
+    ghost use Rattle.cap_process.specs.inside.Selector.{FitsTally};
 
     /// The tally of no packets.
     pub fn new() -> Self

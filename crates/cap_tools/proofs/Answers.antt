@@ -1,19 +1,15 @@
 -- The steps that decide the current packet.
-use Rattle.cap_tools.proofs.Common.{◌≡◌, ◌⊎◌, inl, inr, ℕ, ◌+◌, ◌<◌, ◌≤◌, Bool, true, false, List, [], ◌∷◌, ◌++◌, length, map, Option, None, Some, Result, Ok, Err, refl, sym, ◌∙◌, ap, arith, subst, ◌-◌, append-nil, map-append, slice_get, slice_set, Stops, Captured, Fault, NoMemory, WriteFailed, Placed, IsAt, SinkView, text, added_text, refusal_of, takes_memory, IsAt-decided, Tally, InputItems, Event, Packet, SequenceEnd, Complete, FaultIn, Sequence, sequence_of, with_front, PacketOrder, Policy, SelectorState, Verdict, Pass, PassLast, PassesAs, Skip, judge, IsWithin, PolicyState, GrowsByOne, IsVerdict, Form, AsCapture, JobProgress, IsNextEvent, no_progress, decide, unless_refused, apply_verdict, apply_event, apply_events, final_progress, form_refuses, end_with, final_text, first_link, output_text, Target, Capture, Text, Lines, HasWrittenTo, form_to, written_to, failures_to, PutsIntoOutput, InputView, Future, InputPast, AreInputsAfter, AreSettled, IsInput, input_after_decided, items_left, inputs_left, sequence_left, actual_future, most_steps, JobEnd, BreaksAt, JobState, Meets, a_packet, PacketsDecided, GoesOn, EndLeaves, StepLeaves, progress_at, progress_of, progress_over, wholes_of, work_of, DecidesPacket, Offers, end_after, end_of_failed_write, sieve, drained-text, PutOk, put-ok, WhyUnput, unput, closing-some, course-stop, greatest-decided, set-here, next-is-of}
+use Rattle.cap_tools.proofs.Coming.{carries-decided, true-wholes, true-fit, true-fits, get-at, At, stands-split, stands-join, rests-join, come-on}
+use Rattle.cap_tools.proofs.Common.{◌≡◌, ◌⊎◌, inl, inr, ℕ, ◌+◌, ◌<◌, ◌≤◌, Bool, true, false, List, [], ◌∷◌, ◌++◌, length, map, Option, None, Some, Result, Ok, Err, refl, sym, ◌∙◌, ap, arith, subst, ◌-◌, append-nil, map-append, slice_get, slice_set, Stops, Captured, Fault, NoMemory, WriteFailed, Placed, IsAt, SinkView, text, added_text, refusal_of, takes_memory, IsAt-decided, Tally, InputItems, Event, Packet, SequenceEnd, Complete, FaultIn, Sequence, sequence_of, with_front, PacketOrder, Policy, SelectorState, Verdict, Pass, PassLast, PassesAs, Skip, judge, IsWithin, PolicyState, GrowsByOne, IsVerdict, Form, AsCapture, JobProgress, IsNextEvent, no_progress, decide, unless_refused, apply_verdict, apply_event, apply_events, final_progress, form_refuses, end_with, final_text, first_link, output_text, Target, Capture, Text, Lines, HasWrittenTo, form_to, written_to, failures_to, PutsIntoOutput, InputView, Future, InputPast, AreInputsAfter, AreSettled, IsInput, input_after_decided, items_left, inputs_left, sequence_left, actual_future, most_steps, JobEnd, BreaksAt, JobState, Meets, a_packet, PacketsDecided, GoesOn, EndLeaves, StepLeaves, progress_at, progress_of, progress_over, wholes_of, work_of, DecidesPacket, Offers, end_after, end_of_failed_write, sieve, drained-text, PutOk, put-ok, WhyUnput, unput, closing-some, course-stop, greatest-decided, set-here, next-is-of, Next}
+use Rattle.cap_tools.proofs.Fetches.{mk, among-same, comes-broken, goes-one, inputs_at, past-of}
+use Rattle.cap_tools.proofs.Laws.{DecideLaws, DecideAt, decide-at}
+use Rattle.cap_tools.proofs.Nexts.{packet-answer, stops-at, once-nothing, once-packet}
 use Rattle.cap_process.specs.declared.selector.Verdict as code
-use Rattle.cap_process.specs.declared.selector.Verdict.TheVariants as code_verdict
-use Rattle.cap_inputs.specs.declared.inputs.Next.TheVariants as next
-use Rattle.cap_process.specs.inside.Reports.{FitsTally}
+use Rattle.cap_process.specs.inside.Selector.{FitsTally}
 use Rattle.cap_print.specs.Rendering.{printed_text}
 use Rattle.cap_process.specs.Outcome as course_spec
 use Rattle.cap_inputs.specs.inside.Inputs as input_spec
-use Rattle.cap_tools.proofs.Places.{get-at}
-use Rattle.cap_tools.proofs.Splits.{At, stands-split, stands-join, rests-join, come-on}
-use Rattle.cap_tools.proofs.Coming.{carries-decided, true-wholes, true-fit, true-fits}
-use Rattle.cap_tools.proofs.Laws.{DecideLaws, DecideAt, decide-at}
-use Rattle.cap_tools.proofs.Once.{once-nothing, once-packet}
-use Rattle.cap_tools.proofs.Nexts.{packet-answer, stops-at}
-use Rattle.cap_tools.proofs.Fetches.{mk, among-same, comes-broken, goes-one, inputs_at, past-of}
+use Rattle.cap_process.specs.declared.selector.Verdict.TheVariants as code_verdict
 
 -- ---- a packet that is judged
 
@@ -239,7 +235,7 @@ AnswerLeaves {ss} {before} {old} d (Ok verdict) new failed = StepLeaves d (end_a
 AnswerLeaves {ss} {before} {old} d (Err e) new failed = EndLeaves d e failed
 
 answer-core : (us vs : List InputPast) (s : InputPast) (before : List ℕ) (xs ys : List InputView) (h : InputView) (order : PacketOrder) (turn : ℕ) (policy : Policy) (state state' : SelectorState) (names : List (List ℕ)) (output output' : Target) (decided : ℕ) (p : Captured) (r : Result code.Verdict JobEnd)
-    → DecideLaws order turn xs ys h → input_spec.IsNext (inputs_at order (xs ++ h ∷ ys)) (next.Decide turn) → AreInputsAfter us xs → At s h → AreInputsAfter vs ys → h.source.packet ≡ Some p → state'.passed ≤ decided + 1 → GrowsByOne state.tally state'.tally
+    → DecideLaws order turn xs ys h → input_spec.IsNext (inputs_at order (xs ++ h ∷ ys)) (Next.Decide turn) → AreInputsAfter us xs → At s h → AreInputsAfter vs ys → h.source.packet ≡ Some p → state'.passed ≤ decided + 1 → GrowsByOne state.tally state'.tally
     → (d : PacketsDecided (us ++ s ∷ vs) before (mk (xs ++ h ∷ ys) order policy state names output decided))
     → DecidesPacket (Some p) turn (decided + 1) (sieve (record { policy = policy; state = state }) output) r (sieve (record { policy = policy; state = state' }) output')
     → AnswerLeaves d r (mk (xs ++ input_after_decided h ∷ ys) order policy state' names output' (decided + 1)) (mk (xs ++ h ∷ ys) order policy state' names output' decided)
@@ -294,14 +290,14 @@ answer-core us vs s before xs ys h order turn policy state state' names output o
     by_verdict_of : (fault : Fault) (v : code.Verdict) (q : Captured) → IsVerdict (judge policy state (decided + 1) p) (Ok v) q state' → Offers v q output (Err fault) output' → EndLeaves d (end_of_failed_write turn fault) failed
     by_verdict_of fault code_verdict.Pass q exact offers =
         unput-leaves (us ++ s ∷ vs) before (xs ++ h ∷ ys) order turn policy state state' names output decided failed x q None fault d ahead
-        (goes-by policy (form_to names output) w turn x (Pass q) state' exact.0 exact.1) (a_packet turn h p (next-is-of (inputs_at order (xs ++ h ∷ ys)) (next.Decide turn) tells) here held refl) h here refl (let A : Verdict → Type 0 = λ v. PassesAs v q in subst A exact.0 refl) offers
+        (goes-by policy (form_to names output) w turn x (Pass q) state' exact.0 exact.1) (a_packet turn h p (next-is-of (inputs_at order (xs ++ h ∷ ys)) (Next.Decide turn) tells) here held refl) h here refl (let A : Verdict → Type 0 = λ v. PassesAs v q in subst A exact.0 refl) offers
     by_verdict_of fault code_verdict.PassLast q exact offers =
         unput-leaves (us ++ s ∷ vs) before (xs ++ h ∷ ys) order turn policy state state' names output decided failed x q (Some Complete) fault d ahead
-        (goes-by policy (form_to names output) w turn x (PassLast q) state' exact.0 exact.1) (a_packet turn h p (next-is-of (inputs_at order (xs ++ h ∷ ys)) (next.Decide turn) tells) here held refl) h here refl (let A : Verdict → Type 0 = λ v. PassesAs v q in subst A exact.0 refl) offers
+        (goes-by policy (form_to names output) w turn x (PassLast q) state' exact.0 exact.1) (a_packet turn h p (next-is-of (inputs_at order (xs ++ h ∷ ys)) (Next.Decide turn) tells) here held refl) h here refl (let A : Verdict → Type 0 = λ v. PassesAs v q in subst A exact.0 refl) offers
     by_verdict_of fault code_verdict.Skip q exact offers = absurd (let e = offers.0 in cc)
 
 pub answer-leaves : (ss : List InputPast) (before : List ℕ) (cursors : List InputView) (order : PacketOrder) (policy : Policy) (state : SelectorState) (names : List (List ℕ)) (output : Target) (decided i : ℕ) (r : Result code.Verdict JobEnd) (h : InputView) (selector' : PolicyState) (output' : Target)
-    → input_spec.IsNext (inputs_at order cursors) (next.Decide i) → IsInput cursors i h → selector'.policy ≡ policy → (state.passed ≤ decided + 1 → selector'.state.passed ≤ decided + 1) → GrowsByOne state.tally selector'.state.tally → decided ≤ most_steps
+    → input_spec.IsNext (inputs_at order cursors) (Next.Decide i) → IsInput cursors i h → selector'.policy ≡ policy → (state.passed ≤ decided + 1 → selector'.state.passed ≤ decided + 1) → GrowsByOne state.tally selector'.state.tally → decided ≤ most_steps
     → (state.passed < decided + 1 → FitsTally state.tally → DecidesPacket h.source.packet i (decided + 1) (sieve (record { policy = policy; state = state }) output) r (sieve selector' output'))
     → (d : PacketsDecided ss before (mk cursors order policy state names output decided))
     → AnswerLeaves d r (mk (slice_set cursors i (input_after_decided h)) order policy selector'.state names output' (decided + 1)) (mk cursors order policy selector'.state names output' decided)
@@ -313,7 +309,7 @@ answer-leaves ss before cursors order policy state names output decided i r othe
     let D : List InputView → Type 0 = λ l. PacketsDecided ss before (mk l order policy state names output decided) in
     let d' = subst D among.splits d in
     let st = stands-split ss among.front among.back h d'.following in
-    let T : List InputView → Type 0 = λ l. input_spec.IsNext (inputs_at order l) (next.Decide i) in
+    let T : List InputView → Type 0 = λ l. input_spec.IsNext (inputs_at order l) (Next.Decide i) in
     let W : Bool → Type 0 = λ b. IsAt st.here.text st.here.done st.here.packets b h.source in
     let was : IsAt st.here.text st.here.done st.here.packets true h.source = subst W at.laws.waits st.at in
     let has = was.waits refl in

@@ -1,16 +1,78 @@
 -- The job of a command of which nothing is done.
-use Rattle.cap_tools.proofs.Common.{◌≡◌, inl, inr, ℕ, ◌+◌, ◌≤◌, Bool, true, not, List, [], map, length, None, Option, Result, Ok, Err, refl, sym, ap, arith, subst, ◌∙◌, nat_eq, nat_le, ◌&&◌, add-zero, DeviceFault, Stops, listing, Target, Capture, Text, Lines, target_at, written_to, failures_to, failures_by, Reports, is_text, nothing_counted, written_by, MessagesView, is_proper, is_proper_edit, is_proper_print, most_inputs, IsCompiled, IsTold, Insn, Link, Turn, InTurn, Count, KeepAll, Call, JobView, JobEnd, first_job, state_at, end_message, end_status, fresh_inputs, nothing_done, order_of, InputsView, EndsList, ending, Assignment, Preparing, assignment, SelectorView, state_with, CompileGives, DecidedBy, PreparesBy, PreparesOnly, RefusesStart, Refusal, refusal_status, IsReadyIf, IsSound, Some, spent_in, with_preparing}
+use Rattle.cap_tools.proofs.Coming.{come-first}
+use Rattle.cap_tools.proofs.Common.{◌≡◌, inl, inr, ℕ, ◌+◌, ◌≤◌, Bool, true, not, List, [], map, length, None, Option, Result, Ok, Err, refl, sym, ap, arith, subst, ◌∙◌, nat_eq, nat_le, ◌&&◌, add-zero, DeviceFault, Stops, listing, Target, Capture, Text, Lines, target_at, written_to, failures_to, failures_by, Reports, is_text, written_by, MessagesView, is_proper, is_proper_edit, is_proper_print, most_inputs, IsCompiled, IsTold, Insn, Link, Turn, InTurn, Count, KeepAll, Call, JobView, JobEnd, first_job, state_at, end_message, end_of_write, end_status, fresh_inputs, nothing_done, order_of, InputsView, EndsList, ending, Assignment, Preparing, assignment, SelectorView, initial_state, CompileGives, DecidedBy, PreparesBy, PreparesOnly, RefusesStart, Refusal, refusal_status, IsReadyIf, IsSound, Some, spent_in, with_preparing, suc, ◌*◌, ◌^◌, ◌<◌, ◌∷◌, drop, Writing, HasWrittenTo, append-nil, IsAt-start, HasPackets-none, InputItems, sequence_in_turn, sequence_by_time, PacketOrder, ByTime, Policy, FreshInput, fresh_view, Future, AreInputsAfter, KnowGreatest, AreFutures, AreSettled, ended_count, inputs_with, inputs_left, input_items, steps_left_in, steps_left, most_steps, reads_of, most_turns, steps_owed_in_all, owed_in, PacketsDecided, false, ap₂, All, is_some, option_map, Content, empty, truth, Rule, by_reading, by_answer, AreNew, preparing_of, MakesStep}
+use Rattle.cap_tools.proofs.{Fetches.mk, Programs.new-for}
 use Rattle.std.proofs.lemmas.Bool.{and_parts, eqb-true, leb-true}
 use Rattle.cap_octet.specs.Device.{AppendsOrStops, failures_of}
 use Rattle.cap_command.specs.declared.command.Command.{Command}
-use Rattle.cap_command.specs.declared.command.Command.TheVariants as command
-use Rattle.cap_tools.specs.declared.job.Turn.TheVariants as turn
-use Rattle.cap_process.specs.declared.output.Writing.TheVariants as writing
-use Rattle.cap_tools.specs.declared.step.JobEnd.TheVariants as end
-use Rattle.cap_tools.specs.inside.Commands.{HasMadeNoStep, KeepsFirst, MakesStep}
-use Rattle.cap_tools.specs.inside.FirstStep.{IsFresh}
-use Rattle.cap_tools.proofs.Programs.{new-for}
-use Rattle.cap_tools.proofs.Starts.{nothing-decided, first-few, first-less}
+use Rattle.cap_tools.specs.declared.start.Preparation.{Preparation}
+use Rattle.cap_tools.specs.inside.Jobs.{HasMadeNoStep, KeepsFirst, IsFresh}
+
+start-following : (os : List FreshInput) → AreInputsAfter (map nothing_done os) (map fresh_view os)
+start-following [] = tt
+start-following (o ∷ os) = (IsAt-start o.text o.given o.failures o.sure, start-following os)
+
+start-wholes : (os : List FreshInput) (fs : List Future) → AreFutures (map fresh_view os) fs → inputs_with (map nothing_done os) (map fresh_view os) fs ≡ inputs_left (map fresh_view os) fs
+start-wholes [] [] fits = refl
+start-wholes [] (f ∷ fs) fits = absurd fits
+start-wholes (o ∷ os) [] fits = absurd fits
+start-wholes (o ∷ os) (f ∷ fs) fits = ap (λ (l : List InputItems). input_items (nothing_done o) (fresh_view o) f ∷ l) (start-wholes os fs fits.1)
+
+-- nothing is written
+start-drained : (before : List ℕ) (names : List (List ℕ)) (w : Writing) (failures room : ℕ) → HasWrittenTo before names (target_at w before failures room) [] []
+start-drained before names (Writing.Capture format) failures room = HasPackets-none format before failures room
+start-drained before names Writing.Text failures room = sym (append-nil before)
+start-drained before names (Writing.Lines options) failures room = sym (append-nil before)
+
+fresh-count : (os : List FreshInput) → ended_count (map fresh_view os) ≡ 0
+fresh-count [] = refl
+fresh-count (o ∷ os) = refl
+
+start-come : (order : PacketOrder) (os : List FreshInput) → AreSettled (map nothing_done os) (record { order = order; cursors = map fresh_view os }) []
+start-come InTurn os fs fits =
+    let rs : List InputItems = inputs_left (map fresh_view os) fs in
+    ap (sequence_in_turn 0) (start-wholes os fs fits) ∙ ap (λ n. sequence_in_turn n (drop n rs)) (sym (fresh-count os))
+start-come ByTime os fs fits = ap sequence_by_time (start-wholes os fs fits)
+
+start-greatest : (os : List FreshInput) → KnowGreatest (map nothing_done os) (map fresh_view os)
+start-greatest [] = tt
+start-greatest (o ∷ os) = (refl, start-greatest os)
+
+pub nothing-decided : (order : PacketOrder) (os : List FreshInput) (before : List ℕ) (policy : Policy) (names : List (List ℕ)) (w : Writing) (failures room : ℕ)
+    → PacketsDecided (map nothing_done os) before (mk (map fresh_view os) order policy initial_state names (target_at w before failures room) 0)
+nothing-decided order os before policy names w failures room = record {
+  following = start-following os;
+  greatest = start-greatest os;
+  events = [];
+  first = come-first (map nothing_done os) (record { order = order; cursors = map fresh_view os }) [] (start-following os) (start-come order os);
+  come = start-come order os;
+  packets = [];
+  reports = [];
+  progress = refl;
+  output = start-drained before names w failures room;
+  passed = omega arith;
+  counted = (omega arith, omega arith, omega arith);
+}
+
+fresh-left : (os : List FreshInput) → steps_left_in (map fresh_view os) ≤ (2 ^ 64 + 1) * length os
+fresh-left [] = omega arith
+fresh-left (o ∷ os) = let e = fresh-left os in omega (arith, e)
+
+-- so much is to be done
+pub first-left : (order : PacketOrder) (os : List FreshInput) → length os ≤ most_inputs → steps_left (fresh_inputs order os) ≤ most_steps
+first-left order os upper_bound = let a = fresh-left os in omega (arith, a, upper_bound)
+
+pub first-less : (order : PacketOrder) (os : List FreshInput) → length os ≤ most_inputs → steps_left (fresh_inputs order os) < most_steps
+first-less order os upper_bound = let a = fresh-left os in omega (arith, a, upper_bound)
+
+-- each input owes one step
+start-owed : (os : List FreshInput) → (reads_of (map fresh_view os) ≡ 0) × (owed_in (map fresh_view os) ≡ length (map fresh_view os))
+start-owed [] = (refl, refl)
+start-owed (o ∷ os) = let e = start-owed os in let r = e.0 in let w = e.1 in (omega (arith, r), omega (arith, w))
+
+-- nothing is owed but for the ends of the inputs
+pub first-few : (order : PacketOrder) (os : List FreshInput) → steps_owed_in_all (fresh_inputs order os) < most_turns (fresh_inputs order os)
+first-few order os = let e = start-owed os in let r = e.0 in let w = e.1 in omega (arith, r, w)
 
 -- ---- the first step of a job, whose preparation was taken out
 
@@ -24,16 +86,16 @@ first-step inputs_tell output_tells tells p old r new fresh prepares keeps only 
 }
 
 -- a refusal ends the job
-pub refused-step : (inputs_tell output_tells tells : Bool) (p : Preparing) (refusal : Refusal) (old : JobView) (r : Turn) (new : JobView) → IsFresh old → r ≡ turn.Done (refusal_status refusal) → RefusesStart refusal tells old (refusal_status refusal) new
-    → (RefusesStart refusal tells (with_preparing (Some p) old) (refusal_status refusal) new → PreparesBy (Some p) output_tells tells (with_preparing (Some p) old) (turn.Done (refusal_status refusal)) new) → KeepsFirst old r new → MakesStep inputs_tell output_tells tells (with_preparing (Some p) old) r new
+pub refused-step : (inputs_tell output_tells tells : Bool) (p : Preparing) (refusal : Refusal) (old : JobView) (r : Turn) (new : JobView) → IsFresh old → r ≡ Turn.Done (refusal_status refusal) → RefusesStart refusal tells old (refusal_status refusal) new
+    → (RefusesStart refusal tells (with_preparing (Some p) old) (refusal_status refusal) new → PreparesBy (Some p) output_tells tells (with_preparing (Some p) old) (Turn.Done (refusal_status refusal)) new) → KeepsFirst old r new → MakesStep inputs_tell output_tells tells (with_preparing (Some p) old) r new
 refused-step inputs_tell output_tells tells p refusal old r new fresh is refuses gives keeps =
     let P : Turn → Type 0 = λ t. PreparesBy (Some p) output_tells tells (with_preparing (Some p) old) t new in
     first-step inputs_tell output_tells tells p old r new fresh (subst P (sym is) (gives (record { status_is = refl; exact = refuses.exact; new_is = refuses.new_is }))) keeps
     (record { inputs = ap (λ (j : JobView). j.state.inputs) refuses.new_is; decided = ap (λ (j : JobView). j.state.decided) refuses.new_is; unspent = ap (λ (j : JobView). spent_in j.programs) refuses.new_is })
 
 pub lists-some : (tells : Bool) (words : List ℕ) (link : Link) (prog : List Insn) (p : Option Preparing) (old new : JobView) (r : Turn) → IsCompiled words link prog → EndsList prog tells old r new → CompileGives words link tells (with_preparing p old) r new
-lists-some tells words link prog p old new turn.More compiled lists = lists
-lists-some tells words link prog p old new (turn.Done status) compiled lists = inl (record {
+lists-some tells words link prog p old new Turn.More compiled lists = lists
+lists-some tells words link prog p old new (Turn.Done status) compiled lists = inl (record {
   prog = prog;
   compiled = compiled;
   lists = elim lists [
@@ -60,16 +122,16 @@ one-input n other is = let one = eqb-true n 1 (and_parts (nat_eq n 1) other is).
 
 -- a proper command has at most a given number of inputs
 pub few-inputs : {Z : Type 0} (c : Command Z) (n : ℕ) → is_proper c n ≡ true → n ≤ most_inputs
-few-inputs (command.Edit edit) n is = one-input n (is_proper_edit edit) is
-few-inputs (command.Merge merge) n is = leb-true n most_inputs (and_parts (nat_le 1 n) (nat_le n most_inputs) is).1
-few-inputs command.Infos n is = leb-true n most_inputs (and_parts (nat_le 1 n) (nat_le n most_inputs) is).1
-few-inputs (command.Print print) n is = one-input n (is_proper_print print) is
-few-inputs (command.Compile compile) n is = let none = eqb-true n 0 is in omega (arith, none)
+few-inputs (Command.Edit edit) n is = one-input n (is_proper_edit edit) is
+few-inputs (Command.Merge merge) n is = leb-true n most_inputs (and_parts (nat_le 1 n) (nat_le n most_inputs) is).1
+few-inputs Command.Infos n is = leb-true n most_inputs (and_parts (nat_le 1 n) (nat_le n most_inputs) is).1
+few-inputs (Command.Print print) n is = one-input n (is_proper_print print) is
+few-inputs (Command.Compile compile) n is = let none = eqb-true n 0 is in omega (arith, none)
 
 -- the job that was made of these parts is that of the command
 pub first-made : {Z : Type 0} (c : Command Z) (call : Call) (a : Assignment) (inputs : InputsView) (selector : SelectorView) (messages : MessagesView) (target : Target)
     → a.preparing ≡ (assignment c).preparing → a.order ≡ (assignment c).order → a.policy ≡ (assignment c).policy → a.writing ≡ (assignment c).writing
-    → inputs ≡ fresh_inputs a.order call.inputs → selector ≡ record { policy = a.policy; state = state_with 0 nothing_counted; programs = [] }
+    → inputs ≡ fresh_inputs a.order call.inputs → selector ≡ record { policy = a.policy; state = initial_state; programs = [] }
     → messages ≡ record { names = call.names; device = call.messages } → target ≡ target_at a.writing call.output.written call.output.failures call.room
     → record {
       preparing = a.preparing;
@@ -85,21 +147,21 @@ first-made c call a inputs selector messages target same_preparing same_order sa
 -- what a command reads or compiles first is not begun, and no step was made
 pub first-ready : {Z : Type 0} (c : Command Z) (call : Call) → length call.inputs ≤ most_inputs
     → IsReadyIf (assignment c).preparing (first_job (assignment c) call)
-first-ready (command.Edit edit) call upper_bound = tt
-first-ready (command.Merge merge) call upper_bound = tt
-first-ready command.Infos call upper_bound = tt
-first-ready (command.Print print) call upper_bound = record { turns = refl; done = refl; programs = refl; left = first-less (assignment (command.Print print)).order call.inputs upper_bound; upper_bound = first-few (assignment (command.Print print)).order call.inputs }
-first-ready (command.Compile compile) call upper_bound =
-    (record { turns = refl; done = refl; programs = refl; left = first-less (assignment (command.Compile compile)).order call.inputs upper_bound; upper_bound = first-few (assignment (command.Compile compile)).order call.inputs }, refl)
+first-ready (Command.Edit edit) call upper_bound = tt
+first-ready (Command.Merge merge) call upper_bound = tt
+first-ready Command.Infos call upper_bound = tt
+first-ready (Command.Print print) call upper_bound = record { turns = refl; done = refl; programs = refl; left = first-less (assignment (Command.Print print)).order call.inputs upper_bound; upper_bound = first-few (assignment (Command.Print print)).order call.inputs }
+first-ready (Command.Compile compile) call upper_bound =
+    (record { turns = refl; done = refl; programs = refl; left = first-less (assignment (Command.Compile compile)).order call.inputs upper_bound; upper_bound = first-few (assignment (Command.Compile compile)).order call.inputs }, refl)
 
 -- nothing is decided of the inputs
 pub first-decided : {Z : Type 0} (c : Command Z) (call : Call)
     → DecidedBy (assignment c).preparing (map nothing_done call.inputs) call.output.written (first_job (assignment c) call)
-first-decided (command.Edit edit) call = record { packets = nothing-decided (assignment (command.Edit edit)).order call.inputs call.output.written (assignment (command.Edit edit)).policy call.names (assignment (command.Edit edit)).writing call.output.failures call.room; programs = refl }
-first-decided (command.Merge merge) call = record { packets = nothing-decided (order_of (not merge.append)) call.inputs call.output.written KeepAll call.names (writing.Capture merge.format) call.output.failures call.room; programs = refl }
-first-decided command.Infos call = record { packets = nothing-decided InTurn call.inputs call.output.written Count call.names writing.Text call.output.failures call.room; programs = refl }
-first-decided (command.Print print) call = λ rule is programs made. record { packets = nothing-decided (assignment (command.Print print)).order call.inputs call.output.written _ call.names (assignment (command.Print print)).writing call.output.failures call.room; programs = new-for rule programs made }
-first-decided (command.Compile compile) call = tt
+first-decided (Command.Edit edit) call = record { packets = nothing-decided (assignment (Command.Edit edit)).order call.inputs call.output.written (assignment (Command.Edit edit)).policy call.names (assignment (Command.Edit edit)).writing call.output.failures call.room; programs = refl }
+first-decided (Command.Merge merge) call = record { packets = nothing-decided (order_of (not merge.append)) call.inputs call.output.written KeepAll call.names (Writing.Capture merge.format) call.output.failures call.room; programs = refl }
+first-decided Command.Infos call = record { packets = nothing-decided InTurn call.inputs call.output.written Count call.names Writing.Text call.output.failures call.room; programs = refl }
+first-decided (Command.Print print) call = λ rule is programs made. record { packets = nothing-decided (assignment (Command.Print print)).order call.inputs call.output.written _ call.names (assignment (Command.Print print)).writing call.output.failures call.room; programs = new-for rule programs made }
+first-decided (Command.Compile compile) call = tt
 
 -- ---- a listing is written
 
@@ -111,14 +173,9 @@ appended (Text written failures room) new bytes r text to =
     let P : Target → Type 0 = λ t. AppendsOrStops r written bytes (written_to t) × (failures_to t ≡ failures + failures_of r) in
     subst P (sym to.is) (to.appends, refl)
 
--- how a job ends after a listing
-abbrev end_of_list : Result (Unit {0}) DeviceFault → JobEnd
-end_of_list (Ok done) = end.Complete
-end_of_list (Err fault) = end.OutputFailed
-
 pub listed : (insns : List Insn) (tells : Bool) (old new : JobView) (output : Target) (r : Result (Unit {0}) DeviceFault) → is_text old.state.output ≡ true → Reports (listing insns) old.state.output r output
-    → new ≡ ending (end_of_list r) new.err (record old { state = record old.state { output = output } })
-    → IsTold tells old.err (end_message old.state.names old.state.inputs.cursors (end_of_list r)) new.err → (end_of_list r ≡ end.Complete → new.err ≡ old.err) → EndsList insns tells old (turn.Done (end_status (end_of_list r))) new
+    → new ≡ ending (end_of_write r) new.err (record old { state = record old.state { output = output } })
+    → IsTold tells old.err (end_message old.state.names old.state.inputs.cursors (end_of_write r)) new.err → (end_of_write r ≡ JobEnd.Complete → new.err ≡ old.err) → EndsList insns tells old (Turn.Done (end_status (end_of_write r))) new
 listed insns tells old new output (Ok done) text lists is told quiet =
     let to = appended old.state.output output (listing insns) (Ok done) text lists in
     inl (record {
@@ -131,3 +188,27 @@ listed insns tells old new output (Err fault) text lists is told quiet =
     let to = appended old.state.output output (listing insns) (Err fault) text lists in
     let S : JobView → Type 0 = λ j. Stops (written_by old.state) (listing insns) (written_by j.state) in
     inr (record { stops = subst S (sym is) to.0; failures = ap (λ (j : JobView). failures_by j.state) is ∙ to.1; exact = told; status_is = refl })
+
+pub none-before : {Z : Type 0} (p : Option (Preparation Z)) → is_some p ≡ false → option_map preparing_of p ≡ None
+none-before None is = refl
+none-before (Some p) is = (cc)
+
+pub some-before : {Z : Type 0} (p : Option (Preparation Z)) → is_some p ≡ true → option_map preparing_of p ≡ None → ⊥
+some-before None is none = (cc)
+some-before (Some p) is none = (cc)
+
+-- a job that prepares nothing is ready
+pub ready-none : (p : Option Preparing) (j : JobView) → p ≡ None → IsReadyIf p j
+ready-none None j is = tt
+ready-none (Some preparing) j is = (cc)
+
+none-spent : (programs : List Content) → All (λ program. program.spent ≡ 0) programs → spent_in programs ≡ 0
+none-spent [] all = refl
+none-spent (program ∷ programs) all =
+    let cursor : program.spent ≡ 0 = all 0 program (omega arith) in
+    ap₂ (λ a b. a + b) cursor (none-spent programs (λ k d less. all (suc k) d (omega (arith, less))))
+
+pub new-unspent : (rule : Rule) (programs : List Content) → AreNew rule programs → spent_in programs ≡ 0
+new-unspent (by_reading empty) programs new = rw new refl
+new-unspent (by_reading (truth a)) programs new = none-spent programs new.1
+new-unspent (by_answer prog) programs new = rw new refl

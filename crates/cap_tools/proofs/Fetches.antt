@@ -1,14 +1,9 @@
 -- The steps that read an input on.
-use Rattle.cap_tools.proofs.Common.{Captured, greatest_of, an_end, InputEnd, ◌≡◌, inl, inr, ℕ, suc, ◌+◌, ◌<◌, ◌≤◌, Bool, true, false, List, [], ◌∷◌, ◌++◌, length, map, get_or, Option, None, Some, Result, Ok, Err, refl, sym, ◌∙◌, ap, arith, subst, append_assoc, append-nil, slice_set, HasGiven, Stops, DeviceFault, Fault, ReadFailed, Kind, Placed, Items, FaultAt, no_items, kind_of, after_packets, SourceView, Phase, Reading, Ended, Failed, Steps, FindsPacket, FindsEnd, FindsFault, Advances, IsAt, IsAt-found, IsAt-closed, IsAt-fault, JobEnd, Report, Tally, InputItems, Event, FaultIn, PacketOrder, InTurn, ByTime, Sequence, sequence_of, with_front, whole_input, Policy, Edit, Filter, KeepAll, Count, SelectorState, IsWithin, is_count, PolicyState, with_empty_tally, Form, JobProgress, cut_at, no_progress, apply_events, final_progress, end_with, final_text, output_text, first_link, Target, Capture, Text, Lines, HasWrittenTo, form_to, written_to, failures_to, Reports, InputView, InputsView, Future, InputPast, AreInputsAfter, AreSettled, IsInput, ReadsInput, waiting_packets, input_after, input_items, inputs_with, inputs_left, limits_of, sequence_left, IsNext, actual_future, is_in_turn, report_text, JobState, AppendsOnce, PacketsDecided, GoesOn, CompletesOutput, WhyBroken, StopsWriting, StepLeaves, asks_report, progress_at, progress_of, progress_over, output_form, failures_by, written_by, wholes_of, Closes, ClosesBy, unless_failed, sieve, report_at, drained-text, ReportOk, report-ok, progress-append, course-close, greatest-here, greatest-same, limits-at, limits-kept, set-here, next-is-of}
-use Rattle.cap_inputs.specs.declared.inputs.Next.TheVariants as next
-use Rattle.cap_tools.specs.declared.step.JobEnd.TheVariants as end
-use Rattle.cap_process.specs.inside.Selector as selecting_inside
-use Rattle.cap_tools.proofs.Nexts.{report-answer, stops-at}
-use Rattle.cap_tools.proofs.Places.{get-at}
-use Rattle.cap_tools.proofs.Splits.{At, Fit, stands-split, stands-join, stands-length, fits-join, wholes-join, rests-join, finish-here, come-on}
-use Rattle.cap_tools.proofs.Coming.{carries-found, carries-closed, come-first, true-wholes, true-fits, finds}
+use Rattle.cap_tools.proofs.Coming.{carries-found, carries-closed, come-first, true-wholes, true-fits, finds, get-at, get-input, At, Fit, stands-split, stands-join, stands-length, fits-join, wholes-join, rests-join, finish-here, come-on}
+use Rattle.cap_tools.proofs.Common.{length-map, map-append, texts, Captured, greatest_of, an_end, InputEnd, ◌≡◌, inl, inr, ℕ, suc, ◌+◌, ◌<◌, ◌≤◌, Bool, true, false, List, [], ◌∷◌, ◌++◌, length, map, Option, None, Some, Result, Ok, Err, refl, sym, ◌∙◌, ap, arith, subst, append_assoc, append-nil, slice_set, HasGiven, Stops, DeviceFault, Fault, ReadFailed, Kind, Placed, Items, FaultAt, no_items, kind_of, after_packets, SourceView, Phase, Reading, Ended, Failed, Steps, FindsPacket, FindsEnd, FindsFault, Advances, IsAt, IsAt-found, IsAt-closed, IsAt-fault, JobEnd, Report, Tally, InputItems, Event, FaultIn, PacketOrder, InTurn, ByTime, Sequence, sequence_of, with_front, whole_input, Policy, Edit, Filter, KeepAll, Count, SelectorState, IsWithin, is_count, PolicyState, with_empty_tally, Form, JobProgress, cut_at, no_progress, apply_events, final_progress, end_with, final_text, output_text, first_link, Target, Capture, Text, Lines, HasWrittenTo, form_to, written_to, failures_to, Reports, InputView, InputsView, Future, InputPast, AreInputsAfter, AreSettled, IsInput, ReadsInput, waiting_packets, input_after, input_items, inputs_with, inputs_left, limits_of, sequence_left, IsNext, actual_future, is_in_turn, report_text, JobState, AppendsOnce, PacketsDecided, GoesOn, CompletesOutput, WhyBroken, StopsWriting, StepLeaves, asks_report, progress_at, progress_of, progress_over, output_form, failures_by, written_by, wholes_of, Closes, ClosesBy, unless_failed, sieve, report_at, drained-text, ReportOk, report-ok, progress-append, course-close, greatest-here, greatest-same, limits-at, limits-kept, set-here, next-is-of, Next}
 use Rattle.cap_tools.proofs.Laws.{ReadLaws, ReadAt, closed_in, read-at}
-use Rattle.cap_tools.proofs.Once.{once-nothing, once-report}
+use Rattle.cap_tools.proofs.Nexts.{report-answer, stops-at, once-nothing, once-report}
+use Rattle.cap_process.specs.inside.Selector as selecting_inside
 
 abbrev pub inputs_at : PacketOrder → List InputView → InputsView
 inputs_at order cursors = record { order = order; cursors = cursors }
@@ -16,15 +11,8 @@ inputs_at order cursors = record { order = order; cursors = cursors }
 abbrev pub mk : List InputView → PacketOrder → Policy → SelectorState → (names : List (List ℕ)) → Target → ℕ → JobState
 mk cursors order policy state names output decided = record { names = names; inputs = inputs_at order cursors; policy = policy; state = state; output = output; decided = decided }
 
-at-here : (xs ys : List InputView) (v d : InputView) (n : ℕ) → length xs ≡ n → get_or (xs ++ v ∷ ys) n d ≡ v
-at-here [] ys v d n e = rw (← e) refl
-at-here (x ∷ xs) ys v d n e = rw (← e) (at-here xs ys v d (length xs) refl)
-
 pub among-same : (cursors : List InputView) (i : ℕ) (h h' : InputView) → IsInput cursors i h → IsInput cursors i h' → h ≡ h'
-among-same cursors i h h' a b =
-    sym (ap (λ (l : List InputView). get_or l i h) a.splits ∙ at-here a.front a.back h h i a.place)
-    ∙ ap (λ (l : List InputView). get_or l i h) b.splits
-    ∙ at-here b.front b.back h' h i b.place
+among-same cursors i h h' a b = let e = sym (get-input cursors i h a) ∙ get-input cursors i h' b in cc
 
 -- ---- more is done of one input
 
@@ -131,16 +119,11 @@ closed-goes us vs s before xs ys h s' order turn policy state names output decid
 -- ---- it ends by a fault
 
 pub wholes_of-join : (us vs : List InputPast) (s : InputPast) → wholes_of (us ++ s ∷ vs) ≡ wholes_of us ++ whole_input s.text ∷ wholes_of vs
-wholes_of-join [] vs s = refl
-wholes_of-join (u ∷ us) vs s = ap (λ (l : List InputItems). whole_input u.text ∷ l) (wholes_of-join us vs s)
+wholes_of-join us vs s = ap (map whole_input) (map-append (λ (p : InputPast). p.text) us (s ∷ vs)) ∙ map-append whole_input (texts us) (s.text ∷ texts vs)
 
 pub cut-here : (rs qs : List InputItems) (r : InputItems) (n : ℕ) (held : Items) → length rs ≡ n → cut_at (rs ++ r ∷ qs) n held ≡ rs ++ record { greatest = r.greatest; items = held; size = r.size } ∷ qs
 cut-here [] qs r n held is = rw (← is) refl
 cut-here (x ∷ xs) qs r n held is = rw (← is) (ap (λ (l : List InputItems). x ∷ l) (cut-here xs qs r (length xs) held refl))
-
-pub wholes_of-length : (us : List InputPast) → length (wholes_of us) ≡ length us
-wholes_of-length [] = refl
-wholes_of-length (u ∷ us) = ap suc (wholes_of-length us)
 
 -- what the output has where the job ends by a fault after what is decided
 pub comes-broken : (ss : List InputPast) (before : List ℕ) (m : JobState) (rs : List InputItems) (d : PacketsDecided ss before m) (new : JobState) (input : ℕ) (fault : Fault) (offset : ℕ)
@@ -173,7 +156,7 @@ risen s h s' fault at steps is = by_phase h.source.phase refl steps
     by_phase (Failed other) e b = absurd (at.sound other e)
 
 pub broken-ends : (us vs : List InputPast) (s : InputPast) (before : List ℕ) (xs ys : List InputView) (h : InputView) (s' : SourceView) (fault : Fault) (order : PacketOrder) (turn : ℕ) (policy : Policy) (state : SelectorState) (names : List (List ℕ)) (output : Target) (decided : ℕ)
-    → ReadLaws order turn xs ys h → IsNext (inputs_at order (xs ++ h ∷ ys)) (next.Read turn) → AreInputsAfter us xs → At s h → AreInputsAfter vs ys → Advances h.source.phase h.source (Err fault) s'
+    → ReadLaws order turn xs ys h → IsNext (inputs_at order (xs ++ h ∷ ys)) (Next.Read turn) → AreInputsAfter us xs → At s h → AreInputsAfter vs ys → Advances h.source.phase h.source (Err fault) s'
     → Steps h.source.phase h.source (Err fault) s'
     → (d : PacketsDecided (us ++ s ∷ vs) before (mk (xs ++ h ∷ ys) order policy state names output decided))
     → WhyBroken d (mk (xs ++ input_after h (Err fault) s' ∷ ys) order policy state names output decided) turn fault s'
@@ -193,7 +176,7 @@ broken-ends us vs s before xs ys h s' fault order turn policy state names output
         among = get-at us vs s turn (stands-length us xs front ∙ laws.here);
         cursor = h;
         cursor_is = get-at xs ys h turn laws.here;
-        next = next-is-of (inputs_at order (xs ++ h ∷ ys)) (next.Read turn) tells;
+        next = next-is-of (inputs_at order (xs ++ h ∷ ys)) (Next.Read turn) tells;
         advances = advances;
         held = record { packets = s.packets; declared = s'.declared; ending = FaultAt fault s'.offset };
         cut = cut.cut;
@@ -204,7 +187,7 @@ broken-ends us vs s before xs ys h s' fault order turn policy state names output
         comes = comes-broken (us ++ s ∷ vs) before m (cut_at (wholes_of (us ++ s ∷ vs)) turn (record { packets = s.packets; declared = s'.declared; ending = FaultAt fault s'.offset })) d new turn fault s'.offset
             (ap (λ (l : List InputItems). final_progress policy (form_to names output) (sequence_of order l))
             (ap (λ (l : List InputItems). cut_at l turn (record { packets = s.packets; declared = s'.declared; ending = FaultAt fault s'.offset })) (wholes_of-join us vs s)
-            ∙ cut-here (wholes_of us) (wholes_of vs) (whole_input s.text) turn (record { packets = s.packets; declared = s'.declared; ending = FaultAt fault s'.offset }) (wholes_of-length us ∙ stands-length us xs front ∙ laws.here))
+            ∙ cut-here (wholes_of us) (wholes_of vs) (whole_input s.text) turn (record { packets = s.packets; declared = s'.declared; ending = FaultAt fault s'.offset }) (length-map (texts us) whole_input ∙ length-map us (λ (p : InputPast). p.text) ∙ stands-length us xs front ∙ laws.here))
             ∙ cut-course)
             refl refl;
       }))
@@ -273,7 +256,7 @@ in-turn ByTime policy is = (cc)
 
 -- the device failed at a report
 report-stops : (us vs : List InputPast) (s : InputPast) (before : List ℕ) (xs ys : List InputView) (h : InputView) (s' : SourceView) (order : PacketOrder) (turn : ℕ) (policy : Policy) (state : SelectorState) (names : List (List ℕ)) (target : Target) (decided : ℕ) (state' : SelectorState) (output' : Target) (fault : DeviceFault)
-    → (laws : ReadLaws order turn xs ys h) → IsNext (inputs_at order (xs ++ h ∷ ys)) (next.Read turn) → AreInputsAfter us xs → At s h → AreInputsAfter vs ys → Advances h.source.phase h.source (Ok false) s' → Steps h.source.phase h.source (Ok false) s'
+    → (laws : ReadLaws order turn xs ys h) → IsNext (inputs_at order (xs ++ h ∷ ys)) (Next.Read turn) → AreInputsAfter us xs → At s h → AreInputsAfter vs ys → Advances h.source.phase h.source (Ok false) s' → Steps h.source.phase h.source (Ok false) s'
     → (d : PacketsDecided (us ++ s ∷ vs) before (mk (xs ++ h ∷ ys) order policy state names target decided))
     → asks_report order policy ≡ true
     → Reports (report_text names (report_at turn (input_after h (Ok false) s') state.tally)) target (Err fault) output'
@@ -297,7 +280,7 @@ report-stops us vs s before xs ys h s' order turn policy state names (Text bytes
     let S : Target → Type 0 = λ t. Stops bytes own (written_to t) in
     let old : JobState = mk (xs ++ h ∷ ys) order policy state names output decided in
     stops-at (us ++ s ∷ vs) before old (mk hs' order policy state' names output' decided) own d (Some (InputEnd turn (kind_of s'.declared) s'.offset))
-    (an_end turn (next-is-of (inputs_at order (xs ++ h ∷ ys)) (next.Read turn) tells) (record {
+    (an_end turn (next-is-of (inputs_at order (xs ++ h ∷ ys)) (Next.Read turn) tells) (record {
       cursor = h;
       among = record { front = xs; back = ys; place = laws.here; splits = refl };
       source = s';
@@ -314,7 +297,7 @@ report-stops us vs s before xs ys h s' order turn policy state names (Text bytes
     (subst S (sym reports.is) reports.appends) (ap failures_to reports.is)
 
 closed-core : (us vs : List InputPast) (s : InputPast) (before : List ℕ) (xs ys : List InputView) (h : InputView) (s' : SourceView) (order : PacketOrder) (turn : ℕ) (policy : Policy) (state : SelectorState) (names : List (List ℕ)) (output : Target) (decided : ℕ) (r : Option JobEnd) (selector' : PolicyState) (output' : Target)
-    → (laws : ReadLaws order turn xs ys h) → IsNext (inputs_at order (xs ++ h ∷ ys)) (next.Read turn) → AreInputsAfter us xs → At s h → AreInputsAfter vs ys → Advances h.source.phase h.source (Ok false) s' → Steps h.source.phase h.source (Ok false) s'
+    → (laws : ReadLaws order turn xs ys h) → IsNext (inputs_at order (xs ++ h ∷ ys)) (Next.Read turn) → AreInputsAfter us xs → At s h → AreInputsAfter vs ys → Advances h.source.phase h.source (Ok false) s' → Steps h.source.phase h.source (Ok false) s'
     → (d : PacketsDecided (us ++ s ∷ vs) before (mk (xs ++ h ∷ ys) order policy state names output decided))
     → (b : Bool) → asks_report order policy ≡ b → ClosesBy b names turn (input_after h (Ok false) s') (sieve (record { policy = policy; state = state }) output) r (sieve selector' output')
     → StepLeaves d r (mk (xs ++ input_after h (Ok false) s' ∷ ys) order policy selector'.state names output' decided)
@@ -348,10 +331,10 @@ closed-core us vs s before xs ys h s' order turn policy state names output decid
 abbrev pub Follows : Result Bool Fault → List (List ℕ) → InputsView → ℕ → PolicyState → Target → Option JobEnd → PolicyState → Target → Type 0
 Follows (Ok true) names inputs i selector old r selector' new = (r ≡ None) × (selector' ≡ selector) × (new ≡ old)
 Follows (Ok false) names inputs i selector old r selector' new = Closes names inputs i (sieve selector old) r (sieve selector' new)
-Follows (Err fault) names inputs i selector old r selector' new = (r ≡ Some (end.FaultIn i fault)) × (selector' ≡ selector) × (new ≡ old)
+Follows (Err fault) names inputs i selector old r selector' new = (r ≡ Some (JobEnd.FaultIn i fault)) × (selector' ≡ selector) × (new ≡ old)
 
 read_input-core : (us vs : List InputPast) (s : InputPast) (before : List ℕ) (xs ys : List InputView) (h : InputView) (s' : SourceView) (a : Result Bool Fault) (order : PacketOrder) (turn : ℕ) (policy : Policy) (state : SelectorState) (names : List (List ℕ)) (output : Target) (decided : ℕ) (r : Option JobEnd) (selector' : PolicyState) (output' : Target)
-    → ReadLaws order turn xs ys h → IsNext (inputs_at order (xs ++ h ∷ ys)) (next.Read turn) → AreInputsAfter us xs → At s h → AreInputsAfter vs ys → Advances h.source.phase h.source a s' → Steps h.source.phase h.source a s'
+    → ReadLaws order turn xs ys h → IsNext (inputs_at order (xs ++ h ∷ ys)) (Next.Read turn) → AreInputsAfter us xs → At s h → AreInputsAfter vs ys → Advances h.source.phase h.source a s' → Steps h.source.phase h.source a s'
     → (d : PacketsDecided (us ++ s ∷ vs) before (mk (xs ++ h ∷ ys) order policy state names output decided))
     → Follows a names (record { order = order; cursors = xs ++ input_after h a s' ∷ ys }) turn (record { policy = policy; state = state }) output r selector' output'
     → StepLeaves d r (mk (xs ++ input_after h a s' ∷ ys) order policy selector'.state names output' decided)
@@ -372,7 +355,7 @@ read_input-core us vs s before xs ys h s' (Err fault) order turn policy state na
 
 -- one input taken out of a step's premises
 pub read_input-leaves : (ss : List InputPast) (before : List ℕ) (cursors : List InputView) (order : PacketOrder) (policy : Policy) (state : SelectorState) (names : List (List ℕ)) (output : Target) (decided : ℕ) (i : ℕ) (a : Result Bool Fault) (inputs' : InputsView) (r : Option JobEnd) (selector' : PolicyState) (output' : Target)
-    → IsNext (inputs_at order cursors) (next.Read i) → ReadsInput (record { order = order; cursors = cursors }) i a inputs' → (d : PacketsDecided ss before (mk cursors order policy state names output decided))
+    → IsNext (inputs_at order cursors) (Next.Read i) → ReadsInput (record { order = order; cursors = cursors }) i a inputs' → (d : PacketsDecided ss before (mk cursors order policy state names output decided))
     → Follows a names inputs' i (record { policy = policy; state = state }) output r selector' output'
     → StepLeaves d r (mk inputs'.cursors inputs'.order policy selector'.state names output' decided)
 read_input-leaves ss before cursors order policy state names output decided i a inputs' r selector' output' tells fetches d follows =
@@ -390,7 +373,7 @@ read_input-leaves ss before cursors order policy state names output decided i a 
     ∙ ap (λ (l : List InputView). record { order = order; cursors = l }) cursors' in
     let F : InputsView → Type 0 = λ f. Follows a names f i (record { policy = policy; state = state }) output r selector' output' in
     let D : List InputView → Type 0 = λ l. PacketsDecided ss before (mk l order policy state names output decided) in
-    let T : List InputView → Type 0 = λ l. IsNext (inputs_at order l) (next.Read i) in
+    let T : List InputView → Type 0 = λ l. IsNext (inputs_at order l) (Next.Read i) in
     let d' = subst D m.splits d in
     let st = stands-split ss m.front m.back h d'.following in
     let new : JobState = mk (m.front ++ h' ∷ m.back) order policy selector'.state names output' decided in

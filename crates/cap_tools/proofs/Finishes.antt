@@ -1,12 +1,8 @@
 -- The step that ends the output.
-use Rattle.cap_tools.proofs.Common.{None, all_ends, ◌≡◌, ℕ, ◌+◌, List, [], ◌∷◌, ◌++◌, map, Option, Some, Result, Ok, Err, refl, sym, ◌∙◌, ap, subst, add-zero, append-nil, option_or, Stops, Captured, DeviceFault, Fault, WriteFailed, first_link_of, items, SinkView, FinishesEmpty, HasPackets, link_or_ethernet, file_start, text, Ended, finish-none, finish-none-writes, finish-some, Report, Event, InputItems, Complete, sequence_of, with_front, PacketOrder, Policy, SelectorState, AsCapture, JobProgress, closing_text, lines_text, end_with, final_text, first_link, Target, Capture, Text, Lines, HasWrittenTo, form_to, written_to, failures_to, EndsOutput, FinishesInto, InputView, Future, InputPast, AreInputsAfter, IsNext, AllEnded, actual_future, first_declared_link, next-is-of, reports_text, JobState, PacketsDecided, CompletesOutput, StopsWriting, progress_at, progress_of, progress_over, wholes_of}
-use Rattle.cap_inputs.specs.declared.inputs.Next.TheVariants as next
-use Rattle.cap_tools.proofs.Nexts.{all-course, stops-at}
-use Rattle.cap_tools.proofs.Splits.{At}
-use Rattle.cap_tools.proofs.Coming.{true-whole, true-wholes, true-fit, true-fits}
-use Rattle.cap_tools.proofs.Laws.{OverAt, over-at}
-use Rattle.cap_tools.proofs.Fetches.{mk, inputs_at}
-use Rattle.cap_tools.proofs.Once.{once-closing}
+use Rattle.cap_tools.proofs.Coming.{true-whole, true-wholes, true-fit, true-fits, At}
+use Rattle.cap_tools.proofs.Common.{None, all_ends, ◌≡◌, ℕ, ◌+◌, List, [], ◌∷◌, ◌++◌, map, Option, Some, Result, Ok, Err, refl, sym, ◌∙◌, ap, subst, add-zero, append-nil, option_or, Stops, Captured, DeviceFault, Fault, WriteFailed, first_link_of, items, SinkView, FinishesEmpty, HasPackets, link_or_ethernet, file_start, text, Ended, finish-none, finish-none-writes, finish-some, Report, Event, InputItems, Complete, sequence_of, with_front, PacketOrder, Policy, SelectorState, AsCapture, JobProgress, closing_text, lines_text, end_with, final_text, first_link, Target, Capture, Text, Lines, HasWrittenTo, form_to, written_to, failures_to, EndsOutput, FinishesInto, InputView, Future, InputPast, AreInputsAfter, IsNext, AllEnded, actual_future, first_declared_link, next-is-of, reports_text, JobState, PacketsDecided, EndLeaves, end_of_write, StopsWriting, progress_at, progress_of, progress_over, wholes_of, Next}
+use Rattle.cap_tools.proofs.{Fetches.mk, Fetches.inputs_at, Laws.OverAt, Laws.over-at}
+use Rattle.cap_tools.proofs.Nexts.{all-course, stops-at, once-closing}
 
 -- all events came
 over-all : (ss : List InputPast) (before : List ℕ) (cursors : List InputView) (order : PacketOrder) (policy : Policy) (state : SelectorState) (names : List (List ℕ)) (output : Target) (decided : ℕ) → OverAt order cursors → (d : PacketsDecided ss before (mk cursors order policy state names output decided))
@@ -61,10 +57,6 @@ finish-device before names (q ∷ qs) rs (Capture sink) new link has finishes =
 finish-device before names ps rs (Text bytes failures room) new link has finishes = ap failures_to finishes.1
 finish-device before names ps rs (Lines options bytes failures room) new link has finishes = ap failures_to finishes.1
 
-abbrev pub FinishLeaves : {ss : List InputPast} {before : List ℕ} {old : JobState} → PacketsDecided ss before old → Result (Unit {0}) DeviceFault → JobState → Type 0
-FinishLeaves {ss} {before} {old} d (Ok done) new = CompletesOutput (wholes_of ss) d new Complete
-FinishLeaves {ss} {before} {old} d (Err fault) new = StopsWriting d new
-
 -- the device failed at the file header of a capture, which has no packets then
 record StopsEmpty (before : List ℕ) (sink : SinkView) (packets : List Captured) (link : Option ℕ) (new : Target) : Type 0 where
   pub none : packets ≡ []
@@ -89,7 +81,7 @@ finish-empty before sink [] link fault new has finishes =
 finish-stops : (ss : List InputPast) (before : List ℕ) (names : List (List ℕ)) (target : Target) (cursors : List InputView) (order : PacketOrder) (policy : Policy) (state : SelectorState) (decided : ℕ) (fault : DeviceFault) (new : JobState)
     → (d : PacketsDecided ss before (mk cursors order policy state names target decided))
     → sequence_of order (wholes_of ss) ≡ record { events = d.events; end = Complete }
-    → first_link (wholes_of ss) ≡ first_declared_link cursors → IsNext (inputs_at order cursors) next.Finish → new.inputs ≡ record { order = order; cursors = cursors } → EndsOutput (first_declared_link cursors) target (Err fault) new.output
+    → first_link (wholes_of ss) ≡ first_declared_link cursors → IsNext (inputs_at order cursors) Next.Finish → new.inputs ≡ record { order = order; cursors = cursors } → EndsOutput (first_declared_link cursors) target (Err fault) new.output
     → StopsWriting d new
 finish-stops ss before names (Text bytes failures room) cursors order policy state decided fault new d all link tells inputs finishes = absurd (let e = finishes.0 in cc)
 finish-stops ss before names (Lines options bytes failures room) cursors order policy state decided fault new d all link tells inputs finishes = absurd (let e = finishes.0 in cc)
@@ -98,13 +90,13 @@ finish-stops ss before names (Capture sink) cursors order policy state decided f
     let bytes : List ℕ = file_start sink.format (link_or_ethernet (first_declared_link cursors)) in
     let closing_is : bytes ≡ closing_text (AsCapture sink.format) (first_link (wholes_of ss)) d.packets =
     ap (λ (o : Option ℕ). file_start sink.format (link_or_ethernet o)) (sym link) ∙ ap (closing_text (AsCapture sink.format) (first_link (wholes_of ss))) (sym empty.none) in
-    stops-at ss before (mk cursors order policy state names (Capture sink) decided) new bytes d None (all_ends (next-is-of (inputs_at order cursors) next.Finish tells) inputs)
+    stops-at ss before (mk cursors order policy state names (Capture sink) decided) new bytes d None (all_ends (next-is-of (inputs_at order cursors) Next.Finish tells) inputs)
     (record { is = all; goes = ap (λ (w : JobProgress). w.end) d.progress }, closing_is ∙ ap (λ (w : JobProgress). closing_text (AsCapture sink.format) (first_link (wholes_of ss)) w.packets) (sym d.progress))
     empty.stops empty.failures
 
 pub finish-leaves : (ss : List InputPast) (before : List ℕ) (cursors : List InputView) (order : PacketOrder) (policy : Policy) (state : SelectorState) (names : List (List ℕ)) (output : Target) (decided : ℕ) (r : Result (Unit {0}) DeviceFault) (new : JobState)
-    → IsNext (inputs_at order cursors) next.Finish → new.inputs ≡ record { order = order; cursors = cursors } → EndsOutput (first_declared_link cursors) output r new.output → (d : PacketsDecided ss before (mk cursors order policy state names output decided))
-    → FinishLeaves d r new
+    → IsNext (inputs_at order cursors) Next.Finish → new.inputs ≡ record { order = order; cursors = cursors } → EndsOutput (first_declared_link cursors) output r new.output → (d : PacketsDecided ss before (mk cursors order policy state names output decided))
+    → EndLeaves d (end_of_write r) new
 finish-leaves ss before cursors order policy state names output decided (Ok done) new tells inputs finishes d =
     let at : OverAt order cursors = over-at order cursors tells in
     let m : JobState = mk cursors order policy state names output decided in

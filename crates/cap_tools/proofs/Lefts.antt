@@ -1,8 +1,7 @@
 -- Each step leaves less to do, and is paid by what was read.
-use Rattle.cap_tools.proofs.Common.{◌≡◌, ℕ, ◌+◌, ◌*◌, ◌^◌, ◌<◌, ◌≤◌, suc, Bool, true, false, List, [], ◌∷◌, ◌++◌, length, Result, Ok, Err, refl, sym, ◌∙◌, ap, arith, length-append, slice_set, Fault, SourceView, Phase, Reading, Ended, Failed, Steps, end_offset, phase_after, PacketOrder, InTurn, ByTime, InputView, InputsView, IsInput, MarksDecided, ReadSteps, input_after, input_after_decided, input_steps_left, is_packet_found, steps_left_in, steps_owed, with_cursor, owed_by, steps_left, IsNext, IsNextIn, IsOpen, set-here, most_turns, reads_of, IsPaid, steps_owed_in_all, owed_in}
-use Rattle.std.specs.Prelude.{OnOk}
-use Rattle.cap_inputs.specs.declared.inputs.Next.TheVariants as next
+use Rattle.cap_tools.proofs.Common.{◌≡◌, ℕ, ◌+◌, ◌*◌, ◌^◌, ◌<◌, ◌≤◌, suc, Bool, true, false, List, [], ◌∷◌, ◌++◌, length, Result, Ok, Err, refl, sym, ◌∙◌, ap, arith, length-append, slice_set, Fault, SourceView, Phase, Reading, Ended, Failed, Steps, end_offset, phase_after, PacketOrder, InTurn, ByTime, InputView, InputsView, IsInput, MarksDecided, ReadSteps, input_after, input_after_decided, input_steps_left, is_packet_found, steps_left_in, steps_owed, with_cursor, owed_by, steps_left, IsNext, IsNextIn, IsOpen, set-here, most_turns, reads_of, IsPaid, steps_owed_in_all, owed_in, Option, None, Some, most_steps, HasFewTurns, OutputView, Preparing, JobView, StepReads, reads_on, decides_one, leaves_one, reads_nothing, Next, IsCounted}
 use Rattle.cap_tools.proofs.Fetches.{among-same}
+use Rattle.std.specs.Prelude.{OnOk}
 
 -- ---- one input for another
 
@@ -53,7 +52,7 @@ owes-one (Failed fault) on = refl
 unready-owes : (h : InputView) → Unready h → owed_by h ≡ 1
 unready-owes h un = ap (λ (b : Bool). steps_owed b h.source.phase) un.waits ∙ owes-one h.source.phase un.on
 
-to-read : (inputs : InputsView) (i : ℕ) (h : InputView) → IsNext inputs (next.Read i) → IsInput inputs.cursors i h → Unready h
+to-read : (inputs : InputsView) (i : ℕ) (h : InputView) → IsNext inputs (Next.Read i) → IsInput inputs.cursors i h → Unready h
 to-read inputs i h tells a = by_order inputs.order tells
   where
     same-as : (cursor : InputView) → IsInput inputs.cursors i cursor → cursor.waiting ≡ false → IsOpen cursor → Unready h
@@ -61,12 +60,12 @@ to-read inputs i h tells a = by_order inputs.order tells
         let same = among-same inputs.cursors i h cursor a among in
         record { waits = ap (λ (v : InputView). v.waiting) same ∙ waits; on = λ e. on (sym (ap (λ (v : InputView). v.source.phase) same) ∙ e) }
 
-    by_order : (order : PacketOrder) → IsNextIn order inputs.cursors (next.Read i) → Unready h
+    by_order : (order : PacketOrder) → IsNextIn order inputs.cursors (Next.Read i) → Unready h
     by_order InTurn tells = same-as tells.cursor tells.among tells.waits tells.unended
     by_order ByTime tells = same-as tells.cursor tells.among tells.waits tells.unended
 
 -- the packet of an input that is to be decided waits
-pub to-decide : (order : PacketOrder) (cursors : List InputView) (i : ℕ) (h : InputView) → IsNextIn order cursors (next.Decide i) → IsInput cursors i h → h.waiting ≡ true
+pub to-decide : (order : PacketOrder) (cursors : List InputView) (i : ℕ) (h : InputView) → IsNextIn order cursors (Next.Decide i) → IsInput cursors i h → h.waiting ≡ true
 to-decide InTurn cursors i h tells a = ap (λ (v : InputView). v.waiting) (among-same cursors i h tells.cursor a tells.among) ∙ tells.waits
 to-decide ByTime cursors i h tells a = ap (λ (v : InputView). v.waiting) (among-same cursors i h tells.1.cursor a tells.1.among) ∙ tells.1.waits
 
@@ -78,7 +77,7 @@ following-owes (Failed fault) = omega arith
 
 -- ---- a packet is decided
 
-pub decided-on : (inputs inputs' : InputsView) (i : ℕ) → IsNext inputs (next.Decide i) → MarksDecided inputs i inputs' → (steps_left inputs' < steps_left inputs) × IsPaid inputs inputs'
+pub decided-on : (inputs inputs' : InputsView) (i : ℕ) → IsNext inputs (Next.Decide i) → MarksDecided inputs i inputs' → (steps_left inputs' < steps_left inputs) × IsPaid inputs inputs'
 decided-on inputs inputs' i tells s =
     let cursors' : List InputView = slice_set inputs.cursors i (input_after_decided s.cursor) in
     let one = exchanged inputs.cursors i s.cursor (input_after_decided s.cursor) s.among in
@@ -119,7 +118,7 @@ pub record ReadOn (inputs inputs' : InputsView) (r : Result Bool Fault) : Type 0
   pub less : Goes r → steps_left inputs' < steps_left inputs
   pub paid : Goes r → IsPaid inputs inputs'
 
-pub read-on : (inputs inputs' : InputsView) (i : ℕ) (r : Result Bool Fault) → IsNext inputs (next.Read i) → ReadSteps inputs i r inputs' → ReadOn inputs inputs' r
+pub read-on : (inputs inputs' : InputsView) (i : ℕ) (r : Result Bool Fault) → IsNext inputs (Next.Read i) → ReadSteps inputs i r inputs' → ReadOn inputs inputs' r
 read-on inputs inputs' i r tells f =
     by_result r (gave f.cursor.source f.source r f.steps) (exchanged inputs.cursors i f.cursor (input_after f.cursor r f.source) f.among) (ap (steps_owed (is_packet_found r)) f.phase) (ap steps_left f.is) (ap steps_owed_in_all f.is) (ap most_turns f.is)
   where
@@ -155,3 +154,23 @@ read-on inputs inputs' i r tells f =
         let given = g.given in
         let rest = ex.left in
         record { kept = omega (arith, given, rest, new, one, left); less = λ goes. absurd goes; paid = λ goes. absurd goes }
+
+pub counted-kept : (done : Option ℕ) (turns left left' : ℕ) → left' ≤ left → IsCounted done turns left → IsCounted done turns left'
+counted-kept None turns left left' less is = omega (arith, less, is)
+counted-kept (Some status) turns left left' less is = is
+
+pub counted-turns : (done : Option ℕ) (turns left : ℕ) → IsCounted done turns left → turns ≤ most_steps + 1
+counted-turns None turns left is = omega (arith, is)
+counted-turns (Some status) turns left is = is.0
+
+pub few-kept : (done : Option ℕ) (turns : ℕ) (inputs inputs' : InputsView) → IsPaid inputs inputs' → HasFewTurns done turns inputs → HasFewTurns done turns inputs'
+few-kept None turns inputs inputs' paid upper_bound = omega (arith, paid, upper_bound)
+few-kept (Some status) turns inputs inputs' paid upper_bound = tt
+
+-- a step reads what it read, whatever becomes of its messages and of the count of steps
+pub reads-kept : (tells goes : Bool) (old mid : JobView) (p : Option Preparing) (err : OutputView) (turns : ℕ) (ended : Option ℕ) → StepReads tells goes old mid
+    → StepReads tells goes old (record { preparing = p; state = mid.state; programs = mid.programs; err = err; turns = turns; done = ended })
+reads-kept tells goes old mid p err turns ended (reads_on i answer on reads) = reads_on i answer on (record { next = reads.next; fetches = reads.fetches; exact = reads.exact; decided = reads.decided; output = reads.output; programs = reads.programs })
+reads-kept tells goes old mid p err turns ended (decides_one i one settles more) = decides_one i (record { next = one.next; cursor = one.cursor; among = one.among; packet = one.packet; held = one.held; programs = one.programs; cost = one.cost }) settles more
+reads-kept tells goes old mid p err turns ended (leaves_one i ends one inputs same) = leaves_one i ends (record { next = one.next; cursor = one.cursor; among = one.among; packet = one.packet; held = one.held; programs = one.programs; cost = one.cost }) inputs same
+reads-kept tells goes old mid p err turns ended (reads_nothing ends none) = reads_nothing ends (record { inputs = none.inputs; decided = none.decided; programs = none.programs })

@@ -1,14 +1,8 @@
 -- The programs of a job stay those for what is asked, whichever of them run.
-use Rattle.cap_tools.proofs.Common.{◌≡◌, ℕ, zero, suc, List, [], ◌∷◌, map, true, false, if◌then◌else◌, Option, None, Some, refl, sym, ◌∙◌, ap, subst, Captured, Insn, Content, Expression, empty, truth, Link, all_links, AreMade, ran_at, ran_if, Rule, by_reading, by_answer, AreNew, place_by, spent_on, Policy, Edit, Filter, KeepAll, Count, is_too_many, AreFor, HavePrograms, SelectorView, spent_by, spent_by_verdict, Spends}
+use Rattle.cap_tools.proofs.Common.{◌≡◌, ℕ, zero, suc, List, [], ◌∷◌, map, true, false, if◌then◌else◌, Option, None, Some, refl, sym, ◌∙◌, ap, subst, Captured, Insn, Content, empty, truth, all_links, AreMade, ran_at, ran_if, Rule, by_reading, by_answer, AreNew, place_by, spent_on, Policy, Edit, Filter, KeepAll, Count, is_too_many, AreFor, HavePrograms, SelectorView, spent_by, spent_by_verdict, Spends}
+use Rattle.cap_filter.proofs.Filters.{made-ran}
 
 -- a run leaves a program's instructions
-made-ran : (e : Expression) (links : List Link) (programs : List Content) (i : ℕ) (p : Captured) → AreMade e links programs → AreMade e links (ran_at i p programs)
-made-ran e [] [] i p made = made
-made-ran e [] (x ∷ xs) i p made = absurd made
-made-ran e (link ∷ links) [] i p made = absurd made
-made-ran e (link ∷ links) (x ∷ xs) zero p made = (record { valid = made.0.valid; right = made.0.right }, made.1)
-made-ran e (link ∷ links) (x ∷ xs) (suc i) p made = (made.0, made-ran e links xs i p made.1)
-
 insns-ran : (programs : List Content) (i : ℕ) (p : Captured) → map (λ (x : Content). x.insns) (ran_at i p programs) ≡ map (λ (x : Content). x.insns) programs
 insns-ran [] i p = refl
 insns-ran (x ∷ xs) zero p = refl

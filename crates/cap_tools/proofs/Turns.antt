@@ -1,17 +1,10 @@
 -- A turn of the loop: one step, or two.
-use Rattle.cap_tools.proofs.Common.{◌≡◌, ◌⊎◌, inl, inr, ℕ, ◌+◌, ◌<◌, ◌≤◌, Bool, true, false, List, Option, None, Some, IsTrue, refl, sym, ◌∙◌, ap, arith, subst, OutputView, IsTold, InputsView, steps_left, next-is-of, Call, RunResult, CommandRuns, Assignment, JobEnd, JobState, StepGives, EndsJob, HavePrograms, Preparing, JobView, Turn, end_message, end_status, room_by, PreparesBy, StepReads, StepReadsBy, job_left, IsLight, reads_nothing, most_turns, HasFewTurns, IsCounted, IsSound, IsStep, ending, IsNext}
-use Rattle.cap_inputs.specs.Inputs.{next_of}
-use Rattle.cap_inputs.specs.declared.inputs.Next.{Next}
-use Rattle.cap_inputs.specs.declared.inputs.Next.TheVariants as next
-use Rattle.cap_tools.specs.declared.job.Turn.TheVariants as turn
-use Rattle.cap_tools.specs.declared.step.JobEnd.TheVariants as end
-use Rattle.cap_tools.specs.Commands.{preparing_left}
-use Rattle.cap_tools.specs.inside.Commands.{MakesStep, MakesSteps, MakesStepUnless, is_read, one_step, two_steps, makes, rests}
-use Rattle.cap_tools.specs.inside.Step.{IsUncounted, MayCount}
-use Rattle.cap_tools.proofs.Calls.{IsFilled, IsLeft, under-done}
-use Rattle.cap_tools.proofs.Runs.{Begun, Under, under-more}
-use Rattle.cap_tools.proofs.Kept.{reads-kept}
+use Rattle.cap_tools.proofs.Common.{◌≡◌, ◌⊎◌, inl, inr, ℕ, ◌+◌, ◌<◌, ◌≤◌, Bool, true, false, List, Option, None, Some, IsTrue, refl, sym, ◌∙◌, ap, arith, subst, OutputView, IsTold, InputsView, steps_left, next-is-of, Call, RunResult, CommandRuns, Assignment, JobEnd, JobState, StepGives, EndsJob, HavePrograms, Preparing, JobView, Turn, end_message, end_status, room_by, PreparesBy, StepReads, StepReadsBy, IsLight, reads_nothing, most_turns, HasFewTurns, IsCounted, IsSound, IsStep, ending, IsNext, next_of, Next, MakesStep, is_read, makes, rests}
+use Rattle.cap_tools.proofs.Lefts.{reads-kept}
+use Rattle.cap_tools.proofs.Runs.{IsFilled, IsLeft, under-done, Begun, Under, under-more}
 use Rattle.cap_tools.proofs.Weights.{is-light}
+use Rattle.cap_tools.specs.Commands.{preparing_left}
+use Rattle.cap_tools.specs.inside.Jobs.{MakesSteps, MakesStepUnless, one_step, two_steps, IsUncounted, MayCount}
 
 -- ---- a step that was made may be counted
 
@@ -50,7 +43,7 @@ reads-prepared tells goes old new prepared reads =
     subst Q (sym prepared) reads
 
 pub counted-more : (inputs_tell output_tells tells : Bool) (old mid : JobView) → IsUncounted inputs_tell output_tells old None mid
-    → MakesStep inputs_tell output_tells tells old turn.More (record { preparing = mid.preparing; state = mid.state; programs = mid.programs; err = mid.err; turns = mid.turns + 1; done = mid.done })
+    → MakesStep inputs_tell output_tells tells old Turn.More (record { preparing = mid.preparing; state = mid.state; programs = mid.programs; err = mid.err; turns = mid.turns + 1; done = mid.done })
 counted-more inputs_tell output_tells tells old mid is =
     let step = is.step in
     let none : mid.preparing ≡ None = step.preparing ∙ is.prepared in
@@ -58,7 +51,7 @@ counted-more inputs_tell output_tells tells old mid is =
     record {
       after = λ status some. absurd (let both = sym is.undone ∙ some in cc both);
       exact = λ ti to undone prepared. (step.err, λ ss before d. record { goes = step.exact ti to ss before d.packets; programs = step.sound });
-      prepares = prepares-nothing output_tells tells old turn.More new is.prepared;
+      prepares = prepares-nothing output_tells tells old Turn.More new is.prepared;
       keeps = record {
         prepared = none;
         done = step.done refl ∙ is.undone;
@@ -77,18 +70,18 @@ counted-more inputs_tell output_tells tells old mid is =
     }
 
 status-small : (e : JobEnd) → end_status e ≤ 2
-status-small end.Complete = omega arith
-status-small (end.FaultIn input fault) = omega arith
-status-small end.OutputFailed = omega arith
+status-small JobEnd.Complete = omega arith
+status-small (JobEnd.FaultIn input fault) = omega arith
+status-small JobEnd.OutputFailed = omega arith
 
-clean-status : (e : JobEnd) → end_status e ≡ 0 → e ≡ end.Complete
-clean-status end.Complete is = refl
-clean-status (end.FaultIn input fault) is = (cc)
-clean-status end.OutputFailed is = (cc)
+clean-status : (e : JobEnd) → end_status e ≡ 0 → e ≡ JobEnd.Complete
+clean-status JobEnd.Complete is = refl
+clean-status (JobEnd.FaultIn input fault) is = (cc)
+clean-status JobEnd.OutputFailed is = (cc)
 
 -- a step that ended the job, and its report
 step-ends : (inputs_tell output_tells tells : Bool) (old mid new : JobView) (e : JobEnd) → IsTrue inputs_tell → IsTrue output_tells → IsStep inputs_tell output_tells old (Some e) mid → new ≡ ending e new.err mid
-    → IsTold tells mid.err (end_message mid.state.names mid.state.inputs.cursors e) new.err → (e ≡ end.Complete → new.err ≡ mid.err) → EndsJob tells old (end_status e) new
+    → IsTold tells mid.err (end_message mid.state.names mid.state.inputs.cursors e) new.err → (e ≡ JobEnd.Complete → new.err ≡ mid.err) → EndsJob tells old (end_status e) new
 step-ends inputs_tell output_tells tells old mid new e ti to step is exact quiet =
     let M : JobState → Type 0 = λ m. StepGives old.state (Some e) m in
     let N : List (List ℕ) → Type 0 = λ l. IsTold tells mid.err (end_message l mid.state.inputs.cursors e) new.err in
@@ -104,7 +97,7 @@ step-ends inputs_tell output_tells tells old mid new e ti to step is exact quiet
     }
 
 pub counted-end : (inputs_tell output_tells tells : Bool) (old mid new : JobView) (e : JobEnd) → IsUncounted inputs_tell output_tells old (Some e) mid → new ≡ ending e new.err mid
-    → IsTold tells mid.err (end_message mid.state.names mid.state.inputs.cursors e) new.err → (e ≡ end.Complete → new.err ≡ mid.err) → MakesStep inputs_tell output_tells tells old (turn.Done (end_status e)) new
+    → IsTold tells mid.err (end_message mid.state.names mid.state.inputs.cursors e) new.err → (e ≡ JobEnd.Complete → new.err ≡ mid.err) → MakesStep inputs_tell output_tells tells old (Turn.Done (end_status e)) new
 counted-end inputs_tell output_tells tells old mid new e is new_is told quiet =
     let step = is.step in
     let L : JobView → Type 0 = λ j. IsLight j.state in
@@ -114,7 +107,7 @@ counted-end inputs_tell output_tells tells old mid new e is new_is told quiet =
     record {
       after = λ status some. absurd (let both = sym is.undone ∙ some in cc both);
       exact = λ ti to undone prepared. step-ends inputs_tell output_tells tells old mid new e ti to step new_is told quiet;
-      prepares = prepares-nothing output_tells tells old (turn.Done (end_status e)) new is.prepared;
+      prepares = prepares-nothing output_tells tells old (Turn.Done (end_status e)) new is.prepared;
       keeps = record {
         prepared = ap (λ (j : JobView). j.preparing) new_is ∙ step.preparing ∙ is.prepared;
         done = ap (λ (j : JobView). j.done) new_is;
@@ -139,14 +132,14 @@ counted-status (Some ended) turns left status is counted =
     (subst S is counted).1
 
 -- a step after the end
-pub after-end : (inputs_tell output_tells tells : Bool) (old j : JobView) (status : ℕ) → old ≡ j → IsSound old → old.done ≡ Some status → j.preparing ≡ None → MakesStep inputs_tell output_tells tells j (turn.Done status) j
+pub after-end : (inputs_tell output_tells tells : Bool) (old j : JobView) (status : ℕ) → old ≡ j → IsSound old → old.done ≡ Some status → j.preparing ≡ None → MakesStep inputs_tell output_tells tells j (Turn.Done status) j
 after-end inputs_tell output_tells tells old j status same was ended none =
     let sound = subst IsSound same was in
     let done : j.done ≡ Some status = sym (ap (λ (v : JobView). v.done) same) ∙ ended in
     record {
-      after = λ s some. (ap turn.Done (let same = sym done ∙ some in cc same), refl);
+      after = λ s some. (ap Turn.Done (let same = sym done ∙ some in cc same), refl);
       exact = λ ti to undone prepared. absurd (let both = sym done ∙ undone in cc both);
-      prepares = prepares-nothing output_tells tells j (turn.Done status) j none;
+      prepares = prepares-nothing output_tells tells j (Turn.Done status) j none;
       keeps = record {
         prepared = none;
         done = done;
@@ -166,19 +159,19 @@ after-end inputs_tell output_tells tells old j status same was ended none =
 
 -- ---- a read, if it is next, and then what is next
 
-pub undone-on : (reads inputs_tell output_tells tells : Bool) (old new : JobView) → MakesStepUnless reads inputs_tell output_tells tells old turn.More new → old.preparing ≡ None → old.done ≡ None → (new.preparing ≡ None) × (new.done ≡ None)
+pub undone-on : (reads inputs_tell output_tells tells : Bool) (old new : JobView) → MakesStepUnless reads inputs_tell output_tells tells old Turn.More new → old.preparing ≡ None → old.done ≡ None → (new.preparing ≡ None) × (new.done ≡ None)
 undone-on reads inputs_tell output_tells tells old new (makes step) prepared undone = (step.keeps.prepared, step.keeps.done)
 undone-on reads inputs_tell output_tells tells old new (rests next more same) prepared undone = (ap (λ (j : JobView). j.preparing) same ∙ prepared, ap (λ (j : JobView). j.done) same ∙ undone)
 
-pub step-ended : (inputs_tell output_tells tells : Bool) (old new : JobView) (status : ℕ) → MakesStepUnless false inputs_tell output_tells tells old (turn.Done status) new → MakesSteps inputs_tell output_tells tells old (turn.Done status) new
+pub step-ended : (inputs_tell output_tells tells : Bool) (old new : JobView) (status : ℕ) → MakesStepUnless false inputs_tell output_tells tells old (Turn.Done status) new → MakesSteps inputs_tell output_tells tells old (Turn.Done status) new
 step-ended inputs_tell output_tells tells old new status (makes step) = one_step step
 step-ended inputs_tell output_tells tells old new status (rests next more same) = absurd (cc more)
 
-pub steps-made : (inputs_tell output_tells tells : Bool) (old between : JobView) (r : Turn) (new : JobView) → MakesStepUnless false inputs_tell output_tells tells old turn.More between
+pub steps-made : (inputs_tell output_tells tells : Bool) (old between : JobView) (r : Turn) (new : JobView) → MakesStepUnless false inputs_tell output_tells tells old Turn.More between
     → MakesStepUnless true inputs_tell output_tells tells between r new → MakesSteps inputs_tell output_tells tells old r new
 steps-made inputs_tell output_tells tells old between r new (makes step) (makes then) = two_steps between step then
 steps-made inputs_tell output_tells tells old between r new (makes step) (rests next more same) =
-    let N : JobView → Type 0 = λ j. MakesStep inputs_tell output_tells tells old turn.More j in
+    let N : JobView → Type 0 = λ j. MakesStep inputs_tell output_tells tells old Turn.More j in
     let T : Turn → Type 0 = λ t. MakesStep inputs_tell output_tells tells old t new in
     one_step (subst T (sym more) (subst N (sym same) step))
 steps-made inputs_tell output_tells tells old between r new (rests next more same) (makes then) =
@@ -192,18 +185,18 @@ steps-made inputs_tell output_tells tells old between r new (rests next more sam
 pub told-read : (inputs : InputsView) (r : Next) (reads : Bool) → IsNext inputs r → is_read r ≡ reads → is_read (next_of inputs) ≡ reads
 told-read inputs r reads tells is = ap is_read (next-is-of inputs r tells) ∙ is
 
-pub told-no-read : (inputs : InputsView) (r : Next) → IsNext inputs r → ((input : ℕ) × (r ≡ next.Decide input)) ⊎ (r ≡ next.Finish) → is_read (next_of inputs) ≡ false
+pub told-no-read : (inputs : InputsView) (r : Next) → IsNext inputs r → ((input : ℕ) × (r ≡ Next.Decide input)) ⊎ (r ≡ Next.Finish) → is_read (next_of inputs) ≡ false
 told-no-read inputs r tells (inl decides) = told-read inputs r false tells (ap is_read decides.1)
 told-no-read inputs r tells (inr finishes) = told-read inputs r false tells (ap is_read finishes)
 
 -- ---- the loop, over one step or two
 
-pub steps-more : (inputs_tell output_tells tells : Bool) (asked : Assignment) (call : Call) (job new : JobView) → IsTrue inputs_tell → IsTrue output_tells → Begun asked call → MakesSteps inputs_tell output_tells tells job turn.More new → Under asked call job → Under asked call new
+pub steps-more : (inputs_tell output_tells tells : Bool) (asked : Assignment) (call : Call) (job new : JobView) → IsTrue inputs_tell → IsTrue output_tells → Begun asked call → MakesSteps inputs_tell output_tells tells job Turn.More new → Under asked call job → Under asked call new
 steps-more inputs_tell output_tells tells asked call job new ti to begun (one_step step) under = under-more inputs_tell output_tells tells asked call job new ti to begun step under
 steps-more inputs_tell output_tells tells asked call job new ti to begun (two_steps between step then) under =
     under-more inputs_tell output_tells tells asked call between new ti to begun then (under-more inputs_tell output_tells tells asked call job between ti to begun step under)
 
-pub steps-done : (inputs_tell output_tells : Bool) (asked : Assignment) (call : Call) (job new : JobView) (r : RunResult) → IsTrue inputs_tell → IsTrue output_tells → Begun asked call → IsFilled call r → MakesSteps inputs_tell output_tells call.tells job (turn.Done r.status) new → IsLeft new r → Under asked call job → CommandRuns asked call r
+pub steps-done : (inputs_tell output_tells : Bool) (asked : Assignment) (call : Call) (job new : JobView) (r : RunResult) → IsTrue inputs_tell → IsTrue output_tells → Begun asked call → IsFilled call r → MakesSteps inputs_tell output_tells call.tells job (Turn.Done r.status) new → IsLeft new r → Under asked call job → CommandRuns asked call r
 steps-done inputs_tell output_tells asked call job new r ti to begun filled (one_step step) left under = under-done inputs_tell output_tells asked call job new r ti to begun filled step left under
 steps-done inputs_tell output_tells asked call job new r ti to begun filled (two_steps between step then) left under =
     under-done inputs_tell output_tells asked call between new r ti to begun filled then left (under-more inputs_tell output_tells call.tells asked call job between ti to begun step under)
@@ -212,10 +205,10 @@ pub steps-room : (inputs_tell output_tells tells : Bool) (old : JobView) (r : Tu
 steps-room inputs_tell output_tells tells old r new (one_step step) = step.keeps.room
 steps-room inputs_tell output_tells tells old r new (two_steps between step then) = then.keeps.room ∙ step.keeps.room
 
-pub steps-undone : (inputs_tell output_tells tells : Bool) (old new : JobView) → MakesSteps inputs_tell output_tells tells old turn.More new → new.done ≡ None
+pub steps-undone : (inputs_tell output_tells tells : Bool) (old new : JobView) → MakesSteps inputs_tell output_tells tells old Turn.More new → new.done ≡ None
 steps-undone inputs_tell output_tells tells old new (one_step step) = step.keeps.done
 steps-undone inputs_tell output_tells tells old new (two_steps between step then) = then.keeps.done
 
-pub steps-status : (inputs_tell output_tells tells : Bool) (old new : JobView) (status : ℕ) → MakesSteps inputs_tell output_tells tells old (turn.Done status) new → status ≤ 2
+pub steps-status : (inputs_tell output_tells tells : Bool) (old new : JobView) (status : ℕ) → MakesSteps inputs_tell output_tells tells old (Turn.Done status) new → status ≤ 2
 steps-status inputs_tell output_tells tells old new status (one_step step) = step.keeps.status
 steps-status inputs_tell output_tells tells old new status (two_steps between step then) = then.keeps.status

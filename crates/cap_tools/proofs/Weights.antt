@@ -1,7 +1,6 @@
 -- What a job holds is bounded.
 use Rattle.cap_tools.proofs.Common.{◌≡◌, ℕ, ◌+◌, ◌*◌, ◌≤◌, List, [], ◌∷◌, ◌++◌, length, map, Bool, Result, sym, arith, subst, All, Fault, Declared, Nothing, PcapFile, PcapngFile, most_in_unit, SourceView, Phase, Reading, Ended, Failed, SectionFits, Steps, Writing, HasFewOutputInterfaces, Target, Capture, Text, Lines, target_at, InputView, InputsView, IsInput, ReadSteps, MarksDecided, input_after, input_after_decided, HasFewMarks, FreshInput, fresh_view, JobState, IsBounded, IsLight, IsSmall, declared_weight, inputs_weight, names_weight, target_weight}
 use Rattle.std.proofs.lemmas.List.Elements.{All-nil, All-cons, All-head, All-tail, All-set}
-use Rattle.cap_process.specs.declared.output.Writing.TheVariants as writing
 
 -- ---- one input for another
 
@@ -46,9 +45,9 @@ small-first [] = All-nil IsSmall
 small-first (o ∷ os) = All-cons IsSmall (fresh_view o) (map fresh_view os) (record { held = omega arith; block = omega arith; section = tt }) (small-first os)
 
 pub few-first : (w : Writing) (written : List ℕ) (failures room : ℕ) → HasFewOutputInterfaces (target_at w written failures room)
-few-first (writing.Capture format) written failures room = record { count = omega arith; names = All-nil _ }
-few-first writing.Text written failures room = tt
-few-first (writing.Lines options) written failures room = tt
+few-first (Writing.Capture format) written failures room = record { count = omega arith; names = All-nil _ }
+few-first Writing.Text written failures room = tt
+few-first (Writing.Lines options) written failures room = tt
 
 -- ---- the weight
 

@@ -1,26 +1,22 @@
 -- The bounds of a step, whatever the devices: what it reads, how many steps were made, and what the
 -- job holds.
-use Rattle.std.specs.Prelude.{◌≡◌, ℕ, ◌+◌, ◌*◌, ◌≤◌, ◌&&◌, Bool, IsTrue, true, false, List, [], ◌∷◌, length, map, Some, Result, Ok, Err}
 use Rattle.std.specs.List.{All, slice_get}
-use Rattle.cap_octet.specs.declared.fault.Fault.{Fault}
+use Rattle.std.specs.Prelude.{◌≡◌, ℕ, ◌+◌, ◌*◌, ◌≤◌, ◌&&◌, Bool, IsTrue, true, false, List, [], ◌∷◌, length, map, Some, Result, Ok, Err}
+use Rattle.cap_octet.specs.{Packet.Captured, declared.fault.Fault.Fault}
 use Rattle.cap_io.specs.Capture.{Declared, PcapngFile}
-use Rattle.cap_io.specs.Reading.{most_in_unit}
-use Rattle.cap_io.specs.Source.{SectionFits, end_offset}
-use Rattle.cap_io.specs.Text.{most_output_interfaces}
+use Rattle.cap_io.specs.{Reading.most_in_unit, Source.SectionFits, Source.end_offset, Text.most_output_interfaces}
 use Rattle.cap_process.specs.Output.{Target, Capture, HasFewOutputInterfaces}
-use Rattle.cap_inputs.specs.declared.inputs.Next.TheVariants as next
-use Rattle.cap_inputs.specs.Inputs.{InputView, InputsView, ReadsInput, ReadSteps, MarksDecided, is_clean_end, next_of}
-use Rattle.cap_octet.specs.Packet.{Captured}
-use Rattle.cap_filter.specs.Programs.{spent_in}
 use Rattle.cap_process.specs.Selector.{most_spent, places, spent_by_verdict, window_of}
-use Rattle.cap_tools.specs.Packets.{JobState, asks_report}
-use Rattle.cap_tools.specs.Jobs.{JobView}
+use Rattle.cap_inputs.specs.Inputs.{InputView, InputsView, ReadsInput, ReadSteps, MarksDecided, is_clean_end, next_of}
+use Rattle.cap_inputs.specs.declared.inputs.Next.{Next}
+use Rattle.cap_filter.specs.Programs.{spent_in}
+use Rattle.cap_tools.specs.{Jobs.JobView, Packets.JobState, Packets.asks_report}
 
 -- The next input was read on, to its next packet, its end or a fault, and no further. No packet is
 -- decided, and nothing is written unless the input was read to its end and must be reported.
 pub record ReadsOn (tells : Bool) (old : JobView) (input : ℕ) (answer : Result Bool Fault)
     (new : JobView) : Type 0 where
-  pub next : next_of old.state.inputs ≡ next.Read input
+  pub next : next_of old.state.inputs ≡ Next.Read input
   pub fetches : ReadSteps old.state.inputs input answer new.state.inputs
   -- if the input shows its bytes: its next packet, its clean end or its fault, and no more
   pub exact : IsTrue tells → ReadsInput old.state.inputs input answer new.state.inputs
@@ -31,7 +27,7 @@ pub record ReadsOn (tells : Bool) (old : JobView) (input : ℕ) (answer : Result
 
 -- The current packet of the next input was judged, which cost one run of a program at most.
 pub record JudgesOne (old : JobView) (input : ℕ) (new : JobView) : Type 0 where
-  pub next : next_of old.state.inputs ≡ next.Decide input
+  pub next : next_of old.state.inputs ≡ Next.Decide input
   pub cursor : InputView
   pub among : slice_get old.state.inputs.cursors input ≡ Some cursor
   pub packet : Captured

@@ -1,25 +1,60 @@
 -- The steps of a command's job, from the first one on.
-use Rattle.std.specs.Prelude.{◌≡◌, ◌⊎◌, ℕ, ◌+◌, ◌<◌, ◌≤◌, Bool, List, Option, None, Some, IsTrue}
-use Rattle.cap_octet.specs.declared.link.Link.{Link}
-use Rattle.flt_bpf.specs.declared.insn.Insn.{Insn}
-use Rattle.flt_bpf.specs.Content.{Content}
+use Rattle.std.specs.Prelude.{◌≡◌, ◌⊎◌, ℕ, ◌+◌, ◌<◌, ◌≤◌, Bool, List, Option, None, Some, IsTrue, ◌++◌, length}
+use Rattle.cap_octet.specs.{Device.Stops, declared.link.Link.Link}
+use Rattle.flt_bpf.specs.{Content.Content, Listing.listing, declared.insn.Insn.Insn}
 use Rattle.flt_words.specs.declared.fault.ExprFault.{ExprFault}
-use Rattle.cap_filter.specs.declared.filter.Refusal.{Refusal}
-use Rattle.cap_filter.specs.declared.filter.Refusal.TheVariants as refusal
-use Rattle.cap_filter.specs.Compilation.{IsCompiled}
-use Rattle.cap_filter.specs.Expressions.{IsTextFault}
-use Rattle.cap_filter.specs.FilterRules.{Rule, IsRule, IsWhy}
-use Rattle.cap_filter.specs.Filters.{AreNew}
-use Rattle.cap_filter.specs.Programs.{spent_in}
-use Rattle.cap_tools.specs.declared.job.Turn.{Turn}
-use Rattle.cap_tools.specs.declared.job.Turn.TheVariants as turn
-use Rattle.cap_tools.specs.Start.{FilterAsked, Preparing, ReadsFilter, Compiles}
-use Rattle.cap_process.specs.Selector.{HavePrograms}
-use Rattle.cap_inputs.specs.Inputs.{InputPast, steps_left_in}
+use Rattle.cap_filter.specs.Expressions.{IsCompiled, IsTextFault}
+use Rattle.cap_filter.specs.FilterRules.{Rule, IsRule, IsWhy, refusal_status}
+use Rattle.cap_filter.specs.{Filters.AreNew, Programs.spent_in, declared.filter.Refusal.Refusal}
 use Rattle.cap_tools.specs.Bounds.{IsLight, StepReads, most_turns}
-use Rattle.cap_tools.specs.Packets.{room_by}
 use Rattle.cap_tools.specs.Jobs.{JobView, Decided, IsStatus, done_by}
-use Rattle.cap_tools.specs.FirstStep.{WritesListing, StopsListing, RefusesStart, filtering}
+use Rattle.cap_tools.specs.Packets.{room_by, written_by, failures_by}
+use Rattle.cap_tools.specs.Start.{FilterAsked, Preparing, ReadsFilter, Compiles}
+use Rattle.cap_tools.specs.declared.job.Turn.{Turn}
+use Rattle.cap_process.specs.Messages.{IsTold, refusal_message, write_failed_message}
+use Rattle.cap_process.specs.{Reports.name_at, Selector.HavePrograms, Verdict.Filter, Verdict.initial_state}
+use Rattle.cap_inputs.specs.Inputs.{InputPast, steps_left_in}
+
+-- the job whose packets go through the filter, by these programs, up to `count` that pass
+abbrev pub filtering : Rule → Option ℕ → List Content → JobView → JobView
+filtering rule count programs j = record j {
+  preparing = None;
+  state = record j.state { policy = Filter rule count; state = initial_state };
+  programs = programs;
+  turns = j.turns + 1;
+  done = None;
+}
+
+-- The filter or the expression is refused, or there was no memory for it, and nothing is read or
+-- written but the message. A message that can't be written is lost.
+pub record RefusesStart (refusal : Refusal) (tells : Bool) (old : JobView) (status : ℕ)
+    (new : JobView) : Type 0 where
+  pub status_is : status ≡ refusal_status refusal
+  pub exact : IsTold tells old.err (refusal_message refusal) new.err
+  pub new_is : new ≡ record old {
+    preparing = None;
+    err = new.err;
+    turns = old.turns + 1;
+    done = Some (refusal_status refusal);
+  }
+
+-- a listing is written, and the job ended
+pub record WritesListing (insns : List Insn) (old : JobView) (status : ℕ)
+    (new : JobView) : Type 0 where
+  pub written : written_by new.state ≡ written_by old.state ++ listing insns
+  pub failures : failures_by new.state ≡ failures_by old.state
+  pub quiet : new.err ≡ old.err
+  pub status_is : status ≡ 0
+
+-- the output's device failed after a prefix of the listing, not the whole
+pub record StopsListing (insns : List Insn) (tells : Bool) (old : JobView) (status : ℕ)
+    (new : JobView) : Type 0 where
+  pub stops : Stops (written_by old.state) (listing insns) (written_by new.state)
+  pub failures : failures_by new.state ≡ failures_by old.state + 1
+  pub exact : IsTold tells old.err
+      (write_failed_message (name_at old.state.names (length old.state.inputs.cursors)))
+      new.err
+  pub status_is : status ≡ 1
 
 -- the filter is read
 pub record IsFiltered (asked : FilterAsked) (old new : JobView) : Type 0 where
@@ -39,8 +74,8 @@ pub record RefusesFilter (asked : FilterAsked) (tells : Bool) (old : JobView) (s
 -- the first step of a print: its filter is read and the job goes on, or it is refused and the job
 -- ends
 abbrev pub FilterGives : FilterAsked → Bool → JobView → Turn → JobView → Type 0
-FilterGives asked tells old turn.More new = IsFiltered asked old new
-FilterGives asked tells old (turn.Done status) new = RefusesFilter asked tells old status new
+FilterGives asked tells old Turn.More new = IsFiltered asked old new
+FilterGives asked tells old (Turn.Done status) new = RefusesFilter asked tells old status new
 
 -- a listing of some program for the expression is written, or a prefix of it
 pub record ListsSome (words : List ℕ) (link : Link) (tells : Bool) (old : JobView) (status : ℕ)
@@ -54,13 +89,13 @@ pub record RefusesExpression (words : List ℕ) (tells : Bool) (old : JobView) (
     (new : JobView) : Type 0 where
   pub fault : ExprFault
   pub why : IsTextFault words fault
-  pub refuses : RefusesStart (refusal.Expression fault) tells old status new
+  pub refuses : RefusesStart (Refusal.Expression fault) tells old status new
 
 -- the one step of a compilation: a listing is written, or not the whole of it, or the expression is
 -- refused
 abbrev pub CompileGives : List ℕ → Link → Bool → JobView → Turn → JobView → Type 0
-CompileGives words link tells old turn.More new = ⊥
-CompileGives words link tells old (turn.Done status) new =
+CompileGives words link tells old Turn.More new = ⊥
+CompileGives words link tells old (Turn.Done status) new =
     ListsSome words link tells old status new ⊎ RefusesExpression words tells old status new
 
 -- the result of a step that prepares: for a filter on all devices, for a compilation only if
@@ -93,11 +128,11 @@ pub record StepKeeps (old : JobView) (r : Turn) (new : JobView) : Type 0 where
   pub upper_bound : old.done ≡ None → new.turns ≤ most_turns old.state.inputs + 1
   pub light : IsLight new.state
   pub sound : HavePrograms new.state.policy new.programs
-  pub left : r ≡ turn.More → job_left new < job_left old
+  pub left : r ≡ Turn.More → job_left new < job_left old
   pub names : new.state.names ≡ old.state.names
   pub room : room_by new.state ≡ room_by old.state
   -- a step that goes on sends no message
-  pub quiet : r ≡ turn.More → new.err ≡ old.err
+  pub quiet : r ≡ Turn.More → new.err ≡ old.err
   -- if there was nothing to prepare, the policy is unchanged; a filter that is read becomes it
   pub policy : old.preparing ≡ None → new.state.policy ≡ old.state.policy
 

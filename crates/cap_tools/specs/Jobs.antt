@@ -1,22 +1,15 @@
 -- The view of a whole job, with its messages, and how a job ends.
 use Rattle.std.specs.Prelude.{◌≡◌, ℕ, ◌≤◌, Bool, true, false, List, [], length, Option, None, Some}
-use Rattle.cap_process.specs.Messages.{fault_message, write_failed_message}
-use Rattle.cap_octet.specs.Views.{OutputView}
-use Rattle.cap_process.specs.Messages.{IsTold}
-use Rattle.cap_tools.specs.declared.step.JobEnd.{JobEnd}
-use Rattle.cap_tools.specs.declared.step.JobEnd.TheVariants as end
-use Rattle.cap_tools.specs.declared.job.Turn.{Turn}
-use Rattle.cap_tools.specs.declared.job.Turn.TheVariants as turn
+use Rattle.cap_process.specs.Messages.{fault_message, write_failed_message, IsTold}
 use Rattle.cap_process.specs.Output.{Target, target_at}
-use Rattle.cap_tools.specs.Start.{Assignment, Preparing}
-use Rattle.cap_process.specs.Verdict.{initial_state}
-use Rattle.cap_process.specs.Selector.{HavePrograms, SelectorView}
-use Rattle.cap_process.specs.Reports.{name_at}
-use Rattle.cap_inputs.specs.Inputs.{InputView, InputsView, InputPast, offset_at}
+use Rattle.cap_process.specs.{Reports.name_at, Selector.HavePrograms, Selector.SelectorView, Verdict.initial_state}
+use Rattle.cap_octet.specs.Views.{OutputView}
+use Rattle.cap_tools.specs.Packets.{JobState, PacketsDecided, GoesOn, StepGives}
+use Rattle.cap_tools.specs.{Start.Assignment, Start.Preparing, declared.job.Turn.Turn, declared.step.JobEnd.JobEnd}
 use Rattle.cap_inputs.specs.Fresh.{fresh_inputs}
+use Rattle.cap_inputs.specs.Inputs.{InputView, InputsView, InputPast, offset_at}
 use Rattle.cap_command.specs.Call.{Call}
 use Rattle.flt_bpf.specs.Content.{Content}
-use Rattle.cap_tools.specs.Packets.{JobState, PacketsDecided, GoesOn, StepGives}
 
 -- the view of a job
 pub record JobView : Type 0 where
@@ -70,14 +63,14 @@ pub record Decided (ss : List InputPast) (before : List ℕ) (j : JobView) : Typ
 
 -- the message of a job with this end; empty for a clean end
 abbrev pub end_message : List (List ℕ) → List InputView → JobEnd → List ℕ
-end_message names cursors end.Complete = []
-end_message names cursors (end.FaultIn input fault) =
+end_message names cursors JobEnd.Complete = []
+end_message names cursors (JobEnd.FaultIn input fault) =
     fault_message (name_at names input) (offset_at cursors input) fault
-end_message names cursors end.OutputFailed = write_failed_message (name_at names (length cursors))
+end_message names cursors JobEnd.OutputFailed = write_failed_message (name_at names (length cursors))
 
 -- the status of a job with this end
 abbrev pub end_status : JobEnd → ℕ
-end_status end.Complete = 0
+end_status JobEnd.Complete = 0
 end_status other = 1
 
 -- A step ends a job with one of the ends of `JobEnd`, and with the message and the status of that
@@ -100,22 +93,27 @@ pub record StaysDecided {ss : List InputPast} {before : List ℕ} {old : JobView
 -- the result of a step over packets: the job goes on, reports nothing and keeps its invariant; or
 -- it ends
 abbrev pub JobGives : Bool → JobView → Turn → JobView → Type 0
-JobGives tells old turn.More new =
+JobGives tells old Turn.More new =
     (new.err ≡ old.err)
     × ((ss : List InputPast) (before : List ℕ) (d : Decided ss before old) → StaysDecided d new)
-JobGives tells old (turn.Done status) new = EndsJob tells old status new
+JobGives tells old (Turn.Done status) new = EndsJob tells old status new
 
 -- whether the job goes on
 abbrev pub turn_goes_on : Turn → Bool
-turn_goes_on turn.More = true
-turn_goes_on (turn.Done status) = false
+turn_goes_on Turn.More = true
+turn_goes_on (Turn.Done status) = false
 
 -- the status of a job that ended is 0, 1 (a fault, a failed write, or no memory) or 2 (a refusal)
 abbrev pub IsStatus : Turn → Type 0
-IsStatus turn.More = Unit {0}
-IsStatus (turn.Done status) = status ≤ 2
+IsStatus Turn.More = Unit {0}
+IsStatus (Turn.Done status) = status ≤ 2
 
 -- the status after a step, if the job ended
 abbrev pub done_by : Turn → Option ℕ
-done_by turn.More = None
-done_by (turn.Done status) = Some status
+done_by Turn.More = None
+done_by (Turn.Done status) = Some status
+
+-- the names of the inputs, then of the output; and the device
+pub record MessagesView : Type 0 where
+  pub names : List (List ℕ)
+  pub device : OutputView

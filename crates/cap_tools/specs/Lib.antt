@@ -1,9 +1,7 @@
 pub mod Bounds
 pub mod Commands
-pub mod FirstStep
 pub mod Jobs
 pub mod Run
 pub mod Start
 pub mod Packets
-pub mod Messages
 pub mod inside

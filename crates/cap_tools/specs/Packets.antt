@@ -1,23 +1,19 @@
 -- The view of a job's state, its invariant, and the result of a step over packets.
-use Rattle.std.specs.Prelude.{◌≡◌, ◌⊎◌, ℕ, zero, suc, ◌+◌, ◌≤◌, Bool, false, List, [], ◌∷◌, ◌++◌, map, Option, None, Some, Ok, Err}
 use Rattle.std.specs.List.{slice_get}
-use Rattle.cap_octet.specs.Device.{Stops}
-use Rattle.cap_octet.specs.Packet.{Captured}
-use Rattle.cap_octet.specs.declared.fault.Fault.{Fault}
-use Rattle.cap_octet.specs.declared.fault.Fault.TheVariants.{ReadFailed, NoMemory}
+use Rattle.std.specs.Prelude.{◌≡◌, ◌⊎◌, ℕ, zero, suc, ◌+◌, ◌≤◌, Bool, false, List, [], ◌∷◌, ◌++◌, map, Option, None, Some, Ok, Err}
+use Rattle.cap_octet.specs.{Device.Stops, Packet.Captured}
+use Rattle.cap_octet.specs.declared.fault.Fault.{Fault, TheVariants.ReadFailed, TheVariants.NoMemory}
 use Rattle.cap_io.specs.Capture.{Placed, Items, kind_of}
-use Rattle.cap_io.specs.Source.{SourceView, Advances}
 use Rattle.cap_io.specs.Position.{IsCutShort, MemoryEndsAt, ReadFailsAt}
-use Rattle.cap_inputs.specs.declared.inputs.Next.TheVariants as next
-use Rattle.cap_tools.specs.declared.step.JobEnd.{JobEnd}
-use Rattle.cap_tools.specs.declared.step.JobEnd.TheVariants as end
-use Rattle.cap_process.specs.Reports.{Report}
-use Rattle.cap_process.specs.Output.{Target, HasWrittenTo, form_to, written_to, failures_to, room_to}
 use Rattle.cap_io.specs.Sequence.{Event, Packet, InputEnd, SequenceEnd, Complete, FaultIn, InputItems, PacketOrder, InTurn, ByTime, sequence_of, whole_input}
-use Rattle.cap_process.specs.Verdict.{Policy, SelectorState}
-use Rattle.cap_process.specs.Selector.{IsWithin, is_count}
-use Rattle.cap_process.specs.Outcome.{Form, JobProgress, Work, ComeFirst, cut_at, no_progress, apply_events, final_progress, final_text, output_text, closing_text, first_link, packet_bytes, report_bytes, NeedsMemory, IsNextAnswer}
+use Rattle.cap_io.specs.Source.{SourceView, Advances}
 use Rattle.cap_inputs.specs.Inputs.{InputsView, InputView, InputPast, AreInputsAfter, KnowGreatest, AreSettled, ReadsInput, device_limits, next_of}
+use Rattle.cap_inputs.specs.declared.inputs.Next.{Next}
+use Rattle.cap_tools.specs.declared.step.JobEnd.{JobEnd}
+use Rattle.cap_process.specs.Outcome.{Form, JobProgress, Work, ComeFirst, cut_at, no_progress, apply_events, final_progress, final_text, output_text, closing_text, first_link, packet_bytes, report_bytes, NeedsMemory, IsNextAnswer}
+use Rattle.cap_process.specs.Output.{Target, HasWrittenTo, form_to, written_to, failures_to, room_to}
+use Rattle.cap_process.specs.{Reports.Report, Selector.IsWithin, Selector.is_count}
+use Rattle.cap_process.specs.Verdict.{Policy, SelectorState}
 
 -- the state of a job over its packets, without its programs
 pub record JobState : Type 0 where
@@ -167,7 +163,7 @@ pub record EndsByCut {ss : List InputPast} {before : List ℕ} {old : JobState}
   pub cut : IsCutShort past.text fault held
   pub cursor : InputView
   pub cursor_is : slice_get old.inputs.cursors input ≡ Some cursor
-  pub next : next_of old.inputs ≡ next.Read input
+  pub next : next_of old.inputs ≡ Next.Read input
   pub advances : Advances cursor.source.phase cursor.source (Err fault) after
   pub why :
       ((fault ≡ ReadFailed)
@@ -179,12 +175,12 @@ pub record EndsByCut {ss : List InputPast} {before : List ℕ} {old : JobState}
 -- the event of a step: the current packet of an input, or the clean end of an input that it read
 -- on; None at the clean end of all inputs
 pub data Meets (old new : InputsView) : Option Event → Type 0 where
-  a_packet : (input : ℕ) → (cursor : InputView) → (p : Captured) → next_of old ≡ next.Decide input
+  a_packet : (input : ℕ) → (cursor : InputView) → (p : Captured) → next_of old ≡ Next.Decide input
       → slice_get old.cursors input ≡ Some cursor → cursor.source.packet ≡ Some p → new ≡ old
       → Meets old new (Some (Packet input (record { offset = cursor.source.offset; packet = p })))
-  an_end : (input : ℕ) → next_of old ≡ next.Read input → (read : ReadsInput old input (Ok false) new)
+  an_end : (input : ℕ) → next_of old ≡ Next.Read input → (read : ReadsInput old input (Ok false) new)
       → Meets old new (Some (InputEnd input (kind_of read.source.declared) read.source.offset))
-  all_ends : next_of old ≡ next.Finish → new ≡ old → Meets old new None
+  all_ends : next_of old ≡ Next.Finish → new ≡ old → Meets old new None
 
 -- There was no memory to write the current packet of this input, which is next in the order and
 -- begins at the offset of `after`. The bytes of the output are unchanged.
@@ -233,9 +229,9 @@ pub record BreaksAt {ss : List InputPast} {before : List ℕ} {old : JobState}
 -- the result of a step that ends the job like this
 abbrev pub EndLeaves : {ss : List InputPast} {before : List ℕ} {old : JobState}
     → PacketsDecided ss before old → JobEnd → JobState → Type 0
-EndLeaves {ss} {before} {old} d end.Complete new = CompletesOutput (wholes_of ss) d new Complete
-EndLeaves {ss} {before} {old} d (end.FaultIn input fault) new = BreaksAt d new input fault
-EndLeaves {ss} {before} {old} d end.OutputFailed new = StopsWriting d new
+EndLeaves {ss} {before} {old} d JobEnd.Complete new = CompletesOutput (wholes_of ss) d new Complete
+EndLeaves {ss} {before} {old} d (JobEnd.FaultIn input fault) new = BreaksAt d new input fault
+EndLeaves {ss} {before} {old} d JobEnd.OutputFailed new = StopsWriting d new
 
 -- the result of a step, by the decided packets before it: the job goes on, or ends
 abbrev pub StepLeaves : {ss : List InputPast} {before : List ℕ} {old : JobState}

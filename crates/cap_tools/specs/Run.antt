@@ -1,40 +1,29 @@
 -- The result of a run of a command: its outcome on the whole inputs; or its result if a device
 -- fails, or memory runs out. It is stated by the call and by what the run returns.
-use Rattle.std.specs.Prelude.{◌≡◌, ◌⊎◌, ℕ, ◌+◌, ◌-◌, ◌≤◌, List, [], ◌++◌, length, map, Option, None, Some}
 use Rattle.std.specs.List.{slice_get}
-use Rattle.cap_octet.specs.Device.{HasGiven, Stops}
-use Rattle.cap_octet.specs.declared.fault.Fault.{Fault}
-use Rattle.cap_octet.specs.declared.fault.Fault.TheVariants.{ReadFailed, NoMemory}
-use Rattle.cap_io.specs.Capture.{Declared, Placed, Items}
-use Rattle.cap_io.specs.Position.{IsCutShort, MemoryEndsAt}
-use Rattle.cap_io.specs.Reading.{decisive_length}
-use Rattle.flt_bpf.specs.Listing.{listing}
-use Rattle.flt_bpf.specs.declared.insn.Insn.{Insn}
+use Rattle.std.specs.Prelude.{◌≡◌, ◌⊎◌, ℕ, ◌+◌, ◌-◌, ◌≤◌, List, [], ◌++◌, length, map, Option, None, Some}
+use Rattle.cap_octet.specs.{Device.HasGiven, Device.Stops, Views.FreshInput}
+use Rattle.cap_octet.specs.declared.fault.Fault.{Fault, TheVariants.ReadFailed, TheVariants.NoMemory}
 use Rattle.cap_octet.specs.declared.link.Link.{Link}
+use Rattle.cap_io.specs.{Capture.Declared, Capture.Placed, Capture.Items, Position.IsCutShort, Position.MemoryEndsAt}
+use Rattle.cap_io.specs.{Reading.decisive_length, Sequence.Event, Sequence.InputItems, Sequence.whole_input}
+use Rattle.flt_bpf.specs.{Listing.listing, declared.insn.Insn.Insn}
+use Rattle.cap_filter.specs.Expressions.{IsCompiled, IsTextFault}
+use Rattle.cap_filter.specs.FilterRules.{Rule, IsRule, IsWhy, refusal_status}
 use Rattle.cap_filter.specs.declared.filter.Refusal.{Refusal}
-use Rattle.cap_filter.specs.declared.filter.Refusal.TheVariants as refusal
-use Rattle.cap_filter.specs.Compilation.{IsCompiled}
-use Rattle.cap_filter.specs.Expressions.{IsTextFault}
-use Rattle.cap_filter.specs.FilterRules.{Rule, IsRule, IsWhy}
-use Rattle.cap_io.specs.Sequence.{Event, InputItems, whole_input}
 use Rattle.cap_process.specs.Messages.{fault_message, no_memory_message, refusal_message, write_failed_message, IsTold}
-use Rattle.cap_filter.specs.Refusals.{refusal_status}
-use Rattle.cap_octet.specs.Views.{FreshInput}
-use Rattle.cap_process.specs.declared.output.Writing.{Writing}
-use Rattle.cap_process.specs.declared.output.Writing.TheVariants as writing
-use Rattle.cap_command.specs.Call.{Call, RunResult}
 use Rattle.cap_process.specs.Outcome.{Form, AsCapture, AsReports, AsLines, Outcome, Work, IsNextAnswer, NeedsMemory, cut_at, outcome, text_after}
-use Rattle.cap_process.specs.Reports.{name_at}
+use Rattle.cap_process.specs.{Reports.name_at, Verdict.Policy, Verdict.Filter, declared.output.Writing.Writing}
+use Rattle.cap_command.specs.Call.{Call, RunResult}
 use Rattle.cap_tools.specs.Start.{Assignment, Preparing, ReadsFilter, Compiles}
-use Rattle.cap_process.specs.Verdict.{Policy, Filter}
 
 -- ---- the work that a command asks
 
 -- the form in which packets or reports are written
 abbrev pub form_asked : (names : List (List ℕ)) → Writing → Form
-form_asked names (writing.Capture format) = AsCapture format
-form_asked names writing.Text = AsReports names
-form_asked names (writing.Lines options) = AsLines options
+form_asked names (Writing.Capture format) = AsCapture format
+form_asked names Writing.Text = AsReports names
+form_asked names (Writing.Lines options) = AsLines options
 
 -- The policy that judges the packets: the one that the command asks for; for a print the filter of
 -- its words or of its listing. A compilation has no packets.
@@ -61,7 +50,7 @@ whole_inputs call = map (λ (input : FreshInput). whole_input input.text) call.i
 abbrev pub IsWhyRefused : Option Preparing → Refusal → Type 0
 IsWhyRefused None why = ⊥
 IsWhyRefused (Some (ReadsFilter filter)) why = IsWhy filter.words filter.code why
-IsWhyRefused (Some (Compiles words link)) (refusal.Expression fault) = IsTextFault words fault
+IsWhyRefused (Some (Compiles words link)) (Refusal.Expression fault) = IsTextFault words fault
 IsWhyRefused (Some (Compiles words link)) why = ⊥
 
 -- nothing is written, and the refusal is reported

@@ -1,19 +1,12 @@
 -- What a command asks of its job, and what the job does before its first packet.
 use Rattle.std.specs.Prelude.{ℕ, not, List, Option, None, Some, string_bytes}
-use Rattle.cap_octet.specs.declared.format.Format.{Format}
+use Rattle.cap_octet.specs.declared.{format.Format.Format, link.Link.Link}
 use Rattle.cap_print.specs.declared.print.Options.{Options}
-use Rattle.cap_octet.specs.declared.link.Link.{Link}
-use Rattle.cap_command.specs.declared.command.Command.{Command}
-use Rattle.cap_command.specs.declared.command.Print.{Print}
-use Rattle.cap_command.specs.declared.command.Command.TheVariants as command
-use Rattle.cap_command.specs.Command.{listing_of}
+use Rattle.cap_command.specs.{Command.listing_of, declared.command.Command.Command, declared.command.Print.Print}
 use Rattle.cap_tools.specs.declared.start.Preparation.{Preparation}
-use Rattle.cap_tools.specs.declared.start.Preparation.TheVariants as preparation
+use Rattle.cap_process.specs.{Selector.edit_rule_of, Verdict.Policy, Verdict.Edit, Verdict.KeepAll, Verdict.Count}
 use Rattle.cap_process.specs.declared.output.Writing.{Writing}
-use Rattle.cap_process.specs.declared.output.Writing.TheVariants as writing
 use Rattle.cap_io.specs.Sequence.{PacketOrder, InTurn, order_of}
-use Rattle.cap_process.specs.Verdict.{Policy, Edit, KeepAll, Count}
-use Rattle.cap_process.specs.Selector.{edit_rule_of}
 
 -- a filter by these words, or by a listing, for `count` packets at most
 pub record FilterAsked : Type 0 where
@@ -34,8 +27,8 @@ pub data Preparing : Type 0 where
 
 -- the view of a `Preparation` of the code
 abbrev pub preparing_of : {Z : Type 0} → Preparation Z → Preparing
-preparing_of (preparation.Filter print) = ReadsFilter (asked_by print)
-preparing_of (preparation.Listing compile) = Compiles (string_bytes compile.expr) compile.link
+preparing_of (Preparation.Filter print) = ReadsFilter (asked_by print)
+preparing_of (Preparation.Listing compile) = Compiles (string_bytes compile.expr) compile.link
 
 -- The preparation, the policy for packets, their order, and what is written. The policy of a print
 -- is the filter that it reads, and a compilation has no packets: for both `policy` means nothing.
@@ -47,8 +40,8 @@ pub record Assignment : Type 0 where
 
 -- what a print writes: packets in a format if there is one, else their lines
 abbrev pub lines_unless : Option Format → Options → Writing
-lines_unless None options = writing.Lines options
-lines_unless (Some format) options = writing.Capture format
+lines_unless None options = Writing.Lines options
+lines_unless (Some format) options = Writing.Capture format
 
 -- only packets, with nothing before them
 abbrev pub without_preparation : Policy → PacketOrder → Writing → Assignment
@@ -63,13 +56,13 @@ with_preparation preparing to =
 
 -- what a command asks of its job
 abbrev pub assignment : {Z : Type 0} → Command Z → Assignment
-assignment (command.Edit edit) =
-    without_preparation (Edit (edit_rule_of edit)) InTurn (writing.Capture edit.format)
-assignment (command.Merge merge) =
-    without_preparation KeepAll (order_of (not merge.append)) (writing.Capture merge.format)
-assignment command.Infos = without_preparation Count InTurn writing.Text
-assignment (command.Print print) =
+assignment (Command.Edit edit) =
+    without_preparation (Edit (edit_rule_of edit)) InTurn (Writing.Capture edit.format)
+assignment (Command.Merge merge) =
+    without_preparation KeepAll (order_of (not merge.append)) (Writing.Capture merge.format)
+assignment Command.Infos = without_preparation Count InTurn Writing.Text
+assignment (Command.Print print) =
     with_preparation (ReadsFilter (asked_by print))
     (lines_unless print.write (record { link = print.link; bytes = print.bytes }))
-assignment (command.Compile compile) =
-    with_preparation (Compiles (string_bytes compile.expr) compile.link) writing.Text
+assignment (Command.Compile compile) =
+    with_preparation (Compiles (string_bytes compile.expr) compile.link) Writing.Text

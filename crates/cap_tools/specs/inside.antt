@@ -1,7 +1,4 @@
 -- Helpers for functions and proofs of this crate and of other crates: no promise rests on them.
 pub mod Bounds
-pub mod Commands
-pub mod FirstStep
 pub mod Jobs
 pub mod Packets
-pub mod Step

@@ -1,20 +1,28 @@
 //! Jobs: one for all commands, step by step.
 ghost use Rattle.std.specs.Prelude.{ℕ, ◌≡◌, ◌<◌, ◌≤◌, IfErr, IfOk, IsTrue, None, Some, length};
 ghost use Rattle.std.specs.Prelude.{false, map, string_bytes, true, vec_len};
-ghost use Rattle.cap_command.specs.Command.{is_proper};
-ghost use Rattle.cap_process.specs.Messages.{IsTold};
+ghost use Rattle.cap_command.specs.{Call.call_of, Call.run_result, Command.is_proper};
+ghost use Rattle.cap_process.specs.{Messages.IsTold, inside.Output.is_text};
 ghost use Rattle.cap_octet.specs.Views.{device_view, fresh_input, fresh_output, output_view};
 ghost use Rattle.cap_tools.specs.Bounds.{ReadsNothing};
-ghost use Rattle.cap_command.specs.Call.{call_of, run_result};
-ghost use Rattle.cap_inputs.specs.inside.Inputs.{most_steps};
-ghost use Rattle.cap_inputs.specs.inside.Inputs as input_spec;
-ghost use Rattle.cap_tools.specs.Jobs.{end_status, end_message};
+ghost use Rattle.cap_tools.specs.Commands.{DecidedBy, PreparesBy, StepKeeps, StepReadsBy};
+ghost use Rattle.cap_tools.specs.Commands.{RefusesStart, filtering};
+ghost use Rattle.cap_tools.specs.Jobs.{end_status, end_message, JobGives, JobView, first_job};
+ghost use Rattle.cap_tools.specs.Jobs.{turn_goes_on};
+ghost use Rattle.cap_tools.specs.Packets.{failures_by, room_by, written_by};
 ghost use Rattle.cap_tools.specs.Run.{CommandRuns};
-ghost use Rattle.cap_tools.specs.Start.{assignment};
+ghost use Rattle.cap_tools.specs.Start.{assignment, Compiles, ReadsFilter, asked_by};
+ghost use Rattle.cap_tools.specs.inside.Jobs.{KeepsFirst, MakesStep, MakesStepUnless, MakesSteps};
+ghost use Rattle.cap_tools.specs.inside.Jobs.{with_preparing, EndsList, IsFresh, IsSound, IsStep};
+ghost use Rattle.cap_tools.specs.inside.Jobs.{IsUncounted, MayCount, ending};
+ghost use Rattle.cap_inputs.specs.{Fresh.nothing_done, inside.Inputs.most_steps};
+ghost use Rattle.cap_inputs.specs.inside.Inputs as input_spec;
+ghost use Rattle.cap_filter.specs.FilterRules.{refusal_status};
+ghost use Rattle.cap_filter.specs.Filters.{AreNew, programs_of, rule_of};
 
 use crate::messages::Messages;
 use crate::start::{Assignment, Preparation, assignment_of, read_filter};
-use crate::step::{JobEnd, close, decide, end_after};
+use crate::step::{JobEnd, close, decide, end_after, end_of_write};
 use cap_command::{Command, Compile, Print};
 use cap_filter::expression::compile_text;
 use cap_filter::filter::{Filter, Refusal};
@@ -55,12 +63,10 @@ pub struct Job<I: Input, O: Output, E: Output, A: Allocator> {
 }
 
 impl<I: Input, O: Output, E: Output, A: Allocator> Model for Job<I, O, E, A> {
-    ghost use Rattle.std.specs.Coded.{codes};
-    ghost use Rattle.std.specs.Option.{option_map};
+    ghost use Rattle.std.specs.{Coded.codes, Option.option_map};
     ghost use Rattle.cap_filter.specs.inside.Programs.{coded_expression};
     ghost use Rattle.cap_tools.specs.Jobs.{JobView, state_at};
-    ghost use Rattle.cap_tools.specs.inside.Jobs.{IsSound};
-    ghost use Rattle.cap_tools.specs.Start.{preparing_of};
+    ghost use Rattle.cap_tools.specs.{Start.preparing_of, inside.Jobs.IsSound};
 
     ghost Value = { JobView };
 
@@ -96,23 +102,6 @@ fn status_at_end(end: JobEnd) -> u8
 }
 
 impl<I: Input, O: Output, E: Output, A: Allocator + Copy + Drop> Job<I, O, E, A> {
-    ghost use Rattle.cap_filter.specs.Filters.{AreNew, programs_of, rule_of};
-    ghost use Rattle.cap_filter.specs.Refusals.{refusal_status};
-    ghost use Rattle.cap_tools.specs.Commands.{DecidedBy, PreparesBy, StepKeeps};
-    ghost use Rattle.cap_tools.specs.inside.Commands.{KeepsFirst, MakesStep, MakesStepUnless};
-    ghost use Rattle.cap_tools.specs.inside.Commands.{MakesSteps, with_preparing};
-    ghost use Rattle.cap_tools.specs.inside.Jobs.{IsSound};
-    ghost use Rattle.cap_tools.specs.Commands.{StepReadsBy};
-    ghost use Rattle.cap_tools.specs.FirstStep.{RefusesStart, filtering};
-    ghost use Rattle.cap_tools.specs.inside.FirstStep.{EndsList, IsFresh};
-    ghost use Rattle.cap_process.specs.inside.Output.{is_text};
-    ghost use Rattle.cap_tools.specs.Jobs.{JobGives, JobView, first_job};
-    ghost use Rattle.cap_tools.specs.Jobs.{turn_goes_on};
-    ghost use Rattle.cap_inputs.specs.Fresh.{nothing_done};
-    ghost use Rattle.cap_tools.specs.Packets.{failures_by, room_by, written_by};
-    ghost use Rattle.cap_tools.specs.Start.{Compiles, ReadsFilter, asked_by};
-    ghost use Rattle.cap_tools.specs.inside.Step.{IsStep, IsUncounted, MayCount, ending};
-
     /// The job of a proper command. `names` are those of the inputs, then of the output. The error
     /// means that memory ran out: nothing was read or written, and `out` and `err` are handed back.
     pub fn new(
@@ -468,10 +457,7 @@ impl<I: Input, O: Output, E: Output, A: Allocator + Copy + Drop> Job<I, O, E, A>
         ensures { IsStep I.tells O.tells self.old result self.new }
     {
         let first = self.inputs.first_link();
-        match self.output.finish(first) {
-            Ok(()) => Some(JobEnd::Complete),
-            Err(_) => Some(JobEnd::OutputFailed),
-        }
+        Some(end_of_write(self.output.finish(first)))
     }
 
     /// Ends the job, which is one step: reports how it ended, and returns its status. A message
@@ -537,10 +523,8 @@ impl<I: Input, O: Output, E: Output, A: Allocator + Copy + Drop> Job<I, O, E, A>
         ensures keeps { KeepsFirst self.old result self.new }
         ensures reads { ReadsNothing self.old self.new }
     {
-        match self.output.list(program) {
-            Ok(()) => self.end(JobEnd::Complete),
-            Err(_) => self.end(JobEnd::OutputFailed),
-        }
+        let end = end_of_write(self.output.list(program));
+        self.end(end)
     }
 
     /// The inputs, the output and the messages' device, as the last step left them. It takes no

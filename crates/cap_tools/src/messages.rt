@@ -1,9 +1,9 @@
 //! The messages of a job, and the names of files in them.
 ghost use Rattle.std.specs.Prelude.{◌≡◌, ◌+◌, IsTrue, map};
 ghost use Rattle.std.specs.String.{string_bytes};
-ghost use Rattle.cap_octet.specs.Device.{AppendsOrStops, failures_of};
+ghost use Rattle.cap_octet.specs.{Device.AppendsOrStops, Device.failures_of, Views.output_view};
 ghost use Rattle.cap_tools.specs.Jobs.{end_message};
-ghost use Rattle.cap_process.specs.Reports.{name_at};
+ghost use Rattle.cap_process.specs.{Messages.refusal_message, Messages.IsTold, Reports.name_at};
 
 use crate::step::JobEnd;
 use cap_filter::filter::Refusal;
@@ -22,10 +22,9 @@ pub struct Messages<E: Output, A: Allocator> {
 }
 
 impl<E: Output, A: Allocator> Model for Messages<E, A> {
-    ghost use Rattle.std.specs.Prelude.{map};
-    ghost use Rattle.std.specs.String.{string_bytes};
+    ghost use Rattle.std.specs.{Prelude.map, String.string_bytes};
     ghost use Rattle.cap_octet.specs.Views.{output_view};
-    ghost use Rattle.cap_tools.specs.Messages.{MessagesView};
+    ghost use Rattle.cap_tools.specs.Jobs.{MessagesView};
 
     ghost Value = { MessagesView };
 
@@ -36,14 +35,6 @@ impl<E: Output, A: Allocator> Model for Messages<E, A> {
 }
 
 impl<E: Output, A: Allocator> Messages<E, A> {
-    ghost use Rattle.std.specs.Prelude.{◌≡◌, map};
-    ghost use Rattle.std.specs.String.{string_bytes};
-    ghost use Rattle.cap_process.specs.Messages.{refusal_message};
-    ghost use Rattle.cap_process.specs.Messages.{IsTold};
-    ghost use Rattle.cap_octet.specs.Views.{output_view};
-    ghost use Rattle.cap_tools.specs.Jobs.{end_message};
-    ghost use Rattle.cap_process.specs.Reports.{name_at};
-
     /// Messages of a job over files of these names: for the inputs, then of the output.
     pub fn new(device: E, names: Vec<String<A>, A>) -> Self
         ensures { result ≡ record {

@@ -1,6 +1,6 @@
 //! What a command asks of its job, and what the job does before its first packet.
-ghost use Rattle.std.specs.Prelude.{◌≡◌, [], IfErr, IfOk, None, Some, false, string_bytes};
 ghost use Rattle.std.specs.Option.{option_map};
+ghost use Rattle.std.specs.Prelude.{◌≡◌, [], IfErr, IfOk, None, Some, false, string_bytes};
 ghost use Rattle.cap_command.specs.Command.{listing_of};
 ghost use Rattle.cap_filter.specs.FilterRules.{IsRule, IsWhy};
 ghost use Rattle.cap_filter.specs.Filters.{AreNew, programs_of, rule_of};

@@ -2,15 +2,16 @@
 ghost use Rattle.std.specs.Prelude.{◌≡◌, ◌<◌, ◌≤◌, IsTrue, false, length, true};
 ghost use Rattle.cap_octet.specs.Packet.{captured};
 ghost use Rattle.cap_process.specs.Output.{HasFewOutputInterfaces, room_to};
-ghost use Rattle.cap_process.specs.inside.Reports.{FitsTally};
-ghost use Rattle.cap_process.specs.inside.Selector.{GrowsByOne, HasFewMarks, policy_state};
+ghost use Rattle.cap_process.specs.inside.Selector.{FitsTally, GrowsByOne, HasFewMarks};
+ghost use Rattle.cap_process.specs.inside.Selector.{policy_state};
 ghost use Rattle.cap_tools.specs.Packets.{asks_report};
-ghost use Rattle.cap_tools.specs.inside.Packets.{Closes, DecidesPacket, Offers, Spends};
-ghost use Rattle.cap_tools.specs.inside.Packets.{sieve, end_after, end_of_failed_write};
+ghost use Rattle.cap_tools.specs.inside.Packets.{Closes, DecidesPacket, Offers, Spends, sieve};
+ghost use Rattle.cap_tools.specs.inside.Packets.{end_after};
+ghost use Rattle.cap_tools.specs.inside.Packets.{end_of_failed_write, end_of_write, unless_failed};
 
 use crate::messages::Messages;
 use cap_inputs::{InputCursor, Inputs};
-use cap_octet::{Fault, Input, Output, Packet};
+use cap_octet::{DeviceFault, Fault, Input, Output, Packet};
 use cap_process::{JobOutput, Report, Selector, Verdict};
 use std::alloc::Allocator;
 
@@ -125,9 +126,26 @@ pub(crate) fn close<I: Input, O: Output, E: Output, A: Allocator>(
         size: cursor.offset(),
         tally,
     };
-    match output.report(messages.name(input), &report) {
+    unless_failed(output.report(messages.name(input), &report))
+}
+
+/// How a job ends whose output was written to: not yet, unless the output's device failed.
+fn unless_failed(written: Result<(), DeviceFault>) -> Option<JobEnd>
+    ensures { result ≡ unless_failed written }
+{
+    match written {
         Ok(()) => None,
         Err(_) => Some(JobEnd::OutputFailed),
+    }
+}
+
+/// How a job ends with the last bytes of its output: complete, or the output's device failed.
+pub(crate) fn end_of_write(written: Result<(), DeviceFault>) -> JobEnd
+    ensures { result ≡ end_of_write written }
+{
+    match written {
+        Ok(()) => JobEnd::Complete,
+        Err(_) => JobEnd::OutputFailed,
     }
 }
 

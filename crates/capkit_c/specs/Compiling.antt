@@ -9,7 +9,7 @@ use Rattle.flt_words.specs.Messages as messages
 use Rattle.cap_octet.specs.Assigned.{LINKTYPE_RAW}
 use Rattle.cap_octet.specs.declared.link.Link.{Link}
 use Rattle.cap_octet.specs.declared.link.Link.TheVariants.{Ether}
-use Rattle.cap_filter.specs.Compilation.{IsCompiled}
+use Rattle.cap_filter.specs.Expressions.{IsCompiled}
 use Rattle.cap_filter.specs.Expressions.{IsTextFault}
 use Rattle.cap_octet.specs.Link.{link_of}
 use Rattle.capkit_c.specs.declared.compiling.Failure.{Failure}

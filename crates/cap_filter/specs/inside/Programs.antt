@@ -1,12 +1,9 @@
 -- The programs that a compiled expression holds.
-use Rattle.std.specs.Prelude.{List}
-use Rattle.std.specs.Coded.{Coded, code_by, coded_list}
+use Rattle.std.specs.{Coded.Coded, Coded.code_by, Coded.coded_list, Prelude.List}
 use Rattle.flt_bpf.specs.Content.{Content}
-use Rattle.flt_ast.specs.Tree.{Expression, empty, truth}
-use Rattle.flt_ast.specs.declared.node.Node.{Node}
-use Rattle.flt_ast.specs.contracts.node.Node as stored
 use Rattle.flt_ast.specs.Nodes.{expr_nodes, tree_of}
-use Rattle.flt_ast.specs.inside.Nodes.{tree_back}
+use Rattle.flt_ast.specs.{Tree.Expression, Tree.empty, Tree.truth, declared.node.Node.Node, inside.Nodes.tree_back}
+use Rattle.flt_ast.specs.contracts.node.Node as stored
 use Rattle.cap_octet.specs.Link.{all_links}
 use Rattle.cap_filter.specs.Programs.{AreMade}
 

@@ -1,10 +1,8 @@
 -- What one call writes of a packet, a line or a report.
 use Rattle.std.specs.Prelude.{◌≡◌, ℕ, ◌+◌, Bool, true, false, List, Option, Result, Ok, Err, IfErr}
 use Rattle.cap_octet.specs.Device.{AppendsOrStops, failures_of}
-use Rattle.cap_octet.specs.Packet.{Captured}
-use Rattle.cap_octet.specs.declared.device.DeviceFault.{DeviceFault}
-use Rattle.cap_octet.specs.declared.fault.Fault.{Fault}
-use Rattle.cap_octet.specs.declared.fault.Fault.TheVariants.{WriteFailed}
+use Rattle.cap_octet.specs.{Packet.Captured, declared.device.DeviceFault.DeviceFault}
+use Rattle.cap_octet.specs.declared.fault.Fault.{Fault, TheVariants.WriteFailed}
 use Rattle.cap_print.specs.Rendering.{printed_text}
 use Rattle.cap_io.specs.Sink as sinks
 use Rattle.cap_io.specs.Sink.{SinkView, PutWrites, FinishWrites}
@@ -43,16 +41,13 @@ pub record AppendsText (bytes written : List ℕ) (failures room : ℕ)
 
 -- whether what is written is text: reports or a listing
 abbrev pub is_text : Target → Bool
-is_text (Capture sink) = false
 is_text (Text written failures room) = true
-is_text (Lines options written failures room) = false
+is_text target = false
 
 -- a report or a listing is appended to a text; other outputs are unchanged
 abbrev pub Reports : List ℕ → Target → Result (Unit {0}) DeviceFault → Target → Type 0
-Reports bytes (Capture sink) r new = (r ≡ Ok tt) × (new ≡ Capture sink)
 Reports bytes (Text written failures room) r new = AppendsText bytes written failures room r new
-Reports bytes (Lines options written failures room) r new =
-    (r ≡ Ok tt) × (new ≡ Lines options written failures room)
+Reports bytes target r new = (r ≡ Ok tt) × (new ≡ target)
 
 -- a capture is finished, or that fails
 pub record FinishesInto (first : Option ℕ) (old : SinkView) (r : Result (Unit {0}) Fault)
@@ -68,7 +63,4 @@ abbrev pub EndsOutput : Option ℕ → Target → Result (Unit {0}) DeviceFault 
 EndsOutput first (Capture sink) (Ok done) new = FinishesInto first sink (Ok done) new
 EndsOutput first (Capture sink) (Err failed) new =
     (fault : Fault) × FinishesInto first sink (Err fault) new
-EndsOutput first (Text written failures room) r new =
-    (r ≡ Ok tt) × (new ≡ Text written failures room)
-EndsOutput first (Lines options written failures room) r new =
-    (r ≡ Ok tt) × (new ≡ Lines options written failures room)
+EndsOutput first target r new = (r ≡ Ok tt) × (new ≡ target)

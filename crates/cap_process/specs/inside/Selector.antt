@@ -1,15 +1,14 @@
 -- The state of a selector, and its change by one verdict.
-use Rattle.std.specs.Prelude.{◌≡◌, ℕ, ◌+◌, ◌-◌, ◌^◌, ◌≤◌, Bool, true, false, length, Option, None, Result, Ok, Err, Some, []}
-use Rattle.cap_octet.specs.Packet.{Captured}
-use Rattle.cap_octet.specs.declared.fault.Fault.{Fault}
+use Rattle.std.specs.Prelude.{◌≡◌, ℕ, ◌+◌, ◌-◌, ◌^◌, ◌≤◌, Bool, true, false, length, Option, None, Result, Ok, Err, Some, ◌<◌}
+use Rattle.cap_octet.specs.{Packet.Captured, declared.fault.Fault.Fault}
 use Rattle.cap_window.specs.View.{WindowView}
 use Rattle.cap_process.specs.declared.selector.Verdict as code
 use Rattle.cap_process.specs.declared.selector.Verdict.TheVariants as code_verdict
+use Rattle.cap_process.specs.Reports.{Tally, nothing_counted}
+use Rattle.cap_process.specs.Selector.{SelectorView, window_of, places}
 use Rattle.cap_process.specs.Verdict.{Policy, Filter, SelectorState, Verdict, Pass, PassLast, Refuse, Judgement, counts}
 use Rattle.cap_process.specs.Verdict as judged
-use Rattle.cap_process.specs.Reports.{Tally, nothing_counted}
 use Rattle.cap_io.specs.Reading.{most_in_unit}
-use Rattle.cap_process.specs.Selector.{SelectorView, window_of, places}
 
 -- the policy of a selector, and its state
 pub record PolicyState : Type 0 where
@@ -79,6 +78,6 @@ TakesTally true old r new =
     (r ≡ Some old.state.tally)
     × (new ≡ record { policy = old.policy; state = with_empty_tally old.state })
 
--- the state of a selector with an empty window
-abbrev pub state_with : ℕ → Tally → SelectorState
-state_with passed tally = record { passed = passed; window = []; tally = tally }
+-- one packet more fits the tally's numbers
+abbrev pub FitsTally : Tally → Type 0
+FitsTally t = (t.count < 2 ^ 127) × (t.data_size < 2 ^ 127) × (t.captured_size < 2 ^ 127)

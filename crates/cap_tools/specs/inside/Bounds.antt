@@ -1,14 +1,7 @@
 -- The number of steps, bounded by the bytes read.
-use Rattle.std.specs.Prelude.{ℕ, ◌+◌, ◌≤◌, Bool, true, false, List, [], ◌∷◌, Option, None, Some}
-use Rattle.cap_tools.specs.declared.step.JobEnd.{JobEnd}
-use Rattle.cap_inputs.specs.Inputs.{InputView, InputsView}
-use Rattle.cap_inputs.specs.inside.Inputs.{owed_by}
+use Rattle.std.specs.Prelude.{ℕ, ◌+◌, ◌≤◌, List, [], ◌∷◌, Option, None, Some}
 use Rattle.cap_tools.specs.Bounds.{most_turns}
-
--- whether a job goes on after a step
-abbrev pub step_goes_on : Option JobEnd → Bool
-step_goes_on None = true
-step_goes_on (Some end) = false
+use Rattle.cap_inputs.specs.{Inputs.InputView, Inputs.InputsView, inside.Inputs.owed_by}
 
 -- the steps that follow without a byte more
 abbrev pub owed_in : List InputView → ℕ

@@ -1,25 +1,18 @@
 -- Helpers next to specs/Packets, for the crate's own functions and proofs.
-use Rattle.std.specs.Prelude.{◌≡◌, ◌⊎◌, ℕ, ◌+◌, ◌≤◌, Bool, true, false, List, map, Option, None, Some, Result, Ok, Err}
 use Rattle.std.specs.List.{slice_get}
-use Rattle.cap_octet.specs.Packet.{Captured}
-use Rattle.cap_octet.specs.declared.fault.Fault.{Fault}
-use Rattle.cap_octet.specs.declared.fault.Fault.TheVariants.{WriteFailed}
-use Rattle.cap_octet.specs.declared.device.DeviceFault.{DeviceFault}
+use Rattle.std.specs.Prelude.{◌≡◌, ◌⊎◌, ℕ, ◌+◌, ◌≤◌, Bool, true, false, List, map, Option, None, Some, Result, Ok, Err}
+use Rattle.cap_octet.specs.{Packet.Captured, declared.device.DeviceFault.DeviceFault}
+use Rattle.cap_octet.specs.declared.fault.Fault.{Fault, TheVariants.WriteFailed}
 use Rattle.cap_filter.specs.Programs.{spent_in}
 use Rattle.cap_process.specs.declared.selector.Verdict as code
-use Rattle.cap_process.specs.declared.selector.Verdict.TheVariants as code_verdict
-use Rattle.cap_tools.specs.declared.step.JobEnd.{JobEnd}
-use Rattle.cap_tools.specs.declared.step.JobEnd.TheVariants as end
-use Rattle.cap_process.specs.Reports.{Report, Tally, report_text}
-use Rattle.cap_process.specs.Output.{Target}
-use Rattle.cap_process.specs.inside.Output.{PutsIntoOutput, Reports}
-use Rattle.cap_process.specs.Verdict.{judge}
-use Rattle.cap_process.specs.Selector.{SelectorView, most_spent, spent_by_verdict}
+use Rattle.cap_process.specs.{Output.Target, Reports.Report, Reports.Tally, Reports.report_text}
+use Rattle.cap_process.specs.{Selector.SelectorView, Selector.most_spent, Selector.spent_by_verdict, Verdict.judge}
+use Rattle.cap_process.specs.{declared.selector.Verdict.Verdict, inside.Output.PutsIntoOutput, inside.Output.Reports}
 use Rattle.cap_process.specs.inside.Selector.{PolicyState, with_empty_tally}
+use Rattle.cap_tools.specs.{Packets.asks_report, declared.step.JobEnd.JobEnd}
 use Rattle.cap_process.specs.inside.Selector as selecting_inside
 use Rattle.cap_io.specs.Capture.{kind_of}
 use Rattle.cap_inputs.specs.Inputs.{InputPast, InputsView, InputView}
-use Rattle.cap_tools.specs.Packets.{asks_report}
 
 -- the report of an input at its end
 abbrev pub report_at : ℕ → InputView → Tally → Report
@@ -33,7 +26,7 @@ report_at input h tally =
 
 -- a packet is written into the output, unless its verdict is that it is skipped: then nothing is
 abbrev pub Offers : code.Verdict → Captured → Target → Result (Unit {0}) Fault → Target → Type 0
-Offers code_verdict.Skip p old r new = (r ≡ Ok tt) × (new ≡ old)
+Offers Verdict.Skip p old r new = (r ≡ Ok tt) × (new ≡ old)
 Offers verdict p old r new = PutsIntoOutput p old r new
 
 -- a selector, and the output that what passes is written into
@@ -57,8 +50,8 @@ pub record Judges (p : Captured) (number : ℕ) (old : Sieve) (verdict : code.Ve
 -- how a job ends whose current packet passes and wasn't written: the output failed, or the packet
 -- has this fault (its format refuses it, or there was no memory for it)
 abbrev pub end_of_failed_write : ℕ → Fault → JobEnd
-end_of_failed_write input WriteFailed = end.OutputFailed
-end_of_failed_write input fault = end.FaultIn input fault
+end_of_failed_write input WriteFailed = JobEnd.OutputFailed
+end_of_failed_write input fault = JobEnd.FaultIn input fault
 
 -- a packet passes, and writing it fails
 pub record FailsToWrite (p : Captured) (input number : ℕ) (old : Sieve) (e : JobEnd)
@@ -75,7 +68,7 @@ pub record Rejects (p : Captured) (input number : ℕ) (old : Sieve) (e : JobEnd
   pub exact : selecting_inside.IsVerdict (judge old.selector.policy old.selector.state number p)
       (Err fault) p new.selector.state
   pub same : new.output ≡ old.output
-  pub is : e ≡ end.FaultIn input fault
+  pub is : e ≡ JobEnd.FaultIn input fault
 
 -- A packet is judged, and written if it passes; or the write fails, or it is refused. There is a
 -- current packet.
@@ -88,7 +81,7 @@ DecidesPacket (Some p) input number old (Err e) new =
 
 -- how the job ends after a packet with this verdict: the last that passes ends it
 abbrev pub end_after : code.Verdict → Option JobEnd
-end_after code_verdict.PassLast = Some end.Complete
+end_after Verdict.PassLast = Some JobEnd.Complete
 end_after verdict = None
 
 -- the runs of programs that deciding the current packet cost, and their bound
@@ -101,7 +94,12 @@ Spends (Some p) old number new =
 -- the job ends if its output failed, and else goes on
 abbrev pub unless_failed : Result (Unit {0}) DeviceFault → Option JobEnd
 unless_failed (Ok done) = None
-unless_failed (Err fault) = Some end.OutputFailed
+unless_failed (Err fault) = Some JobEnd.OutputFailed
+
+-- how a job ends with the last bytes of its output
+abbrev pub end_of_write : Result (Unit {0}) DeviceFault → JobEnd
+end_of_write (Ok done) = JobEnd.Complete
+end_of_write (Err fault) = JobEnd.OutputFailed
 
 -- an input is reported, and the count begins again
 pub record ReportsOn (names : List (List ℕ)) (input : ℕ) (cursor : InputView) (old : Sieve)

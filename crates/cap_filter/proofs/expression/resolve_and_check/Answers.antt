@@ -1,5 +1,4 @@
-use Rattle.std.proofs.Common.{inl}
-use Rattle.cap_filter.proofs.Expressions.{settled-ok, settled-refused}
+use Rattle.cap_filter.proofs.{Common.inl, Expressions.settled-ok, Expressions.settled-refused}
 use Rattle.cap_filter.proofs.expression.resolve_and_check.Goals as goal
 
 pub returns-in-Ok-clause-settled : goal.returns-in-Ok-clause-settled

@@ -1,5 +1,5 @@
 use Rattle.cap_process.proofs.Common.{Option, None, not, Ok, subst, sym, Captured, captured, WindowView, unique, marks_in, state_of, IsWindowFor, ReturnsVerdict}
-use Rattle.cap_process.proofs.EditRules.{unique-keeps}
+use Rattle.cap_process.proofs.Selectors.{unique-keeps}
 use Rattle.cap_process.proofs.edit.mark_and_check_unique.Goals as goal
 
 pub returns-in-Some-clause-exact : goal.returns-in-Some-clause-exact

@@ -1,4 +1,4 @@
-use Rattle.cap_process.proofs.Prefixes as prefix
+use Rattle.cap_process.proofs.Wholes as prefix
 use Rattle.cap_process.proofs.law.cuts_give_prefixes.Goals as goal
 
 pub returns : goal.returns

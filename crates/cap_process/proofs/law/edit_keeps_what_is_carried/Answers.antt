@@ -1,5 +1,4 @@
-use Rattle.cap_process.proofs.Closings.{copy_ends}
-use Rattle.cap_process.proofs.Wholes.{edit_keeps}
+use Rattle.cap_process.proofs.Wholes.{copy_ends, edit_keeps}
 use Rattle.cap_process.proofs.law.edit_keeps_what_is_carried.Goals as goal
 
 pub returns : goal.returns

@@ -1,5 +1,4 @@
-use Rattle.cap_process.proofs.Closings.{edit_ends}
-use Rattle.cap_process.proofs.Wholes.{edit_writes}
+use Rattle.cap_process.proofs.Wholes.{edit_ends, edit_writes}
 use Rattle.cap_process.proofs.law.edit_writes_unique.Goals as goal
 
 pub returns : goal.returns

@@ -1,5 +1,4 @@
-use Rattle.cap_process.proofs.Closings.{infos_ends}
-use Rattle.cap_process.proofs.Wholes.{infos_reports}
+use Rattle.cap_process.proofs.Wholes.{infos_ends, infos_reports}
 use Rattle.cap_process.proofs.law.infos_has_each_report.Goals as goal
 
 pub returns : goal.returns

@@ -1,5 +1,4 @@
-use Rattle.cap_process.proofs.Closings.{merge_ends}
-use Rattle.cap_process.proofs.Wholes.{merge_writes}
+use Rattle.cap_process.proofs.Wholes.{merge_ends, merge_writes}
 use Rattle.cap_process.proofs.law.merge_writes_all.Goals as goal
 
 pub returns : goal.returns

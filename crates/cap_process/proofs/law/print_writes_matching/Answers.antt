@@ -1,5 +1,4 @@
-use Rattle.cap_process.proofs.Closings.{print_ends}
-use Rattle.cap_process.proofs.Wholes.{print_writes}
+use Rattle.cap_process.proofs.Wholes.{print_ends, print_writes}
 use Rattle.cap_process.proofs.law.print_writes_matching.Goals as goal
 
 pub returns : goal.returns

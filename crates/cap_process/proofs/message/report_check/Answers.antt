@@ -1,6 +1,6 @@
-use Rattle.std.proofs.Common.{List, ℕ, sym, ◌∙◌, subst}
+use Rattle.cap_process.proofs.Common.{List, ℕ, sym, ◌∙◌, subst}
+use Rattle.cap_process.proofs.Lines.{check-indexed, check-whole}
 use Rattle.cap_octet.specs.Device.{AppendsOrStops}
-use Rattle.cap_process.proofs.Refusals.{check-indexed, check-whole}
 use Rattle.cap_process.proofs.message.report_check.Goals as goal
 
 pub returns-then-has_index-clause-exact : goal.returns-then-has_index-clause-exact

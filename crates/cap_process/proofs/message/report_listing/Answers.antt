@@ -1,6 +1,6 @@
-use Rattle.std.proofs.Common.{List, ℕ, sym, ◌∙◌, subst}
+use Rattle.cap_process.proofs.Common.{List, ℕ, sym, ◌∙◌, subst}
+use Rattle.cap_process.proofs.Lines.{listing-lined, listing-whole}
 use Rattle.cap_octet.specs.Device.{AppendsOrStops}
-use Rattle.cap_process.proofs.Refusals.{listing-lined, listing-whole}
 use Rattle.cap_process.proofs.message.report_listing.Goals as goal
 
 pub returns-in-None-clause-exact : goal.returns-in-None-clause-exact

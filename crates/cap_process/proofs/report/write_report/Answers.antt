@@ -1,6 +1,6 @@
+use Rattle.cap_process.proofs.{Common.appends-following, Lines.report-joined, Lines.stops-following}
 use Rattle.std.proofs.lemmas.Result.{err_from_is_err_and}
-use Rattle.cap_io.proofs.Parts.{appends-following, stops-front}
-use Rattle.cap_process.proofs.Lines.{report-joined, stops-following}
+use Rattle.cap_io.proofs.Parts.{stops-front}
 use Rattle.cap_process.proofs.report.write_report.Goals as goal
 
 pub returns-in_err-write_name-clause-exact : goal.returns-in_err-write_name-clause-exact

@@ -1,5 +1,5 @@
-use Rattle.cap_tools.proofs.Common.{◌≡◌, [], map, refl, sym, ◌∙◌, ap, subst, string_bytes, arith, append-nil, IsTold, no_memory_message, OutputView, fresh_input, fresh_output, output_view, Assignment, Call, call_of, JobView, room_by, ends, fault_outcome, of_nothing, assignment}
 use Rattle.cap_tools.proofs.CommandStarts.{first-decided}
+use Rattle.cap_tools.proofs.Common.{◌≡◌, [], map, refl, sym, ◌∙◌, ap, subst, string_bytes, arith, append-nil, IsTold, no_memory_message, OutputView, fresh_input, fresh_output, output_view, Assignment, Call, call_of, JobView, room_by, ends, fault_outcome, of_nothing, assignment}
 use Rattle.cap_tools.proofs.Runs.{first-output, fresh}
 use Rattle.cap_tools.proofs.Turns.{steps-done, steps-more, steps-room, steps-status, steps-undone}
 use Rattle.cap_tools.proofs.job.run.Goals as goal

@@ -1,43 +1,25 @@
-use Rattle.cap_tools.proofs.Common.{◌≡◌, ℕ, List, Option, true, Ok, Err, refl, sym, ◌∙◌, ap₂, subst, None, Some, is_in_turn, Reports, Tally, file_report, is_count, TakesTally, policy_state}
-use Rattle.cap_tools.specs.declared.step.JobEnd.TheVariants as end
+use Rattle.cap_tools.proofs.Coming.{get-input}
+use Rattle.cap_tools.proofs.Common.{◌≡◌, ℕ, List, Option, true, sym, ◌∙◌, ap₂, subst, is_in_turn, Reports, Tally, file_report, is_count, TakesTally, policy_state}
 use Rattle.cap_tools.proofs.Fetches.{closes-by, counted, uncounted, unreported}
 use Rattle.cap_process.proofs.Selectors.{closes-policy}
-use Rattle.cap_tools.proofs.Places.{get-input}
 use Rattle.cap_tools.proofs.step.close.Goals as goal
 
-pub returns-in-Ok-clause-exact : goal.returns-in-Ok-clause-exact
-returns-in-Ok-clause-exact g c = λ to.
+pub returns-clause-exact : goal.returns-clause-exact
+returns-clause-exact g c = λ to.
     let turn : is_in_turn c.args.inputs.now.order ≡ true = sym c.is_in_turn.ensures ∙ c.if-not-is_in_turn.false in
+    let F : List ℕ → Type 0 = λ n. Reports (file_report n c.kind.result c.offset.result c.in-Some.tally) c.args.output.now c.report.result c.report.new.self in
     record {
       cursor = c.cursor-cursor.result.now;
       among = get-input c.args.inputs.now.cursors c.args.input c.cursor-cursor.result.now c.cursor-cursor.ensures;
-      by = closes-by c.args.inputs.now.order c.args.input c.cursor-cursor.result.now (policy_state c.args.selector.now) (policy_state c.close.new.self) c.args.messages.now.names c.args.output.now c.report.new.self None c.in-Some.tally
-          _ (Ok tt) turn c.in-Some.ensures.closes (ap₂ (λ k n. record { input = c.args.input; kind = k; size = n; tally = c.in-Some.tally }) c.kind.ensures c.offset.ensures) (let F : List ℕ → Type 0 = λ n. Reports (file_report n c.kind.result c.offset.result c.in-Some.tally) c.args.output.now (Ok tt) c.report.new.self in subst F c.name.ensures (c.in-Ok.ensures.exact to)) refl;
+      by = closes-by c.args.inputs.now.order c.args.input c.cursor-cursor.result.now (policy_state c.args.selector.now) (policy_state c.close.new.self) c.args.messages.now.names c.args.output.now c.report.new.self c.unless_failed.result c.in-Some.tally _ c.report.result turn
+          c.in-Some.ensures.closes (ap₂ (λ k n. record { input = c.args.input; kind = k; size = n; tally = c.in-Some.tally }) c.kind.ensures c.offset.ensures) (subst F c.name.ensures (c.report.ensures.exact to)) c.unless_failed.ensures;
     }
 
-pub returns-in-Ok-clause-policy : goal.returns-in-Ok-clause-policy
-returns-in-Ok-clause-policy g c = closes-policy (is_count c.args.selector.now.policy) (policy_state c.args.selector.now) (policy_state c.close.new.self) _ c.in-Some.ensures.closes
+pub returns-clause-policy : goal.returns-clause-policy
+returns-clause-policy g c = closes-policy (is_count c.args.selector.now.policy) (policy_state c.args.selector.now) (policy_state c.close.new.self) _ c.in-Some.ensures.closes
 
-pub returns-in-Err-clause-exact : goal.returns-in-Err-clause-exact
-returns-in-Err-clause-exact g c = λ to.
-    let turn : is_in_turn c.args.inputs.now.order ≡ true = sym c.is_in_turn.ensures ∙ c.if-not-is_in_turn.false in
-    record {
-      cursor = c.cursor-cursor.result.now;
-      among = get-input c.args.inputs.now.cursors c.args.input c.cursor-cursor.result.now c.cursor-cursor.ensures;
-      by = closes-by c.args.inputs.now.order c.args.input c.cursor-cursor.result.now (policy_state c.args.selector.now) (policy_state c.close.new.self) c.args.messages.now.names c.args.output.now c.report.new.self (Some end.OutputFailed) c.in-Some.tally
-          _ (Err c.in-Err.field-0) turn c.in-Some.ensures.closes (ap₂ (λ k n. record { input = c.args.input; kind = k; size = n; tally = c.in-Some.tally }) c.kind.ensures c.offset.ensures) (let F : List ℕ → Type 0 = λ n. Reports (file_report n c.kind.result c.offset.result c.in-Some.tally) c.args.output.now (Err c.in-Err.field-0) c.report.new.self in subst F c.name.ensures (c.in-Err.ensures.exact to)) refl;
-    }
-
-pub returns-in-Err-clause-policy : goal.returns-in-Err-clause-policy
-returns-in-Err-clause-policy g c = closes-policy (is_count c.args.selector.now.policy) (policy_state c.args.selector.now) (policy_state c.close.new.self) _ c.in-Some.ensures.closes
-
-pub returns-in-Ok-clause-kept : goal.returns-in-Ok-clause-kept
-returns-in-Ok-clause-kept g c = λ none.
-    let turn : is_in_turn c.args.inputs.now.order ≡ true = sym c.is_in_turn.ensures ∙ c.if-not-is_in_turn.false in
-    absurd (counted c.args.inputs.now.order c.args.selector.now.policy (policy_state c.args.selector.now) (policy_state c.close.new.self) c.in-Some.tally turn c.in-Some.ensures.closes none)
-
-pub returns-in-Err-clause-kept : goal.returns-in-Err-clause-kept
-returns-in-Err-clause-kept g c = λ none.
+pub returns-clause-kept : goal.returns-clause-kept
+returns-clause-kept g c = λ none.
     let turn : is_in_turn c.args.inputs.now.order ≡ true = sym c.is_in_turn.ensures ∙ c.if-not-is_in_turn.false in
     absurd (counted c.args.inputs.now.order c.args.selector.now.policy (policy_state c.args.selector.now) (policy_state c.close.new.self) c.in-Some.tally turn c.in-Some.ensures.closes none)
 

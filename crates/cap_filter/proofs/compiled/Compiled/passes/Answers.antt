@@ -1,7 +1,5 @@
-use Rattle.std.proofs.Common.{None, Some, sym, ◌∙◌}
-use Rattle.cap_octet.specs.Packet.{captured}
-use Rattle.cap_filter.proofs.Costs.{bounded-ran}
-use Rattle.cap_filter.proofs.Filters.{answers-at, answers-none, place-within, put-back, reading-spends, sound-ran}
+use Rattle.cap_filter.proofs.Common.{None, Some, sym, ◌∙◌, captured}
+use Rattle.cap_filter.proofs.Filters.{bounded-ran, answers-at, answers-none, place-within, put-back, reading-spends, sound-ran}
 use Rattle.cap_filter.proofs.compiled.Compiled.passes.Goals as goal
 
 pub returns-in_default-clause-answers : goal.returns-in_default-clause-answers

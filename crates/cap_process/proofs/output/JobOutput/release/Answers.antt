@@ -1,7 +1,6 @@
-use Rattle.std.proofs.Common.{ap, refl}
-use Rattle.cap_process.specs.Output.{Capture}
-use Rattle.cap_process.proofs.output.JobOutput.release.Goals as goal
+use Rattle.cap_process.proofs.Common.{ap, refl, Capture}
 use Rattle.cap_process.proofs.output.JobOutput.release.Goals.{in-Capture, in-Text, in-Lines}
+use Rattle.cap_process.proofs.output.JobOutput.release.Goals as goal
 
 pub returns-clause-kept : goal.returns-clause-kept
 returns-clause-kept g c =

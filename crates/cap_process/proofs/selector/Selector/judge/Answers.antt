@@ -1,15 +1,14 @@
 use Rattle.cap_process.proofs.Common.{◌≡◌, ℕ, Bool, true, false, Option, Ok, refl, ap, sym, ◌∙◌, subst, arith, Captured, captured, TooManyPackets, Judgement, SelectorState, is_last, judge_by, refuses, judge, SelectorView, policy_of, programs_in, spent_by_verdict, window_of, is_count, marks_in, state_of, GrowsByOne, HasFewMarks, ReturnsVerdict, IsVerdict, count_limit, verdict_if, verdict_of}
-use Rattle.cap_process.specs.declared.selector.Verdict.TheVariants as code
-use Rattle.cap_process.specs.inside.Reports.{FitsTally}
 use Rattle.cap_process.proofs.Selectors.{counted-spends, judged-spends, refused-spends, upper_bound, too-many, tells-count, tells-none, tells-passed, window-few}
-use Rattle.cap_process.proofs.selector.Selector.judge.Goals as goal
 use Rattle.cap_process.proofs.selector.Selector.judge.Goals.{then-passed-number, else-passed-number}
+use Rattle.cap_process.specs.{declared.selector.Verdict.Verdict, inside.Selector.FitsTally}
+use Rattle.cap_process.proofs.selector.Selector.judge.Goals as goal
 
 pub returns-then-is_count-clause-exact : goal.returns-then-is_count-clause-exact
 returns-then-is_count-clause-exact g c = λ within counted.
-    let P : SelectorView → Type 0 = λ v. FitsTally v.state.tally → IsVerdict (judge v.policy v.state c.args.number (captured c.args.packet.now)) (Ok code.Skip) (captured c.args.packet.now) (state_of c.self.inside.passed (marks_in c.self.inside.window) c.counted-self-inside.result) in
+    let P : SelectorView → Type 0 = λ v. FitsTally v.state.tally → IsVerdict (judge v.policy v.state c.args.number (captured c.args.packet.now)) (Ok Verdict.Skip) (captured c.args.packet.now) (state_of c.self.inside.passed (marks_in c.self.inside.window) c.counted-self-inside.result) in
     subst P c.self.view_is
-    (λ upper_bound. tells-count (policy_of c.self.inside.policy) c.self.inside.passed (marks_in c.self.inside.window) c.self.inside.tally c.counted-self-inside.result c.args.number (captured c.args.packet.now) code.Skip
+    (λ upper_bound. tells-count (policy_of c.self.inside.policy) c.self.inside.passed (marks_in c.self.inside.window) c.self.inside.tally c.counted-self-inside.result c.args.number (captured c.args.packet.now) Verdict.Skip
     (sym c.is_count.ensures ∙ c.if-is_count.true) refl (c.counted-self-inside.ensures.counted upper_bound))
     counted
 
@@ -62,9 +61,9 @@ returns-then-not-branch-clause-exact g c = λ within counted.
     let after : SelectorState = state_of w.passed (marks_in c.keeps.new.window) w.tally in
     let K : Bool → Type 0 = λ b. ReturnsVerdict (count_limit (policy_of w.policy)) (judge_by (policy_of w.policy) state c.args.number p) (Ok b) q after in
     let keeps : K false = subst K c.if-not-branch.true (c.in_ok-keeps.ensures.exact w.passed w.tally judges) in
-    let P : SelectorView → Type 0 = λ v. IsVerdict (judge v.policy v.state c.args.number p) (Ok code.Skip) q after in
+    let P : SelectorView → Type 0 = λ v. IsVerdict (judge v.policy v.state c.args.number p) (Ok Verdict.Skip) q after in
     subst P c.self.view_is (rw (upper_bound (policy_of w.policy) state c.args.number p judges c.if-number-ge-NUMBER_END.false)
-    (tells-none (count_limit (policy_of w.policy)) (judge_by (policy_of w.policy) state c.args.number p) after q code.Skip keeps refl))
+    (tells-none (count_limit (policy_of w.policy)) (judge_by (policy_of w.policy) state c.args.number p) after q Verdict.Skip keeps refl))
 
 pub returns-then-not-branch-clause-spends : goal.returns-then-not-branch-clause-spends
 returns-then-not-branch-clause-spends g c =

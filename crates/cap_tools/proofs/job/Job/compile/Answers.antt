@@ -1,7 +1,6 @@
-use Rattle.cap_tools.proofs.Common.{ℕ, List, inr, ap, subst, string_bytes, spent_in, Compiles, IsCompiled}
-use Rattle.cap_filter.specs.declared.filter.Refusal.TheVariants.{Expression}
-use Rattle.cap_filter.specs.Expressions.{IsTextFault}
 use Rattle.cap_tools.proofs.CommandStarts.{first-step, lists-some, refused-step}
+use Rattle.cap_tools.proofs.Common.{ℕ, List, inr, ap, subst, string_bytes, spent_in, Compiles, IsCompiled}
+use Rattle.cap_filter.specs.{Expressions.IsTextFault, declared.filter.Refusal.TheVariants.Expression}
 use Rattle.cap_tools.proofs.job.Job.compile.Goals as goal
 
 pub returns-in-Ok : goal.returns-in-Ok

@@ -1,6 +1,4 @@
-use Rattle.cap_tools.proofs.Common.{◌≡◌, ◌∙◌, true, refl, ap, subst, IsSound, JobView}
-use Rattle.cap_inputs.specs.Inputs.{next_of}
-use Rattle.cap_tools.specs.inside.Commands.{is_read, makes, rests}
+use Rattle.cap_tools.proofs.Common.{◌≡◌, ◌∙◌, true, refl, ap, subst, IsSound, JobView, next_of, is_read, makes, rests}
 use Rattle.cap_tools.proofs.Turns.{may-count, told-read}
 use Rattle.cap_tools.proofs.job.Job.decide_if_next.Goals as goal
 

@@ -1,5 +1,4 @@
-use Rattle.cap_tools.proofs.Common.{◌∙◌}
-use Rattle.cap_tools.proofs.Turns.{may-count}
+use Rattle.cap_tools.proofs.{Common.◌∙◌, Turns.may-count}
 use Rattle.cap_tools.proofs.job.Job.finish_step.Goals as goal
 
 pub count_step-requires : goal.count_step-requires

@@ -1,10 +1,6 @@
-use Rattle.cap_tools.proofs.Common.{◌≡◌, ◌∙◌, true, false, Ok, Err, refl, sym, ap, arith, subst, None, Some, InputsView, asks_report, JobView, IsNext}
-use Rattle.cap_inputs.specs.declared.inputs.Next.TheVariants as next
-use Rattle.cap_tools.specs.declared.step.JobEnd.TheVariants as end
-use Rattle.cap_tools.proofs.Preparing.{ready-none}
-use Rattle.cap_tools.proofs.Programs.{have-kept}
-use Rattle.cap_tools.proofs.Kept.{counted-turns}
-use Rattle.cap_tools.proofs.Lefts.{read-on}
+use Rattle.cap_tools.proofs.CommandStarts.{ready-none}
+use Rattle.cap_tools.proofs.Common.{◌≡◌, ◌∙◌, true, false, Ok, Err, refl, sym, ap, arith, subst, None, Some, InputsView, asks_report, JobView, IsNext, Next, JobEnd}
+use Rattle.cap_tools.proofs.{Lefts.counted-turns, Lefts.read-on, Programs.have-kept}
 use Rattle.cap_tools.proofs.Steps.{moves-sound, read-step, reads-move, same-kept}
 use Rattle.cap_tools.proofs.Weights.{read_input-small}
 use Rattle.cap_tools.proofs.job.Job.read_input.Goals as goal
@@ -24,7 +20,7 @@ invariant_of-self-in-Ok-false g c =
 
 pub invariant_of-self-in-Err : goal.invariant_of-self-in-Err
 invariant_of-self-in-Err g c =
-    let N : JobView → Type 0 = λ v. IsNext v.state.inputs (next.Read c.args.input) in
+    let N : JobView → Type 0 = λ v. IsNext v.state.inputs (Next.Read c.args.input) in
     let less = (read-on c.self.inside.inputs c.read_input.new.self c.args.input c.read_input.result (subst N (sym c.self.view_is) c.requires.next) c.read_input.ensures.steps).kept in
     let was = c.self.invariant.0 in (
       omega (arith, less, was),
@@ -51,5 +47,5 @@ returns-in-Ok-false g c =
 
 pub returns-in-Err : goal.returns-in-Err
 returns-in-Err g c =
-    read-step g.I.Input.tells g.O.Output.tells _ _ c.args.input c.read_input.new.self c.read_input.result (Err c.in-Err.fault) (Some (end.FaultIn c.args.input c.in-Err.fault)) c.self.inside.selector c.self.inside.output (Some 1) c.self.view_is c.self.invariant c.requires.next
+    read-step g.I.Input.tells g.O.Output.tells _ _ c.args.input c.read_input.new.self c.read_input.result (Err c.in-Err.fault) (Some (JobEnd.FaultIn c.args.input c.in-Err.fault)) c.self.inside.selector c.self.inside.output (Some 1) c.self.view_is c.self.invariant c.requires.next
     c.in-Err.is c.read_input.ensures.steps c.read_input.ensures.exact (same-kept _ c.self.invariant) refl (λ on. (cc)) (λ on. (cc)) (λ none. refl) (λ to. (refl, refl, refl))

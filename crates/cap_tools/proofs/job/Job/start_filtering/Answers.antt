@@ -1,6 +1,5 @@
+use Rattle.cap_tools.proofs.CommandStarts.{first-step, refused-step, new-unspent}
 use Rattle.cap_tools.proofs.Common.{refl, sym, ap, subst, ◌∙◌, programs_of, rule_of, spent_in, ReadsFilter, asked_by, Turn, JobView, PreparesBy, PreparesOnly, Some, with_preparing}
-use Rattle.cap_tools.proofs.CommandStarts.{first-step, refused-step}
-use Rattle.cap_tools.proofs.Preparing.{new-unspent}
 use Rattle.cap_tools.proofs.job.Job.start_filtering.Goals as goal
 
 pub returns-in-Ok : goal.returns-in-Ok

@@ -1,5 +1,5 @@
+use Rattle.cap_tools.proofs.CommandStarts.{none-before, some-before}
 use Rattle.cap_tools.proofs.Common.{◌∙◌, sym, ap, JobView}
-use Rattle.cap_tools.proofs.Preparing.{none-before, some-before}
 use Rattle.cap_tools.proofs.job.Job.step.Goals as goal
 
 pub prepare-requires : goal.prepare-requires
