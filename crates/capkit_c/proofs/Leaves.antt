@@ -1,9 +1,7 @@
 -- What reading the unit at a reader's place leaves.
 use Rattle.capkit_c.proofs.Common.{◌≡◌, ℕ, ◌+◌, ◌-◌, ◌<◌, ◌≤◌, List, [], length, take, drop, Option, Some, None, refl, sym, ap, ◌∙◌, subst, arith, min, drop-drop, length-drop, Captured, Fault, Declared, NoUnit, Whole, first_link_of, front_of, declared_by, Described, HasLink, declared_in, first_interfaces, reader_form, most_known, IsPastUnit, IsPacketFound, NextLeaves, Stays, comment_by, ends, fails, finds, is_full, passes, spans_of, ArePlaced, Counts, IsNoUnit, IsAtEnd, IsPlaced, BeginsWithUnit, placed_packet, UnitPacket, FileState, Interface, Packet, Reader}
-use Rattle.capkit_c.specs.declared.memory.block.Refusal.TheVariants as refusal
+use Rattle.capkit_c.specs.declared.memory.{block.Refusal.Refusal, reader.Found.Found, reader.ReadUnit.ReadUnit}
 use Rattle.cap_io.specs.declared.file_state.FileState.TheVariants as form
-use Rattle.capkit_c.specs.declared.memory.reader.Found.TheVariants as found
-use Rattle.capkit_c.specs.declared.memory.reader.ReadUnit.{ReadUnit}
 
 -- ---- what is declared
 
@@ -63,7 +61,7 @@ read capture text r r' t t' f count s is counts same steps form' interfaces' =
 
 pub passed : (capture text : List ℕ) (r r' : Reader) (t t' : List Interface) (p : Packet) (f : FileState) (count : ℕ) (s : ReadUnit) → f ≡ reader_form r → Counts f r (length t) count → text ≡ drop r.offset capture
     → BeginsWithUnit f (first_interfaces count t) text t' s → reader_form r' ≡ s.form → r'.interfaces ≡ s.interfaces → r'.offset ≡ r.offset + s.size → s.packet ≡ None
-    → HasLink (first_link_of (declared_by s.form [])) r' → NextLeaves capture r r' t t' p p found.Unit
+    → HasLink (first_link_of (declared_by s.form [])) r' → NextLeaves capture r r' t t' p p Found.Unit
 passed capture text r r' t t' p f count s is counts same steps form' interfaces' offset none link =
     let b = read capture text r r' t t' f count s is counts same steps form' interfaces' in
     let P : Option UnitPacket → Type 0 = λ o. ArePlaced (declared_in r' t') (drop r.offset capture) s.size o b.packets in
@@ -99,7 +97,7 @@ found_at capture declared at size p q inside there is =
 
 pub found_packet : (capture text : List ℕ) (r r' : Reader) (t t' : List Interface) (p p' : Packet) (f : FileState) (count : ℕ) (s : ReadUnit) (placed : UnitPacket) → f ≡ reader_form r → Counts f r (length t) count
     → text ≡ drop r.offset capture → BeginsWithUnit f (first_interfaces count t) text t' s → reader_form r' ≡ s.form → r'.interfaces ≡ s.interfaces → r'.offset ≡ r.offset + s.size → s.packet ≡ Some placed
-    → p' ≡ placed_packet r.offset placed → HasLink (first_link_of (declared_by s.form [])) r' → NextLeaves capture r r' t t' p p' found.Packet
+    → p' ≡ placed_packet r.offset placed → HasLink (first_link_of (declared_by s.form [])) r' → NextLeaves capture r r' t t' p p' Found.Packet
 found_packet capture text r r' t t' p p' f count s placed is counts same steps form' interfaces' offset some packet link =
     let b = read capture text r r' t t' f count s is counts same steps form' interfaces' in
     let P : Option UnitPacket → Type 0 = λ o. ArePlaced (declared_in r' t') (drop r.offset capture) s.size o b.packets in
@@ -116,7 +114,7 @@ stays : (r : Reader) (t t' : List Interface) (p : Packet) → t' ≡ t → Stays
 stays r t t' p same = record { reader = refl; table = same; packet = refl }
 
 pub ended : (capture text : List ℕ) (r : Reader) (t : List Interface) (p : Packet) (f : FileState) (count : ℕ) → f ≡ reader_form r → Counts f r (length t) count → text ≡ drop r.offset capture → IsAtEnd f text
-    → NextLeaves capture r r t t p p found.End
+    → NextLeaves capture r r t t p p Found.End
 ended capture text r t p f count is counts same over =
     ends (ap (front_of (declared_in r t)) (sym same) ∙ ap (λ d. front_of d text) (sym (declared_as f r t count is counts)) ∙ stops f over) (stays r t t p refl)
   where
@@ -126,12 +124,12 @@ ended capture text r t p f count is counts same over =
     stops (form.Pcapng order link) over = ap (front_of (declared_by (form.Pcapng order link) (first_interfaces count t))) over
 
 pub refused : (capture text : List ℕ) (r : Reader) (t t' : List Interface) (p : Packet) (f : FileState) (count : ℕ) (fault : Fault) → f ≡ reader_form r → Counts f r (length t) count
-    → text ≡ drop r.offset capture → IsNoUnit f (first_interfaces count t) text (length t) (refusal.Fault fault) → t' ≡ t → NextLeaves capture r r t t' p p (found.Fault fault)
+    → text ≡ drop r.offset capture → IsNoUnit f (first_interfaces count t) text (length t) (Refusal.Fault fault) → t' ≡ t → NextLeaves capture r r t t' p p (Found.Fault fault)
 refused capture text r t t' p f count fault is counts same why kept =
     fails fault (ap (front_of (declared_in r t)) (sym same) ∙ ap (λ d. front_of d text) (sym (declared_as f r t count is counts)) ∙ why) (stays r t t' p kept)
 
 pub full : (capture text : List ℕ) (r : Reader) (t t' : List Interface) (p : Packet) (f : FileState) (count : ℕ) → f ≡ reader_form r → Counts f r (length t) count
-    → text ≡ drop r.offset capture → IsNoUnit f (first_interfaces count t) text (length t) refusal.NoRoom → t' ≡ t → NextLeaves capture r r t t' p p found.NoRoom
+    → text ≡ drop r.offset capture → IsNoUnit f (first_interfaces count t) text (length t) Refusal.NoRoom → t' ≡ t → NextLeaves capture r r t t' p p Found.NoRoom
 full capture text r t t' p f count is counts same why kept =
     let one = why.1 in
     is_full (first_interfaces count t) why.0 (record {

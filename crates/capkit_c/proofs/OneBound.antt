@@ -2,10 +2,8 @@
 use Rattle.capkit_c.proofs.Common.{◌≡◌, ◌≤◌, ℕ, List, length, ap, sym, subst, ◌∙◌, Insn, IsBound, IsFor}
 use Rattle.flt_words.specs.declared.token.Token.{Token}
 use Rattle.flt_words.proofs.OneAnswer.{same_answer}
-use Rattle.flt_ast.specs.Counts.{bound_of}
-use Rattle.flt_ast.specs.Filled.{fill_expression}
+use Rattle.flt_ast.specs.{Counts.bound_of, Filled.fill_expression, Tree.Expression}
 use Rattle.flt_lang.specs.Grammar.{IsReadAs, kinds_of}
-use Rattle.flt_ast.specs.Tree.{Expression}
 use Rattle.flt_lang.proofs.Complete.{complete}
 use Rattle.flt_ast.proofs.NodesBack.{same_nodes}
 use Rattle.cap_filter.specs.Expressions.{IsExpression, HasTree}

@@ -1,18 +1,13 @@
 -- What a put finds, and what it keeps.
 use Rattle.capkit_c.proofs.Common.{◌≡◌, ℕ, ◌+◌, ◌<◌, ◌≤◌, List, [], ◌∷◌, ◌++◌, length, take, Option, None, Some, refl, sym, ap, ◌∙◌, subst, arith, min, zero, suc, Bool, true, false, ◌==◌, nat_lt, ◌&&◌, ◌||◌, not, if◌then◌else◌, slice_set, Captured, Fault, WriteLeaves, Interface, first_failing, append-nil, ap₂}
-use Rattle.std.specs.Prelude.{map}
-use Rattle.std.specs.List.{list_any, position_or_len}
+use Rattle.std.specs.{List.list_any, List.position_or_len, Prelude.map, Prelude.cond}
+use Rattle.std.proofs.lemmas.{Bool.Decides.nat_tests, Cmp.nat_eq_equiv, Cmp.nat_list_eq_equiv}
 use Rattle.std.proofs.lemmas.List.{take_more_set, length-set}
-use Rattle.std.proofs.lemmas.Bool.Decides.{nat_tests}
-use Rattle.std.proofs.lemmas.Cmp.{nat_eq_equiv, nat_list_eq_equiv}
-use Rattle.std.specs.Prelude.{cond}
 use Rattle.cap_io.specs.Text as text
 use Rattle.cap_pcapng.specs.Encoding.{interface_text, packet_block, section_text}
 use Rattle.capkit_c.specs.Writer.{output_interface, interfaces_in, most_written, room_for, put_checks, put_refusal, has_all, next_text, HasWritten, KeepsWritten, IsWhole}
-use Rattle.capkit_c.specs.inside.Writer.{HasAdded}
-use Rattle.capkit_c.specs.declared.memory.layout.Writer.{Writer}
-use Rattle.capkit_c.specs.declared.memory.writing.Written.{Written}
-use Rattle.capkit_c.specs.declared.memory.writing.Written.TheVariants as written
+use Rattle.capkit_c.specs.declared.memory.{layout.Writer.Writer, writing.Written.Written}
+use Rattle.capkit_c.specs.inside.Units.{HasAdded}
 
 -- whether an element passes, by the first place of one
 among_by : (b later : Bool) (place count : ℕ) → later ≡ nat_lt place count → (b || later) ≡ nat_lt (if not b then 1 + place else 0) (suc count)
@@ -67,7 +62,7 @@ module _ (w : Writer) (table : List Interface) (p : Captured) (known number room
 
   -- a block adds nothing
   pub same_kept : (r : Written) → (w.has_section == 0) ≡ false → nat_lt number known ≡ true → KeepsWritten r w table p w table
-  same_kept (written.Whole n) s l = record {
+  same_kept (Written.Whole n) s l = record {
     section = s;
     interfaces = sym (append-nil ks) ∙ ap (λ z. ks ++ z) (sym (added_is true s (sym among ∙ l)));
     room = refl;
@@ -94,7 +89,7 @@ module _ (w : Writer) (table : List Interface) (p : Captured) (known number room
       count = ap₂ (λ (v : Writer) n. min v.interfaces (room_for n)) h.counted long ∙ (let fits = h.fits in grind (arith, nat_tests))
 
   pub more_kept : (r : Written) (w' : Writer) (table' : List Interface) → known ≡ most_written w (length table) → (w.has_section == 0) ≡ false → nat_lt number known ≡ false → (IsWhole r → HasAdded known p w table w' table') → ((IsWhole r → ⊥) → (w' ≡ w) × (table' ≡ table)) → KeepsWritten r w table p w' table'
-  more_kept (written.Whole n) w' table' is s l f g = one_more w' table' is s l (f tt)
+  more_kept (Written.Whole n) w' table' is s l f g = one_more w' table' is s l (f tt)
   more_kept _ w' table' is s l f g = g (λ x. x)
 
 -- ---- the number of an interface

@@ -1,9 +1,7 @@
 -- What a step of a search leaves.
 use Rattle.capkit_c.proofs.Common.{◌≡◌, ℕ, ◌+◌, ◌-◌, ◌<◌, ◌≤◌, List, [], ◌∷◌, length, take, drop, Option, Some, None, refl, sym, ap, ◌∙◌, subst, arith, drop-drop, length-drop, Captured, Declared, NoUnit, Whole, front_of, HasLink, declared_in, Insn, Judges, Skips, at_packet, past_packet, past_unit, DeclaresOne, IsPastUnit, IsPacketFound, IsStop, NextLeaves, PacketLeaves, PassesUnits, Stays, UnitHas, comment_by, ends, fails, finds, is_full, one_passed, passes, Interface, Packet, Reader}
-use Rattle.capkit_c.specs.inside.Matching.{StepLeaves}
 use Rattle.capkit_c.specs.Laws.{packet_from, reader_from}
-use Rattle.capkit_c.specs.declared.memory.reader.Found.{Found}
-use Rattle.capkit_c.specs.declared.memory.reader.Found.TheVariants as found
+use Rattle.capkit_c.specs.{declared.memory.reader.Found.Found, inside.Units.StepLeaves}
 
 -- ---- a unit is passed
 
@@ -18,33 +16,33 @@ pub record Passed (capture : List ℕ) (r r' : Reader) (p p' : Packet) : Type 0 
   pub same : p' ≡ p
   pub less : length capture - r'.offset < length capture - r.offset
 
-pub unit_passed : (capture : List ℕ) (r r' : Reader) (t t' : List Interface) (p p' : Packet) (what : Found) → NextLeaves capture r r' t t' p p' what → what ≡ found.Unit → Passed capture r r' p p'
+pub unit_passed : (capture : List ℕ) (r r' : Reader) (t t' : List Interface) (p p' : Packet) (what : Found) → NextLeaves capture r r' t t' p p' what → what ≡ Found.Unit → Passed capture r r' p p'
 unit_passed capture r r' t t' p p' what (passes size front after same) e = record { same = same; less = left capture size r r' _ after }
 unit_passed capture r r' t t' p p' what (finds size q front after is) e = absurd (cc)
 unit_passed capture r r' t t' p p' what (ends front stays) e = absurd (cc)
 unit_passed capture r r' t t' p p' what (fails fault front stays) e = absurd (cc)
 unit_passed capture r r' t t' p p' what (is_full interfaces most one stays) e = absurd (cc)
 
-pub packet_passed : (capture : List ℕ) (r r' : Reader) (t t' : List Interface) (p p' : Packet) (what : Found) → NextLeaves capture r r' t t' p p' what → what ≡ found.Packet → length capture - r'.offset < length capture - r.offset
+pub packet_passed : (capture : List ℕ) (r r' : Reader) (t t' : List Interface) (p p' : Packet) (what : Found) → NextLeaves capture r r' t t' p p' what → what ≡ Found.Packet → length capture - r'.offset < length capture - r.offset
 packet_passed capture r r' t t' p p' what (passes size front after same) e = absurd (cc)
 packet_passed capture r r' t t' p p' what (finds size q front after is) e = left capture size r r' _ after
 packet_passed capture r r' t t' p p' what (ends front stays) e = absurd (cc)
 packet_passed capture r r' t t' p p' what (fails fault front stays) e = absurd (cc)
 packet_passed capture r r' t t' p p' what (is_full interfaces most one stays) e = absurd (cc)
 
-pub stop : (what : Found) → ¬ what ≡ found.Unit → ¬ what ≡ found.Packet → IsStop what
-stop found.Unit unit other = absurd (unit refl)
-stop found.Packet unit other = absurd (other refl)
-stop found.End unit other = tt
-stop found.NoRoom unit other = tt
-stop (found.Fault fault) unit other = tt
+pub stop : (what : Found) → ¬ what ≡ Found.Unit → ¬ what ≡ Found.Packet → IsStop what
+stop Found.Unit unit other = absurd (unit refl)
+stop Found.Packet unit other = absurd (other refl)
+stop Found.End unit other = tt
+stop Found.NoRoom unit other = tt
+stop (Found.Fault fault) unit other = tt
 
 -- units so far, and one more
 pub record OneMore (capture : List ℕ) (r s' : Reader) (t u' : List Interface) (p q' : Packet) : Type 0 where
   pub passed : PassesUnits capture r t p s' u'
   pub same : q' ≡ p
 
-pub one_more_unit : (capture : List ℕ) (r s s' : Reader) (t u u' : List Interface) (p q q' : Packet) (what : Found) → PassesUnits capture r t p s u → q ≡ p → NextLeaves capture s s' u u' q q' what → what ≡ found.Unit
+pub one_more_unit : (capture : List ℕ) (r s s' : Reader) (t u u' : List Interface) (p q q' : Packet) (what : Found) → PassesUnits capture r t p s u → q ≡ p → NextLeaves capture s s' u u' q q' what → what ≡ Found.Unit
     → OneMore capture r s' t u' p q'
 one_more_unit capture r s s' t u u' p q q' what passed same leaves e =
     let step = unit_passed capture s s' u u' q q' what leaves e in
@@ -53,7 +51,7 @@ one_more_unit capture r s s' t u u' p q q' what passed same leaves e =
     let R : Found → Type 0 = λ w. NextLeaves capture s s' u u' p p w in
     record { passed = one_passed passed (subst R e (subst Q same (subst P step.same leaves))); same = step.same ∙ same }
 
-pub found_next : (capture : List ℕ) (r s s' : Reader) (t u u' : List Interface) (p q q' : Packet) (what : Found) → PassesUnits capture r t p s u → q ≡ p → NextLeaves capture s s' u u' q q' what → ¬ what ≡ found.Unit
+pub found_next : (capture : List ℕ) (r s s' : Reader) (t u u' : List Interface) (p q q' : Packet) (what : Found) → PassesUnits capture r t p s u → q ≡ p → NextLeaves capture s s' u u' q q' what → ¬ what ≡ Found.Unit
     → PacketLeaves capture r s' t u' p q' what
 found_next capture r s s' t u u' p q q' what passed same leaves unit =
     let P : Packet → Type 0 = λ x. NextLeaves capture s s' u u' x q' what in
@@ -61,22 +59,22 @@ found_next capture r s s' t u u' p q q' what passed same leaves unit =
 
 -- ---- a step by a program
 
-pub packet_step : (insns : List Insn) (link_type : ℕ) (capture : List ℕ) (r r' : Reader) (t t' : List Interface) (p p' : Packet) (what : Found) (judged : Option ℕ) → NextLeaves capture r r' t t' p p' what → what ≡ found.Packet
+pub packet_step : (insns : List Insn) (link_type : ℕ) (capture : List ℕ) (r r' : Reader) (t t' : List Interface) (p p' : Packet) (what : Found) (judged : Option ℕ) → NextLeaves capture r r' t t' p p' what → what ≡ Found.Packet
     → Judges insns link_type capture p' judged → StepLeaves insns link_type capture r r' t t' p p' judged
 packet_step insns link_type capture r r' t t' p p' what None leaves is judged =
     past_packet (subst (λ w. NextLeaves capture r r' t t' p p' w) is leaves) judged
 packet_step insns link_type capture r r' t t' p p' what (Some number) leaves is judged =
     at_packet (subst (λ w. NextLeaves capture r r' t t' p p' w) is leaves) judged
 
-pub unit_step : (insns : List Insn) (link_type : ℕ) (capture : List ℕ) (r r' : Reader) (t t' : List Interface) (p p' : Packet) (what : Found) → NextLeaves capture r r' t t' p p' what → what ≡ found.Unit
+pub unit_step : (insns : List Insn) (link_type : ℕ) (capture : List ℕ) (r r' : Reader) (t t' : List Interface) (p p' : Packet) (what : Found) → NextLeaves capture r r' t t' p p' what → what ≡ Found.Unit
     → Skips insns link_type capture r r' t t' p p'
 unit_step insns link_type capture r r' t t' p p' what leaves is =
     past_unit (subst (λ w. NextLeaves capture r r' t t' p p' w) is leaves)
 
 -- a step that isn't the last leaves less
 pub step_smaller : (insns : List Insn) (link_type : ℕ) (capture : List ℕ) (r r' : Reader) (t t' : List Interface) (p p' : Packet) → Skips insns link_type capture r r' t t' p p' → length capture - r'.offset < length capture - r.offset
-step_smaller insns link_type capture r r' t t' p p' (past_unit leaves) = (unit_passed capture r r' t t' p p' found.Unit leaves refl).less
-step_smaller insns link_type capture r r' t t' p p' (past_packet leaves judged) = packet_passed capture r r' t t' p p' found.Packet leaves refl
+step_smaller insns link_type capture r r' t t' p p' (past_unit leaves) = (unit_passed capture r r' t t' p p' Found.Unit leaves refl).less
+step_smaller insns link_type capture r r' t t' p p' (past_packet leaves judged) = packet_passed capture r r' t t' p p' Found.Packet leaves refl
 
 pub went_on : (insns : List Insn) (link_type : ℕ) (capture : List ℕ) (r r' : Reader) (t t' : List Interface) (p p' : Packet) (judged : Option ℕ) → StepLeaves insns link_type capture r r' t t' p p' judged → judged ≡ None
     → Skips insns link_type capture r r' t t' p p'

@@ -1,14 +1,11 @@
 -- Bytes of captures in the caller's buffer, and which packets they can't hold.
 use Rattle.std.specs.Prelude.{◌≡◌, ℕ, ◌<◌, ◌≤◌, Bool, List, [], ◌∷◌, ◌++◌, length, drop, nat_lt, nat_le, Option, None, Some}
-use Rattle.cap_octet.specs.Date.{TIME_END}
-use Rattle.cap_octet.specs.Packet.{Captured}
-use Rattle.cap_octet.specs.declared.fault.Fault.{Fault}
+use Rattle.cap_octet.specs.{Date.TIME_END, Packet.Captured, declared.fault.Fault.Fault}
 use Rattle.cap_octet.specs.declared.fault.Fault.TheVariants.{BadOption, TimeOutOfRange, TooManyOutputInterfaces}
 use Rattle.cap_io.specs.Text.{most_output_interfaces}
 use Rattle.cap_pcap.specs.Encoding as pcap
 use Rattle.cap_pcapng.specs.Encoding as pcapng
-use Rattle.capkit_c.specs.declared.memory.writing.Written.{Written}
-use Rattle.capkit_c.specs.declared.memory.writing.Written.TheVariants as written
+use Rattle.capkit_c.specs.{Reading.fault_number, declared.memory.writing.Written.Written}
 
 -- a packet by what its record or its block says of it
 abbrev pub written_packet : (time orig : ℕ) → (bytes comment : List ℕ) → Captured
@@ -56,8 +53,29 @@ pub record FindNoRoom (bytes old new : List ℕ) (count : ℕ) : Type 0 where
 -- the result of a write of a buffer: the bytes, unless a check fails or it has no room for all of
 -- them
 abbrev pub WriteLeaves : Option Fault → (bytes old new : List ℕ) → Written → Type 0
-WriteLeaves refusal bytes old new (written.Whole count) =
+WriteLeaves refusal bytes old new (Written.Whole count) =
     (refusal ≡ None) × StandWhole bytes old new count
-WriteLeaves refusal bytes old new (written.NoRoom count) =
+WriteLeaves refusal bytes old new (Written.NoRoom count) =
     (refusal ≡ None) × FindNoRoom bytes old new count
-WriteLeaves refusal bytes old new (written.Refused fault) = (refusal ≡ Some fault) × (new ≡ old)
+WriteLeaves refusal bytes old new (Written.Refused fault) = (refusal ≡ Some fault) × (new ≡ old)
+
+-- the number of what became of the bytes
+abbrev pub written_number : Written → ℕ
+written_number (Written.Whole count) = 0
+written_number (Written.NoRoom count) = 225
+written_number (Written.Refused fault) = fault_number fault
+
+-- how many bytes are written, or would be if there were room; 0 if they are refused
+abbrev pub written_length : Written → ℕ
+written_length (Written.Whole count) = count
+written_length (Written.NoRoom count) = count
+written_length (Written.Refused fault) = 0
+
+-- the bytes are written whole, or find no room, or are refused, and number and length are those of
+-- that
+pub record WriteTells (refusal : Option Fault) (bytes old new : List ℕ)
+    (length number : ℕ) : Type 0 where
+  pub written : Written
+  pub leaves : WriteLeaves refusal bytes old new written
+  pub exact : number ≡ written_number written
+  pub counted : length ≡ written_length written

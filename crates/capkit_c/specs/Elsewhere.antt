@@ -1,16 +1,12 @@
 -- Runs of portable programs on libpcap's machine, on Linux's, and from other words of memory.
 use Rattle.std.specs.Prelude.{◌≡◌, ◌≢◌, ℕ, zero, suc, ◌+◌, ◌%◌, ◌^◌, nat_lt, if◌then◌else◌, List, length, Option, Some, None, slice_get, replicate, bit_and}
-use Rattle.flt_bpf.specs.declared.insn.Insn.{Insn}
-use Rattle.flt_bpf.specs.declared.machine.State.{State}
-use Rattle.flt_bpf.specs.declared.operation.AluOperation.TheVariants.{ShiftLeft, ShiftRight}
-use Rattle.flt_bpf.specs.declared.operation.Operand.TheVariants.{IndexRegister}
-use Rattle.flt_bpf.specs.declared.operation.Operation.{Operation}
-use Rattle.flt_bpf.specs.declared.operation.Operation.TheVariants.{LoadAbsolute, LoadIndirect, Load, LoadHeaderLength, Compute}
-use Rattle.flt_bpf.specs.declared.operation.Register.TheVariants.{Accumulator}
-use Rattle.flt_bpf.specs.declared.operation.Source.TheVariants.{Length}
 use Rattle.flt_bpf.specs.Instructions.{operation_of}
 use Rattle.flt_bpf.specs.Machine.{Next, Goes, Lost, Progress, Stands, progress_after, field, into, with_register, compute, does, machine}
-use Rattle.flt_bpf.specs.Valid.{IsValid, WORDS}
+use Rattle.flt_bpf.specs.{Valid.IsValid, Valid.WORDS, declared.insn.Insn.Insn, declared.machine.State.State}
+use Rattle.flt_bpf.specs.declared.operation.AluOperation.TheVariants.{ShiftLeft, ShiftRight}
+use Rattle.flt_bpf.specs.declared.operation.{Operand.TheVariants.IndexRegister, Operation.Operation}
+use Rattle.flt_bpf.specs.declared.operation.Operation.TheVariants.{LoadAbsolute, LoadIndirect, Load, LoadHeaderLength, Compute}
+use Rattle.flt_bpf.specs.declared.operation.{Register.TheVariants.Accumulator, Source.TheVariants.Length}
 use Rattle.capkit_c.specs.Portable.{sign_bit, portability}
 
 -- a machine, by what each operation does there on a packet of original length n

@@ -1,11 +1,8 @@
 -- Laws of reading and writing.
 use Rattle.std.specs.Prelude.{◌≡◌, ℕ, ◌+◌, ◌≤◌, List, ◌++◌, length, drop}
 use Rattle.cap_io.specs.Text as text
-use Rattle.capkit_c.specs.Units.{NextLeaves}
-use Rattle.capkit_c.specs.declared.memory.layout.Interface.{Interface}
-use Rattle.capkit_c.specs.declared.memory.layout.Packet.{Packet}
-use Rattle.capkit_c.specs.declared.memory.layout.Reader.{Reader}
-use Rattle.capkit_c.specs.declared.memory.reader.Found.{Found}
+use Rattle.capkit_c.specs.{Units.NextLeaves, declared.memory.layout.Interface.Interface}
+use Rattle.capkit_c.specs.declared.memory.{layout.Packet.Packet, layout.Reader.Reader, reader.Found.Found}
 
 -- a reader, and a packet, whose places are counted from k bytes earlier on
 abbrev pub reader_from : ℕ → Reader → Reader

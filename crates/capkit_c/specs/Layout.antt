@@ -1,16 +1,10 @@
 -- What the caller's structs say.
 use Rattle.std.specs.Prelude.{◌≡◌, ℕ, ◌==◌, if◌then◌else◌, is_some, min, List, length, map, take, Option, Some, None}
-use Rattle.cap_octet.specs.declared.number.Order.{Order}
-use Rattle.cap_octet.specs.declared.number.Order.TheVariants.{Little, Big}
-use Rattle.cap_pcap.specs.declared.header.Resolution.{Resolution}
-use Rattle.cap_pcap.specs.declared.header.Resolution.TheVariants.{Microseconds, Nanoseconds}
+use Rattle.cap_octet.specs.declared.number.Order.{Order, TheVariants.Little, TheVariants.Big}
+use Rattle.cap_pcap.specs.declared.header.Resolution.{Resolution, TheVariants.Microseconds, TheVariants.Nanoseconds}
 use Rattle.cap_pcapng.specs.Interface.{Described}
-use Rattle.cap_io.specs.Capture.{Declared}
-use Rattle.cap_io.specs.Reading.{declared_by}
-use Rattle.cap_io.specs.declared.file_state.FileState.{FileState}
-use Rattle.cap_io.specs.declared.file_state.FileState.TheVariants as form
-use Rattle.capkit_c.specs.declared.memory.layout.Interface.{Interface}
-use Rattle.capkit_c.specs.declared.memory.layout.Reader.{Reader}
+use Rattle.cap_io.specs.{Capture.Declared, Reading.declared_by, declared.file_state.FileState.FileState}
+use Rattle.capkit_c.specs.declared.memory.layout.{Interface.Interface, Reader.Reader}
 
 -- the byte order that a flag shows: 0 is little-endian, every other number big-endian
 abbrev pub order_of_flag : ℕ → Order
@@ -32,16 +26,16 @@ pub record HasLink (first : Option ℕ) (r : Reader) : Type 0 where
 -- what the units that a reader has read declare of the file
 abbrev pub reader_form : Reader → FileState
 reader_form r =
-    if r.form == 1 then form.Pcap
+    if r.form == 1 then FileState.Pcap
     (record {
       order = order_of_flag r.big_endian;
       resolution = resolution_by r.nanoseconds;
       snap = r.snap;
       link = r.link_type;
     })
-    else (if r.form == 2 then form.Pcapng (order_of_flag r.big_endian)
+    else (if r.form == 2 then FileState.Pcapng (order_of_flag r.big_endian)
     (link_by r.has_link_type r.link_type)
-    else form.Unknown)
+    else FileState.Unknown)
 
 -- how many interfaces a reader knows, in a table that has room for `room` of them
 abbrev pub most_known : Reader → ℕ → ℕ

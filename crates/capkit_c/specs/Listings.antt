@@ -1,13 +1,9 @@
 -- The result of reading a listing for C, and of writing one.
 use Rattle.std.specs.Prelude.{◌≡◌, ℕ, ◌<◌, ◌≤◌, List, length, take, drop}
-use Rattle.flt_bpf.specs.declared.insn.Insn.{Insn}
 use Rattle.flt_bpf.specs.Listing.{IsListing, IsRefusedAt, listing}
-use Rattle.flt_bpf.specs.Valid.{BreaksFirst, IsValid}
-use Rattle.flt_words.specs.declared.fault.ExprFault.TheVariants as fault
-use Rattle.capkit_c.specs.Compiling.{Tells}
-use Rattle.capkit_c.specs.declared.compiling.Failure.{Failure}
-use Rattle.capkit_c.specs.declared.compiling.Failure.TheVariants as failure
-use Rattle.capkit_c.specs.Texts.{put_text}
+use Rattle.flt_bpf.specs.{Valid.BreaksFirst, Valid.IsValid, declared.insn.Insn.Insn}
+use Rattle.flt_words.specs.declared.fault.ExprFault.{ExprFault}
+use Rattle.capkit_c.specs.{Compiling.Tells, Texts.put_text, declared.compiling.Failure.Failure}
 
 -- the first `count` instructions are those of the listing, and the others are as they were
 pub record HoldsListing (text : List ℕ) (old new : List Insn) (count : ℕ) : Type 0 where
@@ -24,9 +20,9 @@ IsTooLong text room count =
 -- why no listing is read: the text is none, there is no room for its instructions, or memory ran
 -- out, whatever the text is
 abbrev pub IsUnread : List ℕ → ℕ → Failure → Type 0
-IsUnread text room (failure.NotListing line) = IsRefusedAt text line
-IsUnread text room (failure.NoRoom count) = IsTooLong text room count
-IsUnread text room (failure.Text fault.Memory) = Unit {0}
+IsUnread text room (Failure.NotListing line) = IsRefusedAt text line
+IsUnread text room (Failure.NoRoom count) = IsTooLong text room count
+IsUnread text room (Failure.Text ExprFault.Memory) = Unit {0}
 IsUnread text room _ = ⊥
 
 -- 0 and the instructions; or 17 and the first wrong line, 16 and how many instructions there are,
@@ -46,8 +42,8 @@ pub record PutsListing (insns : List Insn) (old new : List ℕ) (number : ℕ) :
 -- why no listing is written: the instructions break this rule first, or memory ran out, whatever
 -- they are
 abbrev pub IsUnlisted : List Insn → Failure → Type 0
-IsUnlisted insns (failure.Invalid rule) = (index : ℕ) × BreaksFirst insns rule index
-IsUnlisted insns (failure.Text fault.Memory) = Unit {0}
+IsUnlisted insns (Failure.Invalid rule) = (index : ℕ) × BreaksFirst insns rule index
+IsUnlisted insns (Failure.Text ExprFault.Memory) = Unit {0}
 IsUnlisted insns _ = ⊥
 
 -- 0 and the listing; or the number of the first rule that the instructions break, or 13 if memory

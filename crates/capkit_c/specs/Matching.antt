@@ -1,17 +1,10 @@
 -- The result of a search for the next packet that a program accepts.
 use Rattle.std.specs.Prelude.{◌≡◌, ℕ, ◌<◌, List, length, take, drop, Option, Some, None}
-use Rattle.flt_bpf.specs.declared.insn.Insn.{Insn}
-use Rattle.flt_bpf.specs.declared.fault.CheckFault.{CheckFault}
-use Rattle.flt_bpf.specs.Machine.{machine, Answered}
-use Rattle.flt_bpf.specs.Valid.{BreaksFirst}
-use Rattle.capkit_c.specs.Reading.{found_number}
-use Rattle.capkit_c.specs.Running.{rule_number}
-use Rattle.capkit_c.specs.Units.{IsStop, NextLeaves, Stays}
-use Rattle.capkit_c.specs.declared.memory.layout.Interface.{Interface}
-use Rattle.capkit_c.specs.declared.memory.layout.Packet.{Packet}
-use Rattle.capkit_c.specs.declared.memory.layout.Reader.{Reader}
+use Rattle.flt_bpf.specs.{Machine.machine, Machine.Answered, Valid.BreaksFirst}
+use Rattle.flt_bpf.specs.declared.{fault.CheckFault.CheckFault, insn.Insn.Insn}
+use Rattle.capkit_c.specs.{Reading.found_number, Running.rule_number, Units.IsStop, Units.NextLeaves, Units.Stays}
+use Rattle.capkit_c.specs.declared.memory.layout.{Interface.Interface, Packet.Packet, Reader.Reader}
 use Rattle.capkit_c.specs.declared.memory.reader.Found.{Found}
-use Rattle.capkit_c.specs.declared.memory.reader.Found.TheVariants as found
 
 -- what a program returns on a packet of a capture
 pub record Returns (insns : List Insn) (capture : List ℕ) (p : Packet) (answer : ℕ) : Type 0 where
@@ -36,16 +29,16 @@ Judges insns link_type capture p (Some number) = EndsBy insns link_type capture 
 -- one step past a unit without a packet, or past a packet that is rejected
 pub data Skips (insns : List Insn) (link_type : ℕ) (capture : List ℕ) (r r' : Reader)
     (t t' : List Interface) (p p' : Packet) : Type 0 where
-  past_unit : NextLeaves capture r r' t t' p p' found.Unit
+  past_unit : NextLeaves capture r r' t t' p p' Found.Unit
       → Skips insns link_type capture r r' t t' p p'
-  past_packet : NextLeaves capture r r' t t' p p' found.Packet
+  past_packet : NextLeaves capture r r' t t' p p' Found.Packet
       → Judges insns link_type capture p' None
       → Skips insns link_type capture r r' t t' p p'
 
 -- the last step: to a packet that ends the search, or to the end, a fault or a full table
 pub data Ends (insns : List Insn) (link_type : ℕ) (capture : List ℕ) (r r' : Reader)
     (t t' : List Interface) (p p' : Packet) (number : ℕ) : Type 0 where
-  at_packet : NextLeaves capture r r' t t' p p' found.Packet
+  at_packet : NextLeaves capture r r' t t' p p' Found.Packet
       → EndsBy insns link_type capture p' number
       → Ends insns link_type capture r r' t t' p p' number
   at_stop : (what : Found) → NextLeaves capture r r' t t' p p' what → IsStop what

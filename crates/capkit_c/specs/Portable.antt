@@ -1,12 +1,9 @@
 -- Programs that run the same way elsewhere.
-use Rattle.std.specs.Prelude.{ℕ, ◌==◌, ◌&&◌, ◌||◌, ◌^◌, if◌then◌else◌, Bool, true, false, not, zero, suc, List, [], ◌∷◌, length, nat_le, nat_lt, slice_index_or, Option, Some}
 use Rattle.std.specs.List.{list_all}
-use Rattle.flt_bpf.specs.Instructions.{operation_of}
-use Rattle.flt_bpf.specs.Valid.{WORDS}
-use Rattle.flt_bpf.specs.declared.insn.Insn.{Insn}
+use Rattle.std.specs.Prelude.{ℕ, ◌==◌, ◌&&◌, ◌||◌, ◌^◌, if◌then◌else◌, Bool, true, false, not, zero, suc, List, [], ◌∷◌, length, nat_le, nat_lt, slice_index_or, Option, Some}
+use Rattle.flt_bpf.specs.{Instructions.operation_of, Valid.WORDS, declared.insn.Insn.Insn}
 use Rattle.flt_bpf.specs.declared.operation.AluOperation.TheVariants.{ShiftLeft, ShiftRight}
-use Rattle.flt_bpf.specs.declared.operation.Operand.TheVariants.{IndexRegister}
-use Rattle.flt_bpf.specs.declared.operation.Operation.{Operation}
+use Rattle.flt_bpf.specs.declared.operation.{Operand.TheVariants.IndexRegister, Operation.Operation}
 use Rattle.flt_bpf.specs.declared.operation.Operation.TheVariants.{LoadAbsolute, LoadIndirect, Load, LoadHeaderLength, Store, Compute, Jump, JumpIf, CopyToIndex}
 use Rattle.flt_bpf.specs.declared.operation.Register.TheVariants.{Index}
 use Rattle.flt_bpf.specs.declared.operation.Source.TheVariants.{Immediate, Memory, Length}
@@ -90,20 +87,16 @@ none_read_unwritten (suc n) insns = none_read_unwritten n insns && not (is_live_
 abbrev pub most_attached : ℕ
 most_attached = 4096
 
--- 1 if a valid program surely runs the same on libpcap's and Linux's machines, as far as
--- its instructions show, and has at most 4,096; else 0
-abbrev pub is_portable : List Insn → ℕ
-is_portable insns =
-    if nat_le (length insns) most_attached
-    && (list_all (runs_alike (list_all keeps_x_small insns)) insns && none_read_unwritten WORDS insns)
-    then 1 else 0
-
 -- the machines on which a valid program surely runs the same, as far as its instructions show, of
 -- at most 4,096: 1 is libpcap's machine, 2 Linux's, and their sum both; 0 is neither
 abbrev pub portability : List Insn → ℕ
 portability insns =
-    if is_portable insns == 1 then 3
-    else (if nat_le (length insns) most_attached
-    && (list_all (runs_alike_on_libpcap (list_all keeps_x_small insns)) insns
-    && none_read_unwritten WORDS insns)
-    then 1 else 0)
+    let small = list_all keeps_x_small insns in
+    if nat_le (length insns) most_attached && none_read_unwritten WORDS insns
+    then (if list_all (runs_alike small) insns then 3
+    else (if list_all (runs_alike_on_libpcap small) insns then 1 else 0))
+    else 0
+
+-- 1 if a valid program surely runs the same on libpcap's and Linux's machines, else 0
+abbrev pub is_portable : List Insn → ℕ
+is_portable insns = if portability insns == 3 then 1 else 0

@@ -1,9 +1,7 @@
 -- The result of a check and a run for C.
 use Rattle.std.specs.Prelude.{◌≡◌, ℕ, ◌+◌, List, length, Some, None}
-use Rattle.flt_bpf.specs.declared.insn.Insn.{Insn}
-use Rattle.flt_bpf.specs.declared.fault.CheckFault.{CheckFault}
-use Rattle.flt_bpf.specs.Machine.{machine, Answered}
-use Rattle.flt_bpf.specs.Valid.{IsValid, BreaksFirst, check_number}
+use Rattle.flt_bpf.specs.{Machine.machine, Machine.Answered, Valid.IsValid, Valid.BreaksFirst, Valid.check_number}
+use Rattle.flt_bpf.specs.declared.{fault.CheckFault.CheckFault, insn.Insn.Insn}
 use Rattle.flt_trace.specs.RunByRules.{run_by_rules}
 use Rattle.capkit_c.specs.Texts.{RULES}
 

@@ -1,21 +1,12 @@
 -- Units of a capture in memory.
+use Rattle.std.specs.{List.slice_get, Option.option_map}
 use Rattle.std.specs.Prelude.{◌≡◌, ℕ, ◌+◌, ◌<◌, ◌≤◌, List, [], ◌∷◌, ◌++◌, length, take, drop, Option, Some, None}
-use Rattle.std.specs.List.{slice_get}
-use Rattle.std.specs.Option.{option_map}
-use Rattle.cap_octet.specs.Packet.{Captured}
-use Rattle.cap_octet.specs.declared.fault.Fault.{Fault}
-use Rattle.cap_pcapng.specs.Comment.{comment_in}
-use Rattle.cap_pcapng.specs.Interface.{Described}
-use Rattle.cap_pcapng.specs.Effect.{LieAsSaid}
-use Rattle.cap_pcapng.specs.Unit.{Section, parts_after}
-use Rattle.cap_pcapng.specs.declared.effect.PacketSpans.{PacketSpans}
+use Rattle.cap_octet.specs.{Packet.Captured, declared.fault.Fault.Fault}
+use Rattle.cap_pcapng.specs.{Comment.comment_in, Effect.LieAsSaid, Interface.Described}
+use Rattle.cap_pcapng.specs.{Unit.Section, Unit.parts_after, declared.effect.PacketSpans.PacketSpans}
 use Rattle.cap_io.specs.Capture.{Declared, Nothing, PcapFile, PcapngFile, Whole, NoUnit, first_link_of, front_of}
-use Rattle.capkit_c.specs.Layout.{HasLink, declared_in}
-use Rattle.capkit_c.specs.declared.memory.layout.Interface.{Interface}
-use Rattle.capkit_c.specs.declared.memory.layout.Packet.{Packet}
-use Rattle.capkit_c.specs.declared.memory.layout.Reader.{Reader}
-use Rattle.capkit_c.specs.declared.memory.reader.Found.{Found}
-use Rattle.capkit_c.specs.declared.memory.reader.Found.TheVariants as found
+use Rattle.capkit_c.specs.{Layout.HasLink, Layout.declared_in, declared.memory.layout.Interface.Interface}
+use Rattle.capkit_c.specs.declared.memory.{layout.Packet.Packet, layout.Reader.Reader, reader.Found.Found}
 
 -- the comment in a packet's options; empty if it has none, and if the file isn't pcapng
 abbrev pub comment_by : Declared → List ℕ → List ℕ
@@ -92,24 +83,24 @@ pub data NextLeaves (capture : List ℕ) (r r' : Reader) (t t' : List Interface)
   passes : (size : ℕ)
       → front_of (declared_in r t) (drop r.offset capture) ≡ Whole size [] (declared_in r' t')
       → IsPastUnit capture size r r' (declared_in r' t') → p' ≡ p
-      → NextLeaves capture r r' t t' p p' found.Unit
+      → NextLeaves capture r r' t t' p p' Found.Unit
   finds : (size : ℕ) (q : Captured)
       → front_of (declared_in r t) (drop r.offset capture) ≡ Whole size (q ∷ []) (declared_in r' t')
       → IsPastUnit capture size r r' (declared_in r' t')
       → IsPacketFound capture r.offset (declared_in r' t') p' q
-      → NextLeaves capture r r' t t' p p' found.Packet
+      → NextLeaves capture r r' t t' p p' Found.Packet
   ends : front_of (declared_in r t) (drop r.offset capture) ≡ NoUnit None → Stays r r' t t' p p'
-      → NextLeaves capture r r' t t' p p' found.End
+      → NextLeaves capture r r' t t' p p' Found.End
   fails : (fault : Fault) → front_of (declared_in r t) (drop r.offset capture) ≡ NoUnit (Some fault)
-      → Stays r r' t t' p p' → NextLeaves capture r r' t t' p p' (found.Fault fault)
+      → Stays r r' t t' p p' → NextLeaves capture r r' t t' p p' (Found.Fault fault)
   is_full : (interfaces : List Described) → length t ≤ length interfaces
       → DeclaresOne (declared_in r t) (drop r.offset capture) interfaces → Stays r r' t t' p p'
-      → NextLeaves capture r r' t t' p p' found.NoRoom
+      → NextLeaves capture r r' t t' p p' Found.NoRoom
 
 -- what ends a search for a packet: neither a packet nor a unit without one
 abbrev pub IsStop : Found → Type 0
-IsStop found.Unit = ⊥
-IsStop found.Packet = ⊥
+IsStop Found.Unit = ⊥
+IsStop Found.Packet = ⊥
 IsStop what = Unit {0}
 
 -- a reader and its table, at first and after units without a packet
@@ -117,7 +108,7 @@ pub data PassesUnits (capture : List ℕ) (r : Reader) (t : List Interface)
     (p : Packet) : Reader → List Interface → Type 0 where
   none_passed : PassesUnits capture r t p r t
   one_passed : {s s' : Reader} {u u' : List Interface} → PassesUnits capture r t p s u
-      → NextLeaves capture s s' u u' p p found.Unit → PassesUnits capture r t p s' u'
+      → NextLeaves capture s s' u u' p p Found.Unit → PassesUnits capture r t p s' u'
 
 -- units without a packet are passed, and then this is found: no such unit
 pub record PacketLeaves (capture : List ℕ) (r r' : Reader) (t t' : List Interface) (p p' : Packet)
@@ -126,4 +117,4 @@ pub record PacketLeaves (capture : List ℕ) (r r' : Reader) (t t' : List Interf
   pub table : List Interface
   pub passes : PassesUnits capture r t p between table
   pub leaves : NextLeaves capture between r' table t' p p' what
-  pub no_unit : ¬ what ≡ found.Unit
+  pub no_unit : ¬ what ≡ Found.Unit

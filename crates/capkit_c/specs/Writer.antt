@@ -1,21 +1,12 @@
 -- The units of a pcapng file that is written packet by packet, as the definitions of a sink have it.
 use Rattle.std.specs.Prelude.{◌≡◌, ℕ, ◌==◌, ◌&&◌, not, false, if◌then◌else◌, Bool, min, nat_lt, nat_le, List, [], ◌∷◌, ◌++◌, length, map, take, Option, None, Some}
-use Rattle.cap_octet.specs.Checks.{first_failing}
-use Rattle.cap_octet.specs.Date.{TIME_END}
-use Rattle.cap_octet.specs.Packet.{Captured}
-use Rattle.cap_octet.specs.declared.fault.Fault.{Fault}
+use Rattle.cap_octet.specs.{Checks.first_failing, Date.TIME_END, Packet.Captured, declared.fault.Fault.Fault}
 use Rattle.cap_octet.specs.declared.fault.Fault.TheVariants.{BadOption, TimeOutOfRange, TooManyOutputInterfaces}
 use Rattle.cap_io.specs.Text as text
 use Rattle.cap_pcapng.specs.Encoding.{block_fit_checks, interface_text, packet_block, section_text}
-use Rattle.capkit_c.specs.Buffers.{WriteLeaves}
-use Rattle.capkit_c.specs.declared.memory.layout.Interface.{Interface}
-use Rattle.capkit_c.specs.Reading.{fault_number}
-use Rattle.capkit_c.specs.Writing.{written_length}
-use Rattle.capkit_c.specs.declared.memory.layout.Packet.{Packet}
-use Rattle.capkit_c.specs.declared.memory.layout.Writer.{Writer}
-use Rattle.capkit_c.specs.declared.memory.writer.Put.{Put}
-use Rattle.capkit_c.specs.declared.memory.writing.Written.{Written}
-use Rattle.capkit_c.specs.declared.memory.writing.Written.TheVariants as written
+use Rattle.capkit_c.specs.{Buffers.WriteLeaves, Buffers.written_length, Reading.fault_number}
+use Rattle.capkit_c.specs.declared.memory.layout.{Interface.Interface, Packet.Packet, Writer.Writer}
+use Rattle.capkit_c.specs.declared.memory.{writer.Put.Put, writing.Written.Written}
 
 -- an interface of the table, as it is written
 abbrev pub output_interface : Interface → text.Interface
@@ -74,7 +65,7 @@ interfaces_after_unit w table p =
 
 -- a unit was written
 abbrev pub IsWhole : Written → Type 0
-IsWhole (written.Whole count) = Unit {0}
+IsWhole (Written.Whole count) = Unit {0}
 IsWhole _ = ⊥
 
 -- what is kept after a unit was written
@@ -87,7 +78,7 @@ pub record HasWritten (w : Writer) (table : List Interface) (p : Captured) (w' :
 -- what is kept after a call: more if a unit was written, else the same
 abbrev pub KeepsWritten : Written → Writer → List Interface → Captured → Writer → List Interface
     → Type 0
-KeepsWritten (written.Whole count) w table p w' table' = HasWritten w table p w' table'
+KeepsWritten (Written.Whole count) w table p w' table' = HasWritten w table p w' table'
 KeepsWritten _ w table p w' table' = (w' ≡ w) × (table' ≡ table)
 
 -- a packet that is put: time, length and interface as a reader or the caller has them
@@ -105,9 +96,9 @@ packet_put p name bytes comment =
 
 -- the number of a put: 0 for the packet's block, 227 for a unit before it
 abbrev pub put_number : Written → Bool → ℕ
-put_number (written.Whole count) is_packet = if is_packet then 0 else 227
-put_number (written.NoRoom count) is_packet = 225
-put_number (written.Refused fault) is_packet = fault_number fault
+put_number (Written.Whole count) is_packet = if is_packet then 0 else 227
+put_number (Written.NoRoom count) is_packet = 225
+put_number (Written.Refused fault) is_packet = fault_number fault
 
 -- the result of a call that puts a packet: the next unit, unless the packet is refused or the
 -- buffer has no room for the unit

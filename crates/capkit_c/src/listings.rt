@@ -1,7 +1,6 @@
 //! Listings of instructions, read into the caller's memory and written to it.
 ghost use Rattle.std.specs.Prelude.{◌≡◌, IfOk, IfErr, OnErr, length};
-ghost use Rattle.capkit_c.specs.Listings.{HoldsListing, IsUnlisted, IsUnread, ListingLeaves};
-ghost use Rattle.capkit_c.specs.Listings.{ListingTells, PutsListing};
+ghost use Rattle.capkit_c.specs.Listings.{HoldsListing, IsUnlisted, IsUnread, ListingLeaves, ListingTells, PutsListing};
 
 use crate::compiling::{Failure, tell};
 use crate::texts::put_text;

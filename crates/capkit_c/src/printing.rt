@@ -2,8 +2,7 @@
 //! NUL, and the length that is returned is that of the whole text (`put_text`).
 ghost use Rattle.std.specs.Prelude.{◌≡◌, ◌≤◌, length};
 ghost use Rattle.flt_trace.specs.Text.{insn_text};
-ghost use Rattle.capkit_c.specs.Printing.{packet_line};
-ghost use Rattle.capkit_c.specs.Texts.{put_text};
+ghost use Rattle.capkit_c.specs.{Printing.packet_line, Texts.put_text};
 
 use crate::compiling::file_link_type;
 use crate::texts::put_text;

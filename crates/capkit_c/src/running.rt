@@ -1,7 +1,6 @@
 //! The check of the caller's instructions, and their runs.
 ghost use Rattle.std.specs.Prelude.{◌≡◌, ℕ, length};
-ghost use Rattle.flt_bpf.specs.Machine.{machine, Answered};
-ghost use Rattle.flt_bpf.specs.Valid.{IsValid};
+ghost use Rattle.flt_bpf.specs.{Machine.machine, Machine.Answered, Valid.IsValid};
 ghost use Rattle.flt_trace.specs.Trace.{Traces};
 ghost use Rattle.capkit_c.specs.Running.{CheckLeaves, RunLeaves, rule_number};
 

@@ -1,23 +1,15 @@
 -- A block of a pcapng capture in memory, and the caller's table of interfaces.
+use Rattle.std.specs.{List.slice_get, Option.option_map}
 use Rattle.std.specs.Prelude.{◌≡◌, ℕ, ◌<◌, ◌≤◌, List, [], ◌∷◌, ◌++◌, length, take, Option, None, Some}
-use Rattle.std.specs.List.{slice_get}
-use Rattle.std.specs.Option.{option_map}
-use Rattle.cap_octet.specs.Packet.{Captured}
-use Rattle.cap_pcapng.specs.Interface.{Described}
-use Rattle.cap_octet.specs.declared.number.Order.{Order}
-use Rattle.cap_pcapng.specs.Unit.{IsBlock, Section, interfaces_before, order_before, packets_in, parts_after, section_after, unit_fault}
-use Rattle.cap_pcapng.specs.declared.frames.Frame.{Frame}
+use Rattle.cap_octet.specs.{Packet.Captured, declared.number.Order.Order}
 use Rattle.cap_pcapng.specs.Block.{Parts, parts_in}
-use Rattle.cap_pcapng.specs.Effect.{Enters, FitsIfAny, IsBlockFault, LieAsSaid, held_packet, section_of}
-use Rattle.cap_pcapng.specs.Effect.{span_bytes}
-use Rattle.cap_pcapng.specs.declared.effect.PacketSpans.{PacketSpans}
+use Rattle.cap_pcapng.specs.Effect.{Enters, FitsIfAny, IsBlockFault, LieAsSaid, held_packet, section_of, span_bytes}
+use Rattle.cap_pcapng.specs.Interface.{Described}
+use Rattle.cap_pcapng.specs.Unit.{IsBlock, Section, interfaces_before, order_before, packets_in, parts_after, section_after, unit_fault}
+use Rattle.cap_pcapng.specs.declared.{effect.PacketSpans.PacketSpans, frames.Frame.Frame}
 use Rattle.capkit_c.specs.Layout.{first_interfaces}
-use Rattle.capkit_c.specs.declared.memory.block.BlockRead.{BlockRead}
-use Rattle.capkit_c.specs.declared.memory.block.BlockEffect.{BlockEffect}
+use Rattle.capkit_c.specs.declared.memory.block.{BlockRead.BlockRead, Refusal.Refusal, UnitPacket.UnitPacket}
 use Rattle.capkit_c.specs.declared.memory.layout.Interface.{Interface}
-use Rattle.capkit_c.specs.declared.memory.block.UnitPacket.{UnitPacket}
-use Rattle.capkit_c.specs.declared.memory.block.Refusal.{Refusal}
-use Rattle.capkit_c.specs.declared.memory.block.Refusal.TheVariants as refusal
 
 -- the place where the parts of a packet lie in a unit of `size` bytes
 abbrev pub spans_of : ℕ → UnitPacket → PacketSpans
@@ -49,21 +41,22 @@ LiesIfAny parts (Some spans) = LieAsSaid parts spans
 -- the first check that a block fails; or that it declares an interface, and a table with this room
 -- is full
 abbrev pub IsRefusal : Frame → List Described → List ℕ → ℕ → Refusal → Type 0
-IsRefusal frame interfaces block room (refusal.Fault fault) =
+IsRefusal frame interfaces block room (Refusal.Fault fault) =
     IsBlockFault frame interfaces block fault
-IsRefusal frame interfaces block room refusal.NoRoom =
+IsRefusal frame interfaces block room Refusal.NoRoom =
     (room ≤ length interfaces)
     × ((i : Described) × Enters frame interfaces block None (interfaces ++ i ∷ []))
 
--- a block passes all of its checks; after it these are the interfaces, and this is its packet
+-- a block passes all of its checks; the effect is how many interfaces there are after it, and its
+-- packet
 pub record EntersTable (frame : Frame) (interfaces : List Described) (block : List ℕ)
-    (table' : List Interface) (effect : BlockEffect) : Type 0 where
-  pub enters : Enters frame interfaces block (option_map (spans_of frame.length) effect.packet)
-      (first_interfaces effect.interfaces table')
-  pub known : effect.interfaces ≤ length table'
-  pub upper_bound : effect.interfaces ≤ 256
-  pub of : IsOfIfAny interfaces effect.packet
-  pub lies : LiesIfAny (parts_in frame block) (option_map (spans_of frame.length) effect.packet)
+    (table' : List Interface) (effect : ℕ × Option UnitPacket) : Type 0 where
+  pub enters : Enters frame interfaces block (option_map (spans_of frame.length) effect.1)
+      (first_interfaces effect.0 table')
+  pub known : effect.0 ≤ length table'
+  pub upper_bound : effect.0 ≤ 256
+  pub of : IsOfIfAny interfaces effect.1
+  pub lies : LiesIfAny (parts_in frame block) (option_map (spans_of frame.length) effect.1)
 
 -- ---- a block that a text begins with
 
@@ -104,10 +97,10 @@ pub record BlockIs (section : Option Order) (interfaces : List Described) (text 
     (table' : List Interface) (read : BlockRead) : Type 0 where
   pub stands : Following section interfaces
       (λ before. BlockStands before text read.order read.size
-      (first_interfaces read.effect.interfaces table') read.effect.packet)
-  pub known : read.effect.interfaces ≤ length table'
-  pub upper_bound : read.effect.interfaces ≤ 256
-  pub of : IsOfIfAny interfaces read.effect.packet
+      (first_interfaces read.interfaces table') read.packet)
+  pub known : read.interfaces ≤ length table'
+  pub upper_bound : read.interfaces ≤ 256
+  pub of : IsOfIfAny interfaces read.packet
 
 -- the text begins with a block that passes all checks and declares an interface
 pub record Declares (before : Option Section) (text : List ℕ)
@@ -120,8 +113,8 @@ pub record Declares (before : Option Section) (text : List ℕ)
 -- the text begins with no block that is read: the first check that fails; or the table with this
 -- room is full, and the block declares an interface
 abbrev pub IsNoBlock : Option Order → List Described → List ℕ → ℕ → Refusal → Type 0
-IsNoBlock section interfaces text room (refusal.Fault fault) =
+IsNoBlock section interfaces text room (Refusal.Fault fault) =
     Following section interfaces (λ before. unit_fault before text ≡ Some fault)
-IsNoBlock section interfaces text room refusal.NoRoom =
+IsNoBlock section interfaces text room Refusal.NoRoom =
     (room ≤ length interfaces)
     × Following section interfaces (λ before. Declares before text interfaces)

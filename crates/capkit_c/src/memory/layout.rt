@@ -1,12 +1,10 @@
 //! The caller's state of a capture, in C's layout.
 ghost use Rattle.std.specs.Prelude.{◌≡◌, ◌≤◌, [], length};
 ghost use Rattle.cap_pcapng.specs.Interface.{description_of};
-ghost use Rattle.cap_io.specs.Capture.{first_link_of};
-ghost use Rattle.cap_io.specs.Reading.{declared_by};
-ghost use Rattle.capkit_c.specs.Layout.{HasLink, described_of, reader_form, most_known};
-ghost use Rattle.capkit_c.specs.Layout.{order_of_flag};
-ghost use Rattle.capkit_c.specs.Writer.{output_interface};
+ghost use Rattle.cap_io.specs.{Capture.first_link_of, Reading.declared_by};
 ghost use Rattle.cap_io.specs.Text.{interface_of, is_same};
+ghost use Rattle.capkit_c.specs.Layout.{HasLink, described_of, reader_form, most_known, order_of_flag};
+ghost use Rattle.capkit_c.specs.Writer.{output_interface};
 ghost use Rattle.cap_octet.specs.Packet.{captured};
 
 use cap_io::FileState;

@@ -1,13 +1,10 @@
 //! The units of a capture in memory, one at a time.
-ghost use Rattle.std.specs.Prelude.{◌≡◌, ℕ, ◌+◌, ◌^◌, ◌≤◌, ◌<◌, IfOk, IfErr, IsTrue, OnErr, List};
-ghost use Rattle.std.specs.Prelude.{false, drop, length, take};
-ghost use Rattle.cap_pcapng.specs.Interface.{Described};
-ghost use Rattle.cap_pcapng.specs.Effect.{section_of};
+ghost use Rattle.std.specs.Prelude.{◌≡◌, ℕ, ◌+◌, ◌^◌, ◌≤◌, ◌<◌, IfOk, IfErr, IsTrue, OnErr, List, false, drop, length, take};
+ghost use Rattle.cap_pcapng.specs.{Effect.section_of, Interface.Described};
 ghost use Rattle.cap_io.specs.Capture.{first_link_after, is_pcapng};
 ghost use Rattle.capkit_c.specs.Layout.{declared_in, first_interfaces};
-ghost use Rattle.capkit_c.specs.inside.Units.{Begins, Counts, IsBare, IsNoUnit, IsAtEnd, IsSomeFor};
 ghost use Rattle.capkit_c.specs.Units.{NextLeaves, PacketLeaves, comment_by};
-ghost use Rattle.capkit_c.specs.inside.Units.{BeginsWithUnit, placed_packet};
+ghost use Rattle.capkit_c.specs.inside.Units.{Begins, Counts, IsBare, IsNoUnit, IsAtEnd, IsSomeFor, BeginsWithUnit, placed_packet};
 ghost use Rattle.cap_io.specs.declared.file_state.FileState.TheVariants as form;
 
 use crate::memory::block::{Refusal, UnitPacket, read_block};
@@ -136,12 +133,12 @@ fn read_block_unit(
 {
     match read_block(section, table, count, text) {
         Ok(read) => {
-            let link = first_link_type(first, table, read.effect.interfaces);
+            let link = first_link_type(first, table, read.interfaces);
             Ok(ReadUnit {
                 size: read.size,
                 form: FileState::Pcapng(read.order, link),
-                interfaces: read.effect.interfaces,
-                packet: read.effect.packet,
+                interfaces: read.interfaces,
+                packet: read.packet,
             })
         }
         Err(why) => Err(why),

@@ -1,5 +1,6 @@
 //! Packets that are put into a pcapng file, held against its units as other calls write them.
 
+use super::captures::{ANY_INTERFACE, ANY_PACKET};
 use crate::memory::{Interface, Packet, Writer};
 use crate::writing::{
     capkit_write_interface, capkit_write_packet, capkit_write_section, capkit_writer_put,
@@ -10,16 +11,6 @@ use std::test::Fail;
 const START: Writer = Writer {
     interfaces: 0,
     has_section: 0,
-};
-
-/// An entry of a table that no put looks at.
-const ANY: Interface = Interface {
-    units: 7,
-    offset: 7,
-    snap: 7,
-    link_type: 7,
-    name_length: 7,
-    name: [7; 255],
 };
 
 /// The packets, each with its interface: link type, snapshot length, name, and the number that it
@@ -38,19 +29,10 @@ const BYTES: [u8; 5] = [1, 2, 3, 4, 5];
 
 const COMMENT: [u8; 3] = *b"yes";
 
-/// A packet of an interface, as a reader would give it, with this time.
-fn packet_of(link_type: u16, snap: u32, time: u64) -> Packet {
-    Packet {
-        time,
-        at: 0,
-        options_at: 0,
-        captured: 5,
-        original: 60,
-        options_length: 0,
-        interface: 9,
-        snap,
-        link_type,
-    }
+/// The buffer from a place on.
+fn rest(buffer: &mut [u8], at: usize) -> &mut [u8] {
+    let at = at.min(buffer.len());
+    &mut buffer[at..]
 }
 
 /// A file that is written into a buffer.
@@ -64,34 +46,32 @@ struct File<'a> {
 }
 
 impl File<'_> {
-    /// Puts a packet once, and returns the number of that.
-    fn put_unit(&mut self, packet: &Packet, name: &[u8]) -> u32 {
-        let Some(rest) = self.buffer.get_mut(self.at..) else {
-            return 1000;
-        };
-        let mut length = 77;
-        let number = capkit_writer_put(
-            &mut self.writer,
-            self.table,
-            packet,
-            name,
-            &BYTES,
-            &COMMENT,
-            rest,
-            &mut length,
-        );
-        if number == 227 || number == 0 {
-            self.at = self.at.saturating_add(length);
-        }
-        number
-    }
-
     /// Puts a packet with the units before it, and returns the last number.
     fn put(&mut self, link_type: u16, snap: u32, name: &[u8], time: u64) -> u32 {
-        let packet = packet_of(link_type, snap, time);
+        let packet = Packet {
+            time,
+            captured: 5,
+            original: 60,
+            snap,
+            link_type,
+            ..ANY_PACKET
+        };
         // At most three units: a section header, an interface, a packet.
         for _ in 0..3 {
-            let number = self.put_unit(&packet, name);
+            let mut length = 77;
+            let number = capkit_writer_put(
+                &mut self.writer,
+                self.table,
+                &packet,
+                name,
+                &BYTES,
+                &COMMENT,
+                rest(self.buffer, self.at),
+                &mut length,
+            );
+            if number == 227 || number == 0 {
+                self.at = self.at.saturating_add(length);
+            }
             if number != 227 {
                 return number;
             }
@@ -100,53 +80,35 @@ impl File<'_> {
     }
 }
 
-/// The units of `PUT`, written by the calls for units.
-#[derive(Drop)]
-struct Units<'a> {
-    buffer: &'a mut [u8],
-    at: usize,
-    /// How many interfaces are described.
-    described: u32,
-}
-
-impl Units<'_> {
-    /// Writes a packet, and its interface before it if that is new.
-    fn write(&mut self, link_type: u16, snap: u32, name: &[u8], number: u32) {
-        let mut length = 0;
-        if number == self.described {
-            if let Some(rest) = self.buffer.get_mut(self.at..) {
-                capkit_write_interface(link_type, snap, name, rest, &mut length);
-            }
-            self.at = self.at.saturating_add(length);
-            self.described = number.saturating_add(1);
-        }
-        if let Some(rest) = self.buffer.get_mut(self.at..) {
-            capkit_write_packet(number, 5, 60, &BYTES, &COMMENT, rest, &mut length);
-        }
-        self.at = self.at.saturating_add(length);
-    }
-}
-
 /// Writes the units of `PUT` by the calls for units, and returns how many bytes they are.
 fn write_units(buffer: &mut [u8]) -> usize {
-    let mut length = 0;
-    capkit_write_section(buffer, &mut length);
-    let mut units = Units {
-        buffer,
-        at: length,
-        described: 0,
-    };
+    let (mut at, mut described, mut length) = (0usize, 0, 0);
+    capkit_write_section(buffer, &mut at);
     for (link_type, snap, name, number) in &PUT {
-        units.write(*link_type, *snap, name, *number);
+        if *number == described {
+            capkit_write_interface(*link_type, *snap, name, rest(buffer, at), &mut length);
+            at = at.saturating_add(length);
+            described = number.saturating_add(1);
+        }
+        capkit_write_packet(
+            *number,
+            5,
+            60,
+            &BYTES,
+            &COMMENT,
+            rest(buffer, at),
+            &mut length,
+        );
+        at = at.saturating_add(length);
     }
-    units.at
+    at
 }
 
 #[test]
 fn packets_are_put(rt: HostRuntime) -> Result<(), Fail> {
     let (mut expected, mut buffer) = ([0; 1024], [0; 1024]);
     let size = write_units(&mut expected);
-    let mut table = [ANY; 4];
+    let mut table = [ANY_INTERFACE; 4];
     let mut file = File {
         writer: START,
         table: &mut table,
@@ -164,7 +126,7 @@ fn packets_are_put(rt: HostRuntime) -> Result<(), Fail> {
 /// Nothing is written, and nothing is kept of the packet.
 #[test]
 fn packets_are_not_put(rt: HostRuntime) -> Result<(), Fail> {
-    let (mut table, mut buffer) = ([ANY; 1], [0xa5; 512]);
+    let (mut table, mut buffer) = ([ANY_INTERFACE; 1], [0xa5; 512]);
     let mut file = File {
         writer: START,
         table: &mut table,

@@ -1,7 +1,6 @@
 -- The parts lie within what they are in all.
-use Rattle.std.proofs.Common.{[], ℕ, List, arith}
+use Rattle.std.proofs.{Common.[], Common.ℕ, Common.List, Common.arith, lemmas.List.Folds.length-flat_map-take}
 use Rattle.std.specs.Borrow.{Bor}
-use Rattle.std.proofs.lemmas.List.Folds.{length-flat_map-take}
 use Rattle.capkit_c.proofs.memory.writing.put_parts.Goals as goal
 
 abbrev none : Bor (List ℕ)

@@ -1,7 +1,7 @@
 -- Every check passes, and the parts are the record.
 use Rattle.capkit_c.proofs.Common.{◌≡◌, ◌++◌, [], ◌∷◌, ◌^◌, List, ℕ, true, refl, ap, ap₂, sym, ◌∙◌, rules, nat_lt, append-nil, first_failing, TimeOutOfRange, checked_ok, met_front, written_packet}
-use Rattle.cap_pcap.specs.Encoding.{record_fit_checks, record_header}
 use Rattle.capkit_c.proofs.Writes.{unrefused}
+use Rattle.cap_pcap.specs.Encoding.{record_fit_checks, record_header}
 use Rattle.capkit_c.proofs.memory.writing.write_record.Goals as goal
 
 pub returns-in-Ok : goal.returns-in-Ok
