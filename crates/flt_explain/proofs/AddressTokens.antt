@@ -1,14 +1,10 @@
 -- Addresses mean their tokens: each is a few numbers, which are written one by one and joined.
-use Rattle.flt_explain.proofs.Common.{◌≡◌, ℕ, suc, zero, ◌+◌, ◌*◌, ◌/◌, ◌%◌, ◌^◌, ◌<◌, ◌≤◌, List, [], ◌∷◌, ◌++◌, length, map, refl, sym, ap, ◌∙◌, subst, arith, Bool, true, false, ◌==◌, cond, lit<, lit≤, append_assoc, pow-suc, nat_tests, AllByRecursion, digits_is_IsNumeral, decimal_is_IsNumeral, decimal, digit_value, digit_glyph, digits_onto, IsNumeral, digits_value, IsDotted, within_word, WritesDecimal, whole, mac, ip6, octet, hex_byte, group_at, half_bytes, half_groups, octets, IsDottedAddress}
-use Rattle.std.specs.Fmt.{digits}
-use Rattle.std.proofs.Common.{replicate}
-use Rattle.std.specs.Int.Digits.{AllBelowBase, number_from_digits}
-use Rattle.std.specs.List.{join_with_byte}
-use Rattle.flt_words.specs.declared.token.TokenKind.TheVariants as token
-use Rattle.flt_words.specs.Words.Spells.{dotted}
+use Rattle.flt_explain.proofs.Common.{◌≡◌, ℕ, suc, zero, ◌+◌, ◌*◌, ◌/◌, ◌%◌, ◌^◌, ◌<◌, ◌≤◌, List, [], ◌∷◌, ◌++◌, length, map, refl, sym, ap, ◌∙◌, subst, arith, Bool, true, false, ◌==◌, cond, lit<, lit≤, append_assoc, pow-suc, nat_tests, AllByRecursion, digits_is_IsNumeral, decimal_is_IsNumeral, decimal, digit_value, digit_glyph, digits_onto, IsNumeral, digits_value, IsDotted, within_word, WritesDecimal, whole, mac, ip6, octet, hex_byte, group_at, half_bytes, half_groups, octets, IsDottedAddress, replicate, or-true}
 use Rattle.flt_explain.specs.Texts.{bytes_text, mac_word, groups_text, ip6_word, dotted_word}
-use Rattle.flt_explain.proofs.WordPieces.{IsPart, part_of_digits, part_join}
+use Rattle.flt_explain.proofs.WordTokens.{IsPart, part_of_digits, part_join}
 use Rattle.flt_explain.proofs.WordTokens.{IsWordFor, part_of_decimal, writes_decimal}
+use Rattle.std.specs.{Fmt.digits, Int.Digits.AllBelowBase, Int.Digits.number_from_digits, List.join_with_byte}
+use Rattle.flt_words.specs.{Words.Spells.dotted, declared.token.TokenKind.TokenKind}
 
 -- how numbers below a base are written as groups of digits, between which a byte stands
 record Writes (inside : Bool) (between base radix : ℕ) (IsGroup : List ℕ → Type 0) (write : ℕ → List ℕ) : Type 0 where
@@ -43,12 +39,8 @@ in_decimal inside = record {
   group = λ n small. (n, writes_decimal n (omega arith), omega arith);
   value = λ n small. (decimal_is_IsNumeral n (omega arith)).1;
   part = λ n small. part_of_decimal inside n (omega arith);
-  within = point inside;
+  within = rw or-true refl;
 }
-  where
-    point : (b : Bool) → within_word b 46 ≡ true
-    point true = refl
-    point false = refl
 
 two_parts : (a : ℕ) → a < 2 ^ 32 → a % 65536 ≡ 0 → a ≡ (((0 * 256 + octet (2 ^ 24) a) * 256 + octet (2 ^ 16) a) * 256 + 0) * 256 + 0
 two_parts a small missing = omega arith
@@ -59,11 +51,11 @@ three_parts a small missing = omega arith
 four_parts : (a : ℕ) → a < 2 ^ 32 → a ≡ (((0 * 256 + octet (2 ^ 24) a) * 256 + octet (2 ^ 16) a) * 256 + octet (2 ^ 8) a) * 256 + octet 1 a
 four_parts a small = omega arith
 
-dotted_of : (inside : Bool) (a p : ℕ) → 0 < length (octets a p) → AllBelowBase 256 (octets a p) → IsDotted (dotted_word a p) a p → IsWordFor inside (dotted_word a p) (token.Dotted a p)
+dotted_of : (inside : Bool) (a p : ℕ) → 0 < length (octets a p) → AllBelowBase 256 (octets a p) → IsDotted (dotted_word a p) a p → IsWordFor inside (dotted_word a p) (TokenKind.Dotted a p)
 unfolding dotted_word
 dotted_of inside a p some below is = record { part = part (in_decimal inside) (octets a p) some below; stands = dotted is; fit = refl }
 
-pub dotted_for : (inside : Bool) (a p : ℕ) → IsDottedAddress a p → IsWordFor inside (dotted_word a p) (token.Dotted a p)
+pub dotted_for : (inside : Bool) (a p : ℕ) → IsDottedAddress a p → IsWordFor inside (dotted_word a p) (TokenKind.Dotted a p)
 unfolding dotted_word
 dotted_for inside a zero w = absurd (omega (arith, w.at_least_two))
 dotted_for inside a (suc zero) w = absurd (omega (arith, w.at_least_two))
@@ -103,7 +95,7 @@ three_bytes h small = omega arith
 six_bytes : (a q r b c d e f g : ℕ) → q ≡ a / 2 ^ 24 → r ≡ a % 2 ^ 24 → q ≡ (b * 256 + c) * 256 + d → r ≡ (e * 256 + f) * 256 + g → a ≡ (((((0 * 256 + b) * 256 + c) * 256 + d) * 256 + e) * 256 + f) * 256 + g
 six_bytes a q r b c d e f g is also high low = omega arith
 
-pub mac_for : (a : ℕ) → a < 2 ^ 48 → IsWordFor false (mac_word a) (token.Mac a)
+pub mac_for : (a : ℕ) → a < 2 ^ 48 → IsWordFor false (mac_word a) (TokenKind.Mac a)
 unfolding mac_word bytes_text
 mac_for a small =
     let q : ℕ = a / 2 ^ 24 in
@@ -163,7 +155,7 @@ all_joined : (a : ℕ) → ip6_word a ≡ join_with_byte 58 (map (digits 16 fals
 unfolding ip6_word groups_text
 all_joined a = simp append_assoc refl
 
-pub ip6_for : (a : ℕ) → a < 2 ^ 128 → IsWordFor false (ip6_word a) (token.Ip6 a)
+pub ip6_for : (a : ℕ) → a < 2 ^ 128 → IsWordFor false (ip6_word a) (TokenKind.Ip6 a)
 ip6_for a small =
     let q : ℕ = a / 2 ^ 64 in
     let r : ℕ = a % 2 ^ 64 in

@@ -2,11 +2,8 @@ pub mod Common
 pub mod Writing
 pub mod HexBytes
 pub mod ReadBack
-pub mod WordPieces
-pub mod SignTokens
 pub mod WordTokens
 pub mod AddressTokens
 pub mod TextTokens
-pub mod ExplainedBack
 pub mod WritableTokens
 pub mod WritableTrees

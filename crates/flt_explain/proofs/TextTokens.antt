@@ -1,16 +1,100 @@
--- The text of tokens is cut into these tokens.
-use Rattle.flt_explain.proofs.Common.{◌≡◌, ◌⊎◌, inl, inr, ⊎_elim, ℕ, suc, zero, ◌+◌, ◌<◌, List, [], ◌∷◌, ◌++◌, length, get_or, take, drop, refl, sym, ap, ◌∙◌, subst, arith, Bool, true, false, ◌==◌, ◌||◌, cond, count_by, nat_lt, codes, if◌then◌else◌, Ok, append_assoc, append-nil, length-append, nat_tests, drop_at, get_or_at, take_at, Token, TokenKind, is_inside, IsToken, TokensFrom, kinds_of, Following, gap, joins_next, joins_previous, next_after, spelling, tokens_text, IsSpellable}
-use Rattle.std.proofs.lemmas.Bool.{lt-ltb}
-use Rattle.std.proofs.lemmas.List.Sums.{sum_by-append}
-use Rattle.flt_words.specs.declared.token.Operator.TheVariants as operator
-use Rattle.flt_words.specs.declared.token.TokenKind.TheVariants as token
-use Rattle.flt_words.specs.Tokens.TokensFrom.{at_end, blank, token as one_more}
-use Rattle.flt_words.proofs.Tables.{closings, openings, token_has}
-use Rattle.flt_explain.proofs.WordPieces.{word_token}
-use Rattle.flt_explain.proofs.SignTokens.{End, Ends, goes_on, no_more, word_ends, sign_token, single_token, colon_token}
-use Rattle.flt_explain.proofs.SignTokens as signs
-use Rattle.flt_explain.proofs.WordTokens.{IsWordFor, keyword_for, name_for, number_for, range_for}
+-- A sign in a text is a token, and the text of tokens is cut into these tokens.
+use Rattle.flt_explain.proofs.Common.{◌≡◌, ℕ, ◌<◌, ◌≤◌, ◌⊎◌, ⊎_elim, inr, List, [], ◌∷◌, ◌++◌, length, get_or, take, refl, ◌∙◌, arith, Bool, true, false, ◌==◌, ◌&&◌, ◌||◌, not, nat_tests, list_all, Option, None, Some, TokenKind, within_word, look_up, symbol_of, found_passes, IsToken, symbol_meaning, longest_one, longest_two, fixed_spelling, inl, suc, zero, ◌+◌, drop, sym, ap, subst, cond, count_by, nat_lt, codes, if◌then◌else◌, Ok, append_assoc, append-nil, length-append, drop_at, get_or_at, take_at, Token, is_inside, TokensFrom, kinds_of, Following, gap, joins_next, joins_previous, next_after, spelling, tokens_text, IsSpellable, or-true, Operator, symbol_piece, closings, openings, token_has, lt-ltb}
+use Rattle.flt_words.specs.Spellings.{symbols}
+use Rattle.flt_words.specs.declared.token.Comparison.{Comparison}
 use Rattle.flt_explain.proofs.AddressTokens.{dotted_for, mac_for, ip6_for}
+use Rattle.flt_explain.proofs.WordTokens.{word_token, IsWordFor, keyword_for, name_for, number_for, range_for}
+use Rattle.std.proofs.lemmas.List.Sums.{sum_by-append}
+use Rattle.flt_words.specs.Tokens.TokensFrom.{at_end, blank, token as one_more}
+use Rattle.flt_words.specs.declared.token.TokenKind.TheVariants as token
+
+-- what may follow a token that leaves a gap where it can: a blank, `)`, `[`, `]`, `/`, and `:` inside brackets
+abbrev pub is_end : Bool → ℕ → Bool
+is_end inside c = c == 32 || (c == 41 || (c == 91 || (c == 93 || (c == 47 || (inside && c == 58)))))
+
+pub data Ends (inside : Bool) : List ℕ → Type 0 where
+  no_more : Ends inside []
+  goes_on : {c : ℕ} {more : List ℕ} → is_end inside c ≡ true → Ends inside (c ∷ more)
+
+-- no word goes on there
+not_within : (inside : Bool) (c : ℕ) → is_end inside c ≡ true → within_word inside c ≡ false
+not_within inside c end = grind (arith, nat_tests)
+
+pub word_ends : (inside : Bool) (more : List ℕ) → Ends inside more → 0 < length more → within_word inside (get_or more 0 0) ≡ false
+word_ends inside more no_more some = absurd (omega arith)
+word_ends inside more (goes_on {c} end) some = not_within inside c end
+
+-- the bytes with which no sign of two begins: `(`, `)`, `[`, `]`, `/` and `:`
+abbrev pub is_alone : ℕ → Bool
+is_alone b = b == 40 || (b == 41 || (b == 91 || (b == 93 || (b == 47 || b == 58))))
+
+two_test : List ℕ → Bool
+two_test piece = length piece == 1 || (not (is_end true (get_or piece 1 0)) && not (is_alone (get_or piece 0 0)))
+
+all_two : list_all (λ entry. two_test entry.0) symbols ≡ true
+unfolding two_test symbols
+all_two = refl
+
+end_inside : (inside : Bool) (c : ℕ) → is_end inside c ≡ true → is_end true c ≡ true
+end_inside inside c end = grind (arith, nat_tests)
+
+clash : (end alone : Bool) → end || alone ≡ true → not end && not alone ≡ true → ⊥
+clash true alone either neither = cc
+clash false true either neither = cc
+clash false false either neither = cc
+
+none_of : {A : Type 0} (o : Option A) → ((a : A) → o ≡ Some a → ⊥) → o ≡ None
+none_of None no = refl
+none_of (Some a) no = absurd (no a refl)
+
+none_two : (b c : ℕ) → is_end true c || is_alone b ≡ true → look_up symbols (b ∷ c ∷ []) ≡ None
+unfolding two_test
+none_two b c either = none_of (look_up symbols (b ∷ c ∷ []))
+    (λ kind found. clash (is_end true c) (is_alone b) either (found_passes (λ piece _. two_test piece) symbols (b ∷ c ∷ []) kind all_two found))
+
+and_false : (a b : Bool) → a && (b && false) ≡ false
+and_false true true = refl
+and_false true false = refl
+and_false false b = refl
+
+two_is : (inside : Bool) (b c : ℕ) → symbol_of inside (b ∷ c ∷ []) ≡ look_up symbols (b ∷ c ∷ [])
+two_is inside b c = rw (and_false inside (b == 58)) refl
+
+no_two : (inside : Bool) (b : ℕ) (more : List ℕ) → Ends inside more ⊎ (is_alone b ≡ true) → 2 ≤ length (b ∷ more) → symbol_of inside (take 2 (b ∷ more)) ≡ None
+no_two inside b [] stops long = absurd (omega arith)
+no_two inside b (c ∷ more) stops long = two_is inside b c ∙ none_two b c (⊎_elim (λ ends. rw (ends_first ends) refl) (λ alone. rw (alone, or-true) refl) stops)
+  where
+    ends_first : Ends inside (c ∷ more) → is_end true c ≡ true
+    ends_first (goes_on end) = end_inside inside c end
+
+-- a sign of one or two bytes
+sign_at : (inside : Bool) (place : ℕ) (word more : List ℕ) (t : TokenKind) → symbol_of inside word ≡ Some t → Ends inside more ⊎ (is_alone (get_or word 0 0) ≡ true) → IsToken inside place (word ++ more) t (length word)
+sign_at inside place [] more t is stops = absurd (omega (arith, (symbol_piece inside [] t is).some))
+sign_at inside place (b ∷ []) more t is stops =
+    record { longest = longest_one (omega arith) (symbol_piece inside (b ∷ []) t is).starts_none (no_two inside b more stops) is; means = symbol_meaning is }
+sign_at inside place (b ∷ c ∷ []) more t is stops = record { longest = longest_two (omega arith) (symbol_piece inside (b ∷ c ∷ []) t is).starts_none is; means = symbol_meaning is }
+sign_at inside place (b ∷ c ∷ d ∷ word) more t is stops = absurd (omega (arith, (symbol_piece inside (b ∷ c ∷ d ∷ word) t is).upper_bound))
+
+abbrev pub is_sign : TokenKind → Bool
+is_sign (token.Comparison c) = true
+is_sign (token.Operator o) = true
+is_sign token.Open = true
+is_sign token.Close = true
+is_sign token.OpenBracket = true
+is_sign token.CloseBracket = true
+is_sign _ = false
+
+sign_found : (inside : Bool) (t : TokenKind) → is_sign t ≡ true → symbol_of inside (fixed_spelling t) ≡ Some t
+unfolding symbols
+sign_found true (token.Comparison Comparison.Equal) h = refl
+sign_found true (token.Operator Operator.Divide) h = refl
+sign_found _ _ h = cc
+
+pub sign_token : (t : TokenKind) (inside : Bool) (place : ℕ) (more : List ℕ) → is_sign t ≡ true → Ends inside more ⊎ (is_alone (get_or (fixed_spelling t) 0 0) ≡ true) → IsToken inside place (fixed_spelling t ++ more) t (length (fixed_spelling t))
+sign_token t inside place more h stops = sign_at inside place (fixed_spelling t) more t (sign_found inside t h) stops
+
+pub colon_token : (inside : Bool) (place : ℕ) (more : List ℕ) → inside ≡ true → IsToken inside place (58 ∷ more) token.Colon 1
+colon_token inside place more is = sign_at inside place (58 ∷ []) more token.Colon (rw is refl) (inr refl)
 
 -- how many brackets are open after a token
 abbrev pub depth_after : ℕ → TokenKind → ℕ
@@ -33,13 +117,9 @@ AreSpelled d (t ∷ rest) = IsSpellable t × IsAt d t × AreSpelled (depth_after
 
 -- what follows a token that doesn't join the next one
 before_next : (d : ℕ) (u : TokenKind) (us : List TokenKind) (following : Following) → IsAt d u → Ends (nat_lt 0 d) ((if joins_previous u then [] else codes " ") ++ tokens_text following (u ∷ us))
-before_next d token.Close us following at = goes_on signs.close
-before_next d token.OpenBracket us following at = goes_on signs.bracket
-before_next d token.CloseBracket us following at = goes_on signs.close_bracket
-before_next d token.Colon us following at = goes_on (signs.colon (lt-ltb 0 d at))
-before_next d (token.Operator operator.Divide) us following at = goes_on signs.slash
-before_next d (token.Operator _) us following at = goes_on signs.blank
-before_next d _ us following at = goes_on signs.blank
+before_next d token.Colon us following at = goes_on (rw (lt-ltb 0 d at) refl)
+before_next d (token.Operator Operator.Divide) us following at = goes_on refl
+before_next d _ us following at = goes_on refl
 
 ends_of : (d : ℕ) (t : TokenKind) (rest : List TokenKind) (following : Following) → joins_next t ≡ false → AreSpelled d rest → Ends (nat_lt 0 d) (gap t rest ++ tokens_text following rest)
 ends_of d t [] following h s = no_more
@@ -50,13 +130,13 @@ word_here d place word t rest following h w s = word_token (nat_lt 0 d) place wo
 
 -- a token stands at its place
 token_here : (t : TokenKind) (d place : ℕ) (following next : Following) (rest : List TokenKind) → IsSpellable t → IsAt d t → AreSpelled (depth_after d t) rest → IsToken (nat_lt 0 d) place (spelling following t ++ (gap t rest ++ tokens_text next rest)) t (length (spelling following t))
-token_here token.Open d place following next rest w at s = single_token token.Open (nat_lt 0 d) place _ refl
-token_here token.Close d place following next rest w at s = single_token token.Close (nat_lt 0 d) place _ refl
-token_here token.OpenBracket d place following next rest w at s = single_token token.OpenBracket (nat_lt 0 d) place _ refl
-token_here token.CloseBracket d place following next rest w at s = single_token token.CloseBracket (nat_lt 0 d) place _ refl
-token_here (token.Operator operator.Divide) d place following next rest w at s = single_token (token.Operator operator.Divide) (nat_lt 0 d) place _ refl
-token_here (token.Operator o) d place following next rest w at s = sign_token (token.Operator o) (nat_lt 0 d) place _ refl (ends_of d (token.Operator o) rest next refl s)
-token_here (token.Comparison c) d place following next rest w at s = sign_token (token.Comparison c) (nat_lt 0 d) place _ refl (ends_of d (token.Comparison c) rest next refl s)
+token_here token.Open d place following next rest w at s = sign_token token.Open (nat_lt 0 d) place _ refl (inr refl)
+token_here token.Close d place following next rest w at s = sign_token token.Close (nat_lt 0 d) place _ refl (inr refl)
+token_here token.OpenBracket d place following next rest w at s = sign_token token.OpenBracket (nat_lt 0 d) place _ refl (inr refl)
+token_here token.CloseBracket d place following next rest w at s = sign_token token.CloseBracket (nat_lt 0 d) place _ refl (inr refl)
+token_here (token.Operator Operator.Divide) d place following next rest w at s = sign_token (token.Operator Operator.Divide) (nat_lt 0 d) place _ refl (inr refl)
+token_here (token.Operator o) d place following next rest w at s = sign_token (token.Operator o) (nat_lt 0 d) place _ refl (inl (ends_of d (token.Operator o) rest next refl s))
+token_here (token.Comparison c) d place following next rest w at s = sign_token (token.Comparison c) (nat_lt 0 d) place _ refl (inl (ends_of d (token.Comparison c) rest next refl s))
 token_here token.Colon d place following next rest w at s = colon_token (nat_lt 0 d) place _ (lt-ltb 0 d at)
 token_here (token.Number n) d place following next rest w at s = word_here d place _ _ rest next refl (number_for (nat_lt 0 d) n w) s
 token_here (token.Name n) d place following next rest w at s = word_here d place _ _ rest next refl (name_for (nat_lt 0 d) following n w) s

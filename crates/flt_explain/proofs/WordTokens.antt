@@ -1,20 +1,135 @@
--- Each word that is written means its token.
-use Rattle.flt_explain.proofs.Common.{◌≡◌, ⊎_elim, ℕ, suc, zero, ◌^◌, ◌<◌, List, ◌∷◌, ◌++◌, length, get_or, refl, sym, ap, subst, arith, Bool, true, false, ◌==◌, Some, lit<, lit≤, decimal_digit, decimal_is_IsNumeral, first_decimal, decimal, TokenKind, Host, within_word, WritesDecimal, keyword_of, Spells, fits, keyword, keyword_is_plain, Following, Other, fixed_spelling, name_word, has_name}
-use Rattle.std.proofs.lemmas.Bool.{or_cases}
-use Rattle.std.proofs.lemmas.Bool.{eqb-true}
-use Rattle.flt_words.specs.declared.token.Cast.TheVariants.{Broadcast, Multicast}
-use Rattle.flt_words.specs.declared.token.Join.TheVariants as join
-use Rattle.flt_words.specs.declared.token.Protocol.TheVariants as protocol
-use Rattle.flt_words.specs.declared.token.Side.TheVariants.{Source, Destination}
-use Rattle.flt_words.specs.declared.token.Size.TheVariants as size
-use Rattle.flt_words.specs.declared.token.TokenKind.TheVariants as token
+-- A word in a text, after which no byte of it follows, is a token; and each word that is written
+-- means its token.
+use Rattle.flt_explain.proofs.Common.{◌≡◌, ℕ, suc, zero, ◌+◌, ◌-◌, ◌<◌, ◌≤◌, List, [], ◌∷◌, ◌++◌, length, get_or, refl, sym, ap, ◌∙◌, arith, Bool, true, false, ◌&&◌, nat_lt, Some, nat_tests, get_or-append-add, get_or_append_left, take_at, digit_value, is_ascii_alphanumeric, AllByRecursion, list_all, AllDigits, TokenKind, starts_word, within_word, keyword_of, IsToken, IsWordPiece, word_meaning, Spells, fits, known, IsScanned, longest_word, found_passes, ⊎_elim, ◌^◌, subst, ◌==◌, lit<, lit≤, decimal_digit, decimal_is_IsNumeral, first_decimal, decimal, Host, WritesDecimal, keyword, keyword_is_plain, Following, Other, fixed_spelling, name_word, has_name, and_parts, ltb-true, eqb-true, or_cases, or-true, Protocol}
+use Rattle.flt_words.specs.Spellings.{keywords}
+use Rattle.std.proofs.lemmas.List.{length-append}
 use Rattle.flt_words.specs.Numbers.IsNumber.{decimal as decimal_number}
 use Rattle.flt_words.specs.Numbers.IsRange.{joined as dashed}
-use Rattle.flt_words.specs.Spellings.{keywords}
 use Rattle.flt_words.specs.Words.Spells.{number, range}
+use Rattle.flt_words.specs.declared.token.Cast.TheVariants.{Broadcast}
+use Rattle.flt_words.specs.declared.token.Join.{Join}
+use Rattle.flt_words.specs.declared.token.Side.TheVariants.{Source}
+use Rattle.flt_words.specs.declared.token.Size.{Size}
 use Rattle.flt_words.proofs.Numbers.{fits as word_sized}
-use Rattle.flt_explain.proofs.WordPieces.{IsPart, part_of_digits, part_of_keyword, part_join}
+use Rattle.flt_words.specs.declared.token.TokenKind.TheVariants as token
 
+-- the text could be a word
+pub record IsPart (inside : Bool) (word : List ℕ) : Type 0 where
+  pub some : 0 < length word
+  pub begins : starts_word inside (get_or word 0 0) ≡ true
+  pub within : AllByRecursion (λ b. within_word inside b ≡ true) word
+  pub ends : starts_word inside (get_or word (length word - 1) 0) ≡ true
+
+byte_at : (P : ℕ → Type 0) (word : List ℕ) (i : ℕ) → AllByRecursion P word → i < length word → P (get_or word i 0)
+byte_at P [] i all below = absurd (omega arith)
+byte_at P (b ∷ word) zero all below = all.0
+byte_at P (b ∷ word) (suc i) all below = byte_at P word i all.1 (omega arith)
+
+all_append : (P : ℕ → Type 0) (front back : List ℕ) → AllByRecursion P front → AllByRecursion P back → AllByRecursion P (front ++ back)
+all_append P [] back v w = w
+all_append P (b ∷ front) back v w = (v.0, all_append P front back v.1 w)
+
+starts_within : (inside : Bool) (b : ℕ) → starts_word inside b ≡ true → within_word inside b ≡ true
+starts_within inside b h = rw h refl
+
+all_within : (inside : Bool) (word : List ℕ) → AllByRecursion (λ b. starts_word inside b ≡ true) word → AllByRecursion (λ b. within_word inside b ≡ true) word
+all_within inside [] all = tt
+all_within inside (b ∷ word) all = (starts_within inside b all.0, all_within inside word all.1)
+
+pub part_of_starts : (inside : Bool) (word : List ℕ) → 0 < length word → AllByRecursion (λ b. starts_word inside b ≡ true) word → IsPart inside word
+part_of_starts inside word some all = record {
+  some = some;
+  begins = byte_at (λ b. starts_word inside b ≡ true) word 0 all some;
+  within = all_within inside word all;
+  ends = byte_at (λ b. starts_word inside b ≡ true) word (length word - 1) all (omega arith);
+}
+
+-- digits
+letter_or_digit : (c radix : ℕ) → radix ≤ 36 → digit_value c < radix → is_ascii_alphanumeric c ≡ true
+letter_or_digit c radix few small = grind (arith, nat_tests)
+
+digits_start : (inside : Bool) (radix : ℕ) (digits : List ℕ) → radix ≤ 36 → AllDigits radix digits → AllByRecursion (λ b. starts_word inside b ≡ true) digits
+digits_start inside radix [] few all = tt
+digits_start inside radix (c ∷ digits) few all =
+    (rw (letter_or_digit c radix few all.0) refl, digits_start inside radix digits few all.1)
+
+pub part_of_digits : (inside : Bool) (radix : ℕ) (digits : List ℕ) → radix ≤ 36 → 0 < length digits → AllDigits radix digits → IsPart inside digits
+part_of_digits inside radix digits few some all = part_of_starts inside digits some (digits_start inside radix digits few all)
+
+-- two parts, and a byte between them
+pub part_join : (inside : Bool) (c : ℕ) (front back : List ℕ) → within_word inside c ≡ true → IsPart inside front → IsPart inside back → IsPart inside (front ++ c ∷ back)
+part_join inside c front back between v w =
+    let last : length (front ++ c ∷ back) - 1 ≡ length front + suc (length back - 1) = rw (length-append front (c ∷ back)) (omega (arith, w.some)) in
+    record {
+      some = rw (length-append front (c ∷ back)) (omega arith);
+      begins = ap (starts_word inside) (get_or_append_left front (c ∷ back) 0 0 v.some) ∙ v.begins;
+      within = all_append (λ b. within_word inside b ≡ true) front (c ∷ back) v.within (between, w.within);
+      ends = ap (λ k. starts_word inside (get_or (front ++ c ∷ back) k 0)) last ∙ ap (starts_word inside) (get_or-append-add front (c ∷ back) (suc (length back - 1)) 0) ∙ w.ends;
+    }
+
+-- a keyword
+part_test : Bool → List ℕ → Bool
+part_test inside word =
+    nat_lt 0 (length word) && (starts_word inside (get_or word 0 0) && (list_all (within_word inside) word && starts_word inside (get_or word (length word - 1) 0)))
+
+all_parts : (inside : Bool) → list_all (λ entry. part_test inside entry.0) keywords ≡ true
+unfolding part_test keywords
+all_parts true = refl
+all_parts false = refl
+
+all_from_test : (p : ℕ → Bool) (word : List ℕ) → list_all p word ≡ true → AllByRecursion (λ b. p b ≡ true) word
+all_from_test p [] h = tt
+all_from_test p (b ∷ word) h =
+    let parts = and_parts (p b) (list_all p word) h in
+    (parts.0, all_from_test p word parts.1)
+
+pub part_of_keyword : (inside : Bool) (word : List ℕ) (kind : TokenKind) → keyword_of word ≡ Some kind → IsPart inside word
+unfolding part_test
+part_of_keyword inside word kind found =
+    let pass = found_passes (λ piece _. part_test inside piece) keywords word kind (all_parts inside) found in
+    let some = and_parts (nat_lt 0 (length word)) _ pass in
+    let begins = and_parts (starts_word inside (get_or word 0 0)) _ some.1 in
+    let within = and_parts (list_all (within_word inside) word) _ begins.1 in
+    record {
+      some = ltb-true 0 (length word) some.0;
+      begins = begins.0;
+      within = all_from_test (within_word inside) word within.0;
+      ends = within.1;
+    }
+
+-- a word of which the text goes on with no more bytes
+module _ (inside : Bool) (place : ℕ) (word more : List ℕ) (kind : TokenKind) (part : IsPart inside word) (stands : Spells word kind) (fit : fits kind ≡ true)
+    (stops : 0 < length more → within_word inside (get_or more 0 0) ≡ false) where
+  here : (i : ℕ) → i < length word → get_or (word ++ more) i 0 ≡ get_or word i 0
+  here i below = get_or_append_left word more 0 i below
+
+  scanned : IsScanned inside (word ++ more) (length word) (length word)
+  scanned = record {
+    so_far = omega arith;
+    some = part.some;
+    within = λ k below. ap (within_word inside) (here k below) ∙ byte_at (λ b. within_word inside b ≡ true) word k part.within below;
+    ends = ap (starts_word inside) (here (length word - 1) (omega (arith, part.some))) ∙ part.ends;
+    later = λ k low high. absurd (omega arith);
+  }
+
+  long : length (word ++ more) ≡ length word + length more
+  long = length-append word more
+
+  stop : length word < length (word ++ more) → within_word inside (get_or (word ++ more) (length word) 0) ≡ false
+  stop below =
+      let at : length word + 0 ≡ length word = omega arith in
+      ap (λ k. within_word inside (get_or (word ++ more) k 0)) (sym at) ∙ ap (within_word inside) (get_or-append-add word more 0 0) ∙ stops (omega (arith, long))
+
+  piece : IsWordPiece inside word
+  piece = record { begins = part.begins; within = λ i below. byte_at (λ b. within_word inside b ≡ true) word i part.within below; ends = part.ends }
+
+  pub word_token : IsToken inside place (word ++ more) kind (length word)
+  word_token = record {
+    longest = longest_word inside (word ++ more) (length word) (length word) scanned (omega (arith, long)) (ap (starts_word inside) (here 0 part.some) ∙ part.begins) stop;
+    means = rw (take_at word more (length word) refl) (word_meaning piece (known stands fit));
+  }
+
+-- what the written words mean
 pub record IsWordFor (inside : Bool) (word : List ℕ) (kind : TokenKind) : Type 0 where
   pub part : IsPart inside word
   pub stands : Spells word kind
@@ -35,21 +150,12 @@ is_keyword _ = false
 
 found : (t : TokenKind) → is_keyword t ≡ true → keyword_of (fixed_spelling t) ≡ Some t
 unfolding keywords
-found (token.Protocol protocol.Ether) h = refl
-found (token.Protocol _) h = refl
-found (token.Join join.And) h = refl
-found (token.Join join.Or) h = refl
-found token.Not h = refl
+found (token.Protocol Protocol.Ether) h = refl
+found (token.Join Join.And) h = refl
 found (token.Side Source) h = refl
-found (token.Side Destination) h = refl
 found (token.ValueType Host) h = refl
-found (token.ValueType _) h = refl
-found (token.Size size.Less) h = refl
-found (token.Size size.Greater) h = refl
+found (token.Size Size.Less) h = refl
 found (token.Cast Broadcast) h = refl
-found (token.Cast Multicast) h = refl
-found token.Mask h = refl
-found token.Len h = refl
 found _ h = cc
 
 keyword_by : (inside : Bool) (word : List ℕ) (kind : TokenKind) → keyword_of word ≡ Some kind → IsWordFor inside word kind
@@ -100,13 +206,9 @@ number_for inside n small = record {
   fit = word_sized n small;
 }
 
-dash_within : (inside : Bool) → within_word inside 45 ≡ true
-dash_within true = refl
-dash_within false = refl
-
 pub range_for : (inside : Bool) (a b : ℕ) → a < 2 ^ 32 → b < 2 ^ 32 → IsWordFor inside (decimal a ++ 45 ∷ decimal b) (token.Range a b)
 range_for inside a b small also = record {
-  part = part_join inside 45 (decimal a) (decimal b) (dash_within inside) (part_of_decimal inside a small) (part_of_decimal inside b also);
+  part = part_join inside 45 (decimal a) (decimal b) (rw or-true refl) (part_of_decimal inside a small) (part_of_decimal inside b also);
   stands = range (dashed (writes_decimal a small) (writes_decimal b also));
   fit = rw (word_sized a small) (word_sized b also);
 }

@@ -1,5 +1,5 @@
 -- By the tokens of the text.
-use Rattle.flt_explain.proofs.ExplainedBack as proved
+use Rattle.flt_explain.proofs.ReadBack as proved
 use Rattle.flt_explain.proofs.laws.explained_back.Goals as goal
 
 pub returns : goal.returns

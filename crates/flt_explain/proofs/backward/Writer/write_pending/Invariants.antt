@@ -1,6 +1,5 @@
 -- What is left to be written is written as all was.
-use Rattle.std.proofs.Common.{◌≡◌, length}
-use Rattle.flt_explain.specs.inside.Backward.{write_pending}
+use Rattle.flt_explain.proofs.Common.{◌≡◌, length, write_pending}
 use Rattle.flt_explain.proofs.backward.Writer.write_pending.Given as goal
 
 abbrev pub invariant-loop-pending : goal.invariant-loop-pending
