@@ -336,8 +336,8 @@ nodes_of_tokens (t ∷ ts) = run (t ∷ ts) 0 [] None []
 abbrev pub IsReadFault : ExprFault → Type 0
 IsReadFault fault = (fault ≡ ExprFault.NotAnExpression) ⊎ (fault ≡ ExprFault.Memory)
 
--- what the readers return where the definition gives `given`: that, made of what they return, or
--- why they stop, which is that there is no tree only if nothing is given
+-- what the readers return if the definition gives `given`: that, made of what they return, or why
+-- they stop, which is that there is no tree only if nothing is given
 pub record Reads {A B : Type 0} (given : Option B) (made : A → B)
     (result : Result A ExprFault) : Type 0 where
   pub ok : IfOk result (λ a. given ≡ Some (made a))

@@ -81,8 +81,8 @@ starts_value (TokenKind.Mac a ∷ ts) = true
 starts_value (TokenKind.Range a b ∷ ts) = true
 starts_value _ = false
 
--- a reader takes from tokens what the definition gives: its value, by as many of them as leave
--- the same rest
+-- a reader takes from tokens what the definition gives: its value, and as many of them that the
+-- rest is the same
 pub record Takes {A : Type 0} (given : A × List TokenKind) (tokens : List Token)
     (taken : A × ℕ) : Type 0 where
   pub value : taken.0 ≡ given.0
