@@ -1,11 +1,23 @@
 -- Intervals that ascend.
-use Rattle.flt_gen.proofs.Common.{◌≡◌, ℕ, zero, suc, ◌+◌, ◌-◌, ◌^◌, ◌<◌, ◌≤◌, List, [], ◌∷◌, length, take, drop, get_or, Bool, true, false, Option, Some, None, refl, sym, ap, ap₂, ◌∙◌, arith, nat_lt, nat_le, ◌==◌, ◌&&◌, ◌||◌, max, if◌then◌else◌, nat_tests, and-false, and_parts, or_assoc, Interval, Sides, Offset, Fixed, AfterHeader, field_at, under_mask, low_of, Formula, Single, Compare, Both, Either, Except, Split, Sought, Numbers, is_in, is_within, no_interval, first_ends, insert_ascending, is_gap, extended, joined_from, joined_all, same_interval, without}
+use Rattle.flt_gen.proofs.Common.{◌≡◌, ℕ, zero, suc, ◌+◌, ◌-◌, ◌^◌, ◌<◌, ◌≤◌, List, [], ◌∷◌, length, take, drop, get_or, Bool, true, false, Option, Some, None, refl, sym, ap, ap₂, ◌∙◌, subst, arith, nat_lt, nat_le, ◌==◌, ◌&&◌, ◌||◌, max, if◌then◌else◌, nat_tests, and-false, and_parts, or_assoc, Interval, Sides, Offset, Fixed, AfterHeader, field_at, under_mask, low_of, Formula, Single, Compare, Both, Either, Except, Split, Sought, Numbers, is_in, is_within, no_interval, first_ends, insert_ascending, is_gap, extended, joined_from, joined_all, same_interval, without}
 use Rattle.std.specs.List.{insert}
 
 -- by a test
 pub if_case : {A : Type 0} (P : A → Type 0) (b : Bool) (x y : A) → (b ≡ true → P x) → (b ≡ false → P y) → P (if b then x else y)
 if_case P true x y t f = t refl
 if_case P false x y t f = f refl
+
+-- what an option has, if anything, is P
+abbrev pub Each : {A : Type 0} → Option A → (A → Type 0) → Type 0
+Each None P = Unit {0}
+Each (Some a) P = P a
+
+pub each_is : {A : Type 0} (o : Option A) (P : A → Type 0) (a : A) → Each o P → o ≡ Some a → P a
+each_is None P a h e = cc
+each_is {A = A} (Some b) P a h e = subst P (some_is b a e) h
+  where
+    some_is : (a b : A) → Some a ≡ Some b → a ≡ b
+    some_is a b e = cc
 
 -- after lower intervals one is put before the first that isn't lower
 pub inserted_at : (i : Interval) (is : List Interval) (at : ℕ) → at ≤ length is → ((k : ℕ) → k < at → (get_or is k no_interval).low < i.low) → (at < length is → i.low ≤ (get_or is at no_interval).low) → insert is at i ≡ insert_ascending i is

@@ -95,7 +95,7 @@ pub or_no : (r : MatchResult) → either r No ≡ r
 or_no Yes = refl
 or_no _ = refl
 
-either_assoc : (a b c : MatchResult) → either (either a b) c ≡ either a (either b c)
+pub either_assoc : (a b c : MatchResult) → either (either a b) c ≡ either a (either b c)
 either_assoc Yes b c = refl
 either_assoc _ b c = refl
 

@@ -1,14 +1,15 @@
 -- Addresses or ports that are looked for together read as one after the other.
-use Rattle.flt_gen.proofs.Common.{◌≡◌, ℕ, ◌+◌, ◌-◌, ◌*◌, ◌^◌, ◌%◌, ◌<◌, List, [], ◌∷◌, length, map, Bool, true, false, Option, Some, None, refl, sym, ap, ap₂, ◌∙◌, subst, arith, inl, inr, ◌==◌, ◌||◌, ◌&&◌, nat_le, min, max, bit_and, if◌then◌else◌, nat_tests, or-false, Protocol, Ip, Tcp, Udp, ValueType, Host, Net, Port, PortRange, Source, Destination, And, Or, Direction, CompleteQualifiers, Value, first_bits, Word, field, big_endian_at, Link, type_offset, FrameKind, Elementary, Interval, One, Between, Several, Sides, Transport, MatchResult, Yes, No, Rejected, reading_of, with, field_at, under_mask, kind_test, elementary_reads, Formula, Sought, is_in, is_within, both, either, all_of, sides, Numbers, no_numbers, reads, address_places, address_test, partial_mask, port_is, port_between, port_places, port_sides, transport, following, ip_transport, ip6_transport, port_test, port_formula, net_test, net_formula, value_formula, joined_all, left_out, high_mask, cut, sought, interval, is_address, net_numbers, member_of, several_formula}
+use Rattle.flt_gen.proofs.Common.{◌≡◌, ℕ, ◌+◌, ◌-◌, ◌*◌, ◌^◌, ◌%◌, ◌<◌, ◌≤◌, List, [], ◌∷◌, length, map, Bool, true, false, Option, Some, None, refl, sym, ap, ap₂, ◌∙◌, subst, arith, inl, inr, ◌==◌, ◌||◌, ◌&&◌, nat_le, min, max, bit_and, if◌then◌else◌, nat_tests, or-false, Protocol, Ip, Tcp, Udp, ValueType, Host, Net, Port, PortRange, Source, Destination, And, Or, Direction, CompleteQualifiers, Value, first_bits, Word, field, big_endian_at, Link, type_offset, FrameKind, Elementary, Interval, One, Between, Several, Sides, Transport, MatchResult, Yes, No, Rejected, reading_of, with, field_at, under_mask, kind_test, elementary_reads, Formula, Sought, is_in, is_within, both, either, all_of, sides, Numbers, no_numbers, reads, address_places, address_test, partial_mask, port_is, port_between, port_places, port_sides, transport, following, ip_transport, ip6_transport, port_test, port_formula, net_test, net_formula, value_formula, joined_all, left_out, high_mask, cut, sought, interval, is_address, net_numbers, member_of, several_formula}
 use Rattle.std.specs.Prelude.{◌⊎◌}
 use Rattle.std.proofs.Math.Nat.{mod-lt}
 use Rattle.flt_words.specs.declared.token.Protocol.TheVariants.{Arp, Rarp}
 use Rattle.flt_ast.specs.declared.qualifiers.Direction.TheVariants as direction
 use Rattle.flt_ast.specs.declared.value.Value.TheVariants as value
+use Rattle.flt_ast.specs.Counts as count
 use Rattle.flt_ast.specs.declared.value.NetMask.TheVariants as mask
 use Rattle.flt_gen.specs.declared.elementary.FrameKind.TheVariants as kind
 use Rattle.flt_gen.specs.declared.port.Ports.{Ports}
-use Rattle.flt_gen.proofs.Ascending.{Ordered, within_joined}
+use Rattle.flt_gen.proofs.Ascending.{if_case, Each, Ordered, within_joined}
 use Rattle.flt_gen.proofs.Exclusive.{ip_no_ip6, ip_no_arp, ip_no_rarp, arp_no_rarp}
 use Rattle.flt_gen.proofs.Prefixes.{Idle, idle_sought, Small, cut_in, cut_within, net_hit}
 use Rattle.flt_gen.proofs.Runs.{one_number}
@@ -133,6 +134,18 @@ sides_seen (direction.One Destination) s t f g a b i j h k = read_seen t a b k
 sides_seen (direction.Both Or) s t f g a b i j h k =
     ap₂ either (ap₂ both (read_seen s a b h) (ap (λ r. either r (read_by t (λ x. true))) (read_seen s f g i))) (read_seen t a b k)
 sides_seen (direction.Both And) s t f g a b i j h k = ap₂ both (read_seen s f g i) (read_seen t f g j)
+
+-- how many tests a member has at least by itself
+abbrev pub member_tests : ValueType → Option Protocol → Direction → ℕ
+member_tests Host protocol d = count.ip4_tests protocol d
+member_tests Net protocol d = count.ip4_tests protocol d
+member_tests Port protocol d = count.port_tests protocol d 1
+member_tests PortRange protocol d = count.port_tests protocol d 1
+member_tests _ protocol d = 1
+
+more_tests : (d : Direction) → count.side_tests d 1 ≤ count.side_tests d 2
+more_tests (direction.One s) = omega arith
+more_tests _ = omega arith
 
 module _ (link : Link) (p : List ℕ) (n : ℕ) where
   or_no : (s : MatchResult) → either s No ≡ s
@@ -271,7 +284,7 @@ module _ (link : Link) (p : List ℕ) (n : ℕ) where
   members_read k protocol d m ms =
       by_sides k protocol (λ at. sides_read d (source_of at) (destination_of at) (hit m) (λ x. is_within x (m ∷ ms)))
 
-  abbrev member_reads : ValueType → Option Protocol → Direction → Interval → MatchResult
+  abbrev pub member_reads : ValueType → Option Protocol → Direction → Interval → MatchResult
   member_reads k protocol d m = by_sides k protocol (λ at. plain_reads d (source_of at) (destination_of at) (hit m))
 
   pub members_more : (k : ValueType) (protocol : Option Protocol) (d : Direction) (m l : Interval) (ms : List Interval) → Merged d → members_read k protocol d m (l ∷ ms) ≡ either (member_reads k protocol d m) (members_read k protocol d l ms)
@@ -395,37 +408,26 @@ module _ (link : Link) (p : List ℕ) (n : ℕ) where
   abbrev Rows : ValueType → Option Protocol → Direction → Value → Interval → Type 0
   Rows k protocol d v m = reads link (value_formula link k protocol d v) p n ≡ member_reads k protocol d m
 
-  some_member : (l m : Interval) → Some l ≡ Some m → l ≡ m
-  some_member l m e = cc
+  -- a value that looks for these numbers: their order, its tests, of which there are no fewer, and how it reads
+  abbrev pub IsMember : ValueType → Option Protocol → Direction → Value → Interval → Type 0
+  IsMember k protocol d v m = (m.low ≤ m.high) × (member_tests k protocol d ≤ count.typed_tests k protocol d v) × (reads link (value_formula link k protocol d v) p n ≡ member_reads k protocol d m)
 
-  net_row : (protocol : Option Protocol) (d : Direction) (b a : ℕ) (m : Interval) → net_numbers (record { address = a; mask = first_bits 32 b }) ≡ Some m → reads link (net_formula link protocol (net_test d (partial_mask (first_bits 32 b)) a)) p n ≡ hosts_by protocol (λ at. plain_reads d (source_of at) (destination_of at) (hit m))
-  net_row protocol d b a m e = by (bit_and a (first_bits 32 b) == a) refl e
-    where
-      l : Interval
-      l = interval a (a + (2 ^ 32 - 1 - first_bits 32 b))
+  abbrev IsNet : Option Protocol → Direction → ℕ → ℕ → Interval → Type 0
+  IsNet protocol d b a m = (m.low ≤ m.high) × (count.ip4_tests protocol d ≤ count.ip4_tests protocol d) × (reads link (net_formula link protocol (net_test d (partial_mask (first_bits 32 b)) a)) p n ≡ member_reads Net protocol d m)
 
-      by : (t : Bool) → (bit_and a (first_bits 32 b) == a) ≡ t → (if t then Some l else None) ≡ Some m → reads link (net_formula link protocol (net_test d (partial_mask (first_bits 32 b)) a)) p n ≡ hosts_by protocol (λ at. plain_reads d (source_of at) (destination_of at) (hit m))
-      by true t h =
-          let inside : bit_and a (first_bits 32 b) ≡ a = grind (arith, nat_tests) in
-          subst (λ (z : Interval). reads link (net_formula link protocol (net_test d (partial_mask (first_bits 32 b)) a)) p n ≡ hosts_by protocol (λ at. plain_reads d (source_of at) (destination_of at) (hit z))) (some_member l m h)
-          (address_row protocol d (partial_mask (first_bits 32 b)) a (hit l) (λ x s. net_hit b a x s inside))
-      by false t h = cc
+  net_row : (protocol : Option Protocol) (d : Direction) (b a : ℕ) → Each (net_numbers (record { address = a; mask = first_bits 32 b })) (IsNet protocol d b a)
+  net_row protocol d b a =
+      if_case (λ o. Each o (IsNet protocol d b a)) (bit_and a (first_bits 32 b) == a) _ _
+      (λ t. (omega arith, omega arith, address_row protocol d (partial_mask (first_bits 32 b)) a _ (λ x s. net_hit b a x s (grind (arith, nat_tests)))))
+      (λ t. tt)
 
-  pub member_is : (k : ValueType) (protocol : Option Protocol) (d : Direction) (v : Value) (m : Interval) → member_of k v ≡ Some m → Rows k protocol d v m
-  member_is Host protocol d (value.Dotted x z) m e =
-      let l = interval x.address x.address in
-      subst (λ (w : Interval). Rows Host protocol d (value.Dotted x z) w) (some_member l m e)
-      (address_row protocol d None x.address (hit l) (λ y s. one_number y x.address x.address refl))
-  member_is Net protocol d (value.Number x mask.Unwritten) m e = net_row protocol d 8 (x % 256 * 2 ^ 24) m e
-  member_is Net protocol d (value.Number x (mask.Prefix b)) m e = net_row protocol d b (x % 256 * 2 ^ 24) m e
-  member_is Net protocol d (value.Dotted x mask.Unwritten) m e = net_row protocol d (8 * x.parts) x.address m e
-  member_is Net protocol d (value.Dotted x (mask.Prefix b)) m e = net_row protocol d b x.address m e
-  member_is Port protocol d (value.Number x z) m e =
-      let l = interval x x in
-      subst (λ (w : Interval). Rows Port protocol d (value.Number x z) w) (some_member l m e)
-      (port_row protocol d (One x) (hit l) (one_port d x (hit l) (λ y. one_number y x x refl)))
-  member_is PortRange protocol d (value.Range a b) m e =
-      let l = interval (min a b) (max a b) in
-      subst (λ (w : Interval). Rows PortRange protocol d (value.Range a b) w) (some_member l m e)
-      (port_row protocol d (Between (min a b) (max a b)) (hit l) (some_ports d (min a b) (max a b) (hit l) (λ y. refl)))
-  member_is _ protocol d _ m e = cc
+  pub member_is : (k : ValueType) (protocol : Option Protocol) (d : Direction) (v : Value) → Each (member_of k v) (IsMember k protocol d v)
+  member_is Host protocol d (value.Dotted x z) = (omega arith, omega arith, address_row protocol d None x.address _ (λ y s. one_number y x.address x.address refl))
+  member_is Net protocol d (value.Number x mask.Unwritten) = net_row protocol d 8 (x % 256 * 2 ^ 24)
+  member_is Net protocol d (value.Number x (mask.Prefix b)) = net_row protocol d b (x % 256 * 2 ^ 24)
+  member_is Net protocol d (value.Dotted x mask.Unwritten) = net_row protocol d (8 * x.parts) x.address
+  member_is Net protocol d (value.Dotted x (mask.Prefix b)) = net_row protocol d b x.address
+  member_is Port protocol d (value.Number x z) = (omega arith, omega arith, port_row protocol d (One x) _ (one_port d x _ (λ y. one_number y x x refl)))
+  member_is PortRange protocol d (value.Range a b) =
+      (omega arith, (let more = more_tests d in omega arith), port_row protocol d (Between (min a b) (max a b)) _ (some_ports d (min a b) (max a b) _ (λ y. refl)))
+  member_is _ protocol d _ = tt
