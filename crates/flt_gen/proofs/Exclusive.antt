@@ -1,6 +1,23 @@
 -- A frame is of one kind at most.
-use Rattle.flt_gen.proofs.Common.{◌≡◌, ℕ, List, Bool, true, false, Option, Some, None, refl, ap, ◌∙◌, arith, ◌==◌, nat_tests, HalfWord, Byte, field, Elementary, Yes, No, reading_of, with, under_mask, elementary_reads, type_test}
+use Rattle.flt_gen.proofs.Common.{◌≡◌, ℕ, List, Bool, true, false, Option, Some, None, refl, ap, ◌∙◌, arith, ◌==◌, nat_tests, HalfWord, Byte, field, Elementary, Yes, No, reading_of, with, under_mask, elementary_reads, type_test, MatchResult, both, either}
 use Rattle.flt_gen.specs.declared.elementary.FrameKind.TheVariants.{Ip, Ip6, Arp, Rarp}
+
+-- readings after readings
+pub both_either : (i a b : MatchResult) → both i (either a b) ≡ either (both i a) (both i b)
+both_either Yes a b = refl
+both_either _ a b = refl
+
+pub or_no : (r : MatchResult) → either r No ≡ r
+or_no Yes = refl
+or_no _ = refl
+
+pub either_assoc : (a b c : MatchResult) → either (either a b) c ≡ either a (either b c)
+either_assoc Yes b c = refl
+either_assoc _ b c = refl
+
+pub and_yes : (r : MatchResult) → both r Yes ≡ r
+and_yes Yes = refl
+and_yes _ = refl
 
 pub is_yes : (b : Bool) → reading_of (Some b) ≡ Yes → b ≡ true
 is_yes true e = refl

@@ -7,7 +7,7 @@ use Rattle.flt_gen.specs.declared.cases.Case.{Case}
 use Rattle.flt_gen.specs.declared.cases.Case.TheVariants.{Mac, Ip6, IpProto, Ip6Proto}
 use Rattle.flt_gen.specs.inside.Cases.{case_of, same_words, key_of, case_frame, case_tests, MOST_DECISIONS}
 use Rattle.flt_gen.specs.inside.Group.{with_case, has_none, shares_words, case_goes_with, larger_by, together_formula, FEWEST_CASES}
-use Rattle.flt_gen.proofs.Deciding.{Shapes, fields_of, some_fields, shape_of, shapes_of, rows, read_all, or_no, both_either, either_assoc, sizes, decision_read, decision_bare, Likes, likes_put, sizes_put, length_put, read_put, frame_alike, alike_alike, self_alike}
+use Rattle.flt_gen.proofs.Deciding.{Shapes, fields_of, some_fields, shape_of, shapes_of, rows, read_all, sizes, decision_good, Likes, likes_put, sizes_put, length_put, read_put, alike, alike_alike, self_alike}
 use Rattle.std.proofs.lemmas.List.{length-map}
 use Rattle.cap_octet.specs.declared.link.Link.TheVariants as link
 use Rattle.cap_octet.specs.declared.link.Link.TheVariants.{Ether}
@@ -22,6 +22,7 @@ use Rattle.flt_ast.specs.Counts as count
 use Rattle.flt_gen.specs.declared.address.Hosts.TheVariants as hosts
 use Rattle.flt_gen.proofs.Ascending.{if_case, Each, each_is, Searchable, Reached, Ready, Searches, Ordered, Points, ordered_inserted, points_inserted, length_inserted, within_inserted, within_joined, searchable_joined, ends_few, joined_few, joined_points}
 use Rattle.flt_gen.proofs.Counted.{Sized, Bare, bare_within, bare_some, bare_both, bare_either, bare_else, bare_after, bare_sought, bare_check, bare_cast, of_kinds, bare_hosts, bare_ports}
+use Rattle.flt_gen.proofs.Exclusive.{or_no, both_either, either_assoc}
 use Rattle.flt_gen.proofs.Needed.{bare_needed, value_same}
 use Rattle.flt_gen.proofs.Once.{relation_sizes, relation_same}
 use Rattle.flt_gen.proofs.IdleBits.{uncut}
@@ -53,7 +54,7 @@ pub record Listed (d : Direction) (group : Group) : Type 0 where
   pub kind : Case
   pub like : Likes kind group.cases
   pub some : 0 < length group.cases
-  pub counted : (link : Link) → sizes (case_tests link d) 0 group.cases + length group.cases ≤ group_tests group
+  pub counted : (link : Link) → sizes (rows (case_tests link d) 0 group.cases) + length group.cases ≤ group_tests group
   pub rows_are : (link : Link) (p : List ℕ) (n : ℕ) → reads link (rows_formula link group.entries) p n ≡ both (elementary_reads (kind_test link (case_frame kind)) p) (read_all link p n (rows (case_tests link d) 0 group.cases))
 
 -- a group that waits: it has no members, or numbers or cases
@@ -219,8 +220,9 @@ listed_bare link group h (c ∷ cs) e =
     let by = case_tests link group.qualifiers.direction in
     let fields = fields_of link group.qualifiers.direction h.kind in
     let few = h.counted link in
-    let same : sizes by 0 (c ∷ cs) + length (c ∷ cs) ≡ sizes by 0 group.cases + length group.cases = ap (λ ds. sizes by 0 ds + length ds) e in
-    bare_within _ (omega arith) (bare_after (decision_bare by MOST_DECISIONS 0 fields (c ∷ cs) (subst (λ ds. Shapes fields (rows by 0 ds)) (sym e) (shapes_of link group.qualifiers.direction h.kind group.cases h.like)) (some_fields link group.qualifiers.direction h.kind) (omega arith)))
+    let same : sizes (rows by 0 (c ∷ cs)) + length (c ∷ cs) ≡ sizes (rows by 0 group.cases) + length group.cases = ap (λ ds. sizes (rows by 0 ds) + length ds) e in
+    let long = length-map cs by in
+    bare_within _ (omega arith) (bare_after ((decision_good link by MOST_DECISIONS 0 fields (c ∷ cs) (subst (λ ds. Shapes fields (rows by 0 ds)) (sym e) (shapes_of link group.qualifiers.direction h.kind group.cases h.like))).1 (some_fields link group.qualifiers.direction h.kind) (omega arith)))
 
 group_bare : (link : Link) (group : Group) → Kept group → 0 < length group.entries → Bare (group_formula link group) (group_tests group)
 group_bare link group k l = if_case (λ (f : Formula). Bare f (group_tests group)) (is_searched group) _ _ (by k) (λ e. rows_bare link group.entries l)
@@ -244,8 +246,8 @@ group_rows link p n group k =
         let d = group.qualifiers.direction in
         let fields = fields_of link d h.kind in
         let like = subst (Likes h.kind) (sym e) h.like in
-        ap (both (elementary_reads (kind_test link (case_frame c)) p)) (decision_read link p n (case_tests link d) MOST_DECISIONS 0 fields (c ∷ cs) (shapes_of link d h.kind (c ∷ cs) like))
-        ∙ ap (λ k. both (elementary_reads (kind_test link k) p) (read_all link p n (rows (case_tests link d) 0 (c ∷ cs)))) (frame_alike h.kind c like.0)
+        ap (both (elementary_reads (kind_test link (case_frame c)) p)) ((decision_good link (case_tests link d) MOST_DECISIONS 0 fields (c ∷ cs) (shapes_of link d h.kind (c ∷ cs) like)).0 p n)
+        ∙ ap (λ k. both (elementary_reads (kind_test link k) p) (read_all link p n (rows (case_tests link d) 0 (c ∷ cs)))) (alike link d h.kind c like.0).1
         ∙ ap (λ ds. both (elementary_reads (kind_test link (case_frame h.kind)) p) (read_all link p n (rows (case_tests link d) 0 ds))) e
         ∙ sym (h.rows_are link p n)
 
@@ -406,7 +408,7 @@ abbrev place : Case → List Case → ℕ
 place c cs = count_by (λ d. nat_lt (key_of d) (key_of c)) cs
 
 -- one more case before those of a group without numbers
-listed_put : (q : CompleteQualifiers) (v : Value) (c kind : Case) (group : Group) → case_of q.value_type q.protocol q.direction v ≡ Some c → Likes kind group.cases → same_words kind c ≡ true → ((link : Link) → sizes (case_tests link q.direction) 0 group.cases + length group.cases ≤ group_tests group)
+listed_put : (q : CompleteQualifiers) (v : Value) (c kind : Case) (group : Group) → case_of q.value_type q.protocol q.direction v ≡ Some c → Likes kind group.cases → same_words kind c ≡ true → ((link : Link) → sizes (rows (case_tests link q.direction) 0 group.cases) + length group.cases ≤ group_tests group)
     → ((link : Link) (p : List ℕ) (n : ℕ) (r : MatchResult) → let frame = elementary_reads (kind_test link (case_frame kind)) p in either (both frame r) (reads link (rows_formula link group.entries) p n) ≡ both frame (either r (read_all link p n (rows (case_tests link q.direction) 0 group.cases))))
     → Listed q.direction (with_case q v c group)
 listed_put q v c kind group w likes like few rows_are = record {
@@ -422,7 +424,7 @@ listed_put q v c kind group w likes like few rows_are = record {
   rows_are = λ link p n.
       let by = case_tests link q.direction in
       rows_put link p n q v group.entries
-      ∙ ap (λ r. either r (reads link (rows_formula link group.entries) p n)) ((its link).1 p n ∙ ap (λ k. both (elementary_reads (kind_test link k) p) (reads link (all_of (by c)) p n)) (frame_alike kind c like))
+      ∙ ap (λ r. either r (reads link (rows_formula link group.entries) p n)) ((its link).1 p n ∙ ap (λ k. both (elementary_reads (kind_test link k) p) (reads link (all_of (by c)) p n)) (alike link q.direction kind c like).1)
       ∙ rows_are link p n (reads link (all_of (by c)) p n)
       ∙ ap (both (elementary_reads (kind_test link (case_frame kind)) p)) (sym (read_put link p n by (fields_of link q.direction kind) c (place c group.cases) group.cases (shapes_of link q.direction kind (c ∷ []) (like, tt)).0 (shapes_of link q.direction kind group.cases likes)));
 }
@@ -444,7 +446,7 @@ shared kind c (x ∷ xs) h e = alike_alike kind x c h.0 e
 kept_with_case : (q : CompleteQualifiers) (v : Value) (c : Case) (group : Group) → Kept group → case_goes_with c q.direction group group.entries ≡ true → case_of q.value_type q.protocol q.direction v ≡ Some c → Kept (with_case q v c group)
 kept_with_case q v c group (nothing none all empty) g w =
     listed (omega arith)
-    (listed_put q v c c group w (subst (Likes c) (sym empty) tt) (self_alike c) (λ link. subst (λ cs. sizes (case_tests link q.direction) 0 cs + length cs ≤ group_tests group) (sym empty) (omega arith))
+    (listed_put q v c c group w (subst (Likes c) (sym empty) tt) (self_alike c) (λ link. subst (λ cs. sizes (rows (case_tests link q.direction) 0 cs) + length cs ≤ group_tests group) (sym empty) (omega arith))
     (λ link p n r.
     let frame = elementary_reads (kind_test link (case_frame c)) p in
     ap (λ es. either (both frame r) (reads link (rows_formula link es) p n)) none ∙ or_no _ ∙ ap (both frame) (sym (or_no r))

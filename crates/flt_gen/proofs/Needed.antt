@@ -7,6 +7,7 @@ use Rattle.flt_ast.specs.declared.value.Value.TheVariants as value
 use Rattle.flt_ast.specs.Counts as count
 use Rattle.flt_gen.specs.declared.elementary.FrameKind.TheVariants as kind
 use Rattle.flt_gen.proofs.Ascending.{if_case}
+use Rattle.flt_gen.proofs.Exclusive.{and_yes}
 use Rattle.flt_gen.proofs.Counted.{Bare, bare_after, bare_sides, bare_value}
 
 -- no more tests
@@ -33,10 +34,6 @@ idle_holds (Some m) a v e =
     let none : bit_and v m ≡ 0 = ap (λ x. bit_and v x) no_bits ∙ and_zero_r v in
     let same : bit_and v m ≡ a = none ∙ sym zero_is in
     grind (arith, nat_tests)
-
-and_yes : (r : MatchResult) → both r Yes ≡ r
-and_yes Yes = refl
-and_yes _ = refl
 
 -- tests of words, each after the one before, by masks and values
 abbrev tests_from : ℕ → List (Option ℕ × ℕ) → List Elementary

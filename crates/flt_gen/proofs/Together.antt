@@ -10,7 +10,7 @@ use Rattle.flt_ast.specs.declared.value.NetMask.TheVariants as mask
 use Rattle.flt_gen.specs.declared.elementary.FrameKind.TheVariants as kind
 use Rattle.flt_gen.specs.declared.port.Ports.{Ports}
 use Rattle.flt_gen.proofs.Ascending.{if_case, Each, Ordered, within_joined}
-use Rattle.flt_gen.proofs.Exclusive.{ip_no_ip6, ip_no_arp, ip_no_rarp, arp_no_rarp}
+use Rattle.flt_gen.proofs.Exclusive.{or_no, both_either, ip_no_ip6, ip_no_arp, ip_no_rarp, arp_no_rarp}
 use Rattle.flt_gen.proofs.Prefixes.{Idle, idle_sought, Small, cut_in, cut_within, net_hit}
 use Rattle.flt_gen.proofs.Runs.{one_number}
 
@@ -148,19 +148,11 @@ more_tests (direction.One s) = omega arith
 more_tests _ = omega arith
 
 module _ (link : Link) (p : List ℕ) (n : ℕ) where
-  or_no : (s : MatchResult) → either s No ≡ s
-  or_no Yes = refl
-  or_no _ = refl
-
-  one_kind : (i a b : MatchResult) → both i (either a b) ≡ either (both i a) (both i b)
-  one_kind Yes a b = refl
-  one_kind _ a b = refl
-
   -- of three kinds one at most is yes
   three_kinds : (i r q a b c x y z : MatchResult) → (i ≡ Yes → r ≡ No) → (i ≡ Yes → q ≡ No) → (r ≡ Yes → q ≡ No) → either (both i (either a x)) (either (both r (either b y)) (both q (either c z))) ≡ either (either (both i a) (either (both r b) (both q c))) (either (both i x) (either (both r y) (both q z)))
   three_kinds Rejected r q a b c x y z ir iq rq = refl
   three_kinds No Rejected q a b c x y z ir iq rq = refl
-  three_kinds No No q a b c x y z ir iq rq = one_kind q c z
+  three_kinds No No q a b c x y z ir iq rq = both_either q c z
   three_kinds No Yes No a b c x y z ir iq rq = or_no (either b y) ∙ ap (λ v. either v y) (sym (or_no b)) ∙ ap (λ v. either (either b No) v) (sym (or_no y))
   three_kinds No Yes _ a b c x y z ir iq rq = absurd (let e = rq refl in cc)
   three_kinds Yes No No a b c x y z ir iq rq = or_no (either a x) ∙ ap (λ v. either v x) (sym (or_no a)) ∙ ap (λ v. either (either a No) v) (sym (or_no x))
@@ -173,7 +165,7 @@ module _ (link : Link) (p : List ℕ) (n : ℕ) where
   -- of two kinds one at most is yes
   two_kinds : (i r a b x y : MatchResult) → (i ≡ Yes → r ≡ No) → either (both i (either a x)) (both r (either b y)) ≡ either (either (both i a) (both r b)) (either (both i x) (both r y))
   two_kinds Rejected r a b x y ir = refl
-  two_kinds No r a b x y ir = one_kind r b y
+  two_kinds No r a b x y ir = both_either r b y
   two_kinds Yes No a b x y ir = or_no (either a x) ∙ ap (λ v. either v x) (sym (or_no a)) ∙ ap (λ v. either (either a No) v) (sym (or_no x))
   two_kinds Yes _ a b x y ir = absurd (let e = ir refl in cc)
 
@@ -196,8 +188,8 @@ module _ (link : Link) (p : List ℕ) (n : ℕ) where
 
   after_more : (protocol : Option Protocol) (header : Transport) (a b : MatchResult) → after_reads protocol header (either a b) ≡ either (after_reads protocol header a) (after_reads protocol header b)
   after_more protocol header a b =
-      ap (both (transport_reads protocol header)) (one_kind (whole_reads header.no_later_fragment) a b)
-      ∙ one_kind (transport_reads protocol header) (both (whole_reads header.no_later_fragment) a) (both (whole_reads header.no_later_fragment) b)
+      ap (both (transport_reads protocol header)) (both_either (whole_reads header.no_later_fragment) a b)
+      ∙ both_either (transport_reads protocol header) (both (whole_reads header.no_later_fragment) a) (both (whole_reads header.no_later_fragment) b)
 
   whole_is : (o : Option Elementary) (f : Formula) → reads link (following o f) p n ≡ both (whole_reads o) (reads link f p n)
   whole_is None f = refl
@@ -238,9 +230,9 @@ module _ (link : Link) (p : List ℕ) (n : ℕ) where
   hosts_join : (protocol : Option Protocol) (x y : Sides → MatchResult) → hosts_by protocol (λ at. either (x at) (y at)) ≡ either (hosts_by protocol x) (hosts_by protocol y)
   hosts_join None x y =
       three_kinds (kind_reads kind.Ip) (kind_reads kind.Arp) (kind_reads kind.Rarp) _ _ _ _ _ _ (ip_no_arp p (type_offset link)) (ip_no_rarp p (type_offset link)) (arp_no_rarp p (type_offset link))
-  hosts_join (Some Ip) x y = one_kind (kind_reads kind.Ip) _ _
-  hosts_join (Some Arp) x y = one_kind (kind_reads kind.Arp) _ _
-  hosts_join (Some Rarp) x y = one_kind (kind_reads kind.Rarp) _ _
+  hosts_join (Some Ip) x y = both_either (kind_reads kind.Ip) _ _
+  hosts_join (Some Arp) x y = both_either (kind_reads kind.Arp) _ _
+  hosts_join (Some Rarp) x y = both_either (kind_reads kind.Rarp) _ _
   hosts_join (Some _) x y = refl
 
   ports_join : (protocol : Option Protocol) (x y : Sides → MatchResult) → ports_by protocol (λ at. either (x at) (y at)) ≡ either (ports_by protocol x) (ports_by protocol y)
