@@ -212,17 +212,14 @@ length_from i (j ∷ js) =
     (λ e. let h = (length_from j js).1 in (omega arith, omega arith))
     (λ e. let h = length_from (extended i j) js in let k = h.1 in (h.0, omega arith))
 
-abbrev ends : Interval → ℕ
-ends i = if i.low == i.high then 0 else 1
-
 pub ends_few : (is : List Interval) → first_ends is ≤ 1
 ends_few [] = omega arith
 ends_few (i ∷ is) = if_case (λ n. n ≤ 1) (i.low == i.high) 0 1 (λ e. omega arith) (λ e. omega arith)
 
-tests_from : (i : Interval) (js : List Interval) → length (joined_from i js) + first_ends (joined_from i js) ≤ length js + 1 + ends i
+tests_from : (i : Interval) (js : List Interval) → length (joined_from i js) + first_ends (joined_from i js) ≤ length js + 1 + first_ends (i ∷ [])
 tests_from i [] = omega arith
 tests_from i (j ∷ js) =
-    if_case (λ is. length is + first_ends is ≤ length (j ∷ js) + 1 + ends i) (is_gap i j) (i ∷ joined_from j js) (joined_from (extended i j) js)
+    if_case (λ is. length is + first_ends is ≤ length (j ∷ js) + 1 + first_ends (i ∷ [])) (is_gap i j) (i ∷ joined_from j js) (joined_from (extended i j) js)
     (λ e. let h = (length_from j js).1 in omega arith)
     (λ e. let h = tests_from (extended i j) js in let k = ends_few (extended i j ∷ []) in omega arith)
 
@@ -247,7 +244,7 @@ pub joined_points : (is : List Interval) → 1 ≤ length is → Points is → m
 joined_points [] l h = absurd (omega arith)
 joined_points (i ∷ is) l h =
     let same : (i.low == i.high) ≡ true = (let e = h.0 in grind (arith, nat_tests)) in
-    let none : ends i ≡ 0 = ap (λ b. if b then 0 else 1) same in
+    let none : first_ends (i ∷ []) ≡ 0 = ap (λ b. if b then 0 else 1) same in
     let few = tests_from i is in
     let some = (length_from i is).0 in
     omega arith

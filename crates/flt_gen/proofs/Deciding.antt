@@ -11,7 +11,7 @@ use Rattle.flt_gen.specs.declared.cases.Case.TheVariants.{Mac, Ip6, IpProto, Ip6
 use Rattle.flt_gen.specs.declared.cases.Bound.{Bound}
 use Rattle.flt_gen.specs.declared.cases.Bound.TheVariants.{Below, From, Exactly}
 use Rattle.flt_gen.specs.inside.Cases.{same_words, case_frame, mac_place, ip6_place, case_tests, word_test, lowest, reach, is_whole, keeps, all_keep, chain, test_at, from_test, middle, is_parted, same_word, decided, decision, FEW_CASES}
-use Rattle.flt_gen.proofs.Ascending.{if_case}
+use Rattle.flt_gen.proofs.Ascending.{if_case, each_is}
 use Rattle.flt_gen.proofs.Counted.{Bare, bare_within, bare_all, bare_one, bare_some, bare_both, bare_either, bare_split}
 use Rattle.flt_gen.proofs.Decision.{decision_none, decision_next}
 use Rattle.flt_gen.proofs.Exclusive.{both_either, or_no, either_assoc, and_yes}
@@ -199,10 +199,7 @@ module _ (link : Link) (p : List ℕ) (n : ℕ) where
 
   small_word : (f : Offset × Width) (mask : Option ℕ) (x : ℕ) → Masked f mask → field_at f.0 f.1 p ≡ Some x → (m : ℕ) → mask ≡ Some m → (m < 2 ^ 32) × (x < 2 ^ 32)
   small_word f None x h e m is = cc
-  small_word f (Some k) x h e m is = (subst (λ z. z < 2 ^ 32) (some_is k m is) h.0, word_small p (h.2).0 x (ap₂ (λ o w. field_at o w p) (sym (h.2).1) (sym h.1) ∙ e))
-    where
-      some_is : (a b : ℕ) → Some a ≡ Some b → a ≡ b
-      some_is a b g = cc
+  small_word f (Some k) x h e m is = (each_is (Some k) (λ z. z < 2 ^ 32) m h.0 is, word_small p (h.2).0 x (ap₂ (λ o w. field_at o w p) (sym (h.2).1) (sym h.1) ∙ e))
 
   missed : (f : Offset × Width) (mask : Option ℕ) (v x : ℕ) (r : MatchResult) → field_at f.0 f.1 p ≡ Some x → (under_mask mask x == v) ≡ false → both (by_field f mask v) r ≡ No
   missed f mask v x r e miss = ap (λ o. both (reading_of (with o (λ y. Some (under_mask mask y == v)))) r) e ∙ ap (λ b. both (reading_of (Some b)) r) miss

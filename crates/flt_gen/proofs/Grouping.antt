@@ -180,8 +180,7 @@ group_bare_several link group ms h e = by group.is_plain refl e
         bare_within _ h.counted
         (bare_several link group.qualifiers (numbers_of group) n few two k
         (λ e f. ready (address_places link f) (is_address k && not group.is_plain) group ms h (omega arith) (address_fitting (is_address k && not group.is_plain) link f) (λ mask _. address_reached link f mask))
-        (λ e. let no = none (is_address k) e in
-        let l = offset_few link in (
+        (λ e. let no = none (is_address k) e in let l = offset_few link in (
           ready (port_places (ip_transport link)) (is_address k && not group.is_plain) group ms h (omega arith) (unmasked_fitting (is_address k && not group.is_plain) (port_places (ip_transport link)) no) (λ mask f. (f no, refl)),
           ready (port_places (ip6_transport link)) (is_address k && not group.is_plain) group ms h (omega arith) (unmasked_fitting (is_address k && not group.is_plain) (port_places (ip6_transport link)) no) (λ mask f. (omega arith, omega arith, omega arith, omega arith)),
         )))
@@ -256,8 +255,8 @@ group_rows link p n group k =
     by (numbered l empty ms h) e =
         let few = sym (by_numbers group empty) ∙ e in
         ap (λ cs. reads link (together_formula link group cs) p n) empty
-        ∙ several_are link p n group.qualifiers group.qualifiers.value_type (is_address group.qualifiers.value_type && not group.is_plain) group.first ms group.all
-        (λ t. (and_parts (is_address group.qualifiers.value_type) (not group.is_plain) t).0) (h.merged (searched_two group few)) h.ascends h.all_within
+        ∙ several_are link p n group.qualifiers (is_address group.qualifiers.value_type && not group.is_plain) group.first ms group.all (h.merged (searched_two group few)) h.ascends h.all_within group.qualifiers.value_type
+        (λ t. (and_parts (is_address group.qualifiers.value_type) (not group.is_plain) t).0)
         ∙ sym (h.rows link p n)
     by (listed l h) e = cases h group.cases refl
 
@@ -472,15 +471,12 @@ taken link q v group more k e = by_case (case_of q.value_type q.protocol q.direc
     by_test x true kept is e =
         let tests = ap entries_tests is in
         let long = ap length is in
-        subst (λ (g : Group). Taken link q v group g) (some_group x more e) (record {
+        each_is (Some x) (Taken link q v group) more (record {
           kept = kept refl;
           some = omega arith;
           tests_fit = omega arith;
           reads_are = λ p n. group_rows link p n x (kept refl) ∙ ap (λ es. reads link (rows_formula link es) p n) is ∙ rows_put link p n q v group.entries ∙ ap (either _) (sym (group_rows link p n group k));
-        })
-      where
-        some_group : (a b : Group) → Some a ≡ Some b → a ≡ b
-        some_group a b e = cc
+        }) e
 
     by_member : (o : Option Interval) → member_of q.value_type v ≡ o → group_and q v group o ≡ Some more → Taken link q v group more
     by_member None w e = cc
@@ -529,6 +525,6 @@ grouped_stands link (denied a) group k u =
 grouped_stands link (joined And a b) group k u =
     let h = grouped_stands link a no_group kept_none (or_parts _ _ u).0 in
     let g = grouped_stands link b no_group kept_none (or_parts _ _ u).1 in
-    or_stands link (Both (grouped_formula link no_group a) (grouped_formula link no_group b)) (joined And a b) group k (bare_within _ (omega arith) (bare_both h.counts g.counts)) (λ p n. ap₂ both (h.reads_are p n ∙ or_no _) (g.reads_are p n ∙ or_no _))
+    or_stands link (Both (grouped_formula link no_group a) (grouped_formula link no_group b)) (joined And a b) group k (bare_within (count.truth_tests a + count.truth_tests b) (omega arith) (bare_both h.counts g.counts)) (λ p n. ap₂ both (h.reads_are p n ∙ or_no _) (g.reads_are p n ∙ or_no _))
 grouped_stands link (joined Or a b) group k u =
     either_stands link a b group k (truth_member b group) refl (grouped_stands link a no_group kept_none (or_parts _ _ u).0) (grouped_stands link b group k (or_parts _ _ u).1) (λ more j. grouped_stands link a more j (or_parts _ _ u).0)

@@ -53,12 +53,6 @@ number_reads v Ipv4 = grind (arith, nat_tests)
 number_reads v _ = grind (arith, nat_tests)
 
 -- raw IP tells it by the version, which the first four bits are
-four_reads : (w : ℕ) → reading_of (Some (w == 4)) ≡ reads_kind (header_by_version w) Ipv4 true
-four_reads w = grind (arith, nat_tests)
-
-six_reads : (w : ℕ) → reading_of (Some (w == 6)) ≡ reads_kind (header_by_version w) Ipv6 true
-six_reads w = grind (arith, nat_tests)
-
 version_test : (v n m : ℕ) → m ≡ 16 * n → v < 2 ^ 8 → (bit_and v 0xf0 == m) ≡ (v / 16 == n)
 version_test v n m times upper_bound =
     let parts : bit_and v 240 + v % 16 ≡ v = and_high_numeral v 239 refl upper_bound in
@@ -98,8 +92,8 @@ by_place : (place : Option ℕ) (kind : NetworkKind) (p : List ℕ) → All (λ 
     → elementary_reads (type_test place (frame_kind kind)) p ≡ reads_kind (header_after place p) kind (carries_kind place kind)
 by_place (Some at) Ipv4 p bytes = type_reads at Ipv4 p
 by_place (Some at) kind p bytes = type_reads at kind p
-by_place None Ipv4 p bytes = version_reads Ipv4 4 0x40 refl four_reads p bytes
-by_place None Ipv6 p bytes = version_reads Ipv6 6 0x60 refl six_reads p bytes
+by_place None Ipv4 p bytes = version_reads Ipv4 4 0x40 refl (λ w. grind (arith, nat_tests)) p bytes
+by_place None Ipv6 p bytes = version_reads Ipv6 6 0x60 refl (λ w. grind (arith, nat_tests)) p bytes
 by_place None Arp p bytes = arp_not_carried (length p == 0) (slice_index p 0 / 16 == 4) (slice_index p 0 / 16 == 6) (slice_index p 0 / 16)
 by_place None Rarp p bytes = rarp_not_carried (length p == 0) (slice_index p 0 / 16 == 4) (slice_index p 0 / 16 == 6) (slice_index p 0 / 16)
 

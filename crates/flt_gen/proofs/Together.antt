@@ -1,5 +1,5 @@
 -- Addresses or ports that are looked for together read as one after the other.
-use Rattle.flt_gen.proofs.Common.{◌≡◌, ℕ, ◌+◌, ◌-◌, ◌*◌, ◌^◌, ◌%◌, ◌<◌, ◌≤◌, List, [], ◌∷◌, length, map, Bool, true, false, Option, Some, None, refl, sym, ap, ap₂, ◌∙◌, subst, arith, inl, inr, ◌==◌, ◌||◌, ◌&&◌, nat_le, min, max, bit_and, if◌then◌else◌, nat_tests, or-false, Protocol, Ip, Tcp, Udp, ValueType, Host, Net, Port, PortRange, Source, Destination, And, Or, Direction, CompleteQualifiers, Value, first_bits, Word, field, big_endian_at, Link, type_offset, FrameKind, Elementary, Interval, One, Between, Several, Sides, Transport, MatchResult, Yes, No, Rejected, reading_of, with, field_at, under_mask, kind_test, elementary_reads, Formula, Sought, is_in, is_within, both, either, all_of, sides, Numbers, no_numbers, reads, address_places, address_test, partial_mask, port_is, port_between, port_places, port_sides, transport, following, ip_transport, ip6_transport, port_test, port_formula, net_test, net_formula, value_formula, joined_all, left_out, high_mask, cut, sought, interval, is_address, net_numbers, member_of, several_formula}
+use Rattle.flt_gen.proofs.Common.{◌≡◌, ℕ, ◌+◌, ◌-◌, ◌*◌, ◌^◌, ◌%◌, ◌<◌, ◌≤◌, List, [], ◌∷◌, length, map, Bool, true, false, Option, Some, None, refl, sym, ap, ap₂, ◌∙◌, subst, arith, inl, inr, ◌==◌, ◌||◌, ◌&&◌, nat_le, min, max, bit_and, if◌then◌else◌, nat_tests, or-false, Protocol, Ip, Tcp, Udp, ValueType, Host, Net, Port, PortRange, Source, Destination, And, Or, Direction, CompleteQualifiers, Value, first_bits, Word, HalfWord, Offset, field, big_endian_at, Link, type_offset, FrameKind, Elementary, Interval, One, Between, Several, Sides, Transport, MatchResult, Yes, No, Rejected, reading_of, with, field_at, under_mask, kind_test, elementary_reads, Formula, Sought, is_in, is_within, both, either, all_of, sides, Numbers, no_numbers, reads, address_places, address_test, partial_mask, port_is, port_between, port_places, port_sides, transport, following, ip_transport, ip6_transport, port_test, port_formula, net_test, net_formula, value_formula, joined_all, left_out, high_mask, cut, sought, interval, is_address, net_numbers, member_of, several_formula}
 use Rattle.std.specs.Prelude.{◌⊎◌}
 use Rattle.std.proofs.Math.Nat.{mod-lt}
 use Rattle.flt_words.specs.declared.token.Protocol.TheVariants.{Arp, Rarp}
@@ -9,7 +9,7 @@ use Rattle.flt_ast.specs.Counts as count
 use Rattle.flt_ast.specs.declared.value.NetMask.TheVariants as mask
 use Rattle.flt_gen.specs.declared.elementary.FrameKind.TheVariants as kind
 use Rattle.flt_gen.specs.declared.port.Ports.{Ports}
-use Rattle.flt_gen.proofs.Ascending.{if_case, Each, Ordered, within_joined}
+use Rattle.flt_gen.proofs.Ascending.{if_case, Each, each_is, Ordered, within_joined}
 use Rattle.flt_gen.proofs.Exclusive.{or_no, both_either, ip_no_ip6, ip_no_arp, ip_no_rarp, arp_no_rarp}
 use Rattle.flt_gen.proofs.Prefixes.{Idle, idle_sought, Small, cut_in, cut_within, net_hit}
 use Rattle.flt_gen.proofs.Runs.{one_number}
@@ -28,14 +28,8 @@ unmasked_fitting false at e = λ f. cc
 
 -- a word is below 2^32
 pub word_small : (p : List ℕ) (at x : ℕ) → field p at Word ≡ Some x → x < 2 ^ 32
-word_small p at x e = by (nat_le (at + 4) (length p)) e
-  where
-    by : (b : Bool) → (if b then Some (big_endian_at p at Word) else None) ≡ Some x → x < 2 ^ 32
-    by false f = cc
-    by true f = subst (λ y. y < 2 ^ 32) (some_is _ x f) (mod-lt _ (omega arith))
-      where
-        some_is : (a b : ℕ) → Some a ≡ Some b → a ≡ b
-        some_is a b g = cc
+word_small p at x e =
+    each_is (field p at Word) (λ y. y < 2 ^ 32) x (if_case (λ o. Each o (λ y. y < 2 ^ 32)) (nat_le (at + 4) (length p)) _ _ (λ t. mod-lt _ (omega arith)) (λ t. tt)) e
 
 pub address_fitting : (b : Bool) (link : Link) (k : FrameKind) → Fitting b (address_places link k)
 address_fitting b link k e p x (inl f) = word_small p _ x f
@@ -70,6 +64,10 @@ sides_read (direction.One Destination) s d f a = read_by d a
 sides_read (direction.Both Or) s d f a = either (both (read_by s a) (either (read_by s f) (read_by d (λ x. true)))) (read_by d a)
 sides_read (direction.Both And) s d f a = both (read_by s f) (read_by d f)
 
+yes_and : (b c : Bool) → both (exact b) (exact c) ≡ exact (b && c)
+yes_and true c = refl
+yes_and false c = refl
+
 yes_or : (b c : Bool) → exact (b || c) ≡ either (exact b) (exact c)
 yes_or true c = refl
 yes_or false c = refl
@@ -90,18 +88,16 @@ read_seen (Some x) f g e = ap exact (e x refl)
 both_told : (m k o n b : Bool) → either (both (exact (m || (k || o))) (either (exact m) Yes)) (exact (n || b)) ≡ either (either (exact m) (exact n)) (either (both (exact (k || o)) (either (exact k) Yes)) (exact b))
 both_told true k o n b = refl
 both_told false true o true b = refl
-both_told false true o false b = refl
 both_told false false true true b = refl
-both_told false false true false b = refl
 both_told false false false true b = refl
-both_told false false false false b = refl
+both_told _ _ _ _ b = refl
 
 -- the destination isn't captured
 one_told : (m k o : Bool) → either (both (exact (m || (k || o))) (either (exact m) Rejected)) Rejected ≡ either (either (exact m) Rejected) (either (both (exact (k || o)) (either (exact k) Rejected)) Rejected)
 one_told true k o = refl
 one_told false true o = refl
 one_told false false true = refl
-one_told false false false = refl
+one_told _ _ _ = refl
 
 -- one more in front of those of which k is the first
 one_more : (d : Direction) (s t : Option ℕ) (m k o : ℕ → Bool) → Merged d → sides_read d s t m (λ x. m x || (k x || o x)) ≡ either (plain_reads d s t m) (sides_read d s t k (λ x. k x || o x))
@@ -291,63 +287,52 @@ module _ (link : Link) (p : List ℕ) (n : ℕ) where
   abbrev sought_at : Sides → Direction → Numbers → MatchResult
   sought_at at d numbers = reads link (Sought d at numbers) p n
 
-  sides_are : (at : Sides) (d : Direction) (b : Bool) (m : Interval) (ms all : List Interval) → Merged d → Fitting b at → Ordered 0 all → ((y : ℕ) → is_within y all ≡ is_within y (m ∷ ms)) → sought_at at d (sought b m all) ≡ sides_read d (source_of at) (destination_of at) (hit m) (λ x. is_within x (m ∷ ms))
-  sides_are at d b m ms all h fit o w = by d h ∙ sides_seen d (source_of at) (destination_of at) _ _ _ _ (λ x e. one x (small x (inl e))) (λ x e. one x (small x (inr e))) (λ x e. some x (small x (inl e))) (λ x e. some x (small x (inr e)))
-    where
-      last : ℕ
-      last = left_out b m (joined_all all)
+  module _ (q : CompleteQualifiers) (b : Bool) (m : Interval) (ms all : List Interval) (h : Merged q.direction) (o : Ordered 0 all) (w : (y : ℕ) → is_within y all ≡ is_within y (m ∷ ms)) where
+    sides_are : (at : Sides) → Fitting b at → sought_at at q.direction (sought b m all) ≡ sides_read q.direction (source_of at) (destination_of at) (hit m) (λ x. is_within x (m ∷ ms))
+    sides_are at fit = by q.direction h ∙ sides_seen q.direction (source_of at) (destination_of at) _ _ _ _ (λ x e. one x (small x (inl e))) (λ x e. one x (small x (inr e))) (λ x e. some x (small x (inl e))) (λ x e. some x (small x (inr e)))
+      where
+        last : ℕ
+        last = left_out b m (joined_all all)
 
-      idle : Idle last m (joined_all all)
-      idle = idle_sought b m (joined_all all)
+        idle : Idle last m (joined_all all)
+        idle = idle_sought b m (joined_all all)
 
-      u : ℕ → ℕ
-      u x = under_mask (high_mask last) x
+        u : ℕ → ℕ
+        u x = under_mask (high_mask last) x
 
-      small : (x : ℕ) → (source_of at ≡ Some x) ⊎ (destination_of at ≡ Some x) → Small last x
-      small x e = fitting_small b at m (joined_all all) fit p x e
+        small : (x : ℕ) → (source_of at ≡ Some x) ⊎ (destination_of at ≡ Some x) → Small last x
+        small x e = fitting_small b at m (joined_all all) fit p x e
 
-      one : (x : ℕ) → Small last x → is_within (u x) (cut last m ∷ []) ≡ hit m x
-      one x l = or-false (is_in (u x) (cut last m)) ∙ cut_in last x m m (joined_all all) idle idle.first_aligned l
+        one : (x : ℕ) → Small last x → is_within (u x) (cut last m ∷ []) ≡ hit m x
+        one x l = or-false (is_in (u x) (cut last m)) ∙ cut_in last x m m (joined_all all) idle idle.first_aligned l
 
-      some : (x : ℕ) → Small last x → is_within (u x) (map (cut last) (joined_all all)) ≡ is_within x (m ∷ ms)
-      some x l = cut_within last x m (joined_all all) idle l ∙ within_joined x all o ∙ w x
+        some : (x : ℕ) → Small last x → is_within (u x) (map (cut last) (joined_all all)) ≡ is_within x (m ∷ ms)
+        some x l = cut_within last x m (joined_all all) idle l ∙ within_joined x all o ∙ w x
 
-      by : (e : Direction) → Merged e → sought_at at e (sought b m all) ≡ sides_read e (source_of at) (destination_of at) (λ x. is_within (u x) (cut last m ∷ [])) (λ x. is_within (u x) (map (cut last) (joined_all all)))
-      by (direction.Both And) q = absurd q
-      by (direction.One Source) q = refl
-      by _ q = refl
+        by : (e : Direction) → Merged e → sought_at at e (sought b m all) ≡ sides_read e (source_of at) (destination_of at) (λ x. is_within (u x) (cut last m ∷ [])) (λ x. is_within (u x) (map (cut last) (joined_all all)))
+        by (direction.Both And) q = absurd q
+        by (direction.One Source) q = refl
+        by _ q = refl
 
-  -- ports have no mask
-  pub several_are : (q : CompleteQualifiers) (k : ValueType) (b : Bool) (m : Interval) (ms all : List Interval) → (b ≡ true → is_address k ≡ true) → Merged q.direction → Ordered 0 all → ((y : ℕ) → is_within y all ≡ is_within y (m ∷ ms)) → reads link (several_formula link q k (sought b m all)) p n ≡ members_read k q.protocol q.direction m ms
-  several_are q k b m ms all nets h o w = by k nets
-    where
-      numbers : Numbers
-      numbers = sought b m all
+    hosts_are : reads link (several_formula link q Host (sought b m all)) p n ≡ members_read Host q.protocol q.direction m ms
+    hosts_are = by q.protocol ∙ hosts_same q.protocol _ _ (λ k. sides_are (address_places link k) (address_fitting b link k))
+      where
+        by : (protocol : Option Protocol) → reads link (several_formula link (record q { protocol = protocol }) Host (sought b m all)) p n ≡ hosts_by protocol (λ at. sought_at at q.direction (sought b m all))
+        by (Some Ip) = refl
+        by _ = refl
 
-      each : (at : Sides) → Fitting b at → sought_at at q.direction numbers ≡ sides_read q.direction (source_of at) (destination_of at) (hit m) (λ x. is_within x (m ∷ ms))
-      each at fit = sides_are at q.direction b m ms all h fit o w
+    -- ports have no mask
+    several_ports : b ≡ false → reads link (several_formula link q Port (sought b m all)) p n ≡ members_read Port q.protocol q.direction m ms
+    several_ports e =
+        ports_are q.protocol q.direction Several (sought b m all)
+        ∙ ap₂ (two_headers q.protocol) (sides_are (port_places (ip_transport link)) (unmasked_fitting b (port_places (ip_transport link)) e)) (sides_are (port_places (ip6_transport link)) (unmasked_fitting b (port_places (ip6_transport link)) e))
 
-      hosts_are : (protocol : Option Protocol) → reads link (several_formula link (record q { protocol = protocol }) Host numbers) p n ≡ hosts_by protocol (λ at. sought_at at q.direction numbers)
-      hosts_are (Some Ip) = refl
-      hosts_are _ = refl
-
-      hosts : reads link (several_formula link q Host numbers) p n ≡ members_read Host q.protocol q.direction m ms
-      hosts = hosts_are q.protocol ∙ hosts_same q.protocol _ _ (λ k. each (address_places link k) (address_fitting b link k))
-
-      ports : b ≡ false → reads link (several_formula link q Port numbers) p n ≡ members_read Port q.protocol q.direction m ms
-      ports e =
-          ports_are q.protocol q.direction Several numbers
-          ∙ ap₂ (two_headers q.protocol) (each (port_places (ip_transport link)) (unmasked_fitting b (port_places (ip_transport link)) e)) (each (port_places (ip6_transport link)) (unmasked_fitting b (port_places (ip6_transport link)) e))
-
-      no_address : (k : ValueType) → (b ≡ true → is_address k ≡ true) → is_address k ≡ false → b ≡ false
-      no_address k f e = not_both b (is_address k) f e
-
-      by : (k : ValueType) → (b ≡ true → is_address k ≡ true) → reads link (several_formula link q k numbers) p n ≡ by_sides k q.protocol (λ at. sides_read q.direction (source_of at) (destination_of at) (hit m) (λ x. is_within x (m ∷ ms)))
-      by Host f = hosts
-      by Net f = hosts
-      by Port f = ports (no_address Port f refl)
-      by PortRange f = ports (no_address PortRange f refl)
-      by _ f = refl
+    pub several_are : (k : ValueType) → (b ≡ true → is_address k ≡ true) → reads link (several_formula link q k (sought b m all)) p n ≡ members_read k q.protocol q.direction m ms
+    several_are Host f = hosts_are
+    several_are Net f = hosts_are
+    several_are Port f = several_ports (not_both b _ f refl)
+    several_are PortRange f = several_ports (not_both b _ f refl)
+    several_are _ f = refl
 
   -- the row of a member
   row_sides : (at : Sides) (d : Direction) (s t : List Elementary) (f : ℕ → Bool) → reads link (all_of s) p n ≡ read_by (source_of at) f → reads link (all_of t) p n ≡ read_by (destination_of at) f → reads link (sides d s t) p n ≡ plain_reads d (source_of at) (destination_of at) f
@@ -375,30 +360,14 @@ module _ (link : Link) (p : List ℕ) (n : ℕ) where
 
   both_ends : (o : Option ℕ) (a b : ℕ) → both (read_by o (λ x. nat_le a x)) (read_by o (λ x. nat_le x b)) ≡ read_by o (λ x. nat_le a x && nat_le x b)
   both_ends None a b = refl
-  both_ends (Some x) a b = by (nat_le a x) (nat_le x b)
+  both_ends (Some x) a b = yes_and (nat_le a x) (nat_le x b)
+
+  port_row : (protocol : Option Protocol) (d : Direction) (ports : Ports) (tests : Offset → List Elementary) (f : ℕ → Bool) → ((header : Transport) → port_sides ports d header no_numbers ≡ sides d (tests header.source) (tests header.destination)) → ((at : Offset) → reads link (all_of (tests at)) p n ≡ read_by (field_at at HalfWord p) f)
+      → reads link (port_formula link (port_test protocol d ports) no_numbers) p n ≡ ports_by protocol (λ at. plain_reads d (source_of at) (destination_of at) f)
+  port_row protocol d ports tests f are e = ports_are protocol d ports no_numbers ∙ ap₂ (two_headers protocol) (row (ip_transport link)) (row (ip6_transport link))
     where
-      by : (c e : Bool) → both (exact c) (exact e) ≡ exact (c && e)
-      by true e = refl
-      by false e = refl
-
-  port_row : (protocol : Option Protocol) (d : Direction) (ports : Ports) (f : ℕ → Bool) → ((header : Transport) → reads link (port_sides ports d header no_numbers) p n ≡ plain_reads d (source_of (port_places header)) (destination_of (port_places header)) f) → reads link (port_formula link (port_test protocol d ports) no_numbers) p n ≡ ports_by protocol (λ at. plain_reads d (source_of at) (destination_of at) f)
-  port_row protocol d ports f e =
-      ports_are protocol d ports no_numbers ∙ ap₂ (two_headers protocol) (e (ip_transport link)) (e (ip6_transport link))
-
-  one_port : (d : Direction) (a : ℕ) (f : ℕ → Bool) → ((x : ℕ) → (x == a) ≡ f x) → (header : Transport) → reads link (port_sides (One a) d header no_numbers) p n ≡ plain_reads d (source_of (port_places header)) (destination_of (port_places header)) f
-  one_port d a f e header =
-      let at = port_places header in
-      row_sides at d (port_is a header.source) (port_is a header.destination) f (read_same (source_of at) (λ x. x == a) f e) (read_same (destination_of at) (λ x. x == a) f e)
-
-  some_ports : (d : Direction) (a b : ℕ) (f : ℕ → Bool) → ((x : ℕ) → (nat_le a x && nat_le x b) ≡ f x) → (header : Transport) → reads link (port_sides (Between a b) d header no_numbers) p n ≡ plain_reads d (source_of (port_places header)) (destination_of (port_places header)) f
-  some_ports d a b f e header =
-      let at = port_places header in
-      row_sides at d (port_between a b header.source) (port_between a b header.destination) f
-      (both_ends (source_of at) a b ∙ read_same (source_of at) (λ x. nat_le a x && nat_le x b) f e)
-      (both_ends (destination_of at) a b ∙ read_same (destination_of at) (λ x. nat_le a x && nat_le x b) f e)
-
-  abbrev Rows : ValueType → Option Protocol → Direction → Value → Interval → Type 0
-  Rows k protocol d v m = reads link (value_formula link k protocol d v) p n ≡ member_reads k protocol d m
+      row : (header : Transport) → reads link (port_sides ports d header no_numbers) p n ≡ plain_reads d (source_of (port_places header)) (destination_of (port_places header)) f
+      row header = ap (λ (x : Formula). reads link x p n) (are header) ∙ row_sides (port_places header) d (tests header.source) (tests header.destination) f (e header.source) (e header.destination)
 
   -- a value that looks for these numbers: their order, its tests, of which there are no fewer, and how it reads
   abbrev pub IsMember : ValueType → Option Protocol → Direction → Value → Interval → Type 0
@@ -419,7 +388,7 @@ module _ (link : Link) (p : List ℕ) (n : ℕ) where
   member_is Net protocol d (value.Number x (mask.Prefix b)) = net_row protocol d b (x % 256 * 2 ^ 24)
   member_is Net protocol d (value.Dotted x mask.Unwritten) = net_row protocol d (8 * x.parts) x.address
   member_is Net protocol d (value.Dotted x (mask.Prefix b)) = net_row protocol d b x.address
-  member_is Port protocol d (value.Number x z) = (omega arith, omega arith, port_row protocol d (One x) _ (one_port d x _ (λ y. one_number y x x refl)))
+  member_is Port protocol d (value.Number x z) = (omega arith, omega arith, port_row protocol d (One x) (port_is x) _ (λ header. refl) (λ at. read_same (field_at at HalfWord p) (λ y. y == x) _ (λ y. one_number y x x refl)))
   member_is PortRange protocol d (value.Range a b) =
-      (omega arith, (let more = more_tests d in omega arith), port_row protocol d (Between (min a b) (max a b)) _ (some_ports d (min a b) (max a b) _ (λ y. refl)))
+      (omega arith, (let more = more_tests d in omega arith), port_row protocol d (Between (min a b) (max a b)) (port_between (min a b) (max a b)) _ (λ header. refl) (λ at. both_ends (field_at at HalfWord p) (min a b) (max a b)))
   member_is _ protocol d _ = tt
