@@ -14,10 +14,7 @@ Each (Some a) P = P a
 
 pub each_is : {A : Type 0} (o : Option A) (P : A → Type 0) (a : A) → Each o P → o ≡ Some a → P a
 each_is None P a h e = cc
-each_is {A = A} (Some b) P a h e = subst P (some_is b a e) h
-  where
-    some_is : (a b : A) → Some a ≡ Some b → a ≡ b
-    some_is a b e = cc
+each_is (Some b) P a h e = (let same : b ≡ a = cc in subst P same h)
 
 -- after lower intervals one is put before the first that isn't lower
 pub inserted_at : (i : Interval) (is : List Interval) (at : ℕ) → at ≤ length is → ((k : ℕ) → k < at → (get_or is k no_interval).low < i.low) → (at < length is → i.low ≤ (get_or is at no_interval).low) → insert is at i ≡ insert_ascending i is

@@ -296,23 +296,17 @@ directions_are (direction.Both Or) (direction.Both Or) e = (refl, tt)
 directions_are _ _ e = cc
 
 -- which types go together
-alike_sides : (link : Link) (p : List ℕ) (n : ℕ) (a b : ValueType) (protocol : Option Protocol) (d : Direction) (m : Interval) (ms : List Interval) → same_type a b ≡ true → members_read link p n b protocol d m ms ≡ members_read link p n a protocol d m ms
-alike_sides link p n Host Host protocol d m ms e = cc
-alike_sides link p n _ Host protocol d m ms e = cc
-alike_sides link p n _ _ protocol d m ms e = cc
-
-alike_tests : (a b : ValueType) (protocol : Option Protocol) (d : Direction) → same_type a b ≡ true → member_tests b protocol d ≡ member_tests a protocol d
-alike_tests Host Host protocol d e = cc
-alike_tests _ Host protocol d e = cc
-alike_tests _ _ protocol d e = cc
+alike_types : (a b : ValueType) → same_type a b ≡ true → ((o : Option Protocol) (d : Direction) → member_tests b o d ≡ member_tests a o d) × ((link : Link) (p : List ℕ) (n : ℕ) (o : Option Protocol) (d : Direction) (m : Interval) (ms : List Interval) → members_read link p n b o d m ms ≡ members_read link p n a o d m ms)
+alike_types Host Host e = (λ o d. cc, λ link p n o d m ms. cc)
+alike_types _ Host e = (λ o d. cc, λ link p n o d m ms. cc)
+alike_types _ _ e = (λ o d. cc, λ link p n o d m ms. cc)
 
 -- what is known where a value goes with members
 record Fits_in (q : CompleteQualifiers) (group : Group) : Type 0 where
   none : has_none group.cases ≡ true
-  types : same_type q.value_type group.qualifiers.value_type ≡ true
-  protocols : group.qualifiers.protocol ≡ q.protocol
-  directions : group.qualifiers.direction ≡ q.direction
   merged : Merged q.direction
+  tests_are : member_tests group.qualifiers.value_type group.qualifiers.protocol group.qualifiers.direction ≡ member_tests q.value_type q.protocol q.direction
+  reads_are : (link : Link) (p : List ℕ) (n : ℕ) (m : Interval) (ms : List Interval) → members_read link p n group.qualifiers.value_type group.qualifiers.protocol group.qualifiers.direction m ms ≡ members_read link p n q.value_type q.protocol q.direction m ms
 
 fits_in : (q : CompleteQualifiers) (group : Group) (es : List Entry) → 0 < length es → goes_with q group es ≡ true → Fits_in q group
 fits_in q group [] l g = absurd (omega arith)
@@ -323,8 +317,15 @@ fits_in q group (e ∷ es) l g =
     let b = and_parts (same_type q.value_type o.value_type) (same_protocol q.protocol o.protocol && (same_direction q.direction o.direction && room)) a.1 in
     let c = and_parts (same_protocol q.protocol o.protocol) (same_direction q.direction o.direction && room) b.1 in
     let d = and_parts (same_direction q.direction o.direction) room c.1 in
-    let sd = directions_are q.direction o.direction d.0 in
-    record { none = a.0; types = b.0; protocols = protocols_are q.protocol o.protocol c.0; directions = sd.0; merged = sd.1 }
+    let e = protocols_are q.protocol o.protocol c.0 in
+    let f = directions_are q.direction o.direction d.0 in
+    let k = alike_types q.value_type o.value_type b.0 in
+    record {
+      none = a.0;
+      merged = f.1;
+      tests_are = ap₂ (member_tests o.value_type) e f.0 ∙ k.0 q.protocol q.direction;
+      reads_are = λ link p n m ms. ap₂ (λ x y. members_read link p n o.value_type x y m ms) e f.0 ∙ k.1 link p n q.protocol q.direction m ms;
+    }
 
 -- one more row in front of others
 rows_put : (link : Link) (p : List ℕ) (n : ℕ) (q : CompleteQualifiers) (v : Value) (es : List Entry) → reads link (rows_formula link (entry q v ∷ es)) p n ≡ either (reads link (qualified_formula link q v) p n) (reads link (rows_formula link es) p n)
@@ -356,22 +357,6 @@ held_put q v m group ls w up within many points few merged rows = record {
     order : m.low ≤ m.high
     order = (its Ether [] 0).0
 
-held_more : (q : CompleteQualifiers) (v : Value) (m : Interval) (group : Group) (ls : List Interval) → Held group ls → Fits_in q group → member_of q.value_type v ≡ Some m → Held (with_member q v m group) (group.first ∷ ls)
-held_more q v m group ls h f w =
-    held_put q v m group (group.first ∷ ls) w h.ascends h.all_within h.all_count (λ plain. (h.points plain).1)
-    (let few = h.counted in let same : length group.entries * _ ≡ length group.entries * _ = ap (λ x. length group.entries * x) tests_same in omega arith) (λ l. f.merged)
-    (λ link p n. ap (either (member_reads link p n q.value_type q.protocol q.direction m)) (h.rows link p n ∙ qualified link p n) ∙ sym (members_more link p n q.value_type q.protocol q.direction m group.first ls f.merged))
-  where
-    tests_same : member_tests group.qualifiers.value_type group.qualifiers.protocol group.qualifiers.direction ≡ member_tests q.value_type q.protocol q.direction
-    tests_same =
-        ap₂ (λ x y. member_tests group.qualifiers.value_type x y) f.protocols f.directions
-        ∙ alike_tests q.value_type group.qualifiers.value_type q.protocol q.direction f.types
-
-    qualified : (link : Link) (p : List ℕ) (n : ℕ) → members_read link p n group.qualifiers.value_type group.qualifiers.protocol group.qualifiers.direction group.first ls ≡ members_read link p n q.value_type q.protocol q.direction group.first ls
-    qualified link p n =
-        ap₂ (λ x y. members_read link p n group.qualifiers.value_type x y group.first ls) f.protocols f.directions
-        ∙ alike_sides link p n q.value_type group.qualifiers.value_type q.protocol q.direction group.first ls f.types
-
 kept_with : (q : CompleteQualifiers) (v : Value) (m : Interval) (group : Group) → Kept group → goes_with q group group.entries ≡ true → member_of q.value_type v ≡ Some m → Kept (with_member q v m group)
 kept_with q v m group (nothing none all empty) g w =
     let zero : length group.entries ≡ 0 = ap length none in
@@ -380,7 +365,12 @@ kept_with q v m group (nothing none all empty) g w =
     (held_put q v m group [] w (subst (Ordered 0) (sym all) tt) (λ y. ap (is_within y) all) (omega arith) (λ plain. subst Points (sym all) tt)
     (subst (λ k. k * member_tests q.value_type q.protocol q.direction ≤ group_tests group) (sym zero) (omega arith)) (λ l. absurd (omega arith))
     (λ link p n. ap (λ es. either (member_reads link p n q.value_type q.protocol q.direction m) (reads link (rows_formula link es) p n)) none ∙ or_no _ ∙ sym (members_alone link p n q.value_type q.protocol q.direction m)))
-kept_with q v m group (numbered l empty ms h) g w = numbered (omega arith) empty (group.first ∷ ms) (held_more q v m group ms h (fits_in q group group.entries l g) w)
+kept_with q v m group (numbered l empty ms h) g w =
+    let f = fits_in q group group.entries l g in
+    numbered (omega arith) empty (group.first ∷ ms)
+    (held_put q v m group (group.first ∷ ms) w h.ascends h.all_within h.all_count (λ plain. (h.points plain).1)
+    (subst (λ k. length group.entries * k ≤ group_tests group) f.tests_are h.counted) (λ l. f.merged)
+    (λ link p n. ap (either (member_reads link p n q.value_type q.protocol q.direction m)) (h.rows link p n ∙ f.reads_are link p n group.first ms) ∙ sym (members_more link p n q.value_type q.protocol q.direction m group.first ms f.merged)))
 kept_with q v m group (listed l h) g w = absurd (no_cases group.cases (fits_in q group group.entries l g).none h.some)
   where
     no_cases : (cs : List Case) → has_none cs ≡ true → 0 < length cs → ⊥
