@@ -106,17 +106,13 @@ within_without x i (j ∷ js) out =
     (λ e. ap (λ b. is_in x j || b) (within_without x i js out))
 
 -- which half a number can be in
-under_interval : (x : ℕ) (i : Interval) → x < i.low → is_in x i ≡ false
-under_interval x i l = let no : nat_le i.low x ≡ false = grind (arith, nat_tests) in ap (λ b. b && nat_le x i.high) no
-
-past_interval : (x : ℕ) (i : Interval) → i.high < x → is_in x i ≡ false
-past_interval x i l = let no : nat_le x i.high ≡ false = grind (arith, nat_tests) in ap (λ b. nat_le i.low x && b) no ∙ and-false (nat_le i.low x)
-
 none_below : (x a : ℕ) (is : List Interval) → x < a → Apart a is → is_within x is ≡ false
 none_below x a [] l h = refl
 none_below x a (i ∷ is) l h =
-    let k = h.0 in let m = h.1 in
-    ap (λ b. b || is_within x is) (under_interval x i (omega arith)) ∙ none_below x (i.high + 1) is (omega arith) h.2
+    let k = h.0 in
+    let m = h.1 in
+    let out : is_in x i ≡ false = grind (arith, nat_tests) in
+    ap (λ b. b || is_within x is) out ∙ none_below x (i.high + 1) is (omega arith) h.2
 
 pub lower_half : (x a h : ℕ) (is : List Interval) → Apart a is → h < length is → x < low_of (drop h is) → is_within x is ≡ is_within x (take h is)
 lower_half x a h [] up l m = absurd (omega arith)
@@ -133,7 +129,8 @@ upper_half x a h [] up l m = absurd (omega arith)
 upper_half x a zero (i ∷ is) up l m = refl
 upper_half x a (suc h) (i ∷ is) up l m =
     let low = at_least (i.high + 1) h is up.2 (omega arith) in
-    ap (λ b. b || is_within x is) (past_interval x i (omega arith)) ∙ upper_half x (i.high + 1) h is up.2 (omega arith) m
+    let out : is_in x i ≡ false = grind (arith, nat_tests) in
+    ap (λ b. b || is_within x is) out ∙ upper_half x (i.high + 1) h is up.2 (omega arith) m
 
 pub first_taken : (h : ℕ) (is : List Interval) → 0 < h → low_of (take h is) ≡ low_of is
 first_taken zero is l = absurd (omega arith)

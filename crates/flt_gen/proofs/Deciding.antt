@@ -1,5 +1,5 @@
 -- Decision trees of cases: they read as one case after the other, and have few tests.
-use Rattle.flt_gen.proofs.Common.{◌≡◌, ℕ, zero, suc, ◌+◌, ◌-◌, ◌*◌, ◌^◌, ◌<◌, ◌≤◌, List, [], ◌∷◌, ◌++◌, length, map, take, drop, Bool, true, false, Option, Some, None, refl, sym, ap, ap₂, ◌∙◌, subst, arith, ◌==◌, ◌&&◌, nat_lt, nat_le, bit_and, nat_tests, and_parts, pow_pos, and_le_r, Direction, Link, first_bits, Word, HalfWord, Byte, Width, Offset, Fixed, Equal, Elementary, Outcome, Field, MatchResult, Yes, No, Rejected, reading_of, with, field_at, under_mask, compares, elementary_reads, network_offset, Formula, both, either, all_of, reads, partial_mask}
+use Rattle.flt_gen.proofs.Common.{◌≡◌, ℕ, zero, suc, ◌+◌, ◌-◌, ◌*◌, ◌^◌, ◌<◌, ◌≤◌, List, [], ◌∷◌, ◌++◌, length, map, take, drop, Bool, true, false, Option, Some, None, refl, sym, ap, ap₂, ◌∙◌, subst, arith, add-one, ◌==◌, ◌&&◌, nat_lt, nat_le, bit_and, nat_tests, and_parts, pow_pos, and_le_r, Direction, Link, first_bits, Word, HalfWord, Byte, Width, Offset, Fixed, Equal, Elementary, Outcome, Field, MatchResult, Yes, No, Rejected, reading_of, with, field_at, under_mask, compares, elementary_reads, network_offset, Formula, both, either, all_of, reads, partial_mask}
 use Rattle.std.specs.Prelude.{slice_get}
 use Rattle.flt_gen.specs.Formula.{choose, Split}
 use Rattle.std.specs.List.{list_all, insert}
@@ -111,15 +111,12 @@ first_is (t ∷ ts) zero = refl
 first_is (t ∷ ts) (suc w) = first_is ts w
 
 rest_is : (ts : List Elementary) (w : ℕ) → drop (w + 1) ts ≡ rest (drop w ts)
-rest_is [] zero = refl
-rest_is [] (suc w) = none (suc w + 1)
+rest_is ts w = ap (λ k. drop k ts) (add-one w) ∙ next ts w
   where
-    none : (n : ℕ) → drop {A = Elementary} n [] ≡ []
-    none zero = refl
-    none (suc n) = refl
-rest_is (t ∷ []) zero = refl
-rest_is (t ∷ u ∷ ts) zero = refl
-rest_is (t ∷ ts) (suc w) = (let next : suc w + 1 ≡ suc (w + 1) = omega arith in ap (λ k. drop k (t ∷ ts)) next) ∙ rest_is ts w
+    next : (ts : List Elementary) (w : ℕ) → drop (suc w) ts ≡ rest (drop w ts)
+    next (t ∷ ts) (suc w) = next ts w
+    next [] zero = refl
+    next _ _ = refl
 
 abbrev pub rows : (Case → List Elementary) → ℕ → List Case → List (List Elementary)
 rows by w cs = map (λ (c : Case). drop w (by c)) cs
@@ -261,12 +258,9 @@ module _ (link : Link) (p : List ℕ) (n : ℕ) where
   -- ---- cases in another order
 
   swapped : (a b z : MatchResult) → (a ≡ Yes → b ≡ Rejected → ⊥) → (b ≡ Yes → a ≡ Rejected → ⊥) → either a (either b z) ≡ either b (either a z)
-  swapped Yes Yes z h k = refl
-  swapped Yes No z h k = refl
   swapped Yes Rejected z h k = absurd (h refl refl)
-  swapped No b z h k = refl
   swapped Rejected Yes z h k = absurd (k refl refl)
-  swapped Rejected _ z h k = refl
+  swapped _ _ z h k = refl
 
   -- of tests of the same words none is rejected where one is yes
   never_both : (fs : List (Offset × Width)) (r s : List Elementary) → Shape fs r → Shape fs s → told r ≡ Yes → told s ≡ Rejected → ⊥

@@ -98,8 +98,7 @@ sought_few (direction.One s) numbers n (inr h) two = let k = h.0 in let l = h.1 
 
 offset_few : (link : Link) → network_offset link ≤ 16
 offset_few link.Ether = omega arith
-offset_few link.Raw = omega arith
-offset_few link.Cooked = omega arith
+offset_few _ = omega arith
 
 address_reached : (link : Link) (k : FrameKind) (mask : Option ℕ) → let at = address_places link k in Reached at.index mask at.source at.destination
 address_reached link kind.Ip mask = let l = offset_few link in (omega arith, omega arith, omega arith, omega arith)

@@ -81,21 +81,14 @@ version_reads kind n m times is p bytes =
     captured kind (nat_le (0 + 1) (length p)) (length p == 0) v (λ x. bit_and x 0xf0 == m) (header_by_version (v / 16)) other
     (λ long. ap (λ b. reading_of (Some b)) (version_test v n m times (bytes 0 0 (grind (arith, nat_tests)))) ∙ is (v / 16))
 
--- raw IP carries neither ARP nor RARP
-arp_not_carried : (empty four six : Bool) (w : ℕ) → No ≡ reads_kind (if empty then Short else if four then Known Ipv4 else if six then Known Ipv6 else OtherVersion w) Arp false
-arp_not_carried empty four six w = grind (arith, nat_tests)
-
-rarp_not_carried : (empty four six : Bool) (w : ℕ) → No ≡ reads_kind (if empty then Short else if four then Known Ipv4 else if six then Known Ipv6 else OtherVersion w) Rarp false
-rarp_not_carried empty four six w = grind (arith, nat_tests)
-
 by_place : (place : Option ℕ) (kind : NetworkKind) (p : List ℕ) → All (λ b. b < 2 ^ 8) p
     → elementary_reads (type_test place (frame_kind kind)) p ≡ reads_kind (header_after place p) kind (carries_kind place kind)
 by_place (Some at) Ipv4 p bytes = type_reads at Ipv4 p
 by_place (Some at) kind p bytes = type_reads at kind p
 by_place None Ipv4 p bytes = version_reads Ipv4 4 0x40 refl (λ w. grind (arith, nat_tests)) p bytes
 by_place None Ipv6 p bytes = version_reads Ipv6 6 0x60 refl (λ w. grind (arith, nat_tests)) p bytes
-by_place None Arp p bytes = arp_not_carried (length p == 0) (slice_index p 0 / 16 == 4) (slice_index p 0 / 16 == 6) (slice_index p 0 / 16)
-by_place None Rarp p bytes = rarp_not_carried (length p == 0) (slice_index p 0 / 16 == 4) (slice_index p 0 / 16 == 6) (slice_index p 0 / 16)
+by_place None Arp p bytes = grind (arith, nat_tests)
+by_place None Rarp p bytes = grind (arith, nat_tests)
 
 -- a link type tells its link
 its_link : (link : Link) → link_of (link_type link) ≡ Some link

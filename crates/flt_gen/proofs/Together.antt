@@ -10,7 +10,7 @@ use Rattle.flt_ast.specs.declared.value.NetMask.TheVariants as mask
 use Rattle.flt_gen.specs.declared.elementary.FrameKind.TheVariants as kind
 use Rattle.flt_gen.specs.declared.port.Ports.{Ports}
 use Rattle.flt_gen.proofs.Ascending.{if_case, Each, each_is, Ordered, within_joined}
-use Rattle.flt_gen.proofs.Exclusive.{or_no, both_either, ip_no_ip6, ip_no_arp, ip_no_rarp, arp_no_rarp}
+use Rattle.flt_gen.proofs.Exclusive.{or_no, both_either, kinds_exclude}
 use Rattle.flt_gen.proofs.Prefixes.{Idle, idle_sought, Small, cut_in, cut_within, net_hit}
 use Rattle.flt_gen.proofs.Runs.{one_number}
 
@@ -225,7 +225,8 @@ module _ (link : Link) (p : List ℕ) (n : ℕ) where
 
   hosts_join : (protocol : Option Protocol) (x y : Sides → MatchResult) → hosts_by protocol (λ at. either (x at) (y at)) ≡ either (hosts_by protocol x) (hosts_by protocol y)
   hosts_join None x y =
-      three_kinds (kind_reads kind.Ip) (kind_reads kind.Arp) (kind_reads kind.Rarp) _ _ _ _ _ _ (ip_no_arp p (type_offset link)) (ip_no_rarp p (type_offset link)) (arp_no_rarp p (type_offset link))
+      let only = kinds_exclude p (type_offset link) in
+      three_kinds (kind_reads kind.Ip) (kind_reads kind.Arp) (kind_reads kind.Rarp) _ _ _ _ _ _ only.1 only.2 only.3
   hosts_join (Some Ip) x y = both_either (kind_reads kind.Ip) _ _
   hosts_join (Some Arp) x y = both_either (kind_reads kind.Arp) _ _
   hosts_join (Some Rarp) x y = both_either (kind_reads kind.Rarp) _ _
@@ -236,7 +237,7 @@ module _ (link : Link) (p : List ℕ) (n : ℕ) where
       let h = port_places (ip_transport link) in
       let k = port_places (ip6_transport link) in
       ap₂ (λ v w. either (both (kind_reads kind.Ip) v) (both (kind_reads kind.Ip6) w)) (after_more protocol (ip_transport link) (x h) (y h)) (after_more protocol (ip6_transport link) (x k) (y k))
-      ∙ two_kinds (kind_reads kind.Ip) (kind_reads kind.Ip6) _ _ _ _ (ip_no_ip6 p (type_offset link))
+      ∙ two_kinds (kind_reads kind.Ip) (kind_reads kind.Ip6) _ _ _ _ (kinds_exclude p (type_offset link)).0
 
   sides_join : (k : ValueType) (protocol : Option Protocol) (x y : Sides → MatchResult) → by_sides k protocol (λ at. either (x at) (y at)) ≡ either (by_sides k protocol x) (by_sides k protocol y)
   sides_join Host protocol x y = hosts_join protocol x y
