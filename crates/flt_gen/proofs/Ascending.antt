@@ -1,5 +1,5 @@
 -- Intervals that ascend.
-use Rattle.flt_gen.proofs.Common.{◌≡◌, ℕ, zero, suc, ◌+◌, ◌-◌, ◌^◌, ◌<◌, ◌≤◌, List, [], ◌∷◌, length, take, drop, get_or, Bool, true, false, Option, Some, None, refl, sym, ap, ap₂, ◌∙◌, subst, arith, nat_lt, nat_le, ◌==◌, ◌&&◌, ◌||◌, max, if◌then◌else◌, nat_tests, and-false, and_parts, or_assoc, Interval, Sides, Offset, Fixed, AfterHeader, field_at, under_mask, low_of, Formula, Single, Compare, Both, Either, Except, Split, Sought, Numbers, is_in, is_within, no_interval, first_ends, insert_ascending, is_gap, extended, joined_from, joined_all, same_interval, without}
+use Rattle.flt_gen.proofs.Common.{◌≡◌, ℕ, zero, suc, ◌+◌, ◌-◌, ◌^◌, ◌<◌, ◌≤◌, List, [], ◌∷◌, length, take, drop, get_or, Bool, true, false, Option, Some, None, refl, sym, ap, ap₂, ◌∙◌, subst, arith, nat_lt, nat_le, ◌==◌, ◌&&◌, ◌||◌, max, if◌then◌else◌, nat_tests, and_parts, or_assoc, Interval, Sides, Offset, Fixed, AfterHeader, field_at, under_mask, low_of, Formula, Single, Compare, Both, Either, Except, Split, Sought, Numbers, is_in, is_within, no_interval, first_ends, insert_ascending, is_gap, extended, joined_from, joined_all, same_interval, without}
 use Rattle.std.specs.List.{insert}
 
 -- by a test

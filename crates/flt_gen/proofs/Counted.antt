@@ -1,17 +1,13 @@
 -- The counts of the table's formulas are at most those of the tree.
+use Rattle.flt_gen.proofs.Ascending.{Ready, Searches}
 use Rattle.flt_gen.proofs.Common.{◌≡◌, ℕ, ◌+◌, ◌-◌, ◌≤◌, max, min, List, [], ◌∷◌, length, Option, Some, None, refl, arith, Protocol, Source, Destination, And, Or, ValueType, Host, Net, Port, PortRange, Proto, Direction, Value, Link, FrameKind, Elementary, Sides, One, Between, ip_transport, ip6_transport, Formula, Single, Both, Either, Split, Sought, all_of, sides, Numbers, no_numbers, after, any_proto, mac_tests, check_formula, cast_formula, proto_formula, hosts_of_kind, hosts_formula, net_formula, net_test, ip6_formula, ether_host, port_formula, port_test, port_sides, transport, value_formula, sought_tests, tests, nodes, words}
 use Rattle.flt_words.specs.declared.token.Protocol.TheVariants as protocol
-use Rattle.flt_words.specs.declared.token.Cast.{Cast}
-use Rattle.flt_words.specs.declared.token.Cast.TheVariants.{Broadcast, Multicast}
+use Rattle.flt_words.specs.declared.token.Cast.{Cast, TheVariants.Broadcast, TheVariants.Multicast}
 use Rattle.flt_ast.specs.declared.qualifiers.Direction.TheVariants as direction
 use Rattle.flt_ast.specs.declared.value.Value.TheVariants as value
 use Rattle.flt_ast.specs.Counts as count
 use Rattle.flt_gen.specs.declared.elementary.FrameKind.TheVariants as kind
-use Rattle.flt_gen.specs.declared.address.Hosts.{Hosts}
-use Rattle.flt_gen.specs.declared.address.Hosts.TheVariants as hosts
-use Rattle.flt_gen.specs.declared.address.NetTest.{NetTest}
-use Rattle.flt_gen.specs.declared.port.PortTest.{PortTest}
-use Rattle.flt_gen.proofs.Ascending.{Ready, Searches}
+use Rattle.flt_gen.specs.declared.{address.Hosts.Hosts, address.NetTest.NetTest, port.PortTest.PortTest}
 
 -- a formula with s nodes of arithmetic, w words of memory and at most n tests, in which all numbers
 -- that are searched ascend
@@ -118,7 +114,7 @@ ip4_are (Some p) d = refl
 pub bare_net : (link : Link) (p : Option Protocol) (net : NetTest) → Bare (net_formula link p net) (count.ip4_tests p net.direction)
 bare_net link p net =
     let e = ip4_are p net.direction in
-    bare_within _ (omega arith) (bare_hosts link p (hosts.Net net) no_numbers _ (omega arith) (λ k. bare_after (bare_sides net.direction _ _ 1 (omega arith) (omega arith) (omega arith))))
+    bare_within _ (omega arith) (bare_hosts link p (Hosts.Net net) no_numbers _ (omega arith) (λ k. bare_after (bare_sides net.direction _ _ 1 (omega arith) (omega arith) (omega arith))))
 
 bare_ip6 : (link : Link) (d : Direction) (prefix : Option ℕ) (a : ℕ) → Bare (ip6_formula link d prefix a) (count.ip6_test_count d)
 bare_ip6 link d prefix a = bare_after (bare_sides d _ _ 4 (omega arith) (omega arith) (omega arith))

@@ -1,22 +1,18 @@
 -- Decision trees of cases: they read as one case after the other, and have few tests.
-use Rattle.flt_gen.proofs.Common.{◌≡◌, ℕ, zero, suc, ◌+◌, ◌-◌, ◌*◌, ◌^◌, ◌<◌, ◌≤◌, List, [], ◌∷◌, ◌++◌, length, map, take, drop, Bool, true, false, Option, Some, None, refl, sym, ap, ap₂, ◌∙◌, subst, arith, add-one, ◌==◌, ◌&&◌, nat_lt, nat_le, bit_and, nat_tests, and_parts, pow_pos, and_le_r, Direction, Link, first_bits, Word, HalfWord, Byte, Width, Offset, Fixed, Equal, Elementary, Outcome, Field, MatchResult, Yes, No, Rejected, reading_of, with, field_at, under_mask, compares, elementary_reads, network_offset, Formula, both, either, all_of, reads, partial_mask}
-use Rattle.std.specs.Prelude.{slice_get}
-use Rattle.flt_gen.specs.Formula.{choose, Split}
-use Rattle.std.specs.List.{list_all, insert}
-use Rattle.std.proofs.lemmas.List.{length-map, length-drop, length-append}
-use Rattle.std.proofs.lemmas.Nat.{and-not, and_comm}
-use Rattle.flt_gen.specs.declared.elementary.FieldTest.{FieldTest}
-use Rattle.flt_gen.specs.declared.cases.Case.{Case}
-use Rattle.flt_gen.specs.declared.cases.Case.TheVariants.{Mac, Ip6, IpProto, Ip6Proto}
-use Rattle.flt_gen.specs.declared.cases.Bound.{Bound}
-use Rattle.flt_gen.specs.declared.cases.Bound.TheVariants.{Below, From, Exactly}
-use Rattle.flt_gen.specs.inside.Cases.{same_words, case_frame, mac_place, ip6_place, case_tests, word_test, lowest, reach, is_whole, keeps, all_keep, chain, test_at, from_test, middle, is_parted, same_word, decided, decision, FEW_CASES}
 use Rattle.flt_gen.proofs.Ascending.{if_case, each_is}
+use Rattle.flt_gen.proofs.Common.{◌≡◌, ℕ, zero, suc, ◌+◌, ◌-◌, ◌*◌, ◌^◌, ◌<◌, ◌≤◌, List, [], ◌∷◌, ◌++◌, length, map, take, drop, Bool, true, false, Option, Some, None, refl, sym, ap, ap₂, ◌∙◌, subst, arith, add-one, ◌==◌, ◌&&◌, nat_lt, nat_le, bit_and, nat_tests, and_parts, pow_pos, and_le_r, Direction, Link, first_bits, Word, HalfWord, Byte, Width, Offset, Fixed, Equal, Elementary, Field, MatchResult, Yes, No, Rejected, reading_of, with, field_at, under_mask, compares, elementary_reads, network_offset, Formula, both, either, all_of, reads, partial_mask}
 use Rattle.flt_gen.proofs.Counted.{Bare, bare_within, bare_all, bare_one, bare_some, bare_both, bare_either, bare_split}
 use Rattle.flt_gen.proofs.Decision.{decision_none, decision_next}
 use Rattle.flt_gen.proofs.Exclusive.{both_either, or_no, either_assoc, and_yes}
-use Rattle.flt_gen.proofs.Needed.{all_put}
-use Rattle.flt_gen.proofs.Together.{word_small}
+use Rattle.flt_gen.proofs.{Needed.all_put, Together.word_small}
+use Rattle.std.specs.{List.list_all, List.insert, Prelude.slice_get}
+use Rattle.flt_gen.specs.Formula.{choose, Split}
+use Rattle.flt_gen.specs.declared.cases.Bound.{Bound, TheVariants.Below, TheVariants.From, TheVariants.Exactly}
+use Rattle.flt_gen.specs.declared.cases.Case.{Case}
+use Rattle.flt_gen.specs.declared.cases.Case.TheVariants.{Mac, Ip6, IpProto, Ip6Proto}
+use Rattle.flt_gen.specs.declared.elementary.FieldTest.{FieldTest}
+use Rattle.flt_gen.specs.inside.Cases.{same_words, case_frame, mac_place, ip6_place, case_tests, word_test, lowest, is_whole, keeps, all_keep, chain, test_at, from_test, middle, is_parted, same_word, decided, decision, FEW_CASES}
+use Rattle.std.proofs.lemmas.{List.length-map, List.length-drop, List.length-append, Nat.and-not, Nat.and_comm}
 
 -- ---- which words cases have
 

@@ -1,23 +1,18 @@
 -- A decision tree, unfolded once, and the tests of a case from a word on.
 use Rattle.std.proofs.Common.{◌≡◌, ℕ, zero, suc, ◌+◌, ◌-◌, ◌<◌, List, [], ◌∷◌, drop, take, get_or, length, Bool, true, false, Option, Some, None, refl, ap, ap₂, ◌∙◌, sym, subst, arith, nat_le, ◌≤◌, ◌⊎◌, inl, inr}
-use Rattle.std.specs.Prelude.{slice_get, is_none, if◌then◌else◌}
 use Rattle.std.proofs.lemmas.Bool.Decides.{nat_tests}
-use Rattle.std.specs.Prelude.{Result}
+use Rattle.std.specs.Prelude.{slice_get, is_none, if◌then◌else◌, Result}
 use Rattle.std.specs.declared.alloc.AllocError.{AllocError}
-use Rattle.flt_gen.specs.inside.Emits.{Emits}
+use Rattle.flt_gen.specs.Elementary.{kind_test}
+use Rattle.flt_gen.specs.Formula.{Formula, Single, Both, Split, all_of}
+use Rattle.flt_gen.specs.{Primitives.after, declared.cases.Bound.TheVariants.Exactly, declared.cases.Case.Case}
+use Rattle.flt_gen.specs.declared.elementary.Elementary.{Elementary, TheVariants.Outcome}
+use Rattle.flt_gen.specs.inside.Cases.{case_frame, case_tests, cases_formula, MOST_DECISIONS, chain, decided, decision, all_keep, is_parted, middle, test_at, lowest, from_test, same_word, FEW_CASES}
+use Rattle.flt_gen.specs.inside.{Code.Block, Code.emit_all, Code.emit_elementary, Code.emit_formula, Emits.Emits}
 use Rattle.flt_gen.proofs.Ascending.{if_case}
 use Rattle.flt_bpf.specs.declared.insn.Insn.{Insn}
 use Rattle.flt_ast.specs.declared.qualifiers.Direction.{Direction}
-use Rattle.flt_gen.specs.Elementary.{kind_test}
-use Rattle.flt_gen.specs.Primitives.{after}
 use Rattle.cap_octet.specs.declared.link.Link.{Link}
-use Rattle.flt_gen.specs.inside.Code.{Block, emit_all, emit_elementary, emit_formula}
-use Rattle.flt_gen.specs.declared.cases.Case.{Case}
-use Rattle.flt_gen.specs.declared.elementary.Elementary.{Elementary}
-use Rattle.flt_gen.specs.declared.elementary.Elementary.TheVariants.{Outcome}
-use Rattle.flt_gen.specs.Formula.{Formula, Single, Both, Split, all_of}
-use Rattle.flt_gen.specs.declared.cases.Bound.TheVariants.{Exactly}
-use Rattle.flt_gen.specs.inside.Cases.{case_frame, case_tests, cases_formula, MOST_DECISIONS, chain, decided, decision, all_keep, is_parted, middle, test_at, lowest, from_test, same_word, FEW_CASES}
 
 pub decision_none : (k : ℕ) (tests : Case → List Elementary) (word : ℕ) (cs : List Case) → k ≡ 0 → decision k tests word cs ≡ chain tests word cs
 unfolding decision

@@ -1,33 +1,26 @@
 -- The formula of a truth in which hosts or ports are looked for together reads as the truth's own,
 -- and has no more tests.
-use Rattle.flt_gen.proofs.Common.{◌≡◌, ℕ, suc, ◌+◌, ◌-◌, ◌*◌, ◌^◌, ◌<◌, ◌≤◌, max, min, List, [], ◌∷◌, length, Bool, true, false, Option, Some, None, refl, sym, ap, ap₂, ◌∙◌, subst, arith, ◌==◌, ◌||◌, ◌&&◌, nat_lt, nat_le, bit_and, if◌then◌else◌, suc-mul, nat_tests, and_parts, or_parts, Protocol, Ip, Tcp, Udp, Source, Destination, And, Or, ValueType, Host, Net, Port, PortRange, Direction, CompleteQualifiers, Value, Interval, Sides, FrameKind, network_offset, not, map, and-false, inl, inr, Sought, sought_tests, interval, is_address, joined_all, left_out, high_mask, cut, address_places, port_places, ip_transport, ip6_transport, sought, Entry, Comparison, NumberTree, TruthTree, check, cast, sized, bare, valued, qualified, compared, denied, joined, is_unfilled, any_primitive, Link, MatchResult, Yes, Several, Formula, Compare, Both, Either, Except, is_in, is_within, both, either, negation, Numbers, reads, check_formula, cast_formula, sized_formula, hosts_formula, port_test, port_formula, qualified_formula, protocols_of, relation_formula, qualified_needed, formula, first_ends, tests, nodes, words, insert_ascending, Group, no_group, entry, with_member, same_type, same_protocol, same_direction, goes_with, net_numbers, member_of, group_and, larger_group, is_searched, numbers_of, several_formula, all_of, kind_test, elementary_reads, value_formula, Proto, rows_formula, group_formula, or_any, or_group, truth_member, choice, grouped_formula, MOST_TOGETHER, FEWEST_RANGES}
+use Rattle.flt_gen.proofs.Ascending.{if_case, Each, each_is, Searchable, Reached, Ready, Ordered, Points, ordered_inserted, points_inserted, length_inserted, within_inserted, within_joined, searchable_joined, ends_few, joined_few, joined_points}
+use Rattle.flt_gen.proofs.Common.{◌≡◌, ℕ, ◌+◌, ◌-◌, ◌*◌, ◌<◌, ◌≤◌, max, List, [], ◌∷◌, length, Bool, true, false, Option, Some, None, refl, sym, ap, ap₂, ◌∙◌, subst, arith, ◌==◌, ◌||◌, ◌&&◌, nat_lt, nat_le, if◌then◌else◌, suc-mul, nat_tests, and_parts, or_parts, Protocol, Ip, Tcp, Udp, Source, Destination, And, Or, ValueType, Host, Net, Port, PortRange, Direction, CompleteQualifiers, Value, Interval, Sides, FrameKind, network_offset, not, map, and-false, inl, inr, Sought, sought_tests, is_address, joined_all, left_out, high_mask, cut, address_places, port_places, ip_transport, ip6_transport, sought, Entry, TruthTree, check, cast, sized, bare, valued, qualified, compared, denied, joined, is_unfilled, any_primitive, Link, MatchResult, Several, Formula, Both, Either, Except, is_in, is_within, both, either, negation, Numbers, reads, check_formula, cast_formula, sized_formula, hosts_formula, port_test, port_formula, qualified_formula, relation_formula, qualified_needed, formula, first_ends, Group, no_group, entry, with_member, same_type, same_protocol, same_direction, goes_with, member_of, group_and, larger_group, is_searched, numbers_of, several_formula, all_of, kind_test, elementary_reads, value_formula, Proto, rows_formula, group_formula, or_any, or_group, truth_member, choice, grouped_formula, MOST_TOGETHER, FEWEST_RANGES}
+use Rattle.flt_gen.proofs.Counted.{Sized, Bare, bare_within, bare_some, bare_both, bare_either, bare_else, bare_after, bare_sought, bare_check, bare_cast, of_kinds, bare_hosts, bare_ports}
+use Rattle.flt_gen.proofs.Deciding.{Shapes, fields_of, some_fields, shapes_of, rows, read_all, sizes, decision_good, Likes, likes_put, sizes_put, length_put, read_put, alike, alike_alike, self_alike}
+use Rattle.flt_gen.proofs.{Exclusive.or_no, Exclusive.both_either, Exclusive.either_assoc, IdleBits.uncut}
+use Rattle.flt_gen.proofs.{Needed.bare_needed, Needed.value_same, Once.relation_sizes, Once.relation_same}
+use Rattle.flt_gen.proofs.Prefixes.{Idle, idle_sought, cut_in, cut_within, cut_order, cut_apart}
+use Rattle.flt_gen.proofs.Together.{Fitting, fitting_small, unmasked_fitting, address_fitting, Merged, members_read, members_more, members_alone, member_reads, IsMember, member_tests, several_are, member_is}
 use Rattle.std.specs.Prelude.{◌⊎◌, count_by}
 use Rattle.flt_words.specs.declared.token.Protocol.TheVariants as protocol
-use Rattle.flt_gen.specs.declared.cases.Case.{Case}
-use Rattle.flt_gen.specs.declared.cases.Case.TheVariants.{Mac, Ip6, IpProto, Ip6Proto}
+use Rattle.flt_gen.specs.declared.{address.Hosts.Hosts, cases.Case.Case}
 use Rattle.flt_gen.specs.inside.Cases.{case_of, same_words, key_of, case_frame, case_tests, MOST_DECISIONS}
 use Rattle.flt_gen.specs.inside.Group.{with_case, has_none, shares_words, case_goes_with, larger_by, together_formula, FEWEST_CASES}
-use Rattle.flt_gen.proofs.Deciding.{Shapes, fields_of, some_fields, shape_of, shapes_of, rows, read_all, sizes, decision_good, Likes, likes_put, sizes_put, length_put, read_put, alike, alike_alike, self_alike}
 use Rattle.std.proofs.lemmas.List.{length-map}
 use Rattle.cap_octet.specs.declared.link.Link.TheVariants as link
 use Rattle.cap_octet.specs.declared.link.Link.TheVariants.{Ether}
-use Rattle.flt_ast.specs.declared.value.Ip4Net.{Ip4Net}
 use Rattle.flt_gen.specs.declared.elementary.FrameKind.TheVariants as kind
 use Rattle.flt_words.specs.declared.token.Size.{Size}
-use Rattle.flt_words.specs.declared.token.Size.TheVariants as size
 use Rattle.flt_ast.specs.declared.qualifiers.Direction.TheVariants as direction
 use Rattle.flt_ast.specs.declared.value.Value.TheVariants as value
-use Rattle.flt_ast.specs.declared.value.NetMask.TheVariants as mask
 use Rattle.flt_ast.specs.Counts as count
-use Rattle.flt_gen.specs.declared.address.Hosts.TheVariants as hosts
-use Rattle.flt_gen.proofs.Ascending.{if_case, Each, each_is, Searchable, Reached, Ready, Searches, Ordered, Points, ordered_inserted, points_inserted, length_inserted, within_inserted, within_joined, searchable_joined, ends_few, joined_few, joined_points}
-use Rattle.flt_gen.proofs.Counted.{Sized, Bare, bare_within, bare_some, bare_both, bare_either, bare_else, bare_after, bare_sought, bare_check, bare_cast, of_kinds, bare_hosts, bare_ports}
-use Rattle.flt_gen.proofs.Exclusive.{or_no, both_either, either_assoc}
-use Rattle.flt_gen.proofs.Needed.{bare_needed, value_same}
-use Rattle.flt_gen.proofs.Once.{relation_sizes, relation_same}
-use Rattle.flt_gen.proofs.IdleBits.{uncut}
-use Rattle.flt_gen.proofs.Prefixes.{Idle, idle_sought, cut_in, cut_within, cut_order, cut_apart}
-use Rattle.flt_gen.proofs.Together.{Fitting, fitting_small, unmasked_fitting, address_fitting, Merged, members_read, members_more, members_alone, member_reads, IsMember, member_tests, several_are, member_is}
 
 -- how many tests members have one by one
 abbrev entries_tests : List Entry → ℕ
@@ -108,8 +101,8 @@ module _ (link : Link) (q : CompleteQualifiers) (numbers : Numbers) (n : ℕ) (h
   sought_bare : (at : Sides) → Ready at numbers → Bare (Sought q.direction at numbers) (n * count.side_tests q.direction 1 + (n - 1))
   sought_bare at r = bare_within _ (sought_few q.direction numbers n h two) (bare_sought q.direction at numbers r)
 
-  hosts_bare : ((f : FrameKind) → Ready (address_places link f) numbers) → Bare (hosts_formula link q.protocol (hosts.Several q.direction) numbers) (n * count.ip4_tests q.protocol q.direction)
-  hosts_bare r = bare_within _ (several_hosts_few q.protocol q.direction n (n - 1) (omega arith)) (bare_hosts link q.protocol (hosts.Several q.direction) numbers _ (omega arith) (λ f. bare_after (sought_bare _ (r f))))
+  hosts_bare : ((f : FrameKind) → Ready (address_places link f) numbers) → Bare (hosts_formula link q.protocol (Hosts.Several q.direction) numbers) (n * count.ip4_tests q.protocol q.direction)
+  hosts_bare r = bare_within _ (several_hosts_few q.protocol q.direction n (n - 1) (omega arith)) (bare_hosts link q.protocol (Hosts.Several q.direction) numbers _ (omega arith) (λ f. bare_after (sought_bare _ (r f))))
 
   ports_bare : Ready (port_places (ip_transport link)) numbers × Ready (port_places (ip6_transport link)) numbers → Bare (port_formula link (port_test q.protocol q.direction Several) numbers) (n * count.port_tests q.protocol q.direction 1)
   ports_bare r = bare_within _ (several_ports_few q.protocol q.direction n (n - 1) two (omega arith)) (bare_ports link (port_test q.protocol q.direction Several) numbers _ (sought_bare _ r.0) (sought_bare _ r.1))
@@ -476,7 +469,7 @@ taken link q v group more k e = by_case (case_of q.value_type q.protocol q.direc
     by_case (Some c) w e = by_test (with_case q v c group) (case_goes_with c q.direction group group.entries) (λ g. kept_with_case q v c group k g w) refl e
 
 sized_sizes : (s : Size) (n : ℕ) → Sized (sized_formula s n) 2 1 1
-sized_sizes size.Less n = record { nodes_are = refl; words_are = refl; searches = tt; tests_fit = omega arith }
+sized_sizes Size.Less n = record { nodes_are = refl; words_are = refl; searches = tt; tests_fit = omega arith }
 sized_sizes _ n = record { nodes_are = refl; words_are = refl; searches = tt; tests_fit = omega arith }
 
 value_stands : (link : Link) (q : CompleteQualifiers) (v : Value) (group : Group) → Kept group → (o : Option Group) → larger_group q v group ≡ o → Stands link (choice o (λ more. group_formula link more) (or_group link (qualified_needed link q v) group)) (qualified q v) group

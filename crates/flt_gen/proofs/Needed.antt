@@ -1,14 +1,13 @@
 -- Words of IPv6 addresses of which no bit counts: the formula reads the same, and has no more
 -- tests.
-use Rattle.flt_gen.proofs.Common.{◌≡◌, ℕ, suc, ◌+◌, ◌-◌, ◌*◌, ◌/◌, ◌%◌, ◌^◌, ◌≤◌, List, [], ◌∷◌, length, Bool, true, false, Option, Some, None, refl, sym, ap, ◌∙◌, arith, ◌==◌, ◌&&◌, nat_le, if◌then◌else◌, bit_and, nat_tests, and_parts, Source, Destination, And, Or, Protocol, ValueType, Net, Direction, Value, first_bits, Word, big_endian_at, field, Link, Fixed, Elementary, MatchResult, Yes, reading_of, with, under_mask, kind_test, elementary_reads, network_offset, both, either, all_of, sides, reads, partial_mask, address_test, ip6_test, ip6_tests, ip6_formula, value_formula, is_empty, is_idle, capture_test, last_test, needed_tests, ip6_needed, value_needed}
+use Rattle.flt_gen.proofs.Ascending.{if_case}
+use Rattle.flt_gen.proofs.Common.{◌≡◌, ℕ, suc, ◌+◌, ◌-◌, ◌*◌, ◌/◌, ◌%◌, ◌^◌, ◌≤◌, List, [], ◌∷◌, length, Bool, true, false, Option, Some, None, refl, sym, ap, ◌∙◌, arith, ◌==◌, ◌&&◌, nat_le, if◌then◌else◌, bit_and, nat_tests, and_parts, Source, Destination, And, Or, Protocol, ValueType, Net, Direction, Value, first_bits, Word, big_endian_at, field, Link, Fixed, Elementary, MatchResult, reading_of, with, under_mask, kind_test, elementary_reads, network_offset, both, either, all_of, sides, reads, partial_mask, address_test, ip6_tests, ip6_formula, value_formula, is_empty, is_idle, capture_test, last_test, needed_tests, ip6_needed, value_needed}
+use Rattle.flt_gen.proofs.{Counted.Bare, Counted.bare_after, Counted.bare_sides, Counted.bare_value, Exclusive.and_yes}
 use Rattle.std.specs.Int.Bits.{and_zero_r}
 use Rattle.flt_ast.specs.declared.qualifiers.Direction.TheVariants as direction
 use Rattle.flt_ast.specs.declared.value.Value.TheVariants as value
 use Rattle.flt_ast.specs.Counts as count
-use Rattle.flt_gen.specs.declared.elementary.FrameKind.TheVariants as kind
-use Rattle.flt_gen.proofs.Ascending.{if_case}
-use Rattle.flt_gen.proofs.Exclusive.{and_yes}
-use Rattle.flt_gen.proofs.Counted.{Bare, bare_after, bare_sides, bare_value}
+use Rattle.flt_gen.specs.declared.elementary.FrameKind.{FrameKind}
 
 -- no more tests
 fewer : (ts : List Elementary) → length (needed_tests ts) ≤ length ts
@@ -106,7 +105,7 @@ module _ (link : Link) (p : List ℕ) (n : ℕ) where
 
   ip6_same : (d : Direction) (prefix : Option ℕ) (address : ℕ) → reads link (ip6_needed link d prefix address) p n ≡ reads link (ip6_formula link d prefix address) p n
   ip6_same d prefix address =
-      ap (λ r. both (elementary_reads (kind_test link kind.Ip6) p) r)
+      ap (λ r. both (elementary_reads (kind_test link FrameKind.Ip6) p) r)
       (sides_same d _ _ _ _ (word_same prefix address (network_offset link + 8)) (word_same prefix address (network_offset link + 24)))
 
   pub value_same : (k : ValueType) (q : Option Protocol) (d : Direction) (v : Value) → reads link (value_needed link k q d v) p n ≡ reads link (value_formula link k q d v) p n

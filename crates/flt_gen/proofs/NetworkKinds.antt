@@ -2,15 +2,14 @@
 use Rattle.flt_gen.proofs.Common.{◌≡◌, get_or-drop, ℕ, ◌+◌, ◌*◌, ◌/◌, ◌%◌, ◌<◌, List, length, drop, Bool, true, false, nat_lt, nat_le, ◌==◌, not, Option, Some, None, refl, sym, ap, subst, ◌∙◌, arith, if◌then◌else◌, ◌↔◌, ◌^◌, All, bit_and, slice_index, nat_tests, HalfWord, big_endian_at, Link, MatchResult, Yes, No, Rejected, reading_of, with, elementary_reads, is_at, kind_test, type_test, link_of, link_type, type_offset, frame_kind, carries_kind, carries}
 use Rattle.std.proofs.lemmas.Grind.{and_high_numeral}
 use Rattle.cap_octet.specs.Assigned.{ETHERTYPE_IPV4, ETHERTYPE_IPV6, ETHERTYPE_ARP, ETHERTYPE_RARP}
+use Rattle.cap_octet.specs.Link.{all_links}
 use Rattle.cap_octet.specs.NetworkHeader.{header_after, network_header, header_by_ethertype, header_by_version}
 use Rattle.cap_octet.specs.Number.{u16_in, number_in}
-use Rattle.cap_octet.specs.declared.network.NetworkHeader.{NetworkHeader}
-use Rattle.cap_octet.specs.declared.network.NetworkHeader.TheVariants.{Known, OtherVersion, Short}
+use Rattle.cap_octet.specs.declared.{link.Link.TheVariants.Ether, network.NetworkHeader.NetworkHeader}
+use Rattle.cap_octet.specs.declared.network.NetworkHeader.TheVariants.{Known, Short}
 use Rattle.cap_octet.specs.declared.network.NetworkKind.{NetworkKind}
 use Rattle.cap_octet.specs.declared.network.NetworkKind.TheVariants.{Ipv4, Ipv6, Arp, Rarp}
 use Rattle.cap_octet.specs.declared.number.Order.TheVariants.{Big}
-use Rattle.cap_octet.specs.declared.link.Link.TheVariants.{Ether}
-use Rattle.cap_octet.specs.Link.{all_links}
 
 -- what the test of a kind reads of a packet with this header
 abbrev reads_kind : NetworkHeader → NetworkKind → Bool → MatchResult

@@ -1,7 +1,7 @@
 -- The tests of a protocol's accessors stand once: the formula reads the same, and has no more
 -- tests.
-use Rattle.flt_gen.proofs.Common.{◌≡◌, ℕ, ◌+◌, ◌≤◌, List, [], ◌∷◌, true, refl, sym, ap, ◌∙◌, arith, Comparison, Protocol, Ether, Tcp, NumberTree, load, negated, applied, compared, accessor_test_count, number_tests, truth_tests, Link, Elementary, MatchResult, Yes, elementary_reads, accessors, accessor_tests, Formula, Compare, both, reads, guarded_formula, checked_formula, tests, nodes, words, equals, without_protocol, protocols_of, relation_formula, formula}
 use Rattle.flt_gen.proofs.Ascending.{if_case}
+use Rattle.flt_gen.proofs.Common.{◌≡◌, ℕ, ◌+◌, ◌≤◌, List, [], ◌∷◌, true, refl, sym, ap, ◌∙◌, arith, Comparison, Protocol, Ether, Tcp, NumberTree, load, negated, applied, compared, accessor_test_count, number_tests, truth_tests, Link, Elementary, MatchResult, Yes, elementary_reads, accessors, accessor_tests, Formula, Compare, both, reads, guarded_formula, checked_formula, tests, nodes, words, equals, without_protocol, protocols_of, relation_formula, formula}
 use Rattle.flt_gen.proofs.Counted.{Sized, bare_within, bare_after}
 
 equal_are : (p q : Protocol) → equals p q ≡ true → p ≡ q

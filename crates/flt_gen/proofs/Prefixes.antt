@@ -1,13 +1,9 @@
 -- Last bits that don't decide which numbers are in intervals, and networks as intervals.
-use Rattle.flt_gen.proofs.Common.{◌≡◌, ℕ, zero, suc, ◌+◌, ◌-◌, ◌*◌, ◌/◌, ◌%◌, ◌^◌, ◌<◌, ◌≤◌, List, [], ◌∷◌, map, Bool, true, false, Some, None, refl, sym, ap, ap₂, ◌∙◌, subst, arith, inl, inr, ◌==◌, ◌&&◌, ◌||◌, nat_le, bit_and, if◌then◌else◌, div-mul-le_self, lt-div-mul-add, le-div_iff_mul-le, mul-le-mul_right, pow-succ', suc-mul, cases_lt, nat_tests, and_parts, and_le_r, pow_pos, first_bits, under_mask, Interval, is_in, is_within, partial_mask, is_aligned, idle_bits, left_out, high_mask, cut, interval}
-use Rattle.std.specs.List.{list_all}
-use Rattle.std.specs.Int.Bits.{and_zero_r}
-use Rattle.std.proofs.Math.Nat.{div-add-mod}
-use Rattle.std.proofs.Common.{pow_mono}
-use Rattle.std.proofs.lemmas.Nat.{and_mask}
-use Rattle.std.proofs.lemmas.Nat.Bits.{and_high_mask}
 use Rattle.flt_gen.proofs.Ascending.{if_case, Apart, apart_less}
+use Rattle.flt_gen.proofs.Common.{◌≡◌, ℕ, zero, suc, ◌+◌, ◌-◌, ◌*◌, ◌/◌, ◌%◌, ◌^◌, ◌<◌, ◌≤◌, List, [], ◌∷◌, map, Bool, true, false, Some, None, refl, sym, ap, ap₂, ◌∙◌, subst, arith, inl, inr, ◌==◌, ◌&&◌, ◌||◌, nat_le, bit_and, if◌then◌else◌, div-mul-le_self, lt-div-mul-add, le-div_iff_mul-le, mul-le-mul_right, pow-succ', suc-mul, cases_lt, nat_tests, and_parts, and_le_r, pow_pos, first_bits, under_mask, Interval, is_in, is_within, partial_mask, is_aligned, idle_bits, left_out, high_mask, cut, interval}
 use Rattle.flt_gen.proofs.Runs.{one_number}
+use Rattle.std.specs.{Int.Bits.and_zero_r, List.list_all}
+use Rattle.std.proofs.{Common.pow_mono, Math.Nat.div-add-mod, lemmas.Nat.and_mask, lemmas.Nat.Bits.and_high_mask}
 
 -- blocks of numbers, each as long as the last ones are J
 no_further : (c d J : ℕ) → 0 < J → d * J ≤ c * J + (J - 1) → d ≤ c

@@ -1,18 +1,18 @@
 -- Addresses or ports that are looked for together read as one after the other.
-use Rattle.flt_gen.proofs.Common.{◌≡◌, ℕ, ◌+◌, ◌-◌, ◌*◌, ◌^◌, ◌%◌, ◌<◌, ◌≤◌, List, [], ◌∷◌, length, map, Bool, true, false, Option, Some, None, refl, sym, ap, ap₂, ◌∙◌, subst, arith, inl, inr, ◌==◌, ◌||◌, ◌&&◌, nat_le, min, max, bit_and, if◌then◌else◌, nat_tests, or-false, Protocol, Ip, Tcp, Udp, ValueType, Host, Net, Port, PortRange, Source, Destination, And, Or, Direction, CompleteQualifiers, Value, first_bits, Word, HalfWord, Offset, field, big_endian_at, Link, type_offset, FrameKind, Elementary, Interval, One, Between, Several, Sides, Transport, MatchResult, Yes, No, Rejected, reading_of, with, field_at, under_mask, kind_test, elementary_reads, Formula, Sought, is_in, is_within, both, either, all_of, sides, Numbers, no_numbers, reads, address_places, address_test, partial_mask, port_is, port_between, port_places, port_sides, transport, following, ip_transport, ip6_transport, port_test, port_formula, net_test, net_formula, value_formula, joined_all, left_out, high_mask, cut, sought, interval, is_address, net_numbers, member_of, several_formula}
+use Rattle.flt_gen.proofs.Ascending.{if_case, Each, each_is, Ordered, within_joined}
+use Rattle.flt_gen.proofs.Common.{◌≡◌, ℕ, ◌+◌, ◌*◌, ◌^◌, ◌%◌, ◌<◌, ◌≤◌, List, [], ◌∷◌, length, map, Bool, true, false, Option, Some, None, refl, sym, ap, ap₂, ◌∙◌, arith, inl, inr, ◌==◌, ◌||◌, ◌&&◌, nat_le, min, max, bit_and, nat_tests, or-false, Protocol, Ip, Tcp, Udp, ValueType, Host, Net, Port, PortRange, Source, Destination, And, Or, Direction, CompleteQualifiers, Value, first_bits, Word, HalfWord, Offset, field, Link, type_offset, FrameKind, Elementary, Interval, One, Between, Several, Sides, Transport, MatchResult, Yes, No, Rejected, reading_of, with, field_at, under_mask, kind_test, elementary_reads, Formula, Sought, is_in, is_within, both, either, all_of, sides, Numbers, no_numbers, reads, address_places, address_test, partial_mask, port_is, port_between, port_places, port_sides, transport, following, ip_transport, ip6_transport, port_test, port_formula, net_test, net_formula, value_formula, joined_all, left_out, high_mask, cut, sought, is_address, net_numbers, member_of, several_formula}
+use Rattle.flt_gen.proofs.Exclusive.{or_no, both_either, kinds_exclude}
+use Rattle.flt_gen.proofs.Prefixes.{Idle, idle_sought, Small, cut_in, cut_within, net_hit}
+use Rattle.flt_gen.proofs.Runs.{one_number}
 use Rattle.std.specs.Prelude.{◌⊎◌}
 use Rattle.std.proofs.Math.Nat.{mod-lt}
 use Rattle.flt_words.specs.declared.token.Protocol.TheVariants.{Arp, Rarp}
 use Rattle.flt_ast.specs.declared.qualifiers.Direction.TheVariants as direction
 use Rattle.flt_ast.specs.declared.value.Value.TheVariants as value
 use Rattle.flt_ast.specs.Counts as count
-use Rattle.flt_ast.specs.declared.value.NetMask.TheVariants as mask
+use Rattle.flt_ast.specs.declared.value.NetMask.{NetMask}
 use Rattle.flt_gen.specs.declared.elementary.FrameKind.TheVariants as kind
 use Rattle.flt_gen.specs.declared.port.Ports.{Ports}
-use Rattle.flt_gen.proofs.Ascending.{if_case, Each, each_is, Ordered, within_joined}
-use Rattle.flt_gen.proofs.Exclusive.{or_no, both_either, kinds_exclude}
-use Rattle.flt_gen.proofs.Prefixes.{Idle, idle_sought, Small, cut_in, cut_within, net_hit}
-use Rattle.flt_gen.proofs.Runs.{one_number}
 
 -- the fields of these sides fit the masks that numbers may have
 abbrev pub Fitting : Bool → Sides → Type 0
@@ -385,10 +385,10 @@ module _ (link : Link) (p : List ℕ) (n : ℕ) where
 
   pub member_is : (k : ValueType) (protocol : Option Protocol) (d : Direction) (v : Value) → Each (member_of k v) (IsMember k protocol d v)
   member_is Host protocol d (value.Dotted x z) = (omega arith, omega arith, address_row protocol d None x.address _ (λ y s. one_number y x.address x.address refl))
-  member_is Net protocol d (value.Number x mask.Unwritten) = net_row protocol d 8 (x % 256 * 2 ^ 24)
-  member_is Net protocol d (value.Number x (mask.Prefix b)) = net_row protocol d b (x % 256 * 2 ^ 24)
-  member_is Net protocol d (value.Dotted x mask.Unwritten) = net_row protocol d (8 * x.parts) x.address
-  member_is Net protocol d (value.Dotted x (mask.Prefix b)) = net_row protocol d b x.address
+  member_is Net protocol d (value.Number x NetMask.Unwritten) = net_row protocol d 8 (x % 256 * 2 ^ 24)
+  member_is Net protocol d (value.Number x (NetMask.Prefix b)) = net_row protocol d b (x % 256 * 2 ^ 24)
+  member_is Net protocol d (value.Dotted x NetMask.Unwritten) = net_row protocol d (8 * x.parts) x.address
+  member_is Net protocol d (value.Dotted x (NetMask.Prefix b)) = net_row protocol d b x.address
   member_is Port protocol d (value.Number x z) = (omega arith, omega arith, port_row protocol d (One x) (port_is x) _ (λ header. refl) (λ at. read_same (field_at at HalfWord p) (λ y. y == x) _ (λ y. one_number y x x refl)))
   member_is PortRange protocol d (value.Range a b) =
       (omega arith, (let more = more_tests d in omega arith), port_row protocol d (Between (min a b) (max a b)) (port_between (min a b) (max a b)) _ (λ header. refl) (λ at. both_ends (field_at at HalfWord p) (min a b) (max a b)))

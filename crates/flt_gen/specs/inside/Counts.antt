@@ -3,7 +3,7 @@ use Rattle.std.specs.Prelude.{ℕ, ◌+◌, ◌*◌, ◌==◌, max, nat_le, if�
 use Rattle.flt_ast.specs.Counts.{number_words, number_size}
 use Rattle.flt_ast.specs.declared.qualifiers.Direction.{Direction}
 use Rattle.flt_words.specs.declared.token.Join.TheVariants.{And, Or}
-use Rattle.flt_gen.specs.Formula.{Formula, Single, Compare, Both, Either, Except, Split, Sought, Numbers}
+use Rattle.flt_gen.specs.Formula.{Formula, Compare, Both, Either, Except, Split, Sought, Numbers}
 use Rattle.flt_gen.specs.declared.elementary.Interval.{Interval}
 
 -- how many words of memory the code of a formula needs at most
