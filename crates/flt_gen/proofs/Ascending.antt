@@ -210,6 +210,9 @@ pub ends_few : (is : List Interval) → first_ends is ≤ 1
 ends_few [] = omega arith
 ends_few (i ∷ is) = if_case (λ n. n ≤ 1) (i.low == i.high) 0 1 (λ e. omega arith) (λ e. omega arith)
 
+pub one_point : (i : Interval) → i.low ≡ i.high → first_ends (i ∷ []) ≡ 0
+one_point i e = let same : (i.low == i.high) ≡ true = grind (arith, nat_tests) in ap (λ b. if b then 0 else 1) same
+
 tests_from : (i : Interval) (js : List Interval) → length (joined_from i js) + first_ends (joined_from i js) ≤ length js + 1 + first_ends (i ∷ [])
 tests_from i [] = omega arith
 tests_from i (j ∷ js) =
@@ -237,8 +240,7 @@ joined_few (i ∷ is) l = let h = length_from i is in let a = h.0 in let b = h.1
 pub joined_points : (is : List Interval) → 1 ≤ length is → Points is → max 1 (length (joined_all is)) + first_ends (joined_all is) ≤ length is
 joined_points [] l h = absurd (omega arith)
 joined_points (i ∷ is) l h =
-    let same : (i.low == i.high) ≡ true = (let e = h.0 in grind (arith, nat_tests)) in
-    let none : first_ends (i ∷ []) ≡ 0 = ap (λ b. if b then 0 else 1) same in
+    let none = one_point i h.0 in
     let few = tests_from i is in
     let some = (length_from i is).0 in
     omega arith

@@ -1,6 +1,6 @@
 -- The formula of a truth in which hosts or ports are looked for together reads as the truth's own,
 -- and has no more tests.
-use Rattle.flt_gen.proofs.Ascending.{if_case, Each, each_is, Searchable, Reached, Ready, Ordered, Points, ordered_inserted, points_inserted, length_inserted, within_inserted, within_joined, searchable_joined, ends_few, joined_few, joined_points}
+use Rattle.flt_gen.proofs.Ascending.{if_case, Each, each_is, Searchable, Reached, Ready, Ordered, Points, ordered_inserted, points_inserted, length_inserted, within_inserted, within_joined, searchable_joined, ends_few, one_point, joined_few, joined_points}
 use Rattle.flt_gen.proofs.Common.{◌≡◌, ℕ, ◌+◌, ◌-◌, ◌*◌, ◌<◌, ◌≤◌, max, List, [], ◌∷◌, length, Bool, true, false, Option, Some, None, refl, sym, ap, ap₂, ◌∙◌, subst, arith, ◌==◌, ◌||◌, ◌&&◌, nat_lt, nat_le, if◌then◌else◌, suc-mul, nat_tests, and_parts, or_parts, Protocol, Ip, Tcp, Udp, Source, Destination, And, Or, ValueType, Host, Net, Port, PortRange, Direction, CompleteQualifiers, Value, Interval, Sides, FrameKind, network_offset, not, map, and-false, inl, inr, Sought, sought_tests, is_address, joined_all, left_out, high_mask, cut, address_places, port_places, ip_transport, ip6_transport, sought, Entry, TruthTree, check, cast, sized, bare, valued, qualified, compared, denied, joined, is_unfilled, any_primitive, Link, MatchResult, Several, Formula, Both, Either, Except, is_in, is_within, both, either, negation, Numbers, reads, check_formula, cast_formula, sized_formula, hosts_formula, port_test, port_formula, qualified_formula, relation_formula, qualified_needed, formula, first_ends, Group, no_group, entry, with_member, same_type, same_protocol, same_direction, goes_with, member_of, group_and, larger_group, is_searched, numbers_of, several_formula, all_of, kind_test, elementary_reads, value_formula, Proto, rows_formula, group_formula, or_any, or_group, truth_member, choice, grouped_formula, MOST_TOGETHER, FEWEST_RANGES}
 use Rattle.flt_gen.proofs.Counted.{Sized, Bare, bare_within, bare_some, bare_both, bare_either, bare_else, bare_after, bare_sought, bare_check, bare_cast, of_kinds, bare_hosts, bare_ports}
 use Rattle.flt_gen.proofs.Deciding.{Shapes, fields_of, some_fields, shapes_of, rows, read_all, sizes, decision_good, Likes, likes_put, sizes_put, length_put, read_put, alike, alike_alike, self_alike}
@@ -147,9 +147,6 @@ ready at b group ms h some fit reached = record {
     no_mask true e = cc
     no_mask false e = refl
 
-one_point : (i : Interval) → i.low ≡ i.high → first_ends (i ∷ []) ≡ 0
-one_point i e = let same : (i.low == i.high) ≡ true = grind (arith, nat_tests) in ap (λ b. if b then 0 else 1) same
-
 -- a group of members with numbers is searched by how many they are
 by_numbers : (group : Group) → group.cases ≡ [] → is_searched group ≡ nat_le (if group.is_plain then 2 else FEWEST_RANGES) (length group.entries)
 by_numbers group e = ap (λ cs. nat_le (if not (has_none cs) then FEWEST_CASES else (if group.is_plain then 2 else FEWEST_RANGES)) (length group.entries)) e
@@ -205,15 +202,23 @@ rows_bare link (e ∷ []) l = bare_within _ (omega arith) (bare_needed link e.qu
 rows_bare link (e ∷ f ∷ es) l =
     bare_either (bare_needed link e.qualifiers.value_type e.qualifiers.protocol e.qualifiers.direction e.value) (rows_bare link (f ∷ es) (omega arith))
 
-listed_bare : (link : Link) (group : Group) → Listed group.qualifiers.direction group → (cs : List Case) → cs ≡ group.cases → Bare (together_formula link group cs) (group_tests group)
-listed_bare link group h [] e = absurd (let some = h.some in let z = ap length e in omega arith)
-listed_bare link group h (c ∷ cs) e =
-    let by = case_tests link group.qualifiers.direction in
-    let fields = fields_of link group.qualifiers.direction h.kind in
+-- a group of cases has few tests, and reads as one after the other
+listed_is : (link : Link) (group : Group) → Listed group.qualifiers.direction group → (cs : List Case) → cs ≡ group.cases → Bare (together_formula link group cs) (group_tests group) × ((p : List ℕ) (n : ℕ) → reads link (together_formula link group cs) p n ≡ reads link (rows_formula link group.entries) p n)
+listed_is link group h [] e = absurd (let some = h.some in let z = ap length e in omega arith)
+listed_is link group h (c ∷ cs) e =
+    let d = group.qualifiers.direction in
+    let by = case_tests link d in
+    let like = subst (Likes h.kind) (sym e) h.like in
+    let good = decision_good link by MOST_DECISIONS 0 (fields_of link d h.kind) (c ∷ cs) (shapes_of link d h.kind (c ∷ cs) like) in
     let few = h.counted link in
     let same : sizes (rows by 0 (c ∷ cs)) + length (c ∷ cs) ≡ sizes (rows by 0 group.cases) + length group.cases = ap (λ ds. sizes (rows by 0 ds) + length ds) e in
-    let long = length-map cs by in
-    bare_within _ (omega arith) (bare_after ((decision_good link by MOST_DECISIONS 0 fields (c ∷ cs) (subst (λ ds. Shapes fields (rows by 0 ds)) (sym e) (shapes_of link group.qualifiers.direction h.kind group.cases h.like))).1 (some_fields link group.qualifiers.direction h.kind) (omega arith)))
+    let long = length-map cs by in (
+      bare_within _ (omega arith) (bare_after (good.1 (some_fields link d h.kind) (omega arith))),
+      λ p n. ap (both (elementary_reads (kind_test link (case_frame c)) p)) (good.0 p n)
+          ∙ ap (λ k. both (elementary_reads (kind_test link k) p) (read_all link p n (rows by 0 (c ∷ cs)))) (alike link d h.kind c like.0).1
+          ∙ ap (λ ds. both (elementary_reads (kind_test link (case_frame h.kind)) p) (read_all link p n (rows by 0 ds))) e
+          ∙ sym (h.rows_are link p n),
+    )
 
 group_bare : (link : Link) (group : Group) → Kept group → 0 < length group.entries → Bare (group_formula link group) (group_tests group)
 group_bare link group k l = if_case (λ (f : Formula). Bare f (group_tests group)) (is_searched group) _ _ (by k) (λ e. rows_bare link group.entries l)
@@ -221,7 +226,7 @@ group_bare link group k l = if_case (λ (f : Formula). Bare f (group_tests group
     by : Kept group → is_searched group ≡ true → Bare (together_formula link group group.cases) (group_tests group)
     by (nothing none all empty) e = absurd (let z = ap length none in omega arith)
     by (numbered l empty ms h) e = subst (λ cs. Bare (together_formula link group cs) (group_tests group)) (sym empty) (group_bare_several link group ms h (sym (by_numbers group empty) ∙ e))
-    by (listed l h) e = listed_bare link group h group.cases refl
+    by (listed l h) e = (listed_is link group h group.cases refl).0
 
 -- members that are looked for together read as one after the other
 searched_two : (group : Group) → nat_le (if group.is_plain then 2 else FEWEST_RANGES) (length group.entries) ≡ true → 2 ≤ length group.entries
@@ -231,17 +236,6 @@ group_rows : (link : Link) (p : List ℕ) (n : ℕ) (group : Group) → Kept gro
 group_rows link p n group k =
     if_case (λ (f : Formula). reads link f p n ≡ reads link (rows_formula link group.entries) p n) (is_searched group) _ _ (by k) (λ e. refl)
   where
-    cases : (h : Listed group.qualifiers.direction group) (cs : List Case) → cs ≡ group.cases → reads link (together_formula link group cs) p n ≡ reads link (rows_formula link group.entries) p n
-    cases h [] e = absurd (let some = h.some in let z = ap length e in omega arith)
-    cases h (c ∷ cs) e =
-        let d = group.qualifiers.direction in
-        let fields = fields_of link d h.kind in
-        let like = subst (Likes h.kind) (sym e) h.like in
-        ap (both (elementary_reads (kind_test link (case_frame c)) p)) ((decision_good link (case_tests link d) MOST_DECISIONS 0 fields (c ∷ cs) (shapes_of link d h.kind (c ∷ cs) like)).0 p n)
-        ∙ ap (λ k. both (elementary_reads (kind_test link k) p) (read_all link p n (rows (case_tests link d) 0 (c ∷ cs)))) (alike link d h.kind c like.0).1
-        ∙ ap (λ ds. both (elementary_reads (kind_test link (case_frame h.kind)) p) (read_all link p n (rows (case_tests link d) 0 ds))) e
-        ∙ sym (h.rows_are link p n)
-
     by : Kept group → is_searched group ≡ true → reads link (together_formula link group group.cases) p n ≡ reads link (rows_formula link group.entries) p n
     by (nothing none all empty) e = absurd (let two = searched_two group (sym (by_numbers group empty) ∙ e) in let z = ap length none in omega arith)
     by (numbered l empty ms h) e =
@@ -250,7 +244,7 @@ group_rows link p n group k =
         ∙ several_are link p n group.qualifiers (is_address group.qualifiers.value_type && not group.is_plain) group.first ms group.all (h.merged (searched_two group few)) h.ascends h.all_within group.qualifiers.value_type
         (λ t. (and_parts (is_address group.qualifiers.value_type) (not group.is_plain) t).0)
         ∙ sym (h.rows link p n)
-    by (listed l h) e = cases h group.cases refl
+    by (listed l h) e = (listed_is link group h group.cases refl).1 p n
 
 -- a formula stands for a truth, or else for the group after it
 pub record Stands (link : Link) (f : Formula) (a : TruthTree) (group : Group) : Type 0 where
@@ -507,6 +501,7 @@ grouped_stands link (denied a) group k u =
 grouped_stands link (joined And a b) group k u =
     let h = grouped_stands link a no_group kept_none (or_parts _ _ u).0 in
     let g = grouped_stands link b no_group kept_none (or_parts _ _ u).1 in
-    or_stands link (Both (grouped_formula link no_group a) (grouped_formula link no_group b)) (joined And a b) group k (bare_within (count.truth_tests a + count.truth_tests b) (omega arith) (bare_both h.counts g.counts)) (λ p n. ap₂ both (h.reads_are p n ∙ or_no _) (g.reads_are p n ∙ or_no _))
+    let counts = bare_both h.counts g.counts in
+    or_stands link (Both (grouped_formula link no_group a) (grouped_formula link no_group b)) (joined And a b) group k (bare_within _ (omega arith) counts) (λ p n. ap₂ both (h.reads_are p n ∙ or_no _) (g.reads_are p n ∙ or_no _))
 grouped_stands link (joined Or a b) group k u =
     either_stands link a b group k (truth_member b group) refl (grouped_stands link a no_group kept_none (or_parts _ _ u).0) (grouped_stands link b group k (or_parts _ _ u).1) (λ more j. grouped_stands link a more j (or_parts _ _ u).0)
