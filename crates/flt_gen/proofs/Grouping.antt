@@ -61,14 +61,12 @@ kept_none = nothing refl refl refl
 
 -- several members' formula has no more tests
 several_hosts_few : (protocol : Option Protocol) (d : Direction) (n x : ℕ) → 1 + x ≤ n → of_kinds protocol (1 + (n * count.side_tests d 1 + x)) ≤ n * count.ip4_tests protocol d
-several_hosts_few None (direction.One s) n x l = omega arith
-several_hosts_few _ (direction.One s) n x l = omega arith
-several_hosts_few _ _ n x l = omega arith
+several_hosts_few None d n x l = omega arith
+several_hosts_few _ d n x l = omega arith
 
 several_ports_few : (protocol : Option Protocol) (d : Direction) (n x : ℕ) → 2 ≤ n → 1 + x ≤ n → 1 + count.transport_tests protocol + 1 + (n * count.side_tests d 1 + x) + (1 + count.transport_tests protocol + (n * count.side_tests d 1 + x)) ≤ n * count.port_tests protocol d 1
-several_ports_few None (direction.One s) n x l m = omega arith
-several_ports_few _ (direction.One s) n x l m = omega arith
-several_ports_few _ _ n x l m = omega arith
+several_ports_few None d n x l m = omega arith
+several_ports_few _ d n x l m = omega arith
 
 -- numbers of a group with members that are one number each, of which there are two at least, or of
 -- three others
@@ -128,7 +126,7 @@ ready at b group ms h some fit reached = record {
       let small = fitting_small b at group.first is fit p x (inl e) in
       let here : is_in x group.first ≡ true = sym (cut_in last x group.first group.first is idle idle.first_aligned small) ∙ inside in
       cut_within last x group.first is idle small ∙ within_joined x group.all h.ascends ∙ h.all_within x ∙ ap (λ c. c || is_within x ms) here;
-  reached = reached (high_mask last) (no_mask b);
+  reached = reached (high_mask last) (λ e. ap (λ c. high_mask (left_out c group.first is)) e);
 }
   where
     is : List Interval
@@ -143,10 +141,6 @@ ready at b group ms h some fit reached = record {
     up : Searchable is
     up = searchable_joined group.all (let c = h.all_count in omega arith) h.ascends
 
-    no_mask : (c : Bool) → c ≡ false → high_mask (left_out c group.first is) ≡ None
-    no_mask true e = cc
-    no_mask false e = refl
-
 -- a group of members with numbers is searched by how many they are
 by_numbers : (group : Group) → group.cases ≡ [] → is_searched group ≡ nat_le (if group.is_plain then 2 else FEWEST_RANGES) (length group.entries)
 by_numbers group e = ap (λ cs. nat_le (if not (has_none cs) then FEWEST_CASES else (if group.is_plain then 2 else FEWEST_RANGES)) (length group.entries)) e
@@ -160,16 +154,12 @@ group_bare_several link group ms h e = by group.is_plain refl e
     k : ValueType
     k = group.qualifiers.value_type
 
-    none : (c : Bool) → c ≡ false → (c && not group.is_plain) ≡ false
-    none true e = cc
-    none false e = refl
-
     with_numbers : Numbered (numbers_of group) n → 2 ≤ n → Bare (several_formula link group.qualifiers k (numbers_of group)) (group_tests group)
     with_numbers few two =
         bare_within _ h.counted
         (bare_several link group.qualifiers (numbers_of group) n few two k
         (λ e f. ready (address_places link f) (is_address k && not group.is_plain) group ms h (omega arith) (address_fitting (is_address k && not group.is_plain) link f) (λ mask _. address_reached link f mask))
-        (λ e. let no = none (is_address k) e in let l = offset_few link in (
+        (λ e. let no = ap (λ c. c && not group.is_plain) e in let l = offset_few link in (
           ready (port_places (ip_transport link)) (is_address k && not group.is_plain) group ms h (omega arith) (unmasked_fitting (is_address k && not group.is_plain) (port_places (ip_transport link)) no) (λ mask f. (f no, refl)),
           ready (port_places (ip6_transport link)) (is_address k && not group.is_plain) group ms h (omega arith) (unmasked_fitting (is_address k && not group.is_plain) (port_places (ip6_transport link)) no) (λ mask f. (omega arith, omega arith, omega arith, omega arith)),
         )))
@@ -499,9 +489,9 @@ grouped_stands link (denied a) group k u =
     let h = grouped_stands link a no_group kept_none u in
     or_stands link (Except (grouped_formula link no_group a)) (denied a) group k (record { nodes_are = h.nodes_are; words_are = h.words_are; searches = h.searches; tests_fit = omega (arith, h.tests_fit) }) (λ p n. ap negation (h.reads_are p n ∙ or_no _))
 grouped_stands link (joined And a b) group k u =
-    let h = grouped_stands link a no_group kept_none (or_parts _ _ u).0 in
-    let g = grouped_stands link b no_group kept_none (or_parts _ _ u).1 in
-    let counts = bare_both h.counts g.counts in
-    or_stands link (Both (grouped_formula link no_group a) (grouped_formula link no_group b)) (joined And a b) group k (bare_within _ (omega arith) counts) (λ p n. ap₂ both (h.reads_are p n ∙ or_no _) (g.reads_are p n ∙ or_no _))
+    let parts = or_parts (any_primitive is_unfilled a) (any_primitive is_unfilled b) u in
+    let h = grouped_stands link a no_group kept_none parts.0 in
+    let g = grouped_stands link b no_group kept_none parts.1 in
+    or_stands link (Both (grouped_formula link no_group a) (grouped_formula link no_group b)) (joined And a b) group k (bare_within _ (omega arith) (bare_both h.counts g.counts)) (λ p n. ap₂ both (h.reads_are p n ∙ or_no _) (g.reads_are p n ∙ or_no _))
 grouped_stands link (joined Or a b) group k u =
     either_stands link a b group k (truth_member b group) refl (grouped_stands link a no_group kept_none (or_parts _ _ u).0) (grouped_stands link b group k (or_parts _ _ u).1) (λ more j. grouped_stands link a more j (or_parts _ _ u).0)

@@ -144,26 +144,16 @@ more_tests (direction.One s) = omega arith
 more_tests _ = omega arith
 
 module _ (link : Link) (p : List ℕ) (n : ℕ) where
-  -- of three kinds one at most is yes
-  three_kinds : (i r q a b c x y z : MatchResult) → (i ≡ Yes → r ≡ No) → (i ≡ Yes → q ≡ No) → (r ≡ Yes → q ≡ No) → either (both i (either a x)) (either (both r (either b y)) (both q (either c z))) ≡ either (either (both i a) (either (both r b) (both q c))) (either (both i x) (either (both r y) (both q z)))
-  three_kinds Rejected r q a b c x y z ir iq rq = refl
-  three_kinds No Rejected q a b c x y z ir iq rq = refl
-  three_kinds No No q a b c x y z ir iq rq = both_either q c z
-  three_kinds No Yes No a b c x y z ir iq rq = or_no (either b y) ∙ ap (λ v. either v y) (sym (or_no b)) ∙ ap (λ v. either (either b No) v) (sym (or_no y))
-  three_kinds No Yes _ a b c x y z ir iq rq = absurd (let e = rq refl in cc)
-  three_kinds Yes No No a b c x y z ir iq rq = or_no (either a x) ∙ ap (λ v. either v x) (sym (or_no a)) ∙ ap (λ v. either (either a No) v) (sym (or_no x))
-  three_kinds Yes No _ a b c x y z ir iq rq = absurd (let e = iq refl in cc)
-  three_kinds Yes _ q a b c x y z ir iq rq = absurd (let e = ir refl in cc)
+  -- where a test is yes those after it are no
+  kinds : (i a x s t : MatchResult) → (i ≡ Yes → (s ≡ No) × (t ≡ No)) → either (both i (either a x)) (either s t) ≡ either (either (both i a) s) (either (both i x) t)
+  kinds Yes a x s t only =
+      ap₂ (λ u v. either (either a x) (either u v)) (only refl).0 (only refl).1
+      ∙ or_no (either a x)
+      ∙ sym (ap₂ (λ u v. either (either a u) (either x v)) (only refl).0 (only refl).1 ∙ ap₂ either (or_no a) (or_no x))
+  kinds _ a x s t only = refl
 
   abbrev kind_reads : FrameKind → MatchResult
   kind_reads k = elementary_reads (kind_test link k) p
-
-  -- of two kinds one at most is yes
-  two_kinds : (i r a b x y : MatchResult) → (i ≡ Yes → r ≡ No) → either (both i (either a x)) (both r (either b y)) ≡ either (either (both i a) (both r b)) (either (both i x) (both r y))
-  two_kinds Rejected r a b x y ir = refl
-  two_kinds No r a b x y ir = both_either r b y
-  two_kinds Yes No a b x y ir = or_no (either a x) ∙ ap (λ v. either v x) (sym (or_no a)) ∙ ap (λ v. either (either a No) v) (sym (or_no x))
-  two_kinds Yes _ a b x y ir = absurd (let e = ir refl in cc)
 
   -- ports: what stands before the sides
   abbrev told : Elementary → MatchResult
@@ -226,7 +216,13 @@ module _ (link : Link) (p : List ℕ) (n : ℕ) where
   hosts_join : (protocol : Option Protocol) (x y : Sides → MatchResult) → hosts_by protocol (λ at. either (x at) (y at)) ≡ either (hosts_by protocol x) (hosts_by protocol y)
   hosts_join None x y =
       let only = kinds_exclude p (type_offset link) in
-      three_kinds (kind_reads kind.Ip) (kind_reads kind.Arp) (kind_reads kind.Rarp) _ _ _ _ _ _ only.1 only.2 only.3
+      let a = kind_reads kind.Arp in
+      let r = kind_reads kind.Rarp in
+      let u = address_places link kind.Arp in
+      let v = address_places link kind.Rarp in
+      ap (either _) (ap (either _) (both_either r (x v) (y v)) ∙ kinds a (x u) (y u) (both r (x v)) (both r (y v)) (λ e. (ap (λ z. both z (x v)) (only.3 e), ap (λ z. both z (y v)) (only.3 e))))
+      ∙ kinds (kind_reads kind.Ip) (x (address_places link kind.Ip)) (y (address_places link kind.Ip)) (either (both a (x u)) (both r (x v))) (either (both a (y u)) (both r (y v)))
+      (λ e. (ap₂ (λ z w. either (both z (x u)) (both w (x v))) (only.1 e) (only.2 e), ap₂ (λ z w. either (both z (y u)) (both w (y v))) (only.1 e) (only.2 e)))
   hosts_join (Some Ip) x y = both_either (kind_reads kind.Ip) _ _
   hosts_join (Some Arp) x y = both_either (kind_reads kind.Arp) _ _
   hosts_join (Some Rarp) x y = both_either (kind_reads kind.Rarp) _ _
@@ -236,8 +232,10 @@ module _ (link : Link) (p : List ℕ) (n : ℕ) where
   ports_join protocol x y =
       let h = port_places (ip_transport link) in
       let k = port_places (ip6_transport link) in
+      let after = after_reads protocol (ip6_transport link) in
       ap₂ (λ v w. either (both (kind_reads kind.Ip) v) (both (kind_reads kind.Ip6) w)) (after_more protocol (ip_transport link) (x h) (y h)) (after_more protocol (ip6_transport link) (x k) (y k))
-      ∙ two_kinds (kind_reads kind.Ip) (kind_reads kind.Ip6) _ _ _ _ (kinds_exclude p (type_offset link)).0
+      ∙ ap (either _) (both_either (kind_reads kind.Ip6) (after (x k)) (after (y k)))
+      ∙ kinds (kind_reads kind.Ip) _ _ (both (kind_reads kind.Ip6) (after (x k))) (both (kind_reads kind.Ip6) (after (y k))) (λ e. let no = (kinds_exclude p (type_offset link)).0 e in (ap (λ z. both z (after (x k))) no, ap (λ z. both z (after (y k))) no))
 
   sides_join : (k : ValueType) (protocol : Option Protocol) (x y : Sides → MatchResult) → by_sides k protocol (λ at. either (x at) (y at)) ≡ either (by_sides k protocol x) (by_sides k protocol y)
   sides_join Host protocol x y = hosts_join protocol x y
