@@ -12,7 +12,7 @@ use Rattle.flt_gen.specs.declared.cases.Case.{Case}
 use Rattle.flt_gen.specs.declared.cases.Case.TheVariants.{Mac, Ip6, IpProto, Ip6Proto}
 use Rattle.flt_gen.specs.declared.elementary.FieldTest.{FieldTest}
 use Rattle.flt_gen.specs.inside.Cases.{same_words, case_frame, mac_place, ip6_place, case_tests, word_test, lowest, is_whole, keeps, all_keep, chain, test_at, from_test, middle, is_parted, same_word, decided, decision, FEW_CASES}
-use Rattle.std.proofs.lemmas.{List.length-map, List.length-drop, List.length-append, Nat.and-not, Nat.and_comm}
+use Rattle.std.proofs.lemmas.{List.length-map, List.map-append, List.take-append-drop, List.length-drop, List.length-append, Nat.and-not, Nat.and_comm}
 
 -- ---- which words cases have
 
@@ -143,9 +143,7 @@ shapes_drop fs by w (suc at) [] h = tt
 shapes_drop fs by w (suc at) (c ∷ cs) h = shapes_drop fs by w at cs h.1
 
 rows_parts : (by : Case → List Elementary) (w at : ℕ) (cs : List Case) → rows by w (take at cs) ++ rows by w (drop at cs) ≡ rows by w cs
-rows_parts by w zero cs = refl
-rows_parts by w (suc at) [] = refl
-rows_parts by w (suc at) (c ∷ cs) = ap (λ rs. drop w (by c) ∷ rs) (rows_parts by w at cs)
+rows_parts by w at cs = sym (map-append (λ (c : Case). drop w (by c)) (take at cs) (drop at cs)) ∙ ap (rows by w) (take-append-drop at cs)
 
 shape_length : (fs : List (Offset × Width)) (r : List Elementary) → Shape fs r → length r ≡ length fs
 shape_length [] [] h = refl
@@ -399,12 +397,8 @@ length_put c zero cs = omega arith
 length_put c (suc i) [] = refl
 length_put c (suc i) (d ∷ ds) = let h = length_put c i ds in omega arith
 
-rows_append : (by : Case → List Elementary) (w : ℕ) (cs ds : List Case) → rows by w (cs ++ ds) ≡ rows by w cs ++ rows by w ds
-rows_append by w [] ds = refl
-rows_append by w (c ∷ cs) ds = ap (λ rs. drop w (by c) ∷ rs) (rows_append by w cs ds)
-
 pub read_put : (link : Link) (p : List ℕ) (n : ℕ) (by : Case → List Elementary) (fs : List (Offset × Width)) (c : Case) (i : ℕ) (cs : List Case) → Shape fs (by c) → Shapes fs (rows by 0 cs) → read_all link p n (rows by 0 (insert cs i c)) ≡ either (reads link (all_of (by c)) p n) (read_all link p n (rows by 0 cs))
 read_put link p n by fs c i cs h k =
-    ap (read_all link p n) (rows_append by 0 (take i cs) (c ∷ drop i cs))
+    ap (read_all link p n) (map-append (λ (c : Case). drop 0 (by c)) (take i cs) (c ∷ drop i cs))
     ∙ read_inserted link p n fs (by c) (rows by 0 (take i cs)) (rows by 0 (drop i cs)) h (shapes_take fs by 0 i cs k)
     ∙ ap (λ rs. either (reads link (all_of (by c)) p n) (read_all link p n rs)) (rows_parts by 0 i cs)

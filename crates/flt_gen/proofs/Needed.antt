@@ -1,7 +1,7 @@
 -- Words of IPv6 addresses of which no bit counts: the formula reads the same, and has no more
 -- tests.
 use Rattle.flt_gen.proofs.Ascending.{if_case}
-use Rattle.flt_gen.proofs.Common.{◌≡◌, ℕ, suc, ◌+◌, ◌-◌, ◌*◌, ◌/◌, ◌%◌, ◌^◌, ◌≤◌, List, [], ◌∷◌, length, Bool, true, false, Option, Some, None, refl, sym, ap, ◌∙◌, arith, ◌==◌, ◌&&◌, nat_le, if◌then◌else◌, bit_and, nat_tests, and_parts, Source, Destination, And, Or, Protocol, ValueType, Net, Direction, Value, first_bits, Word, big_endian_at, field, Link, Fixed, Elementary, MatchResult, reading_of, with, under_mask, kind_test, elementary_reads, network_offset, both, either, all_of, sides, reads, partial_mask, address_test, ip6_tests, ip6_formula, value_formula, is_empty, is_idle, capture_test, last_test, needed_tests, ip6_needed, value_needed}
+use Rattle.flt_gen.proofs.Common.{◌≡◌, ℕ, suc, ◌+◌, ◌-◌, ◌*◌, ◌/◌, ◌%◌, ◌^◌, ◌≤◌, List, [], ◌∷◌, length, Bool, true, false, Option, Some, None, refl, sym, ap, ap₂, ◌∙◌, arith, ◌==◌, ◌&&◌, nat_le, if◌then◌else◌, bit_and, nat_tests, and_parts, Source, Destination, And, Or, Protocol, ValueType, Net, Direction, Value, first_bits, Word, big_endian_at, field, Link, Fixed, Elementary, MatchResult, reading_of, with, under_mask, kind_test, elementary_reads, network_offset, both, either, all_of, sides, reads, partial_mask, address_test, ip6_tests, ip6_formula, value_formula, is_empty, is_idle, capture_test, last_test, needed_tests, ip6_needed, value_needed}
 use Rattle.flt_gen.proofs.{Counted.Bare, Counted.bare_after, Counted.bare_sides, Counted.bare_value, Exclusive.and_yes}
 use Rattle.std.specs.Int.Bits.{and_zero_r}
 use Rattle.flt_ast.specs.declared.qualifiers.Direction.TheVariants as direction
@@ -27,12 +27,9 @@ bare_needed link k p d v = bare_value link k p d v
 idle_holds : (mask : Option ℕ) (a v : ℕ) → (is_empty mask && a == 0) ≡ true → (under_mask mask v == a) ≡ true
 idle_holds None a v e = cc
 idle_holds (Some m) a v e =
-    let b = and_parts (m == 0) (a == 0) e in
-    let no_bits : m ≡ 0 = (let z = b.0 in grind (arith, nat_tests)) in
-    let zero_is : a ≡ 0 = (let z = b.1 in grind (arith, nat_tests)) in
-    let none : bit_and v m ≡ 0 = ap (λ x. bit_and v x) no_bits ∙ and_zero_r v in
-    let same : bit_and v m ≡ a = none ∙ sym zero_is in
-    grind (arith, nat_tests)
+    let no_bits : m ≡ 0 = grind (arith, nat_tests) in
+    let zero_is : a ≡ 0 = grind (arith, nat_tests) in
+    ap₂ (λ y b. bit_and v y == b) no_bits zero_is ∙ ap (λ y. y == 0) (and_zero_r v)
 
 -- tests of words of a place, each after the one before, by masks and values
 abbrev tests_from : ℕ → ℕ → List (Option ℕ × ℕ) → List Elementary
@@ -52,13 +49,8 @@ module _ (link : Link) (p : List ℕ) (n : ℕ) where
 
   later_none : (at k : ℕ) → field p (at + 4 * k) Word ≡ None → field p (at + 4 * suc k) Word ≡ None
   later_none at k e =
-      let cut : nat_le (at + 4 * k + 4) (length p) ≡ false = cut_off (nat_le (at + 4 * k + 4) (length p)) _ e in
-      let past : nat_le (at + 4 * suc k + 4) (length p) ≡ false = grind (arith, nat_tests) in
-      ap (λ b. if b then Some (big_endian_at p (at + 4 * suc k) Word) else None) past
-    where
-      cut_off : (b : Bool) (x : ℕ) → (if b then Some x else None) ≡ None → b ≡ false
-      cut_off true x f = cc
-      cut_off false x f = refl
+      if_case (λ o. o ≡ None → field p (at + 4 * suc k) Word ≡ None) (nat_le (at + 4 * k + 4) (length p)) _ _ (λ t f. cc)
+      (λ t f. let past : nat_le (at + 4 * suc k + 4) (length p) ≡ false = grind (arith, nat_tests) in ap (λ b. if b then Some (big_endian_at p (at + 4 * suc k) Word) else None) past) e
 
   -- a test of a word by what is captured there
   abbrev of_word : Option ℕ × ℕ → Option ℕ → MatchResult

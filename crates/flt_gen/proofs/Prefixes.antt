@@ -73,13 +73,11 @@ idle_sought true first is = if_case (λ last. Idle last first is) _ (idle_bits 3
 abbrev pub Small : ℕ → ℕ → Type 0
 Small last x = 0 < last → x < 2 ^ 32
 
-two_more : (k : ℕ) → 2 ≤ 2 ^ suc k
-two_more k = let some = pow_pos k in let more : 2 ^ suc k ≡ 2 * 2 ^ k = pow-succ' 2 k in omega arith
-
 masked_is : (k x : ℕ) → k ≤ 32 → (0 < 2 ^ k - 1 → x < 2 ^ 32) → under_mask (high_mask (2 ^ k - 1)) x ≡ x / 2 ^ k * 2 ^ k
 masked_is zero x l s = omega arith
 masked_is (suc k) x l s =
-    let two = two_more k in
+    let one = pow_pos k in
+    let two : 2 ^ suc k ≡ 2 * 2 ^ k = pow-succ' 2 k in
     let some : (2 ^ suc k - 1 == 0) ≡ false = grind (arith, nat_tests) in
     let same : 2 ^ 32 - 1 - (2 ^ suc k - 1) ≡ 2 ^ 32 - 2 ^ suc k = omega arith in
     ap (λ b. under_mask (if b then None else Some (2 ^ 32 - 1 - (2 ^ suc k - 1))) x) some

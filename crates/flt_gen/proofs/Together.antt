@@ -76,10 +76,6 @@ read_or : (o : Option ℕ) (f g : ℕ → Bool) → read_by o (λ x. f x || g x)
 read_or None f g = refl
 read_or (Some x) f g = yes_or (f x) (g x)
 
-read_same : (o : Option ℕ) (f g : ℕ → Bool) → ((x : ℕ) → f x ≡ g x) → read_by o f ≡ read_by o g
-read_same None f g e = refl
-read_same (Some x) f g e = ap exact (e x)
-
 read_seen : (o : Option ℕ) (f g : ℕ → Bool) → ((x : ℕ) → o ≡ Some x → f x ≡ g x) → read_by o f ≡ read_by o g
 read_seen None f g e = refl
 read_seen (Some x) f g e = ap exact (e x refl)
@@ -108,21 +104,18 @@ one_more (direction.Both Or) (Some x) None m k o h = one_told (m x) (k x) (o x)
 one_more (direction.Both Or) (Some x) (Some y) m k o h = both_told (m x) (k x) (o x) (m y) (k y || o y)
 one_more (direction.Both And) s t m k o h = absurd h
 
+-- what holds and is one of two is that one
+absorbed : (r s : MatchResult) → both r (either r s) ≡ r
+absorbed Yes s = refl
+absorbed _ s = refl
+
 one_alone : (d : Direction) (s t : Option ℕ) (m : ℕ → Bool) → sides_read d s t m (λ x. m x || false) ≡ plain_reads d s t m
-one_alone (direction.One Source) s t m = read_same s (λ x. m x || false) m (λ x. or-false (m x))
-one_alone (direction.One Destination) s t m = read_same t (λ x. m x || false) m (λ x. or-false (m x))
-one_alone (direction.Both Or) None t m = refl
-one_alone (direction.Both Or) (Some x) None m = cut (m x)
+one_alone d s t m = ap (sides_read d s t m) (λ i x. or-false (m x) i) ∙ by d
   where
-    cut : (b : Bool) → either (both (exact (b || false)) (either (exact b) Rejected)) Rejected ≡ either (exact b) Rejected
-    cut true = refl
-    cut false = refl
-one_alone (direction.Both Or) (Some x) (Some y) m = last (m x) (m y)
-  where
-    last : (b c : Bool) → either (both (exact (b || false)) (either (exact b) Yes)) (exact (c || false)) ≡ either (exact b) (exact c)
-    last false true = refl
-    last _ _ = refl
-one_alone (direction.Both And) s t m = refl
+    by : (d : Direction) → sides_read d s t m m ≡ plain_reads d s t m
+    by (direction.Both Or) = ap (λ r. either r (read_by t m)) (absorbed (read_by s m) (read_by t (λ x. true)))
+    by (direction.One Source) = refl
+    by _ = refl
 
 sides_seen : (d : Direction) (s t : Option ℕ) (f g a b : ℕ → Bool) → ((x : ℕ) → s ≡ Some x → f x ≡ g x) → ((x : ℕ) → t ≡ Some x → f x ≡ g x) → ((x : ℕ) → s ≡ Some x → a x ≡ b x) → ((x : ℕ) → t ≡ Some x → a x ≡ b x) → sides_read d s t f a ≡ sides_read d s t g b
 sides_seen (direction.One Source) s t f g a b i j h k = read_seen s a b h
@@ -387,7 +380,7 @@ module _ (link : Link) (p : List ℕ) (n : ℕ) where
   member_is Net protocol d (value.Number x (NetMask.Prefix b)) = net_row protocol d b (x % 256 * 2 ^ 24)
   member_is Net protocol d (value.Dotted x NetMask.Unwritten) = net_row protocol d (8 * x.parts) x.address
   member_is Net protocol d (value.Dotted x (NetMask.Prefix b)) = net_row protocol d b x.address
-  member_is Port protocol d (value.Number x z) = (omega arith, omega arith, port_row protocol d (One x) (port_is x) _ (λ header. refl) (λ at. read_same (field_at at HalfWord p) (λ y. y == x) _ (λ y. one_number y x x refl)))
+  member_is Port protocol d (value.Number x z) = (omega arith, omega arith, port_row protocol d (One x) (port_is x) _ (λ header. refl) (λ at. ap (read_by (field_at at HalfWord p)) (λ i y. one_number y x x refl i)))
   member_is PortRange protocol d (value.Range a b) =
       (omega arith, (let more = more_tests d in omega arith), port_row protocol d (Between (min a b) (max a b)) (port_between (min a b) (max a b)) _ (λ header. refl) (λ at. both_ends (field_at at HalfWord p) (min a b) (max a b)))
   member_is _ protocol d _ = tt
