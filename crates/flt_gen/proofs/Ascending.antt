@@ -1,11 +1,20 @@
 -- Intervals that ascend.
-use Rattle.flt_gen.proofs.Common.{◌≡◌, ℕ, zero, suc, ◌+◌, ◌-◌, ◌^◌, ◌<◌, ◌≤◌, List, [], ◌∷◌, length, take, drop, get_or, Bool, true, false, Option, Some, None, refl, sym, ap, ap₂, ◌∙◌, arith, nat_lt, nat_le, ◌==◌, ◌&&◌, ◌||◌, max, if◌then◌else◌, nat_tests, and-false, and_parts, or_assoc, Interval, Sides, Offset, Fixed, AfterHeader, field_at, under_mask, low_of, Formula, Single, Compare, Both, Either, Except, Split, Sought, Numbers, is_in, is_within, no_interval, first_ends, insert_ascending, is_gap, extended, joined_from, joined_all, same_interval, without}
+use Rattle.flt_gen.proofs.Common.{◌≡◌, ℕ, zero, suc, ◌+◌, ◌-◌, ◌^◌, ◌<◌, ◌≤◌, List, [], ◌∷◌, length, take, drop, get_or, Bool, true, false, Option, Some, None, refl, sym, ap, ap₂, ◌∙◌, subst, arith, nat_lt, nat_le, ◌==◌, ◌&&◌, ◌||◌, max, if◌then◌else◌, nat_tests, and_parts, or_assoc, Interval, Sides, Offset, Fixed, AfterHeader, field_at, under_mask, low_of, Formula, Single, Compare, Both, Either, Except, Split, Sought, Numbers, is_in, is_within, no_interval, first_ends, insert_ascending, is_gap, extended, joined_from, joined_all, same_interval, without}
 use Rattle.std.specs.List.{insert}
 
 -- by a test
 pub if_case : {A : Type 0} (P : A → Type 0) (b : Bool) (x y : A) → (b ≡ true → P x) → (b ≡ false → P y) → P (if b then x else y)
 if_case P true x y t f = t refl
 if_case P false x y t f = f refl
+
+-- what an option has, if anything, is P
+abbrev pub Each : {A : Type 0} → Option A → (A → Type 0) → Type 0
+Each None P = Unit {0}
+Each (Some a) P = P a
+
+pub each_is : {A : Type 0} (o : Option A) (P : A → Type 0) (a : A) → Each o P → o ≡ Some a → P a
+each_is None P a h e = cc
+each_is (Some b) P a h e = (let same : b ≡ a = cc in subst P same h)
 
 -- after lower intervals one is put before the first that isn't lower
 pub inserted_at : (i : Interval) (is : List Interval) (at : ℕ) → at ≤ length is → ((k : ℕ) → k < at → (get_or is k no_interval).low < i.low) → (at < length is → i.low ≤ (get_or is at no_interval).low) → insert is at i ≡ insert_ascending i is
@@ -97,17 +106,13 @@ within_without x i (j ∷ js) out =
     (λ e. ap (λ b. is_in x j || b) (within_without x i js out))
 
 -- which half a number can be in
-under_interval : (x : ℕ) (i : Interval) → x < i.low → is_in x i ≡ false
-under_interval x i l = let no : nat_le i.low x ≡ false = grind (arith, nat_tests) in ap (λ b. b && nat_le x i.high) no
-
-past_interval : (x : ℕ) (i : Interval) → i.high < x → is_in x i ≡ false
-past_interval x i l = let no : nat_le x i.high ≡ false = grind (arith, nat_tests) in ap (λ b. nat_le i.low x && b) no ∙ and-false (nat_le i.low x)
-
 none_below : (x a : ℕ) (is : List Interval) → x < a → Apart a is → is_within x is ≡ false
 none_below x a [] l h = refl
 none_below x a (i ∷ is) l h =
-    let k = h.0 in let m = h.1 in
-    ap (λ b. b || is_within x is) (under_interval x i (omega arith)) ∙ none_below x (i.high + 1) is (omega arith) h.2
+    let k = h.0 in
+    let m = h.1 in
+    let out : is_in x i ≡ false = grind (arith, nat_tests) in
+    ap (λ b. b || is_within x is) out ∙ none_below x (i.high + 1) is (omega arith) h.2
 
 pub lower_half : (x a h : ℕ) (is : List Interval) → Apart a is → h < length is → x < low_of (drop h is) → is_within x is ≡ is_within x (take h is)
 lower_half x a h [] up l m = absurd (omega arith)
@@ -124,7 +129,8 @@ upper_half x a h [] up l m = absurd (omega arith)
 upper_half x a zero (i ∷ is) up l m = refl
 upper_half x a (suc h) (i ∷ is) up l m =
     let low = at_least (i.high + 1) h is up.2 (omega arith) in
-    ap (λ b. b || is_within x is) (past_interval x i (omega arith)) ∙ upper_half x (i.high + 1) h is up.2 (omega arith) m
+    let out : is_in x i ≡ false = grind (arith, nat_tests) in
+    ap (λ b. b || is_within x is) out ∙ upper_half x (i.high + 1) h is up.2 (omega arith) m
 
 pub first_taken : (h : ℕ) (is : List Interval) → 0 < h → low_of (take h is) ≡ low_of is
 first_taken zero is l = absurd (omega arith)
@@ -200,17 +206,17 @@ length_from i (j ∷ js) =
     (λ e. let h = (length_from j js).1 in (omega arith, omega arith))
     (λ e. let h = length_from (extended i j) js in let k = h.1 in (h.0, omega arith))
 
-abbrev ends : Interval → ℕ
-ends i = if i.low == i.high then 0 else 1
-
 pub ends_few : (is : List Interval) → first_ends is ≤ 1
 ends_few [] = omega arith
 ends_few (i ∷ is) = if_case (λ n. n ≤ 1) (i.low == i.high) 0 1 (λ e. omega arith) (λ e. omega arith)
 
-tests_from : (i : Interval) (js : List Interval) → length (joined_from i js) + first_ends (joined_from i js) ≤ length js + 1 + ends i
+pub one_point : (i : Interval) → i.low ≡ i.high → first_ends (i ∷ []) ≡ 0
+one_point i e = let same : (i.low == i.high) ≡ true = grind (arith, nat_tests) in ap (λ b. if b then 0 else 1) same
+
+tests_from : (i : Interval) (js : List Interval) → length (joined_from i js) + first_ends (joined_from i js) ≤ length js + 1 + first_ends (i ∷ [])
 tests_from i [] = omega arith
 tests_from i (j ∷ js) =
-    if_case (λ is. length is + first_ends is ≤ length (j ∷ js) + 1 + ends i) (is_gap i j) (i ∷ joined_from j js) (joined_from (extended i j) js)
+    if_case (λ is. length is + first_ends is ≤ length (j ∷ js) + 1 + first_ends (i ∷ [])) (is_gap i j) (i ∷ joined_from j js) (joined_from (extended i j) js)
     (λ e. let h = (length_from j js).1 in omega arith)
     (λ e. let h = tests_from (extended i j) js in let k = ends_few (extended i j ∷ []) in omega arith)
 
@@ -234,8 +240,7 @@ joined_few (i ∷ is) l = let h = length_from i is in let a = h.0 in let b = h.1
 pub joined_points : (is : List Interval) → 1 ≤ length is → Points is → max 1 (length (joined_all is)) + first_ends (joined_all is) ≤ length is
 joined_points [] l h = absurd (omega arith)
 joined_points (i ∷ is) l h =
-    let same : (i.low == i.high) ≡ true = (let e = h.0 in grind (arith, nat_tests)) in
-    let none : ends i ≡ 0 = ap (λ b. if b then 0 else 1) same in
+    let none = one_point i h.0 in
     let few = tests_from i is in
     let some = (length_from i is).0 in
     omega arith

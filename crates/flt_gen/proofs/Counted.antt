@@ -1,62 +1,51 @@
 -- The counts of the table's formulas are at most those of the tree.
+use Rattle.flt_gen.proofs.Ascending.{Ready, Searches}
 use Rattle.flt_gen.proofs.Common.{◌≡◌, ℕ, ◌+◌, ◌-◌, ◌≤◌, max, min, List, [], ◌∷◌, length, Option, Some, None, refl, arith, Protocol, Source, Destination, And, Or, ValueType, Host, Net, Port, PortRange, Proto, Direction, Value, Link, FrameKind, Elementary, Sides, One, Between, ip_transport, ip6_transport, Formula, Single, Both, Either, Split, Sought, all_of, sides, Numbers, no_numbers, after, any_proto, mac_tests, check_formula, cast_formula, proto_formula, hosts_of_kind, hosts_formula, net_formula, net_test, ip6_formula, ether_host, port_formula, port_test, port_sides, transport, value_formula, sought_tests, tests, nodes, words}
 use Rattle.flt_words.specs.declared.token.Protocol.TheVariants as protocol
-use Rattle.flt_words.specs.declared.token.Cast.{Cast}
-use Rattle.flt_words.specs.declared.token.Cast.TheVariants.{Broadcast, Multicast}
+use Rattle.flt_words.specs.declared.token.Cast.{Cast, TheVariants.Broadcast, TheVariants.Multicast}
 use Rattle.flt_ast.specs.declared.qualifiers.Direction.TheVariants as direction
 use Rattle.flt_ast.specs.declared.value.Value.TheVariants as value
 use Rattle.flt_ast.specs.Counts as count
 use Rattle.flt_gen.specs.declared.elementary.FrameKind.TheVariants as kind
-use Rattle.flt_gen.specs.declared.address.Hosts.{Hosts}
-use Rattle.flt_gen.specs.declared.address.Hosts.TheVariants as hosts
-use Rattle.flt_gen.specs.declared.address.NetTest.{NetTest}
-use Rattle.flt_gen.specs.declared.port.PortTest.{PortTest}
-use Rattle.flt_gen.proofs.Ascending.{Ready, Searches}
+use Rattle.flt_gen.specs.declared.{address.Hosts.Hosts, address.NetTest.NetTest, port.PortTest.PortTest}
 
--- a formula without comparisons, with at most n tests, in which all numbers that are searched
--- ascend
-pub record Bare (f : Formula) (n : ℕ) : Type 0 where
-  pub no_nodes : nodes f ≡ 0
-  pub no_words : words f ≡ 0
+-- a formula with s nodes of arithmetic, w words of memory and at most n tests, in which all numbers
+-- that are searched ascend
+pub record Sized (f : Formula) (s w n : ℕ) : Type 0 where
+  pub nodes_are : nodes f ≡ s
+  pub words_are : words f ≡ w
   pub searches : Searches f
-  pub few : tests f ≤ n
+  pub tests_fit : tests f ≤ n
 
-pub bare_within : {f : Formula} {m : ℕ} (n : ℕ) → m ≤ n → Bare f m → Bare f n
-bare_within n l h = record { no_nodes = h.no_nodes; no_words = h.no_words; searches = h.searches; few = omega (arith, h.few) }
+-- one without comparisons
+abbrev pub Bare : Formula → ℕ → Type 0
+Bare f n = Sized f 0 0 n
+
+pub bare_within : {f : Formula} {s w m : ℕ} (n : ℕ) → m ≤ n → Sized f s w m → Sized f s w n
+bare_within n l h = record { nodes_are = h.nodes_are; words_are = h.words_are; searches = h.searches; tests_fit = omega arith }
 
 pub bare_one : (t : Elementary) → Bare (Single t) 1
-bare_one t = record { no_nodes = refl; no_words = refl; searches = tt; few = omega arith }
+bare_one t = record { nodes_are = refl; words_are = refl; searches = tt; tests_fit = omega arith }
 
 -- a test of which there may be more
 pub bare_some : {t : Elementary} (n : ℕ) → 1 ≤ n → Bare (Single t) n
 bare_some {t = t} n l = bare_within n l (bare_one t)
 
-pub bare_both : {a b : Formula} {m n : ℕ} → Bare a m → Bare b n → Bare (Both a b) (m + n)
-bare_both h k = record {
-  no_nodes = omega (arith, h.no_nodes, k.no_nodes);
-  no_words = omega (arith, h.no_words, k.no_words);
-  searches = (h.searches, k.searches);
-  few = omega (arith, h.few, k.few);
-}
+pub bare_both : {a b : Formula} {s w m r v n : ℕ} → Sized a s w m → Sized b r v n → Sized (Both a b) (s + r) (max w v) (m + n)
+bare_both h k = record { nodes_are = omega arith; words_are = omega arith; searches = (h.searches, k.searches); tests_fit = omega arith }
 
-pub bare_either : {a b : Formula} {m n : ℕ} → Bare a m → Bare b n → Bare (Either a b) (m + n)
-bare_either h k = record {
-  no_nodes = omega (arith, h.no_nodes, k.no_nodes);
-  no_words = omega (arith, h.no_words, k.no_words);
-  searches = (h.searches, k.searches);
-  few = omega (arith, h.few, k.few);
-}
+pub bare_either : {a b : Formula} {s w m r v n : ℕ} → Sized a s w m → Sized b r v n → Sized (Either a b) (s + r) (max w v) (m + n)
+bare_either h k = let b = bare_both h k in record { nodes_are = b.nodes_are; words_are = b.words_are; searches = b.searches; tests_fit = b.tests_fit }
+
+-- one without comparisons after another
+pub bare_else : {a b : Formula} {s w m n : ℕ} → Sized a s w m → Bare b n → Sized (Either a b) s w (m + n)
+bare_else h k = record { nodes_are = omega arith; words_are = omega arith; searches = (h.searches, k.searches); tests_fit = omega arith }
 
 pub bare_split : {t : Elementary} {a b : Formula} {m n : ℕ} → Bare a m → Bare b n → Bare (Split t a b) (1 + (m + n))
-bare_split h k = record {
-  no_nodes = omega (arith, h.no_nodes, k.no_nodes);
-  no_words = omega (arith, h.no_words, k.no_words);
-  searches = (h.searches, k.searches);
-  few = omega (arith, h.few, k.few);
-}
+bare_split h k = record { nodes_are = omega arith; words_are = omega arith; searches = (h.searches, k.searches); tests_fit = omega arith }
 
-pub bare_after : {t : Elementary} {a : Formula} {n : ℕ} → Bare a n → Bare (after t a) (1 + n)
-bare_after {t = t} h = bare_both (bare_one t) h
+pub bare_after : {t : Elementary} {a : Formula} {s w n : ℕ} → Sized a s w n → Sized (after t a) s w (1 + n)
+bare_after h = record { nodes_are = omega arith; words_are = omega arith; searches = (tt, h.searches); tests_fit = omega arith }
 
 bare_pair : {t u : Elementary} → Bare (Both (Single t) (Single u)) 2
 bare_pair {t = t} {u = u} = bare_after (bare_one u)
@@ -74,7 +63,7 @@ bare_sides (direction.Both And) s t n l m some = bare_both (bare_all s n l some)
 
 -- numbers that are looked for
 pub bare_sought : (d : Direction) (at : Sides) (numbers : Numbers) → Ready at numbers → Bare (Sought d at numbers) (sought_tests d numbers)
-bare_sought d at numbers r = record { no_nodes = refl; no_words = refl; searches = r; few = omega arith }
+bare_sought d at numbers r = record { nodes_are = refl; words_are = refl; searches = r; tests_fit = omega arith }
 
 -- protocols and Ethernet addresses
 bare_proto : (link : Link) (n : ℕ) → Bare (any_proto link n) 4
@@ -125,7 +114,7 @@ ip4_are (Some p) d = refl
 pub bare_net : (link : Link) (p : Option Protocol) (net : NetTest) → Bare (net_formula link p net) (count.ip4_tests p net.direction)
 bare_net link p net =
     let e = ip4_are p net.direction in
-    bare_within _ (omega arith) (bare_hosts link p (hosts.Net net) no_numbers _ (omega arith) (λ k. bare_after (bare_sides net.direction _ _ 1 (omega arith) (omega arith) (omega arith))))
+    bare_within _ (omega arith) (bare_hosts link p (Hosts.Net net) no_numbers _ (omega arith) (λ k. bare_after (bare_sides net.direction _ _ 1 (omega arith) (omega arith) (omega arith))))
 
 bare_ip6 : (link : Link) (d : Direction) (prefix : Option ℕ) (a : ℕ) → Bare (ip6_formula link d prefix a) (count.ip6_test_count d)
 bare_ip6 link d prefix a = bare_after (bare_sides d _ _ 4 (omega arith) (omega arith) (omega arith))
@@ -149,27 +138,15 @@ bare_range : (link : Link) (p : Option Protocol) (d : Direction) (a b : ℕ) →
 bare_range link p d a b = bare_ports link (port_test p d (Between a b)) no_numbers _ (bare_sides d _ _ 2 (omega arith) (omega arith) (omega arith)) (bare_sides d _ _ 2 (omega arith) (omega arith) (omega arith))
 
 -- values
-some_ip4 : (p : Option Protocol) (d : Direction) → 1 ≤ count.ip4_tests p d
-some_ip4 None d = omega arith
-some_ip4 (Some p) d = omega arith
-
-some_proto : (p : Option Protocol) → 1 ≤ count.proto_tests p
-some_proto None = omega arith
-some_proto (Some p) = omega arith
-
 pub bare_value : (link : Link) (k : ValueType) (p : Option Protocol) (d : Direction) (v : Value) → Bare (value_formula link k p d v) (count.typed_tests k p d v)
 bare_value link Host p d (value.Dotted a m) = bare_net link p (net_test d None a.address)
 bare_value link Host p d (value.Ip6 a n) = bare_ip6 link d None a
 bare_value link Host p d (value.Mac a) = bare_ether link d a
-bare_value link Host p d _ = bare_some _ (some_ip4 p d)
 bare_value link Net p d (value.Number n m) = bare_net link p (net_test d _ _)
 bare_value link Net p d (value.Dotted a m) = bare_net link p (net_test d _ _)
 bare_value link Net p d (value.Ip6 a n) = bare_ip6 link d n a
-bare_value link Net p d (value.Mac a) = bare_some _ (omega arith)
-bare_value link Net p d (value.Range a b) = bare_some _ (some_ip4 p d)
 bare_value link Port p d (value.Number n m) = bare_port link p d n
-bare_value link Port p d _ = bare_some _ (omega arith)
 bare_value link PortRange p d (value.Range a b) = bare_range link p d (min a b) (max a b)
-bare_value link PortRange p d _ = bare_some _ (omega arith)
 bare_value link Proto p d (value.Number n m) = bare_proto_value link p n
-bare_value link Proto p d _ = bare_some _ (some_proto p)
+bare_value link _ None d _ = bare_some _ (omega arith)
+bare_value link _ _ d _ = bare_some _ (omega arith)

@@ -1,21 +1,18 @@
 -- Decision trees of cases: they read as one case after the other, and have few tests.
-use Rattle.flt_gen.proofs.Common.{◌≡◌, ℕ, zero, suc, ◌+◌, ◌-◌, ◌*◌, ◌^◌, ◌<◌, ◌≤◌, List, [], ◌∷◌, ◌++◌, length, map, take, drop, Bool, true, false, Option, Some, None, refl, sym, ap, ap₂, ◌∙◌, subst, arith, ◌==◌, ◌&&◌, nat_lt, nat_le, bit_and, nat_tests, and_parts, pow_pos, and_le_r, Direction, Link, first_bits, Word, HalfWord, Byte, Width, Offset, Fixed, Equal, Elementary, Outcome, Field, MatchResult, Yes, No, Rejected, reading_of, with, field_at, under_mask, compares, elementary_reads, network_offset, Formula, both, either, all_of, reads, partial_mask}
-use Rattle.std.specs.Prelude.{slice_get}
-use Rattle.flt_gen.specs.Formula.{choose, Split}
-use Rattle.std.specs.List.{list_all, insert}
-use Rattle.std.proofs.lemmas.List.{take-append-drop, length-take-le, length-append}
-use Rattle.std.proofs.lemmas.Nat.{and-not, and_comm}
-use Rattle.flt_gen.specs.declared.elementary.FieldTest.{FieldTest}
-use Rattle.flt_gen.specs.declared.cases.Case.{Case}
-use Rattle.flt_gen.specs.declared.cases.Case.TheVariants.{Mac, Ip6, IpProto, Ip6Proto}
-use Rattle.flt_gen.specs.declared.cases.Bound.{Bound}
-use Rattle.flt_gen.specs.declared.cases.Bound.TheVariants.{Below, From, Exactly}
-use Rattle.flt_gen.specs.inside.Cases.{same_words, case_frame, mac_place, ip6_place, case_tests, word_test, lowest, reach, is_whole, keeps, all_keep, chain, test_at, from_test, middle, is_parted, same_word, decided, decision, FEW_CASES}
-use Rattle.flt_gen.proofs.Ascending.{if_case}
+use Rattle.flt_gen.proofs.Ascending.{if_case, each_is}
+use Rattle.flt_gen.proofs.Common.{◌≡◌, ℕ, zero, suc, ◌+◌, ◌-◌, ◌*◌, ◌^◌, ◌<◌, ◌≤◌, List, [], ◌∷◌, ◌++◌, length, map, take, drop, Bool, true, false, Option, Some, None, refl, sym, ap, ap₂, ◌∙◌, subst, arith, add-one, ◌==◌, ◌&&◌, nat_lt, nat_le, bit_and, nat_tests, and_parts, pow_pos, and_le_r, Direction, Link, first_bits, Word, HalfWord, Byte, Width, Offset, Fixed, Equal, Elementary, Field, MatchResult, Yes, No, Rejected, reading_of, with, field_at, under_mask, compares, elementary_reads, network_offset, Formula, both, either, all_of, reads, partial_mask}
 use Rattle.flt_gen.proofs.Counted.{Bare, bare_within, bare_all, bare_one, bare_some, bare_both, bare_either, bare_split}
 use Rattle.flt_gen.proofs.Decision.{decision_none, decision_next}
-use Rattle.flt_gen.proofs.Needed.{all_put}
-use Rattle.flt_gen.proofs.Together.{word_small}
+use Rattle.flt_gen.proofs.Exclusive.{both_either, or_no, either_assoc, and_yes}
+use Rattle.flt_gen.proofs.{Needed.all_put, Together.word_small}
+use Rattle.std.specs.{List.list_all, List.insert, Prelude.slice_get}
+use Rattle.flt_gen.specs.Formula.{choose, Split}
+use Rattle.flt_gen.specs.declared.cases.Bound.{Bound, TheVariants.Below, TheVariants.From, TheVariants.Exactly}
+use Rattle.flt_gen.specs.declared.cases.Case.{Case}
+use Rattle.flt_gen.specs.declared.cases.Case.TheVariants.{Mac, Ip6, IpProto, Ip6Proto}
+use Rattle.flt_gen.specs.declared.elementary.FieldTest.{FieldTest}
+use Rattle.flt_gen.specs.inside.Cases.{same_words, case_frame, mac_place, ip6_place, case_tests, word_test, lowest, is_whole, keeps, all_keep, chain, test_at, from_test, middle, is_parted, same_word, decided, decision, FEW_CASES}
+use Rattle.std.proofs.lemmas.{List.length-map, List.map-append, List.take-append-drop, List.length-drop, List.length-append, Nat.and-not, Nat.and_comm}
 
 -- ---- which words cases have
 
@@ -60,44 +57,39 @@ some_fields link d (Mac a) = omega arith
 some_fields link d (Ip6 n a) = omega arith
 some_fields link d _ = omega arith
 
-pub fields_alike : (link : Link) (d : Direction) (a b : Case) → same_words a b ≡ true → fields_of link d b ≡ fields_of link d a
-fields_alike link d (Mac a) (Mac b) e = refl
-fields_alike link d (Ip6 m a) (Ip6 n b) e = refl
-fields_alike link d (IpProto a) (IpProto b) e = refl
-fields_alike link d (Ip6Proto a) (Ip6Proto b) e = refl
-fields_alike link d _ _ e = cc
+pub alike : (link : Link) (d : Direction) (a b : Case) → same_words a b ≡ true → (fields_of link d b ≡ fields_of link d a) × (case_frame b ≡ case_frame a)
+alike link d (Mac a) (Mac b) e = (refl, refl)
+alike link d (Ip6 m a) (Ip6 n b) e = (refl, refl)
+alike link d (IpProto a) (IpProto b) e = (refl, refl)
+alike link d (Ip6Proto a) (Ip6Proto b) e = (refl, refl)
+alike link d _ _ e = cc
 
 -- ---- what is read of words
 
--- a test is no of numbers past its reach, or before its value
-miss_below : (mask : Option ℕ) (v n x : ℕ) → ((m : ℕ) → mask ≡ Some m → (m < 2 ^ 32) × (x < 2 ^ 32)) → v + reach mask < n → n ≤ x → (under_mask mask x == v) ≡ false
-miss_below None v n x small l m = grind (arith, nat_tests)
-miss_below (Some mask) v n x small l m =
+-- a number doesn't keep a bound
+abbrev Past : Bound → ℕ → Type 0
+Past (Below n) x = n ≤ x
+Past (From n) x = x < n
+Past (Exactly n) x = ⊥
+
+-- a test whose numbers keep a bound is no of one that doesn't
+miss : (t : FieldTest) (b : Bound) (mask : Option ℕ) (v x : ℕ) → ((m : ℕ) → mask ≡ Some m → (m < 2 ^ 32) × (x < 2 ^ 32)) → keeps b (Some (Field (record t { mask = mask; value = v }))) ≡ true → Past b x → (under_mask mask x == v) ≡ false
+miss t (Below n) None v x small k l = grind (arith, nat_tests)
+miss t (Below n) (Some mask) v x small k l =
     let s = small mask refl in
+    let under : v + (2 ^ 32 - 1 - mask) < n = grind (arith, nat_tests) in
     let whole = and-not 32 mask x s.0 s.1 in
     let swap = and_comm mask x in
     let rest : bit_and (2 ^ 32 - 1 - mask) x ≤ 2 ^ 32 - 1 - mask = (let c = and_comm (2 ^ 32 - 1 - mask) x in let r = and_le_r x (2 ^ 32 - 1 - mask) in omega arith) in
     let apart : bit_and x mask ≡ v → ⊥ = λ e. omega arith in
     grind (arith, nat_tests)
-
-miss_from : (mask : Option ℕ) (v n x : ℕ) → n ≤ v → x < n → (under_mask mask x == v) ≡ false
-miss_from None v n x l m = grind (arith, nat_tests)
-miss_from (Some mask) v n x l m =
+miss t (From n) None v x small k l = grind (arith, nat_tests)
+miss t (From n) (Some mask) v x small k l =
+    let over : n ≤ v = grind (arith, nat_tests) in
     let few : bit_and x mask ≤ x = (let c = and_comm x mask in let r = and_le_r mask x in omega arith) in
     let apart : bit_and x mask ≡ v → ⊥ = λ e. omega arith in
     grind (arith, nat_tests)
-
-pub both_either : (i a b : MatchResult) → both i (either a b) ≡ either (both i a) (both i b)
-both_either Yes a b = refl
-both_either _ a b = refl
-
-pub or_no : (r : MatchResult) → either r No ≡ r
-or_no Yes = refl
-or_no _ = refl
-
-either_assoc : (a b c : MatchResult) → either (either a b) c ≡ either a (either b c)
-either_assoc Yes b c = refl
-either_assoc _ b c = refl
+miss t (Exactly n) mask v x small k l = absurd l
 
 -- the first test, if there is one, and the tests after it
 abbrev first : List Elementary → Option Elementary
@@ -115,15 +107,12 @@ first_is (t ∷ ts) zero = refl
 first_is (t ∷ ts) (suc w) = first_is ts w
 
 rest_is : (ts : List Elementary) (w : ℕ) → drop (w + 1) ts ≡ rest (drop w ts)
-rest_is [] zero = refl
-rest_is [] (suc w) = none (suc w + 1)
+rest_is ts w = ap (λ k. drop k ts) (add-one w) ∙ next ts w
   where
-    none : (n : ℕ) → drop {A = Elementary} n [] ≡ []
-    none zero = refl
-    none (suc n) = refl
-rest_is (t ∷ []) zero = refl
-rest_is (t ∷ u ∷ ts) zero = refl
-rest_is (t ∷ ts) (suc w) = (let next : suc w + 1 ≡ suc (w + 1) = omega arith in ap (λ k. drop k (t ∷ ts)) next) ∙ rest_is ts w
+    next : (ts : List Elementary) (w : ℕ) → drop (suc w) ts ≡ rest (drop w ts)
+    next (t ∷ ts) (suc w) = next ts w
+    next [] zero = refl
+    next _ _ = refl
 
 abbrev pub rows : (Case → List Elementary) → ℕ → List Case → List (List Elementary)
 rows by w cs = map (λ (c : Case). drop w (by c)) cs
@@ -141,9 +130,8 @@ rows_rest by w (c ∷ cs) = ap₂ (λ x xs. x ∷ xs) (rest_is (by c) w) (rows_r
 
 shapes_rest : (f : Offset × Width) (fs : List (Offset × Width)) (rs : List (List Elementary)) → Shapes (f ∷ fs) rs → Shapes fs (map rest rs)
 shapes_rest f fs [] h = tt
-shapes_rest f fs ([] ∷ rs) h = absurd h.0
 shapes_rest f fs ((Field t ∷ ts) ∷ rs) h = ((h.0).4, shapes_rest f fs rs h.1)
-shapes_rest f fs ((Outcome b ∷ ts) ∷ rs) h = absurd h.0
+shapes_rest f fs (_ ∷ rs) h = absurd h.0
 
 shapes_take : (fs : List (Offset × Width)) (by : Case → List Elementary) (w at : ℕ) (cs : List Case) → Shapes fs (rows by w cs) → Shapes fs (rows by w (take at cs))
 shapes_take fs by w (suc at) (c ∷ cs) h = (h.0, shapes_take fs by w at cs h.1)
@@ -154,18 +142,27 @@ shapes_drop fs by w zero cs h = h
 shapes_drop fs by w (suc at) [] h = tt
 shapes_drop fs by w (suc at) (c ∷ cs) h = shapes_drop fs by w at cs h.1
 
-some_taken : (by : Case → List Elementary) (w at : ℕ) (c : Case) (cs : List Case) → 0 < at → 0 < length (rows by w (take at (c ∷ cs)))
-some_taken by w zero c cs l = absurd (omega arith)
-some_taken by w (suc at) c cs l = omega arith
-
 rows_parts : (by : Case → List Elementary) (w at : ℕ) (cs : List Case) → rows by w (take at cs) ++ rows by w (drop at cs) ≡ rows by w cs
-rows_parts by w zero cs = refl
-rows_parts by w (suc at) [] = refl
-rows_parts by w (suc at) (c ∷ cs) = ap (λ rs. drop w (by c) ∷ rs) (rows_parts by w at cs)
+rows_parts by w at cs = sym (map-append (λ (c : Case). drop w (by c)) (take at cs) (drop at cs)) ∙ ap (rows by w) (take-append-drop at cs)
 
-and_yes : (r : MatchResult) → both r Yes ≡ r
-and_yes Yes = refl
-and_yes _ = refl
+shape_length : (fs : List (Offset × Width)) (r : List Elementary) → Shape fs r → length r ≡ length fs
+shape_length [] [] h = refl
+shape_length (f ∷ fs) (Field t ∷ ts) h = ap suc (shape_length fs ts h.4)
+shape_length _ _ h = absurd h
+
+-- how many tests rows have
+abbrev pub sizes : List (List Elementary) → ℕ
+sizes [] = 0
+sizes (r ∷ rs) = length r + sizes rs
+
+sizes_append : (rs ss : List (List Elementary)) → sizes (rs ++ ss) ≡ sizes rs + sizes ss
+sizes_append [] ss = omega arith
+sizes_append (r ∷ rs) ss = let h = sizes_append rs ss in omega arith
+
+sizes_rest : (f : Offset × Width) (fs : List (Offset × Width)) (rs : List (List Elementary)) → Shapes (f ∷ fs) rs → sizes rs ≡ length rs + sizes (map rest rs)
+sizes_rest f fs [] h = omega arith
+sizes_rest f fs ((Field t ∷ ts) ∷ rs) h = let more = sizes_rest f fs rs h.1 in omega arith
+sizes_rest f fs (_ ∷ rs) h = absurd h.0
 
 module _ (link : Link) (p : List ℕ) (n : ℕ) where
   abbrev told : List Elementary → MatchResult
@@ -174,11 +171,6 @@ module _ (link : Link) (p : List ℕ) (n : ℕ) where
   abbrev pub read_all : List (List Elementary) → MatchResult
   read_all [] = No
   read_all (r ∷ rs) = either (told r) (read_all rs)
-
-  pub chain_read : (by : Case → List Elementary) (w : ℕ) (cs : List Case) → reads link (chain by w cs) p n ≡ read_all (rows by w cs)
-  chain_read by w [] = refl
-  chain_read by w (c ∷ []) = sym (or_no (told (drop w (by c))))
-  chain_read by w (c ∷ d ∷ cs) = ap (λ r. either (told (drop w (by c))) r) (chain_read by w (d ∷ cs))
 
   read_append : (rs ss : List (List Elementary)) → read_all (rs ++ ss) ≡ either (read_all rs) (read_all ss)
   read_append [] ss = refl
@@ -198,43 +190,26 @@ module _ (link : Link) (p : List ℕ) (n : ℕ) where
 
   small_word : (f : Offset × Width) (mask : Option ℕ) (x : ℕ) → Masked f mask → field_at f.0 f.1 p ≡ Some x → (m : ℕ) → mask ≡ Some m → (m < 2 ^ 32) × (x < 2 ^ 32)
   small_word f None x h e m is = cc
-  small_word f (Some k) x h e m is = (subst (λ z. z < 2 ^ 32) (some_is k m is) h.0, word_small p (h.2).0 x (ap₂ (λ o w. field_at o w p) (sym (h.2).1) (sym h.1) ∙ e))
-    where
-      some_is : (a b : ℕ) → Some a ≡ Some b → a ≡ b
-      some_is a b g = cc
+  small_word f (Some k) x h e m is = (each_is (Some k) (λ z. z < 2 ^ 32) m h.0 is, word_small p (h.2).0 x (ap₂ (λ o w. field_at o w p) (sym (h.2).1) (sym h.1) ∙ e))
 
   missed : (f : Offset × Width) (mask : Option ℕ) (v x : ℕ) (r : MatchResult) → field_at f.0 f.1 p ≡ Some x → (under_mask mask x == v) ≡ false → both (by_field f mask v) r ≡ No
   missed f mask v x r e miss = ap (λ o. both (reading_of (with o (λ y. Some (under_mask mask y == v)))) r) e ∙ ap (λ b. both (reading_of (Some b)) r) miss
 
-  none_below : (f : Offset × Width) (fs : List (Offset × Width)) (k x : ℕ) (rs : List (List Elementary)) → Shapes (f ∷ fs) rs → all_rows (Below k) rs ≡ true → field_at f.0 f.1 p ≡ Some x → k ≤ x → read_all rs ≡ No
-  none_below f fs k x [] h a e l = refl
-  none_below f fs k x ([] ∷ rs) h a e l = absurd h.0
-  none_below f fs k x ((Outcome b ∷ ts) ∷ rs) h a e l = absurd h.0
-  none_below f fs k x ((Field t ∷ ts) ∷ rs) h a e l =
-      let b = and_parts (nat_lt (t.value + reach t.mask) k) (all_rows (Below k) rs) a in
-      let under : t.value + reach t.mask < k = (let u = b.0 in grind (arith, nat_tests)) in
+  none_past : (f : Offset × Width) (fs : List (Offset × Width)) (b : Bound) (x : ℕ) (rs : List (List Elementary)) → Shapes (f ∷ fs) rs → all_rows b rs ≡ true → field_at f.0 f.1 p ≡ Some x → Past b x → read_all rs ≡ No
+  none_past f fs b x [] h a e l = refl
+  none_past f fs b x ((Field t ∷ ts) ∷ rs) h a e l =
+      let k = and_parts (keeps b (Some (Field t))) (all_rows b rs) a in
       ap₂ either
-      (test_read f fs t ts h.0 ∙ missed f t.mask t.value x (told ts) e (miss_below t.mask t.value k x (small_word f t.mask x (h.0).3 e) under l))
-      (none_below f fs k x rs h.1 b.1 e l)
-
-  none_from : (f : Offset × Width) (fs : List (Offset × Width)) (k x : ℕ) (rs : List (List Elementary)) → Shapes (f ∷ fs) rs → all_rows (From k) rs ≡ true → field_at f.0 f.1 p ≡ Some x → x < k → read_all rs ≡ No
-  none_from f fs k x [] h a e l = refl
-  none_from f fs k x ([] ∷ rs) h a e l = absurd h.0
-  none_from f fs k x ((Outcome b ∷ ts) ∷ rs) h a e l = absurd h.0
-  none_from f fs k x ((Field t ∷ ts) ∷ rs) h a e l =
-      let b = and_parts (nat_le k t.value) (all_rows (From k) rs) a in
-      let over : k ≤ t.value = (let u = b.0 in grind (arith, nat_tests)) in
-      ap₂ either
-      (test_read f fs t ts h.0 ∙ missed f t.mask t.value x (told ts) e (miss_from t.mask t.value k x over l))
-      (none_from f fs k x rs h.1 b.1 e l)
+      (test_read f fs t ts h.0 ∙ missed f t.mask t.value x (told ts) e (miss t b t.mask t.value x (small_word f t.mask x (h.0).3 e) k.0 l))
+      (none_past f fs b x rs h.1 k.1 e l)
+  none_past f fs b x (_ ∷ rs) h a e l = absurd h.0
 
   -- the first word isn't captured
   none_there : (f : Offset × Width) (fs : List (Offset × Width)) (rs : List (List Elementary)) → Shapes (f ∷ fs) rs → 0 < length rs → field_at f.0 f.1 p ≡ None → read_all rs ≡ Rejected
   none_there f fs [] h some e = absurd (omega arith)
-  none_there f fs ([] ∷ rs) h some e = absurd h.0
-  none_there f fs ((Outcome b ∷ ts) ∷ rs) h some e = absurd h.0
   none_there f fs ((Field t ∷ ts) ∷ rs) h some e =
       ap (λ r. either r (read_all rs)) (test_read f fs t ts h.0 ∙ ap (λ o. both (reading_of (with o (λ y. Some (under_mask t.mask y == t.value)))) (told ts)) e)
+  none_there f fs (_ ∷ rs) h some e = absurd h.0
 
   -- by a test of the first word that parts those that keep two bounds
   halves_read : (f : Offset × Width) (fs : List (Offset × Width)) (k : ℕ) (lower upper : List (List Elementary)) → Shapes (f ∷ fs) lower → Shapes (f ∷ fs) upper → all_rows (Below k) lower ≡ true → all_rows (From k) upper ≡ true → 0 < length lower
@@ -242,8 +217,8 @@ module _ (link : Link) (p : List ℕ) (n : ℕ) where
   halves_read f fs k lower upper g h a b some = by (field_at f.0 f.1 p) refl
     where
       half : (x : ℕ) → field_at f.0 f.1 p ≡ Some x → (c : Bool) → nat_le k x ≡ c → choose (reading_of (Some c)) (read_all upper) (read_all lower) ≡ either (read_all lower) (read_all upper)
-      half x e true t = let l : k ≤ x = grind (arith, nat_tests) in ap (λ r. either r (read_all upper)) (sym (none_below f fs k x lower g a e l))
-      half x e false t = let l : x < k = grind (arith, nat_tests) in sym (ap (either (read_all lower)) (none_from f fs k x upper h b e l) ∙ or_no (read_all lower))
+      half x e true t = let l : k ≤ x = grind (arith, nat_tests) in ap (λ r. either r (read_all upper)) (sym (none_past f fs (Below k) x lower g a e l))
+      half x e false t = let l : x < k = grind (arith, nat_tests) in sym (ap (either (read_all lower)) (none_past f fs (From k) x upper h b e l) ∙ or_no (read_all lower))
 
       by : (o : Option ℕ) → field_at f.0 f.1 p ≡ o → choose (reading_of (with o (λ x. Some (nat_le k x)))) (read_all upper) (read_all lower) ≡ either (read_all lower) (read_all upper)
       by None e = sym (ap (λ r. either r (read_all upper)) (none_there f fs lower g some e))
@@ -256,8 +231,6 @@ module _ (link : Link) (p : List ℕ) (n : ℕ) where
 
   same_read : (f : Offset × Width) (fs : List (Offset × Width)) (k : ℕ) (rs : List (List Elementary)) → Shapes (f ∷ fs) rs → all_rows (Exactly k) rs ≡ true → 0 < length rs → read_all rs ≡ both (by_field f None k) (read_all (map rest rs))
   same_read f fs k [] h a some = absurd (omega arith)
-  same_read f fs k ([] ∷ rs) h a some = absurd h.0
-  same_read f fs k ((Outcome b ∷ ts) ∷ rs) h a some = absurd h.0
   same_read f fs k ((Field t ∷ ts) ∷ rs) h a some =
       let b = and_parts (is_whole t.mask && t.value == k) (all_rows (Exactly k) rs) a in
       ap (λ r. either r (read_all rs)) (test_read f fs t ts h.0 ∙ ap (λ r. both r (told ts)) (one_word f k t.mask t.value b.0)) ∙ others rs (λ l. same_read f fs k rs h.1 b.1 l)
@@ -266,104 +239,28 @@ module _ (link : Link) (p : List ℕ) (n : ℕ) where
       others [] g = or_no _ ∙ ap (both (by_field f None k)) (sym (or_no (told ts)))
       others (q ∷ qs) g = ap (either (both (by_field f None k) (told ts))) (g (omega arith)) ∙ sym (both_either (by_field f None k) (told ts) (read_all (map rest (q ∷ qs))))
 
+  same_read f fs k (_ ∷ rs) h a some = absurd h.0
+
+  first_told : (f : Offset × Width) (fs : List (Offset × Width)) (t : FieldTest) (ts : List Elementary) (rs : List (List Elementary)) → Shape (f ∷ fs) (Field t ∷ ts) → all_rows (Exactly t.value) ((Field t ∷ ts) ∷ rs) ≡ true → elementary_reads (Field t) p ≡ by_field f None t.value
+  first_told f fs t ts rs h a = word_read f t h.0 h.1 h.2 ∙ one_word f t.value t.mask t.value (and_parts (is_whole t.mask && t.value == t.value) (all_rows (Exactly t.value) rs) a).0
+
   all_over : (rs : List (List Elementary)) → Shapes [] rs → 0 < length rs → read_all rs ≡ Yes
   all_over [] h some = absurd (omega arith)
   all_over ([] ∷ rs) h some = refl
   all_over ((t ∷ ts) ∷ rs) h some = absurd h.0
 
-  -- a decision whose parts read as one after the other
-  abbrev Reads : (Case → List Elementary) → ℕ → (ℕ → List Case → Formula) → Type 0
-  Reads by w next = (v : ℕ) (fs : List (Offset × Width)) (cs : List Case) → Shapes fs (rows by v cs) → reads link (next v cs) p n ≡ read_all (rows by v cs)
-
-  same_is : (by : Case → List Elementary) (w : ℕ) (next : ℕ → List Case → Formula) → Reads by w next → (fs : List (Offset × Width)) (c : Case) (cs : List Case) → Shapes fs (rows by w (c ∷ cs)) → all_keep by w (Exactly (lowest (word_test by w c))) (c ∷ cs) ≡ true
-      → reads link (same_word (word_test by w c) (word_test by (w + 1) c) (next (w + 1) (c ∷ cs))) p n ≡ read_all (rows by w (c ∷ cs))
-  same_is by w next ok fs c cs h a =
-      ap₂ (λ t u. reads link (same_word t u (next (w + 1) (c ∷ cs))) p n) (first_is (by c) w) (first_is (by c) (w + 1) ∙ ap first (rest_is (by c) w))
-      ∙ on fs (drop w (by c)) refl h (ap (λ t. all_rows (Exactly (lowest t)) (rows by w (c ∷ cs))) (sym (first_is (by c) w)) ∙ sym (kept_rows by w (Exactly (lowest (word_test by w c))) (c ∷ cs)) ∙ a)
-    where
-      on : (fs : List (Offset × Width)) (r : List Elementary) → drop w (by c) ≡ r → Shapes fs (rows by w (c ∷ cs)) → all_rows (Exactly (lowest (first (drop w (by c))))) (rows by w (c ∷ cs)) ≡ true
-          → reads link (same_word (first (drop w (by c))) (first (rest (drop w (by c)))) (next (w + 1) (c ∷ cs))) p n ≡ read_all (rows by w (c ∷ cs))
-      on fs [] e h a = absurd (let t = ap (λ r. keeps (Exactly (lowest (first r))) (first r) && all_rows (Exactly (lowest (first r))) (rows by w cs)) (sym e) ∙ a in cc)
-      on [] (t ∷ ts) e h a = absurd (subst (Shape []) e h.0)
-      on (f ∷ fs) (Outcome b ∷ ts) e h a = absurd (subst (Shape (f ∷ fs)) e h.0)
-      on (f ∷ fs) (Field t ∷ ts) e h a =
-          let shape = subst (Shape (f ∷ fs)) e h.0 in
-          let kept = ap (λ r. all_rows (Exactly (lowest (first r))) (rows by w (c ∷ cs))) (sym e) ∙ a in
-          let one = and_parts (is_whole t.mask && t.value == t.value) (all_rows (Exactly t.value) (rows by w cs)) (ap (λ r. keeps (Exactly t.value) (first r) && all_rows (Exactly t.value) (rows by w cs)) (sym e) ∙ kept) in
-          ap (λ r. reads link (same_word (first r) (first (rest r)) (next (w + 1) (c ∷ cs))) p n) e
-          ∙ after fs ts shape.4 (shapes_rest f fs (rows by w (c ∷ cs)) h) (word_read f t shape.0 shape.1 shape.2 ∙ one_word f t.value t.mask t.value one.0)
-          ∙ sym (same_read f fs t.value (rows by w (c ∷ cs)) h kept (omega arith))
-        where
-          after : (gs : List (Offset × Width)) (us : List Elementary) → Shape gs us → Shapes gs (map rest (rows by w (c ∷ cs))) → elementary_reads (Field t) p ≡ by_field f None t.value
-              → reads link (same_word (Some (Field t)) (first us) (next (w + 1) (c ∷ cs))) p n ≡ both (by_field f None t.value) (read_all (map rest (rows by w (c ∷ cs))))
-          after [] [] g s i = i ∙ sym (and_yes (by_field f None t.value)) ∙ ap (both (by_field f None t.value)) (sym (all_over (map rest (rows by w (c ∷ cs))) s (omega arith)))
-          after (g ∷ gs) (u ∷ us) k s i =
-              ap₂ both i (ok (w + 1) (g ∷ gs) (c ∷ cs) (subst (Shapes (g ∷ gs)) (sym (rows_rest by w (c ∷ cs))) s) ∙ ap read_all (rows_rest by w (c ∷ cs)))
-          after [] (u ∷ us) k s i = absurd k
-          after (g ∷ gs) [] k s i = absurd k
-
-  parted_is : (by : Case → List Elementary) (w : ℕ) (next : ℕ → List Case → Formula) → Reads by w next → (fs : List (Offset × Width)) (cs : List Case) (at : ℕ) → Shapes fs (rows by w cs) → is_parted by w cs at ≡ true
-      → reads link (Split (from_test (test_at by w cs 0) (lowest (test_at by w cs at))) (next w (drop at cs)) (next w (take at cs))) p n ≡ read_all (rows by w cs)
-  parted_is by w next ok fs [] at h e = absurd (let a = and_parts (nat_lt 0 at) _ e in let b = and_parts (nat_lt at 0) _ a.1 in let t = b.0 in let no : at < 0 = grind (arith, nat_tests) in omega arith)
-  parted_is by w next ok [] (c ∷ cs) zero h e = cc
-  parted_is by w next ok [] (c ∷ cs) (suc at) h e =
-      let b = and_parts (nat_lt (suc at) (length (c ∷ cs))) _ (and_parts (nat_lt 0 (suc at)) _ e).1 in
-      let d = and_parts (all_keep by w (Below (lowest (test_at by w (c ∷ cs) (suc at)))) (take (suc at) (c ∷ cs))) _ b.1 in
-      let k = and_parts (keeps (Below (lowest (test_at by w (c ∷ cs) (suc at)))) (word_test by w c)) _ d.0 in
-      absurd (none (drop w (by c)) (lowest (test_at by w (c ∷ cs) (suc at))) h.0 (ap (keeps (Below (lowest (test_at by w (c ∷ cs) (suc at))))) (sym (first_is (by c) w)) ∙ k.0))
-    where
-      none : (r : List Elementary) (k : ℕ) → Shape [] r → keeps (Below k) (first r) ≡ true → ⊥
-      none [] k h e = cc
-      none (t ∷ ts) k h e = absurd h
-  parted_is by w next ok (f ∷ fs) (c ∷ cs) at h e =
-      let k = lowest (test_at by w (c ∷ cs) at) in
-      let a = and_parts (nat_lt 0 at) _ e in
-      let b = and_parts (nat_lt at (length (c ∷ cs))) _ a.1 in
-      let d = and_parts (all_keep by w (Below k) (take at (c ∷ cs))) (all_keep by w (From k) (drop at (c ∷ cs))) b.1 in
-      let g = shapes_take (f ∷ fs) by w at (c ∷ cs) h in
-      let j = shapes_drop (f ∷ fs) by w at (c ∷ cs) h in
-      ap₂ (choose (elementary_reads (from_test (word_test by w c) k) p)) (ok w (f ∷ fs) (drop at (c ∷ cs)) j) (ok w (f ∷ fs) (take at (c ∷ cs)) g)
-      ∙ ap (λ r. choose r (read_all (rows by w (drop at (c ∷ cs)))) (read_all (rows by w (take at (c ∷ cs))))) (ap (λ t. elementary_reads (from_test t k) p) (first_is (by c) w) ∙ from (drop w (by c)) k h.0)
-      ∙ halves_read f fs k (rows by w (take at (c ∷ cs))) (rows by w (drop at (c ∷ cs))) g j (sym (kept_rows by w (Below k) (take at (c ∷ cs))) ∙ d.0) (sym (kept_rows by w (From k) (drop at (c ∷ cs))) ∙ d.1) (some_taken by w at c cs (let t = a.0 in grind (arith, nat_tests)))
-      ∙ sym (read_append (rows by w (take at (c ∷ cs))) (rows by w (drop at (c ∷ cs))))
-      ∙ ap read_all (rows_parts by w at (c ∷ cs))
-    where
-      from : (r : List Elementary) (k : ℕ) → Shape (f ∷ fs) r → elementary_reads (from_test (first r) k) p ≡ reading_of (with (field_at f.0 f.1 p) (λ x. Some (nat_le k x)))
-      from [] k h = absurd h
-      from (Outcome b ∷ ts) k h = absurd h
-      from (Field t ∷ ts) k h = ap₂ (λ o w. reading_of (with (field_at o w p) (λ x. Some (nat_le k x)))) h.0 h.1
-
-  decided_is : (by : Case → List Elementary) (w : ℕ) (next : ℕ → List Case → Formula) → Reads by w next → (fs : List (Offset × Width)) (cs : List Case) → Shapes fs (rows by w cs) → reads link (decided next by w cs) p n ≡ read_all (rows by w cs)
-  decided_is by w next ok fs cs h =
-      if_case (λ (x : Formula). reads link x p n ≡ read_all (rows by w cs)) (nat_le (length cs) FEW_CASES) _ _ (λ e. chain_read by w cs)
-      (λ e. if_case (λ (x : Formula). reads link x p n ≡ read_all (rows by w cs)) (all_keep by w (Exactly (lowest (test_at by w cs 0))) cs) _ _
-      (λ a. same cs h (let t : FEW_CASES < length cs = grind (arith, nat_tests) in omega arith) a)
-      (λ a. if_case (λ (x : Formula). reads link x p n ≡ read_all (rows by w cs)) (is_parted by w cs (middle by w cs)) _ _ (λ b. parted_is by w next ok fs cs (middle by w cs) h b) (λ b. chain_read by w cs)))
-    where
-      same : (ds : List Case) → Shapes fs (rows by w ds) → 0 < length ds → all_keep by w (Exactly (lowest (test_at by w ds 0))) ds ≡ true → reads link (same_word (test_at by w ds 0) (test_at by (w + 1) ds 0) (next (w + 1) ds)) p n ≡ read_all (rows by w ds)
-      same [] h some a = absurd (omega arith)
-      same (d ∷ ds) h some a = same_is by w next ok fs d ds h a
-
-  pub decision_read : (by : Case → List Elementary) (k w : ℕ) (fs : List (Offset × Width)) (cs : List Case) → Shapes fs (rows by w cs) → reads link (decision k by w cs) p n ≡ read_all (rows by w cs)
-  decision_read by zero w fs cs h = ap (λ (x : Formula). reads link x p n) (decision_none 0 by w cs refl) ∙ chain_read by w cs
-  decision_read by (suc k) w fs cs h =
-      ap (λ (x : Formula). reads link x p n) (decision_next k by w cs)
-      ∙ decided_is by w (decision k by) (λ v gs ds g. decision_read by k v gs ds g) fs cs h
-
   -- ---- cases in another order
 
   swapped : (a b z : MatchResult) → (a ≡ Yes → b ≡ Rejected → ⊥) → (b ≡ Yes → a ≡ Rejected → ⊥) → either a (either b z) ≡ either b (either a z)
-  swapped Yes Yes z h k = refl
-  swapped Yes No z h k = refl
   swapped Yes Rejected z h k = absurd (h refl refl)
-  swapped No b z h k = refl
   swapped Rejected Yes z h k = absurd (k refl refl)
-  swapped Rejected _ z h k = refl
+  swapped _ _ z h k = refl
 
   -- of tests of the same words none is rejected where one is yes
   never_both : (fs : List (Offset × Width)) (r s : List Elementary) → Shape fs r → Shape fs s → told r ≡ Yes → told s ≡ Rejected → ⊥
   never_both [] [] [] h k y j = cc
-  never_both (f ∷ fs) (Field t ∷ ts) (Field u ∷ us) h k y j = by (field_at f.0 f.1 p) (λ y j. never_both fs ts us h.4 k.4 y j) (sym (test_read f fs t ts h) ∙ y) (sym (test_read f fs u us k) ∙ j)
+  never_both [] [] _ h k y j = absurd k
+  never_both (f ∷ fs) (Field t ∷ ts) (Field u ∷ us) h k y j = by (field_at f.0 f.1 p) (never_both fs ts us h.4 k.4) (sym (test_read f fs t ts h) ∙ y) (sym (test_read f fs u us k) ∙ j)
     where
       by : (o : Option ℕ) → (told ts ≡ Yes → told us ≡ Rejected → ⊥) → both (reading_of (with o (λ x. Some (under_mask t.mask x == t.value)))) (told ts) ≡ Yes → both (reading_of (with o (λ x. Some (under_mask u.mask x == u.value)))) (told us) ≡ Rejected → ⊥
       by None later y j = cc
@@ -371,14 +268,9 @@ module _ (link : Link) (p : List ℕ) (n : ℕ) where
         where
           hit : (b c : Bool) → both (reading_of (Some b)) (told ts) ≡ Yes → both (reading_of (Some c)) (told us) ≡ Rejected → ⊥
           hit true true y j = later y j
-          hit false c y j = cc
-          hit b false y j = cc
-  never_both (f ∷ fs) [] s h k y j = absurd h
-  never_both (f ∷ fs) (Outcome b ∷ ts) s h k y j = absurd h
-  never_both (f ∷ fs) r [] h k y j = absurd k
-  never_both (f ∷ fs) r (Outcome b ∷ us) h k y j = absurd k
-  never_both [] (t ∷ ts) s h k y j = absurd h
-  never_both [] r (u ∷ us) h k y j = absurd k
+          hit _ _ y j = cc
+  never_both (f ∷ fs) (Field t ∷ ts) _ h k y j = absurd k
+  never_both _ _ _ h k y j = absurd h
 
   pub read_inserted : (fs : List (Offset × Width)) (r : List Elementary) (rs ss : List (List Elementary)) → Shape fs r → Shapes fs rs → read_all (rs ++ r ∷ ss) ≡ either (told r) (read_all (rs ++ ss))
   read_inserted fs r [] ss h k = refl
@@ -386,99 +278,88 @@ module _ (link : Link) (p : List ℕ) (n : ℕ) where
       ap (either (told q)) (read_inserted fs r rs ss h k.1)
       ∙ swapped (told q) (told r) (read_all (rs ++ ss)) (never_both fs q r k.0 h) (never_both fs r q h k.0)
 
--- ---- few tests
+-- ---- decisions
 
-abbrev pub sizes : (Case → List Elementary) → ℕ → List Case → ℕ
-sizes by w [] = 0
-sizes by w (c ∷ cs) = length (drop w (by c)) + sizes by w cs
+module _ (link : Link) where
+  -- a formula reads as rows do, one after the other, and has few tests
+  abbrev Good : List (Offset × Width) → List (List Elementary) → Formula → Type 0
+  Good fs rs f = ((p : List ℕ) (n : ℕ) → reads link f p n ≡ read_all link p n rs) × (0 < length fs → 0 < length rs → Bare f (sizes rs + (length rs - 1)))
 
-sizes_parts : (by : Case → List Elementary) (w at : ℕ) (cs : List Case) → sizes by w (take at cs) + sizes by w (drop at cs) ≡ sizes by w cs
-sizes_parts by w zero cs = omega arith
-sizes_parts by w (suc at) [] = refl
-sizes_parts by w (suc at) (c ∷ cs) = let h = sizes_parts by w at cs in omega arith
+  row_bare : (fs : List (Offset × Width)) (r : List Elementary) → Shape fs r → 0 < length fs → Bare (all_of r) (length r)
+  row_bare fs r h some = let e = shape_length fs r h in bare_all r (length r) (omega arith) (omega arith)
 
-shape_length : (fs : List (Offset × Width)) (r : List Elementary) → Shape fs r → length r ≡ length fs
-shape_length [] [] h = refl
-shape_length (f ∷ fs) (Field t ∷ ts) h = ap suc (shape_length fs ts h.4)
-shape_length (f ∷ fs) (Outcome b ∷ ts) h = absurd h
-shape_length (f ∷ fs) [] h = absurd h
-shape_length [] (t ∷ ts) h = absurd h
+  chain_good : (by : Case → List Elementary) (w : ℕ) (fs : List (Offset × Width)) (cs : List Case) → Shapes fs (rows by w cs) → Good fs (rows by w cs) (chain by w cs)
+  chain_good by w fs [] h = (λ p n. refl, λ some l. absurd (omega arith))
+  chain_good by w fs (c ∷ []) h = (λ p n. sym (or_no _), λ some l. bare_within _ (omega arith) (row_bare fs (drop w (by c)) h.0 some))
+  chain_good by w fs (c ∷ d ∷ cs) h =
+      let more = chain_good by w fs (d ∷ cs) h.1 in
+      (λ p n. ap (either (reads link (all_of (drop w (by c))) p n)) (more.0 p n), λ some l. bare_within _ (omega arith) (bare_either (row_bare fs (drop w (by c)) h.0 some) (more.1 some (omega arith))))
 
-sizes_rest : (f : Offset × Width) (fs : List (Offset × Width)) (by : Case → List Elementary) (w : ℕ) (cs : List Case) → Shapes (f ∷ fs) (rows by w cs) → sizes by w cs ≡ length cs + sizes by (w + 1) cs
-sizes_rest f fs by w [] h = refl
-sizes_rest f fs by w (c ∷ cs) h =
-    let more = sizes_rest f fs by w cs h.1 in
-    let one = one_less (drop w (by c)) (shape_length (f ∷ fs) (drop w (by c)) h.0) in
-    let next = ap length (rest_is (by c) w) in
-    omega arith
-  where
-    one_less : (r : List Elementary) → length r ≡ length (f ∷ fs) → length r ≡ 1 + length (rest r)
-    one_less [] e = absurd (omega arith)
-    one_less (t ∷ ts) e = omega arith
+  same_good : (next : Formula) (fs : List (Offset × Width)) (r : List Elementary) (rs : List (List Elementary)) → Shapes fs (r ∷ rs) → all_rows (Exactly (lowest (first r))) (r ∷ rs) ≡ true → ((gs : List (Offset × Width)) → Shapes gs (map rest (r ∷ rs)) → Good gs (map rest (r ∷ rs)) next) → Good fs (r ∷ rs) (same_word (first r) (first (rest r)) next)
+  same_good next fs [] rs h a ok = cc
+  same_good next (f ∷ []) (Field t ∷ []) rs h a ok = (
+    λ p n. first_told link p n f [] t [] rs h.0 a ∙ sym (and_yes _)
+        ∙ ap (both (by_field link p n f None t.value)) (sym (all_over link p n (map rest ((Field t ∷ []) ∷ rs)) (shapes_rest f [] ((Field t ∷ []) ∷ rs) h) (omega arith)))
+        ∙ sym (same_read link p n f [] t.value ((Field t ∷ []) ∷ rs) h a (omega arith)),
+    λ some l. bare_some _ (omega arith),
+  )
+  same_good next (f ∷ fs) (Field t ∷ u ∷ us) rs h a ok =
+      let more = ok fs (shapes_rest f fs ((Field t ∷ u ∷ us) ∷ rs) h) in
+      let long = shape_length fs (u ∷ us) (h.0).4 in
+      let sum = sizes_rest f fs ((Field t ∷ u ∷ us) ∷ rs) h in
+      let same = length-map rs rest in (
+        λ p n. ap₂ both (first_told link p n f fs t (u ∷ us) rs h.0 a) (more.0 p n) ∙ sym (same_read link p n f fs t.value ((Field t ∷ u ∷ us) ∷ rs) h a (omega arith)),
+        λ some l. bare_within _ (omega arith) (bare_both (bare_one (Field t)) (more.1 (omega arith) (omega arith))),
+      )
+  same_good next (f ∷ fs) (Field t ∷ []) rs h a ok = absurd (h.0).4
+  same_good next _ _ rs h a ok = absurd h.0
 
-chain_bare : (by : Case → List Elementary) (w : ℕ) (fs : List (Offset × Width)) (cs : List Case) → Shapes fs (rows by w cs) → 0 < length fs → 0 < length cs → Bare (chain by w cs) (sizes by w cs)
-chain_bare by w fs [] h some l = absurd (omega arith)
-chain_bare by w fs (c ∷ []) h some l =
-    let e = shape_length fs (drop w (by c)) h.0 in
-    bare_within _ (omega arith) (bare_all (drop w (by c)) (length (drop w (by c))) (omega arith) (omega arith))
-chain_bare by w fs (c ∷ d ∷ cs) h some l =
-    let e = shape_length fs (drop w (by c)) h.0 in
-    bare_either (bare_all (drop w (by c)) (length (drop w (by c))) (omega arith) (omega arith)) (chain_bare by w fs (d ∷ cs) h.1 some (omega arith))
+  parted_good : (fs : List (Offset × Width)) (k : ℕ) (r : List Elementary) (lower upper : List (List Elementary)) (low high : Formula) → Shapes fs (r ∷ lower) → Shapes fs upper → all_rows (Below k) (r ∷ lower) ≡ true → all_rows (From k) upper ≡ true → Good fs (r ∷ lower) low → Good fs upper high → 0 < length upper → Good fs (r ∷ lower ++ upper) (Split (from_test (first r) k) high low)
+  parted_good fs k [] lower upper low high g h a b l m some = cc
+  parted_good (f ∷ fs) k (Field t ∷ ts) lower upper low high g h a b l m some =
+      let sum = sizes_append lower upper in
+      let long = length-append lower upper in (
+        λ p n. ap₂ (choose _) (m.0 p n) (l.0 p n)
+            ∙ ap₂ (λ o w. choose (reading_of (with (field_at o w p) (λ x. Some (nat_le k x)))) (read_all link p n upper) (read_all link p n ((Field t ∷ ts) ∷ lower))) (g.0).0 (g.0).1
+            ∙ halves_read link p n f fs k ((Field t ∷ ts) ∷ lower) upper g h a b (omega arith)
+            ∙ sym (read_append link p n ((Field t ∷ ts) ∷ lower) upper),
+        λ words z. bare_within _ (omega arith) (bare_split (m.1 words some) (l.1 words (omega arith))),
+      )
+  parted_good _ k _ lower upper low high g h a b l m some = absurd g.0
 
-abbrev Few : (Case → List Elementary) → (ℕ → List Case → Formula) → Type 0
-Few by next = (w : ℕ) (fs : List (Offset × Width)) (cs : List Case) → Shapes fs (rows by w cs) → 0 < length fs → 0 < length cs → Bare (next w cs) (sizes by w cs + (length cs - 1))
+  decided_good : (by : Case → List Elementary) (next : ℕ → List Case → Formula) → ((w : ℕ) (fs : List (Offset × Width)) (cs : List Case) → Shapes fs (rows by w cs) → Good fs (rows by w cs) (next w cs)) → (w : ℕ) (fs : List (Offset × Width)) (cs : List Case) → Shapes fs (rows by w cs) → Good fs (rows by w cs) (decided next by w cs)
+  decided_good by next ok w fs cs h =
+      if_case (Good fs (rows by w cs)) (nat_le (length cs) FEW_CASES) _ _ (λ e. chain_good by w fs cs h)
+      (λ e. if_case (Good fs (rows by w cs)) (all_keep by w (Exactly (lowest (test_at by w cs 0))) cs) _ _
+      (λ a. same cs h (let t : FEW_CASES < length cs = grind (arith, nat_tests) in omega arith) a)
+      (λ a. if_case (Good fs (rows by w cs)) (is_parted by w cs (middle by w cs)) _ _ (λ b. parts cs (middle by w cs) h b) (λ b. chain_good by w fs cs h)))
+    where
+      same : (ds : List Case) → Shapes fs (rows by w ds) → 0 < length ds → all_keep by w (Exactly (lowest (test_at by w ds 0))) ds ≡ true → Good fs (rows by w ds) (same_word (test_at by w ds 0) (test_at by (w + 1) ds 0) (next (w + 1) ds))
+      same [] h some a = absurd (omega arith)
+      same (d ∷ ds) h some a =
+          subst (Good fs (rows by w (d ∷ ds))) (ap₂ (λ t u. same_word t u (next (w + 1) (d ∷ ds))) (sym (first_is (by d) w)) (sym (first_is (by d) (w + 1) ∙ ap first (rest_is (by d) w))))
+          (same_good (next (w + 1) (d ∷ ds)) fs (drop w (by d)) (rows by w ds) h
+          (ap (λ t. all_rows (Exactly (lowest t)) (rows by w (d ∷ ds))) (sym (first_is (by d) w)) ∙ sym (kept_rows by w (Exactly (lowest (word_test by w d))) (d ∷ ds)) ∙ a)
+          (λ gs g. let same = rows_rest by w (d ∷ ds) in subst (λ rs. Good gs rs (next (w + 1) (d ∷ ds))) same (ok (w + 1) gs (d ∷ ds) (subst (Shapes gs) (sym same) g))))
 
-same_bare : (by : Case → List Elementary) (w : ℕ) (next : ℕ → List Case → Formula) → Few by next → (fs : List (Offset × Width)) (c : Case) (cs : List Case) → Shapes fs (rows by w (c ∷ cs)) → 0 < length fs → Bare (same_word (word_test by w c) (word_test by (w + 1) c) (next (w + 1) (c ∷ cs))) (sizes by w (c ∷ cs) + (length (c ∷ cs) - 1))
-same_bare by w next ok [] c cs h some = absurd (omega arith)
-same_bare by w next ok (f ∷ fs) c cs h some = on (word_test by w c) (word_test by (w + 1) c) (first_is (by c) (w + 1) ∙ ap first (rest_is (by c) w))
-  where
-    all : sizes by w (c ∷ cs) ≡ length (c ∷ cs) + sizes by (w + 1) (c ∷ cs)
-    all = sizes_rest f fs by w (c ∷ cs) h
+      parts : (ds : List Case) (at : ℕ) → Shapes fs (rows by w ds) → is_parted by w ds at ≡ true → Good fs (rows by w ds) (Split (from_test (test_at by w ds 0) (lowest (test_at by w ds at))) (next w (drop at ds)) (next w (take at ds)))
+      parts [] at h e = absurd (let a = and_parts (nat_lt 0 at) _ e in let b = and_parts (nat_lt at 0) _ a.1 in let t = b.0 in let no : at < 0 = grind (arith, nat_tests) in omega arith)
+      parts (d ∷ ds) zero h e = cc
+      parts (d ∷ ds) (suc at) h e =
+          let k = lowest (test_at by w (d ∷ ds) (suc at)) in
+          let b = and_parts (nat_lt (suc at) (length (d ∷ ds))) _ (and_parts (nat_lt 0 (suc at)) _ e).1 in
+          let c = and_parts (all_keep by w (Below k) (d ∷ take at ds)) (all_keep by w (From k) (drop at ds)) b.1 in
+          let low = shapes_take fs by w (suc at) (d ∷ ds) h in
+          let high = shapes_drop fs by w at ds h.1 in
+          let some : suc at < length (d ∷ ds) = (let t = b.0 in grind (arith, nat_tests)) in
+          subst (λ rs. Good fs rs (Split (from_test (word_test by w d) k) (next w (drop at ds)) (next w (d ∷ take at ds)))) (rows_parts by w (suc at) (d ∷ ds))
+          (subst (λ t. Good fs (rows by w (d ∷ take at ds) ++ rows by w (drop at ds)) (Split (from_test t k) (next w (drop at ds)) (next w (d ∷ take at ds)))) (sym (first_is (by d) w))
+          (parted_good fs k (drop w (by d)) (rows by w (take at ds)) (rows by w (drop at ds)) (next w (d ∷ take at ds)) (next w (drop at ds)) low high (sym (kept_rows by w (Below k) (d ∷ take at ds)) ∙ c.0) (sym (kept_rows by w (From k) (drop at ds)) ∙ c.1)
+          (ok w fs (d ∷ take at ds) low) (ok w fs (drop at ds) high) (omega (arith, length-map (drop at ds) (λ (c : Case). drop w (by c)), length-drop at ds))))
 
-    left : (r : List Elementary) (u : Elementary) → Shape (f ∷ fs) r → Some u ≡ first (rest r) → 0 < length fs
-    left [] u h e = absurd h
-    left (Outcome b ∷ ts) u h e = absurd h
-    left (Field t ∷ []) u h e = cc
-    left (Field t ∷ v ∷ ts) u h e = let l = shape_length (f ∷ fs) (Field t ∷ v ∷ ts) h in omega arith
-
-    on : (t u : Option Elementary) → u ≡ first (rest (drop w (by c))) → Bare (same_word t u (next (w + 1) (c ∷ cs))) (sizes by w (c ∷ cs) + (length (c ∷ cs) - 1))
-    on None u e = bare_some _ (let a = all in omega arith)
-    on (Some t) None e = bare_some _ (let a = all in omega arith)
-    on (Some t) (Some u) e =
-        bare_within _ (let a = all in omega arith)
-        (bare_both (bare_one t) (ok (w + 1) fs (c ∷ cs) (subst (Shapes fs) (sym (rows_rest by w (c ∷ cs))) (shapes_rest f fs (rows by w (c ∷ cs)) h)) (left (drop w (by c)) u h.0 e) (omega arith)))
-
-decided_bare : (by : Case → List Elementary) (next : ℕ → List Case → Formula) → Few by next → Few by (decided next by)
-decided_bare by next ok w fs cs h some l =
-    if_case (λ (x : Formula). Bare x (sizes by w cs + (length cs - 1))) (nat_le (length cs) FEW_CASES) _ _ (λ e. one_by_one)
-    (λ e. if_case (λ (x : Formula). Bare x (sizes by w cs + (length cs - 1))) (all_keep by w (Exactly (lowest (test_at by w cs 0))) cs) _ _
-    (λ a. same cs h l)
-    (λ a. if_case (λ (x : Formula). Bare x (sizes by w cs + (length cs - 1))) (is_parted by w cs (middle by w cs)) _ _ (λ b. parts (middle by w cs) b) (λ b. one_by_one)))
-  where
-    one_by_one : Bare (chain by w cs) (sizes by w cs + (length cs - 1))
-    one_by_one = bare_within _ (omega arith) (chain_bare by w fs cs h some l)
-
-    same : (ds : List Case) → Shapes fs (rows by w ds) → 0 < length ds → Bare (same_word (test_at by w ds 0) (test_at by (w + 1) ds 0) (next (w + 1) ds)) (sizes by w ds + (length ds - 1))
-    same [] h l = absurd (omega arith)
-    same (d ∷ ds) h l = same_bare by w next ok fs d ds h some
-
-    parts : (at : ℕ) → is_parted by w cs at ≡ true → Bare (Split (from_test (test_at by w cs 0) (lowest (test_at by w cs at))) (next w (drop at cs)) (next w (take at cs))) (sizes by w cs + (length cs - 1))
-    parts at e =
-        let a = and_parts (nat_lt 0 at) _ e in
-        let b = and_parts (nat_lt at (length cs)) _ a.1 in
-        let some_low : 0 < at = (let t = a.0 in grind (arith, nat_tests)) in
-        let some_high : at < length cs = (let t = b.0 in grind (arith, nat_tests)) in
-        let low : length (take at cs) ≡ at = length-take-le at cs (omega arith) in
-        let both_long : length (take at cs) + length (drop at cs) ≡ length cs = sym (length-append (take at cs) (drop at cs)) ∙ ap length (take-append-drop at cs) in
-        let sum = sizes_parts by w at cs in
-        bare_within _ (omega arith)
-        (bare_split (ok w fs (drop at cs) (shapes_drop fs by w at cs h) some (omega arith)) (ok w fs (take at cs) (shapes_take fs by w at cs h) some (omega arith)))
-
-pub decision_bare : (by : Case → List Elementary) (k : ℕ) → Few by (decision k by)
-decision_bare by zero w fs cs h some l =
-    subst (λ (x : Formula). Bare x (sizes by w cs + (length cs - 1))) (sym (decision_none 0 by w cs refl)) (bare_within _ (omega arith) (chain_bare by w fs cs h some l))
-decision_bare by (suc k) w fs cs h some l =
-    subst (λ (x : Formula). Bare x (sizes by w cs + (length cs - 1))) (sym (decision_next k by w cs)) (decided_bare by (decision k by) (decision_bare by k) w fs cs h some l)
+  pub decision_good : (by : Case → List Elementary) (k w : ℕ) (fs : List (Offset × Width)) (cs : List Case) → Shapes fs (rows by w cs) → Good fs (rows by w cs) (decision k by w cs)
+  decision_good by zero w fs cs h = subst (Good fs (rows by w cs)) (sym (decision_none 0 by w cs refl)) (chain_good by w fs cs h)
+  decision_good by (suc k) w fs cs h = subst (Good fs (rows by w cs)) (sym (decision_next k by w cs)) (decided_good by (decision k by) (decision_good by k) w fs cs h)
 
 -- ---- cases that have the words of one
 
@@ -488,14 +369,7 @@ Likes k (c ∷ cs) = (same_words k c ≡ true) × Likes k cs
 
 pub shapes_of : (link : Link) (d : Direction) (k : Case) (cs : List Case) → Likes k cs → Shapes (fields_of link d k) (rows (case_tests link d) 0 cs)
 shapes_of link d k [] h = tt
-shapes_of link d k (c ∷ cs) h = (subst (λ fs. Shape fs (case_tests link d c)) (fields_alike link d k c h.0) (shape_of link d c), shapes_of link d k cs h.1)
-
-pub frame_alike : (a b : Case) → same_words a b ≡ true → case_frame b ≡ case_frame a
-frame_alike (Mac a) (Mac b) e = refl
-frame_alike (Ip6 m a) (Ip6 n b) e = refl
-frame_alike (IpProto a) (IpProto b) e = refl
-frame_alike (Ip6Proto a) (Ip6Proto b) e = refl
-frame_alike _ _ e = cc
+shapes_of link d k (c ∷ cs) h = (subst (λ fs. Shape fs (case_tests link d c)) (alike link d k c h.0).0 (shape_of link d c), shapes_of link d k cs h.1)
 
 pub alike_alike : (a b c : Case) → same_words a b ≡ true → same_words b c ≡ true → same_words a c ≡ true
 alike_alike (Mac a) (Mac b) (Mac c) e f = refl
@@ -513,7 +387,7 @@ likes_put k c zero cs e h = (e, h)
 likes_put k c (suc i) [] e h = (e, tt)
 likes_put k c (suc i) (d ∷ ds) e h = (h.0, likes_put k c i ds e h.1)
 
-pub sizes_put : (by : Case → List Elementary) (c : Case) (i : ℕ) (cs : List Case) → sizes by 0 (insert cs i c) ≡ length (by c) + sizes by 0 cs
+pub sizes_put : (by : Case → List Elementary) (c : Case) (i : ℕ) (cs : List Case) → sizes (rows by 0 (insert cs i c)) ≡ length (by c) + sizes (rows by 0 cs)
 sizes_put by c zero cs = refl
 sizes_put by c (suc i) [] = refl
 sizes_put by c (suc i) (d ∷ ds) = let h = sizes_put by c i ds in omega arith
@@ -523,12 +397,8 @@ length_put c zero cs = omega arith
 length_put c (suc i) [] = refl
 length_put c (suc i) (d ∷ ds) = let h = length_put c i ds in omega arith
 
-rows_append : (by : Case → List Elementary) (w : ℕ) (cs ds : List Case) → rows by w (cs ++ ds) ≡ rows by w cs ++ rows by w ds
-rows_append by w [] ds = refl
-rows_append by w (c ∷ cs) ds = ap (λ rs. drop w (by c) ∷ rs) (rows_append by w cs ds)
-
 pub read_put : (link : Link) (p : List ℕ) (n : ℕ) (by : Case → List Elementary) (fs : List (Offset × Width)) (c : Case) (i : ℕ) (cs : List Case) → Shape fs (by c) → Shapes fs (rows by 0 cs) → read_all link p n (rows by 0 (insert cs i c)) ≡ either (reads link (all_of (by c)) p n) (read_all link p n (rows by 0 cs))
 read_put link p n by fs c i cs h k =
-    ap (read_all link p n) (rows_append by 0 (take i cs) (c ∷ drop i cs))
+    ap (read_all link p n) (map-append (λ (c : Case). drop 0 (by c)) (take i cs) (c ∷ drop i cs))
     ∙ read_inserted link p n fs (by c) (rows by 0 (take i cs)) (rows by 0 (drop i cs)) h (shapes_take fs by 0 i cs k)
     ∙ ap (λ rs. either (reads link (all_of (by c)) p n) (read_all link p n rs)) (rows_parts by 0 i cs)

@@ -1,22 +1,18 @@
 -- A decision tree, unfolded once, and the tests of a case from a word on.
 use Rattle.std.proofs.Common.{◌≡◌, ℕ, zero, suc, ◌+◌, ◌-◌, ◌<◌, List, [], ◌∷◌, drop, take, get_or, length, Bool, true, false, Option, Some, None, refl, ap, ap₂, ◌∙◌, sym, subst, arith, nat_le, ◌≤◌, ◌⊎◌, inl, inr}
-use Rattle.std.specs.Prelude.{slice_get, is_none, if◌then◌else◌}
 use Rattle.std.proofs.lemmas.Bool.Decides.{nat_tests}
-use Rattle.std.specs.Prelude.{Result}
+use Rattle.std.specs.Prelude.{slice_get, is_none, if◌then◌else◌, Result}
 use Rattle.std.specs.declared.alloc.AllocError.{AllocError}
-use Rattle.flt_gen.specs.inside.Emits.{Emits}
+use Rattle.flt_gen.specs.Elementary.{kind_test}
+use Rattle.flt_gen.specs.Formula.{Formula, Single, Both, Split, all_of}
+use Rattle.flt_gen.specs.{Primitives.after, declared.cases.Bound.TheVariants.Exactly, declared.cases.Case.Case}
+use Rattle.flt_gen.specs.declared.elementary.Elementary.{Elementary, TheVariants.Outcome}
+use Rattle.flt_gen.specs.inside.Cases.{case_frame, case_tests, cases_formula, MOST_DECISIONS, chain, decided, decision, all_keep, is_parted, middle, test_at, lowest, from_test, same_word, FEW_CASES}
+use Rattle.flt_gen.specs.inside.{Code.Block, Code.emit_all, Code.emit_elementary, Code.emit_formula, Emits.Emits}
+use Rattle.flt_gen.proofs.Ascending.{if_case}
 use Rattle.flt_bpf.specs.declared.insn.Insn.{Insn}
 use Rattle.flt_ast.specs.declared.qualifiers.Direction.{Direction}
-use Rattle.flt_gen.specs.Elementary.{kind_test}
-use Rattle.flt_gen.specs.Primitives.{after}
 use Rattle.cap_octet.specs.declared.link.Link.{Link}
-use Rattle.flt_gen.specs.inside.Code.{Block, emit_all, emit_elementary, emit_formula}
-use Rattle.flt_gen.specs.declared.cases.Case.{Case}
-use Rattle.flt_gen.specs.declared.elementary.Elementary.{Elementary}
-use Rattle.flt_gen.specs.declared.elementary.Elementary.TheVariants.{Outcome}
-use Rattle.flt_gen.specs.Formula.{Formula, Single, Both, Split, all_of}
-use Rattle.flt_gen.specs.declared.cases.Bound.TheVariants.{Exactly}
-use Rattle.flt_gen.specs.inside.Cases.{case_frame, case_tests, cases_formula, MOST_DECISIONS, chain, decided, decision, all_keep, is_parted, middle, test_at, lowest, from_test, same_word, FEW_CASES}
 
 pub decision_none : (k : ℕ) (tests : Case → List Elementary) (word : ℕ) (cs : List Case) → k ≡ 0 → decision k tests word cs ≡ chain tests word cs
 unfolding decision
@@ -31,20 +27,11 @@ decision_put zero tests word cs l = absurd (omega arith)
 decision_put (suc k) tests word cs l = decision_next k tests word cs ∙ ap (λ j. decided (decision j tests) tests word cs) (let e : k ≡ suc k - 1 = omega arith in e)
 
 pub decision_chain : (k : ℕ) (tests : Case → List Elementary) (word : ℕ) (cs : List Case) → (k ≡ 0) ⊎ (length cs ≤ FEW_CASES) → decision k tests word cs ≡ chain tests word cs
+unfolding decision
 decision_chain k tests word cs (inl e) = decision_none k tests word cs e
-decision_chain zero tests word cs (inr l) = decision_none 0 tests word cs refl
+decision_chain zero tests word cs (inr l) = refl
 decision_chain (suc k) tests word cs (inr l) =
-    decision_put (suc k) tests word cs (omega arith)
-    ∙ (let few : nat_le (length cs) FEW_CASES ≡ true = grind (arith, nat_tests) in
-    ap (λ b. if b then chain tests word cs else rest (decision (suc k - 1) tests)) few)
-  where
-    rest : (ℕ → List Case → Formula) → Formula
-    rest next =
-        if all_keep tests word (Exactly (lowest (test_at tests word cs 0))) cs
-        then same_word (test_at tests word cs 0) (test_at tests (word + 1) cs 0) (next (word + 1) cs) else
-        (if is_parted tests word cs (middle tests word cs)
-        then Split (from_test (test_at tests word cs 0) (lowest (test_at tests word cs (middle tests word cs)))) (next word (drop (middle tests word cs) cs)) (next word (take (middle tests word cs) cs))
-        else chain tests word cs)
+    if_case (λ (f : Formula). f ≡ chain tests word cs) (nat_le (length cs) FEW_CASES) _ _ (λ e. refl) (λ e. absurd (let no : FEW_CASES < length cs = grind (arith, nat_tests) in omega arith))
 
 -- the code of tests, of which all hold
 pub all_emitted : (link : Link) (ts : List Elementary) (hit miss : ℕ) (c : List Insn) → emit_formula link (all_of ts) hit miss c ≡ emit_all ts hit miss c
@@ -71,17 +58,12 @@ cases_put link d (c ∷ cs) other l = refl
 pub tests_from : (ts : List Elementary) (word : ℕ) (t : Elementary) → slice_get ts word ≡ Some t → drop word ts ≡ t ∷ drop (word + 1) ts
 tests_from [] zero t e = cc
 tests_from [] (suc word) t e = cc
-tests_from (u ∷ ts) zero t e = ap (λ (x : Elementary). x ∷ ts) (some_is u t e)
-  where
-    some_is : (a b : Elementary) → Some a ≡ Some b → a ≡ b
-    some_is a b g = cc
+tests_from (u ∷ ts) zero t e = (let same : u ≡ t = cc in ap (λ (x : Elementary). x ∷ ts) same)
 tests_from (u ∷ ts) (suc word) t e = (let next : suc word + 1 ≡ suc (word + 1) = omega arith in tests_from ts word t e ∙ ap (λ k. t ∷ drop k (u ∷ ts)) (sym next))
 
-pub none_from : (ts : List Elementary) (word : ℕ) → slice_get ts word ≡ None → drop word ts ≡ []
-none_from [] zero e = refl
-none_from [] (suc word) e = refl
-none_from (u ∷ ts) zero e = cc
-none_from (u ∷ ts) (suc word) e = none_from ts word e
+word_put : (o : Elementary) (u : Option Elementary) (f : Formula) → (if is_none u then Single o else Both (Single o) f) ≡ same_word (Some o) u f
+word_put o None f = refl
+word_put o (Some u) f = refl
 
 -- the parts of a decision
 module _ (k : ℕ) (by : Case → List Elementary) (w : ℕ) (cs : List Case) (some : 0 < k) (many : FEW_CASES < length cs) where
@@ -110,18 +92,10 @@ module _ (k : ℕ) (by : Case → List Elementary) (w : ℕ) (cs : List Case) (s
   decision_untold e a = same_put None e a
 
   pub decision_last : (o : Elementary) → Some o ≡ t → is_none (test_at by (w + 1) cs 0) ≡ true → true ≡ all_keep by w (Exactly (lowest (Some o))) cs → Single o ≡ decision k by w cs
-  decision_last o e n a = last (test_at by (w + 1) cs 0) n ∙ same_put (Some o) e a
-    where
-      last : (u : Option Elementary) → is_none u ≡ true → Single o ≡ same_word (Some o) u (next (w + 1) cs)
-      last None n = refl
-      last (Some u) n = cc
+  decision_last o e n a = ap (λ b. if b then Single o else Both (Single o) (next (w + 1) cs)) (sym n) ∙ word_put o (test_at by (w + 1) cs 0) (next (w + 1) cs) ∙ same_put (Some o) e a
 
   pub decision_both : (o : Elementary) → Some o ≡ t → is_none (test_at by (w + 1) cs 0) ≡ false → true ≡ all_keep by w (Exactly (lowest (Some o))) cs → Both (Single o) (next (w + 1) cs) ≡ decision k by w cs
-  decision_both o e n a = more (test_at by (w + 1) cs 0) n ∙ same_put (Some o) e a
-    where
-      more : (u : Option Elementary) → is_none u ≡ false → Both (Single o) (next (w + 1) cs) ≡ same_word (Some o) u (next (w + 1) cs)
-      more None n = cc
-      more (Some u) n = refl
+  decision_both o e n a = ap (λ b. if b then Single o else Both (Single o) (next (w + 1) cs)) (sym n) ∙ word_put o (test_at by (w + 1) cs 0) (next (w + 1) cs) ∙ same_put (Some o) e a
 
   pub decision_halves : (o : Option Elementary) (at : ℕ) (b : Bool) → o ≡ t → at ≡ middle by w cs → false ≡ all_keep by w (Exactly (lowest o)) cs → b ≡ is_parted by w cs at → (if b then Split (from_test o (lowest (test_at by w cs at))) (next w (drop at cs)) (next w (take at cs)) else chain by w cs) ≡ decision k by w cs
   decision_halves o at b e f a g =

@@ -1,6 +1,23 @@
 -- A frame is of one kind at most.
-use Rattle.flt_gen.proofs.Common.{◌≡◌, ℕ, List, Bool, true, false, Option, Some, None, refl, ap, ◌∙◌, arith, ◌==◌, nat_tests, HalfWord, Byte, field, Elementary, Yes, No, reading_of, with, under_mask, elementary_reads, type_test}
+use Rattle.flt_gen.proofs.Common.{◌≡◌, ℕ, List, Bool, true, false, Option, Some, None, refl, ap, ◌∙◌, arith, ◌==◌, nat_tests, HalfWord, Byte, field, Elementary, Yes, No, reading_of, with, under_mask, elementary_reads, type_test, MatchResult, both, either}
 use Rattle.flt_gen.specs.declared.elementary.FrameKind.TheVariants.{Ip, Ip6, Arp, Rarp}
+
+-- readings after readings
+pub both_either : (i a b : MatchResult) → both i (either a b) ≡ either (both i a) (both i b)
+both_either Yes a b = refl
+both_either _ a b = refl
+
+pub or_no : (r : MatchResult) → either r No ≡ r
+or_no Yes = refl
+or_no _ = refl
+
+pub either_assoc : (a b c : MatchResult) → either (either a b) c ≡ either a (either b c)
+either_assoc Yes b c = refl
+either_assoc _ b c = refl
+
+pub and_yes : (r : MatchResult) → both r Yes ≡ r
+and_yes Yes = refl
+and_yes _ = refl
 
 pub is_yes : (b : Bool) → reading_of (Some b) ≡ Yes → b ≡ true
 is_yes true e = refl
@@ -20,18 +37,6 @@ module _ (p : List ℕ) where
   Excludes t u = elementary_reads t p ≡ Yes → elementary_reads u p ≡ No
 
   -- by the place of the type in the link header
-  pub ip_no_ip6 : (place : Option ℕ) → Excludes (type_test place Ip) (type_test place Ip6)
-  ip_no_ip6 None = other_value (field p 0 Byte) (Some 0xf0) 0x40 0x60 refl
-  ip_no_ip6 (Some at) = other_value (field p at HalfWord) None 0x0800 0x86dd refl
-
-  pub ip_no_arp : (place : Option ℕ) → Excludes (type_test place Ip) (type_test place Arp)
-  ip_no_arp None = λ e. refl
-  ip_no_arp (Some at) = other_value (field p at HalfWord) None 0x0800 0x0806 refl
-
-  pub ip_no_rarp : (place : Option ℕ) → Excludes (type_test place Ip) (type_test place Rarp)
-  ip_no_rarp None = λ e. refl
-  ip_no_rarp (Some at) = other_value (field p at HalfWord) None 0x0800 0x8035 refl
-
-  pub arp_no_rarp : (place : Option ℕ) → Excludes (type_test place Arp) (type_test place Rarp)
-  arp_no_rarp None = λ e. refl
-  arp_no_rarp (Some at) = other_value (field p at HalfWord) None 0x0806 0x8035 refl
+  pub kinds_exclude : (place : Option ℕ) → Excludes (type_test place Ip) (type_test place Ip6) × Excludes (type_test place Ip) (type_test place Arp) × Excludes (type_test place Ip) (type_test place Rarp) × Excludes (type_test place Arp) (type_test place Rarp)
+  kinds_exclude None = (other_value (field p 0 Byte) (Some 0xf0) 0x40 0x60 refl, λ e. refl, λ e. refl, λ e. refl)
+  kinds_exclude (Some at) = (other_value (field p at HalfWord) None 0x0800 0x86dd refl, other_value (field p at HalfWord) None 0x0800 0x0806 refl, other_value (field p at HalfWord) None 0x0800 0x8035 refl, other_value (field p at HalfWord) None 0x0806 0x8035 refl)

@@ -1,8 +1,8 @@
 -- A mask of 128 bits, by the four words in which it stands.
+use Rattle.flt_gen.proofs.Ascending.{if_case}
 use Rattle.flt_gen.proofs.Common.{◌≡◌, ℕ, ◌+◌, ◌-◌, ◌*◌, ◌^◌, ◌≤◌, [], ◌∷◌, map, refl, ap, ◌∙◌, arith, Option, None, Some, ⊎_elim, cases_lt, pow-add, first_bits, ip6_mask, word_mask, ◌==◌, unwrap_or, nat_tests, partial_mask, ip6_tests}
 use Rattle.std.proofs.Math.Pow.{pow_mono}
 use Rattle.std.specs.Int.Digits.{number_from_digits}
-use Rattle.flt_gen.proofs.Ascending.{if_case}
 
 -- each word lacks a power of 2, the whole word where it has no bit of the mask; so does the mask
 joins : (a b c d q : ℕ) → a ≤ 2 ^ 32 → b ≤ 2 ^ 32 → c ≤ 2 ^ 32 → d ≤ 2 ^ 32 → q + 2 ^ 96 + 2 ^ 64 + 2 ^ 32 ≡ a * 2 ^ 96 + b * 2 ^ 64 + c * 2 ^ 32 + d

@@ -1,13 +1,13 @@
 -- Words of IPv6 addresses of which no bit counts: the formula reads the same, and has no more
 -- tests.
-use Rattle.flt_gen.proofs.Common.{◌≡◌, ℕ, ◌+◌, ◌-◌, ◌*◌, ◌/◌, ◌%◌, ◌^◌, ◌≤◌, List, [], ◌∷◌, length, Bool, true, false, Option, Some, None, refl, sym, ap, ◌∙◌, arith, ◌==◌, ◌&&◌, nat_le, if◌then◌else◌, bit_and, nat_tests, and_parts, Source, Destination, And, Or, Protocol, ValueType, Net, Direction, Value, first_bits, Word, big_endian_at, field, Link, Fixed, Elementary, MatchResult, Yes, reading_of, with, under_mask, kind_test, elementary_reads, network_offset, both, either, all_of, sides, reads, partial_mask, address_test, ip6_test, ip6_tests, ip6_formula, value_formula, is_empty, is_idle, capture_test, last_test, needed_tests, ip6_needed, value_needed}
+use Rattle.flt_gen.proofs.Ascending.{if_case}
+use Rattle.flt_gen.proofs.Common.{◌≡◌, ℕ, suc, ◌+◌, ◌-◌, ◌*◌, ◌/◌, ◌%◌, ◌^◌, ◌≤◌, List, [], ◌∷◌, length, Bool, true, false, Option, Some, None, refl, sym, ap, ap₂, ◌∙◌, arith, ◌==◌, ◌&&◌, nat_le, if◌then◌else◌, bit_and, nat_tests, and_parts, Source, Destination, And, Or, Protocol, ValueType, Net, Direction, Value, first_bits, Word, big_endian_at, field, Link, Fixed, Elementary, MatchResult, reading_of, with, under_mask, kind_test, elementary_reads, network_offset, both, either, all_of, sides, reads, partial_mask, address_test, ip6_tests, ip6_formula, value_formula, is_empty, is_idle, capture_test, last_test, needed_tests, ip6_needed, value_needed}
+use Rattle.flt_gen.proofs.{Counted.Bare, Counted.bare_after, Counted.bare_sides, Counted.bare_value, Exclusive.and_yes}
 use Rattle.std.specs.Int.Bits.{and_zero_r}
 use Rattle.flt_ast.specs.declared.qualifiers.Direction.TheVariants as direction
 use Rattle.flt_ast.specs.declared.value.Value.TheVariants as value
 use Rattle.flt_ast.specs.Counts as count
-use Rattle.flt_gen.specs.declared.elementary.FrameKind.TheVariants as kind
-use Rattle.flt_gen.proofs.Ascending.{if_case}
-use Rattle.flt_gen.proofs.Counted.{Bare, bare_after, bare_sides, bare_value}
+use Rattle.flt_gen.specs.declared.elementary.FrameKind.{FrameKind}
 
 -- no more tests
 fewer : (ts : List Elementary) → length (needed_tests ts) ≤ length ts
@@ -27,37 +27,17 @@ bare_needed link k p d v = bare_value link k p d v
 idle_holds : (mask : Option ℕ) (a v : ℕ) → (is_empty mask && a == 0) ≡ true → (under_mask mask v == a) ≡ true
 idle_holds None a v e = cc
 idle_holds (Some m) a v e =
-    let b = and_parts (m == 0) (a == 0) e in
-    let no_bits : m ≡ 0 = (let z = b.0 in grind (arith, nat_tests)) in
-    let zero_is : a ≡ 0 = (let z = b.1 in grind (arith, nat_tests)) in
-    let none : bit_and v m ≡ 0 = ap (λ x. bit_and v x) no_bits ∙ and_zero_r v in
-    let same : bit_and v m ≡ a = none ∙ sym zero_is in
-    grind (arith, nat_tests)
+    let no_bits : m ≡ 0 = grind (arith, nat_tests) in
+    let zero_is : a ≡ 0 = grind (arith, nat_tests) in
+    ap₂ (λ y b. bit_and v y == b) no_bits zero_is ∙ ap (λ y. y == 0) (and_zero_r v)
 
-and_yes : (r : MatchResult) → both r Yes ≡ r
-and_yes Yes = refl
-and_yes _ = refl
-
--- tests of words, each after the one before, by masks and values
-abbrev tests_from : ℕ → List (Option ℕ × ℕ) → List Elementary
-tests_from at [] = []
-tests_from at (w ∷ ws) = address_test w.0 w.1 (Fixed at) ∷ tests_from (at + 4) ws
+-- tests of words of a place, each after the one before, by masks and values
+abbrev tests_from : ℕ → ℕ → List (Option ℕ × ℕ) → List Elementary
+tests_from at k [] = []
+tests_from at k (w ∷ ws) = address_test w.0 w.1 (Fixed (at + 4 * k)) ∷ tests_from at (suc k) ws
 
 abbrev word_of : Option ℕ → ℕ → ℕ → Option ℕ × ℕ
 word_of prefix address word = (with prefix (λ bits. partial_mask (first_bits 32 (bits - 32 * word))), address / 2 ^ (96 - 32 * word) % 2 ^ 32)
-
-abbrev four_words : Option ℕ → ℕ → List (Option ℕ × ℕ)
-four_words prefix address = word_of prefix address 0 ∷ word_of prefix address 1 ∷ word_of prefix address 2 ∷ word_of prefix address 3 ∷ []
-
-words_are : (prefix : Option ℕ) (address at : ℕ) → ip6_tests prefix address at ≡ tests_from at (four_words prefix address)
-words_are prefix address at =
-    four _ _ _ _ _ _ _ _ (word_is 0 at (omega arith)) (word_is 1 (at + 4) (omega arith)) (word_is 2 (at + 4 + 4) (omega arith)) (word_is 3 (at + 4 + 4 + 4) (omega arith))
-  where
-    four : (a b c d e f g h : Elementary) → a ≡ e → b ≡ f → c ≡ g → d ≡ h → (a ∷ b ∷ c ∷ d ∷ []) ≡ (e ∷ f ∷ g ∷ h ∷ [])
-    four a b c d e f g h i j k l = cc
-
-    word_is : (word place : ℕ) → at + 4 * word ≡ place → ip6_test prefix address at word ≡ address_test (word_of prefix address word).0 (word_of prefix address word).1 (Fixed place)
-    word_is word place e = ap (λ k. address_test (word_of prefix address word).0 (word_of prefix address word).1 (Fixed k)) e
 
 module _ (link : Link) (p : List ℕ) (n : ℕ) where
   abbrev told : List Elementary → MatchResult
@@ -67,30 +47,22 @@ module _ (link : Link) (p : List ℕ) (n : ℕ) where
   all_put t [] = sym (and_yes (elementary_reads t p))
   all_put t (u ∷ ts) = refl
 
-  later_none : (at : ℕ) → field p at Word ≡ None → field p (at + 4) Word ≡ None
-  later_none at e =
-      let cut : nat_le (at + 4) (length p) ≡ false = cut_off (nat_le (at + 4) (length p)) _ e in
-      let past : nat_le (at + 4 + 4) (length p) ≡ false = grind (arith, nat_tests) in
-      ap (λ b. if b then Some (big_endian_at p (at + 4) Word) else None) past
-    where
-      cut_off : (b : Bool) (x : ℕ) → (if b then Some x else None) ≡ None → b ≡ false
-      cut_off true x f = cc
-      cut_off false x f = refl
+  later_none : (at k : ℕ) → field p (at + 4 * k) Word ≡ None → field p (at + 4 * suc k) Word ≡ None
+  later_none at k e =
+      if_case (λ o. o ≡ None → field p (at + 4 * suc k) Word ≡ None) (nat_le (at + 4 * k + 4) (length p)) _ _ (λ t f. cc)
+      (λ t f. let past : nat_le (at + 4 * suc k + 4) (length p) ≡ false = grind (arith, nat_tests) in ap (λ b. if b then Some (big_endian_at p (at + 4 * suc k) Word) else None) past) e
 
   -- a test of a word by what is captured there
   abbrev of_word : Option ℕ × ℕ → Option ℕ → MatchResult
   of_word w o = reading_of (with o (λ v. Some (under_mask w.0 v == w.1)))
 
   -- an idle test in front of others decides nothing: where its word isn't captured, the next isn't
-  idle_first : (at : ℕ) (w u : Option ℕ × ℕ) (ws : List (Option ℕ × ℕ)) → (is_empty w.0 && w.1 == 0) ≡ true → both (of_word w (field p at Word)) (told (tests_from (at + 4) (u ∷ ws))) ≡ told (tests_from (at + 4) (u ∷ ws))
-  idle_first at w u ws e = by_field (field p at Word) refl
+  idle_first : (at k : ℕ) (w u : Option ℕ × ℕ) (ws : List (Option ℕ × ℕ)) → (is_empty w.0 && w.1 == 0) ≡ true → both (of_word w (field p (at + 4 * k) Word)) (told (tests_from at (suc k) (u ∷ ws))) ≡ told (tests_from at (suc k) (u ∷ ws))
+  idle_first at k w u ws e = by_field (field p (at + 4 * k) Word) refl
     where
-      later : MatchResult
-      later = told (tests_from (at + 4) (u ∷ ws))
-
-      by_field : (o : Option ℕ) → field p at Word ≡ o → both (of_word w o) later ≡ later
-      by_field None f = sym (all_put _ (tests_from (at + 4 + 4) ws) ∙ ap (λ o. both (of_word u o) (told (tests_from (at + 4 + 4) ws))) (later_none at f))
-      by_field (Some v) f = ap (λ b. both (reading_of (Some b)) later) (idle_holds w.0 w.1 v e)
+      by_field : (o : Option ℕ) → field p (at + 4 * k) Word ≡ o → both (of_word w o) (told (tests_from at (suc k) (u ∷ ws))) ≡ told (tests_from at (suc k) (u ∷ ws))
+      by_field None f = sym (all_put _ (tests_from at (suc (suc k)) ws) ∙ ap (λ o. both (of_word u o) (told (tests_from at (suc (suc k)) ws))) (later_none at k f))
+      by_field (Some v) f = ap (λ b. both (reading_of (Some b)) (told (tests_from at (suc k) (u ∷ ws)))) (idle_holds w.0 w.1 v e)
 
   last_same : (w : Option ℕ × ℕ) (at : ℕ) → elementary_reads (last_test (address_test w.0 w.1 (Fixed at))) p ≡ of_word w (field p at Word)
   last_same w at =
@@ -103,21 +75,19 @@ module _ (link : Link) (p : List ℕ) (n : ℕ) where
           let low : nat_le 0 v ≡ true = grind (arith, nat_tests) in
           ap (λ b. reading_of (Some b)) (low ∙ sym (idle_holds w.0 w.1 v e))
 
-  needed_same : (at : ℕ) (ws : List (Option ℕ × ℕ)) → told (needed_tests (tests_from at ws)) ≡ told (tests_from at ws)
-  needed_same at [] = refl
-  needed_same at (w ∷ []) = last_same w at
-  needed_same at (w ∷ u ∷ ws) =
-      let h = needed_same (at + 4) (u ∷ ws) in
-      let t = address_test w.0 w.1 (Fixed at) in
-      let later = needed_tests (tests_from (at + 4) (u ∷ ws)) in
-      if_case (λ xs. told xs ≡ told (tests_from at (w ∷ u ∷ ws))) (is_idle t) later (t ∷ later)
-      (λ e. h ∙ sym (idle_first at w u ws e))
+  needed_same : (at k : ℕ) (ws : List (Option ℕ × ℕ)) → told (needed_tests (tests_from at k ws)) ≡ told (tests_from at k ws)
+  needed_same at k [] = refl
+  needed_same at k (w ∷ []) = last_same w (at + 4 * k)
+  needed_same at k (w ∷ u ∷ ws) =
+      let h = needed_same at (suc k) (u ∷ ws) in
+      let t = address_test w.0 w.1 (Fixed (at + 4 * k)) in
+      let later = needed_tests (tests_from at (suc k) (u ∷ ws)) in
+      if_case (λ xs. told xs ≡ told (tests_from at k (w ∷ u ∷ ws))) (is_idle t) later (t ∷ later)
+      (λ e. h ∙ sym (idle_first at k w u ws e))
       (λ e. all_put t later ∙ ap (λ r. both (elementary_reads t p) r) h)
 
   word_same : (prefix : Option ℕ) (address at : ℕ) → told (needed_tests (ip6_tests prefix address at)) ≡ told (ip6_tests prefix address at)
-  word_same prefix address at =
-      let e = words_are prefix address at in
-      ap (λ ts. told (needed_tests ts)) e ∙ needed_same at (four_words prefix address) ∙ ap told (sym e)
+  word_same prefix address at = needed_same at 0 (word_of prefix address 0 ∷ word_of prefix address 1 ∷ word_of prefix address 2 ∷ word_of prefix address 3 ∷ [])
 
   sides_same : (d : Direction) (s t u v : List Elementary) → reads link (all_of s) p n ≡ reads link (all_of u) p n → reads link (all_of t) p n ≡ reads link (all_of v) p n → reads link (sides d s t) p n ≡ reads link (sides d u v) p n
   sides_same (direction.One Source) s t u v h k = h
@@ -127,7 +97,7 @@ module _ (link : Link) (p : List ℕ) (n : ℕ) where
 
   ip6_same : (d : Direction) (prefix : Option ℕ) (address : ℕ) → reads link (ip6_needed link d prefix address) p n ≡ reads link (ip6_formula link d prefix address) p n
   ip6_same d prefix address =
-      ap (λ r. both (elementary_reads (kind_test link kind.Ip6) p) r)
+      ap (λ r. both (elementary_reads (kind_test link FrameKind.Ip6) p) r)
       (sides_same d _ _ _ _ (word_same prefix address (network_offset link + 8)) (word_same prefix address (network_offset link + 24)))
 
   pub value_same : (k : ValueType) (q : Option Protocol) (d : Direction) (v : Value) → reads link (value_needed link k q d v) p n ≡ reads link (value_formula link k q d v) p n

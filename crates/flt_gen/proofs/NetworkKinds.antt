@@ -2,15 +2,14 @@
 use Rattle.flt_gen.proofs.Common.{◌≡◌, get_or-drop, ℕ, ◌+◌, ◌*◌, ◌/◌, ◌%◌, ◌<◌, List, length, drop, Bool, true, false, nat_lt, nat_le, ◌==◌, not, Option, Some, None, refl, sym, ap, subst, ◌∙◌, arith, if◌then◌else◌, ◌↔◌, ◌^◌, All, bit_and, slice_index, nat_tests, HalfWord, big_endian_at, Link, MatchResult, Yes, No, Rejected, reading_of, with, elementary_reads, is_at, kind_test, type_test, link_of, link_type, type_offset, frame_kind, carries_kind, carries}
 use Rattle.std.proofs.lemmas.Grind.{and_high_numeral}
 use Rattle.cap_octet.specs.Assigned.{ETHERTYPE_IPV4, ETHERTYPE_IPV6, ETHERTYPE_ARP, ETHERTYPE_RARP}
+use Rattle.cap_octet.specs.Link.{all_links}
 use Rattle.cap_octet.specs.NetworkHeader.{header_after, network_header, header_by_ethertype, header_by_version}
 use Rattle.cap_octet.specs.Number.{u16_in, number_in}
-use Rattle.cap_octet.specs.declared.network.NetworkHeader.{NetworkHeader}
-use Rattle.cap_octet.specs.declared.network.NetworkHeader.TheVariants.{Known, OtherVersion, Short}
+use Rattle.cap_octet.specs.declared.{link.Link.TheVariants.Ether, network.NetworkHeader.NetworkHeader}
+use Rattle.cap_octet.specs.declared.network.NetworkHeader.TheVariants.{Known, Short}
 use Rattle.cap_octet.specs.declared.network.NetworkKind.{NetworkKind}
 use Rattle.cap_octet.specs.declared.network.NetworkKind.TheVariants.{Ipv4, Ipv6, Arp, Rarp}
 use Rattle.cap_octet.specs.declared.number.Order.TheVariants.{Big}
-use Rattle.cap_octet.specs.declared.link.Link.TheVariants.{Ether}
-use Rattle.cap_octet.specs.Link.{all_links}
 
 -- what the test of a kind reads of a packet with this header
 abbrev reads_kind : NetworkHeader → NetworkKind → Bool → MatchResult
@@ -53,12 +52,6 @@ number_reads v Ipv4 = grind (arith, nat_tests)
 number_reads v _ = grind (arith, nat_tests)
 
 -- raw IP tells it by the version, which the first four bits are
-four_reads : (w : ℕ) → reading_of (Some (w == 4)) ≡ reads_kind (header_by_version w) Ipv4 true
-four_reads w = grind (arith, nat_tests)
-
-six_reads : (w : ℕ) → reading_of (Some (w == 6)) ≡ reads_kind (header_by_version w) Ipv6 true
-six_reads w = grind (arith, nat_tests)
-
 version_test : (v n m : ℕ) → m ≡ 16 * n → v < 2 ^ 8 → (bit_and v 0xf0 == m) ≡ (v / 16 == n)
 version_test v n m times upper_bound =
     let parts : bit_and v 240 + v % 16 ≡ v = and_high_numeral v 239 refl upper_bound in
@@ -87,21 +80,14 @@ version_reads kind n m times is p bytes =
     captured kind (nat_le (0 + 1) (length p)) (length p == 0) v (λ x. bit_and x 0xf0 == m) (header_by_version (v / 16)) other
     (λ long. ap (λ b. reading_of (Some b)) (version_test v n m times (bytes 0 0 (grind (arith, nat_tests)))) ∙ is (v / 16))
 
--- raw IP carries neither ARP nor RARP
-arp_not_carried : (empty four six : Bool) (w : ℕ) → No ≡ reads_kind (if empty then Short else if four then Known Ipv4 else if six then Known Ipv6 else OtherVersion w) Arp false
-arp_not_carried empty four six w = grind (arith, nat_tests)
-
-rarp_not_carried : (empty four six : Bool) (w : ℕ) → No ≡ reads_kind (if empty then Short else if four then Known Ipv4 else if six then Known Ipv6 else OtherVersion w) Rarp false
-rarp_not_carried empty four six w = grind (arith, nat_tests)
-
 by_place : (place : Option ℕ) (kind : NetworkKind) (p : List ℕ) → All (λ b. b < 2 ^ 8) p
     → elementary_reads (type_test place (frame_kind kind)) p ≡ reads_kind (header_after place p) kind (carries_kind place kind)
 by_place (Some at) Ipv4 p bytes = type_reads at Ipv4 p
 by_place (Some at) kind p bytes = type_reads at kind p
-by_place None Ipv4 p bytes = version_reads Ipv4 4 0x40 refl four_reads p bytes
-by_place None Ipv6 p bytes = version_reads Ipv6 6 0x60 refl six_reads p bytes
-by_place None Arp p bytes = arp_not_carried (length p == 0) (slice_index p 0 / 16 == 4) (slice_index p 0 / 16 == 6) (slice_index p 0 / 16)
-by_place None Rarp p bytes = rarp_not_carried (length p == 0) (slice_index p 0 / 16 == 4) (slice_index p 0 / 16 == 6) (slice_index p 0 / 16)
+by_place None Ipv4 p bytes = version_reads Ipv4 4 0x40 refl (λ w. grind (arith, nat_tests)) p bytes
+by_place None Ipv6 p bytes = version_reads Ipv6 6 0x60 refl (λ w. grind (arith, nat_tests)) p bytes
+by_place None Arp p bytes = grind (arith, nat_tests)
+by_place None Rarp p bytes = grind (arith, nat_tests)
 
 -- a link type tells its link
 its_link : (link : Link) → link_of (link_type link) ≡ Some link

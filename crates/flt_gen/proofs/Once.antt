@@ -1,7 +1,8 @@
 -- The tests of a protocol's accessors stand once: the formula reads the same, and has no more
 -- tests.
+use Rattle.flt_gen.proofs.Ascending.{if_case}
 use Rattle.flt_gen.proofs.Common.{◌≡◌, ℕ, ◌+◌, ◌≤◌, List, [], ◌∷◌, true, refl, sym, ap, ◌∙◌, arith, Comparison, Protocol, Ether, Tcp, NumberTree, load, negated, applied, compared, accessor_test_count, number_tests, truth_tests, Link, Elementary, MatchResult, Yes, elementary_reads, accessors, accessor_tests, Formula, Compare, both, reads, guarded_formula, checked_formula, tests, nodes, words, equals, without_protocol, protocols_of, relation_formula, formula}
-use Rattle.flt_gen.proofs.Ascending.{if_case, Searches}
+use Rattle.flt_gen.proofs.Counted.{Sized, bare_within, bare_after}
 
 equal_are : (p q : Protocol) → equals p q ≡ true → p ≡ q
 equal_are Ether Ether e = cc
@@ -9,23 +10,13 @@ equal_are _ Ether e = cc
 equal_are _ _ e = cc
 
 -- the tests of accessors add neither nodes nor words, and search for nothing
-pub record SameSizes (f g : Formula) : Type 0 where
-  pub nodes_are : nodes f ≡ nodes g
-  pub words_are : words f ≡ words g
-  pub searches : Searches g → Searches f
+guarded_sizes : {s w : ℕ} (ts : List Elementary) (f : Formula) → Sized f s w (tests f) → Sized (guarded_formula ts f) s w (tests (guarded_formula ts f))
+guarded_sizes [] f h = h
+guarded_sizes (t ∷ ts) f h = bare_after (guarded_sizes ts f h)
 
-guarded_sizes : (ts : List Elementary) (f : Formula) → SameSizes (guarded_formula ts f) f
-guarded_sizes [] f = record { nodes_are = refl; words_are = refl; searches = λ s. s }
-guarded_sizes (t ∷ ts) f =
-    let h = guarded_sizes ts f in
-    record { nodes_are = omega (arith, h.nodes_are); words_are = omega (arith, h.words_are); searches = λ s. (tt, h.searches s) }
-
-pub same_sizes : (link : Link) (ps : List Protocol) (f : Formula) → SameSizes (checked_formula link ps f) f
-same_sizes link [] f = record { nodes_are = refl; words_are = refl; searches = λ s. s }
-same_sizes link (p ∷ ps) f =
-    let h = same_sizes link ps f in
-    let g = guarded_sizes (accessor_tests link p) (checked_formula link ps f) in
-    record { nodes_are = g.nodes_are ∙ h.nodes_are; words_are = g.words_are ∙ h.words_are; searches = λ s. g.searches (h.searches s) }
+checked_sizes : {s w : ℕ} (link : Link) (ps : List Protocol) (f : Formula) → Sized f s w (tests f) → Sized (checked_formula link ps f) s w (tests (checked_formula link ps f))
+checked_sizes link [] f h = h
+checked_sizes link (p ∷ ps) f h = guarded_sizes (accessor_tests link p) (checked_formula link ps f) (checked_sizes link ps f h)
 
 -- no more tests
 accessor_tests_are : (link : Link) (p : Protocol) (f : Formula) → tests (guarded_formula (accessor_tests link p) f) ≡ accessor_test_count p + tests f
@@ -53,11 +44,11 @@ protocols_tests link (applied o a b) rest f =
     omega arith
 protocols_tests link _ rest f = omega arith
 
-pub relation_tests : (link : Link) (c : Comparison) (l r : NumberTree) → tests (relation_formula link c l r) ≤ truth_tests (compared c l r)
-relation_tests link c l r =
+pub relation_sizes : (link : Link) (c : Comparison) (l r : NumberTree) → Sized (relation_formula link c l r) (nodes (Compare c l r)) (words (Compare c l r)) (truth_tests (compared c l r))
+relation_sizes link c l r =
     let h = protocols_tests link l (protocols_of r []) (Compare c l r) in
     let k = protocols_tests link r [] (Compare c l r) in
-    omega arith
+    bare_within _ (omega arith) (checked_sizes link (protocols_of l (protocols_of r [])) (Compare c l r) (record { nodes_are = refl; words_are = refl; searches = tt; tests_fit = omega arith }))
 
 -- the same reading
 pub both_again : (a b r : MatchResult) → both a (both b r) ≡ both (both a b) r

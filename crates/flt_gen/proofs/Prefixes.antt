@@ -1,29 +1,17 @@
 -- Last bits that don't decide which numbers are in intervals, and networks as intervals.
-use Rattle.flt_gen.proofs.Common.{◌≡◌, ℕ, zero, suc, ◌+◌, ◌-◌, ◌*◌, ◌/◌, ◌%◌, ◌^◌, ◌<◌, ◌≤◌, List, [], ◌∷◌, map, Bool, true, false, Some, None, refl, sym, ap, ap₂, ◌∙◌, subst, arith, inl, inr, ◌==◌, ◌&&◌, ◌||◌, nat_le, bit_and, if◌then◌else◌, div-mul-le_self, lt-div-mul-add, le-div_iff_mul-le, mul-le-mul_right, pow-succ', suc-mul, cases_lt, nat_tests, and_parts, and_le_r, pow_pos, first_bits, under_mask, Interval, is_in, is_within, partial_mask, is_aligned, idle_bits, left_out, high_mask, cut, interval}
-use Rattle.std.specs.List.{list_all}
-use Rattle.std.specs.Int.Bits.{and_zero_r}
-use Rattle.std.proofs.Math.Nat.{div-add-mod}
-use Rattle.std.proofs.Common.{pow_mono}
-use Rattle.std.proofs.lemmas.Nat.{and_mask}
-use Rattle.std.proofs.lemmas.Nat.Bits.{and_high_mask}
 use Rattle.flt_gen.proofs.Ascending.{if_case, Apart, apart_less}
+use Rattle.flt_gen.proofs.Common.{◌≡◌, ℕ, zero, suc, ◌+◌, ◌-◌, ◌*◌, ◌/◌, ◌%◌, ◌^◌, ◌<◌, ◌≤◌, List, [], ◌∷◌, map, Bool, true, false, Some, None, refl, sym, ap, ap₂, ◌∙◌, subst, arith, inl, inr, ◌==◌, ◌&&◌, ◌||◌, nat_le, bit_and, if◌then◌else◌, div-mul-le_self, lt-div-mul-add, le-div_iff_mul-le, mul-le-mul_right, pow-succ', suc-mul, cases_lt, nat_tests, and_parts, and_le_r, pow_pos, first_bits, under_mask, Interval, is_in, is_within, partial_mask, is_aligned, idle_bits, left_out, high_mask, cut, interval}
 use Rattle.flt_gen.proofs.Runs.{one_number}
+use Rattle.std.specs.{Int.Bits.and_zero_r, List.list_all}
+use Rattle.std.proofs.{Common.pow_mono, Math.Nat.div-lt_iff_lt-mul, Math.Nat.div-add-mod, lemmas.Nat.and_mask, lemmas.Nat.Bits.and_high_mask}
 
--- blocks of numbers, each as long as the last ones are J
-no_further : (c d J : ℕ) → 0 < J → d * J ≤ c * J + (J - 1) → d ≤ c
-no_further c d J some l =
-    elim (cases_lt c d) [
-      | inl m ↦ absurd (let k : suc c * J ≤ d * J = mul-le-mul_right J m in let n : suc c * J ≡ c * J + J = suc-mul c J in omega arith)
-      | inr k ↦ k
-    ]
-
--- a number is in some of them exactly where the first of its own is
+-- of blocks of numbers, each as long as the last ones are J, a number is in some exactly where the first of its own is
 blocks_in : (x a b J : ℕ) → 0 < J → (nat_le (a * J) (x / J * J) && nat_le (x / J * J) (b * J)) ≡ (nat_le (a * J) x && nat_le x (b * J + (J - 1)))
 blocks_in x a b J some =
     let under : x / J * J ≤ x = div-mul-le_self x J in
     let near : x < x / J * J + J = lt-div-mul-add some in
     let from : a * J ≤ x → a * J ≤ x / J * J = λ l. mul-le-mul_right J ((le-div_iff_mul-le some).1 l) in
-    let upto : x ≤ b * J + (J - 1) → x / J * J ≤ b * J = λ l. mul-le-mul_right J (no_further b (x / J) J some (omega arith)) in
+    let upto : x ≤ b * J + (J - 1) → x / J * J ≤ b * J = λ l. mul-le-mul_right J (let m = suc-mul b J in let below : x / J < suc b = (div-lt_iff_lt-mul some).1 (omega arith) in omega arith) in
     grind (arith, nat_tests)
 
 -- numbers that begin and end with a block
@@ -47,7 +35,7 @@ block_order k i h l =
     let low = h.low_is in
     let high = h.high_is in
     let some = pow_pos k in
-    let few : i.low / 2 ^ k ≤ i.high / 2 ^ k = no_further (i.high / 2 ^ k) (i.low / 2 ^ k) (2 ^ k) some (omega arith) in
+    let few : i.low / 2 ^ k ≤ i.high / 2 ^ k = (le-div_iff_mul-le some).1 (omega arith) in
     let less : i.low / 2 ^ k * 2 ^ k ≤ i.high / 2 ^ k * 2 ^ k = mul-le-mul_right (2 ^ k) few in
     omega arith
 
@@ -85,13 +73,11 @@ idle_sought true first is = if_case (λ last. Idle last first is) _ (idle_bits 3
 abbrev pub Small : ℕ → ℕ → Type 0
 Small last x = 0 < last → x < 2 ^ 32
 
-two_more : (k : ℕ) → 2 ≤ 2 ^ suc k
-two_more k = let some = pow_pos k in let more : 2 ^ suc k ≡ 2 * 2 ^ k = pow-succ' 2 k in omega arith
-
 masked_is : (k x : ℕ) → k ≤ 32 → (0 < 2 ^ k - 1 → x < 2 ^ 32) → under_mask (high_mask (2 ^ k - 1)) x ≡ x / 2 ^ k * 2 ^ k
 masked_is zero x l s = omega arith
 masked_is (suc k) x l s =
-    let two = two_more k in
+    let one = pow_pos k in
+    let two : 2 ^ suc k ≡ 2 * 2 ^ k = pow-succ' 2 k in
     let some : (2 ^ suc k - 1 == 0) ≡ false = grind (arith, nat_tests) in
     let same : 2 ^ 32 - 1 - (2 ^ suc k - 1) ≡ 2 ^ 32 - 2 ^ suc k = omega arith in
     ap (λ b. under_mask (if b then None else Some (2 ^ 32 - 1 - (2 ^ suc k - 1))) x) some

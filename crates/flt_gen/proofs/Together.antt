@@ -1,17 +1,18 @@
 -- Addresses or ports that are looked for together read as one after the other.
-use Rattle.flt_gen.proofs.Common.{◌≡◌, ℕ, ◌+◌, ◌-◌, ◌*◌, ◌^◌, ◌%◌, ◌<◌, List, [], ◌∷◌, length, map, Bool, true, false, Option, Some, None, refl, sym, ap, ap₂, ◌∙◌, subst, arith, inl, inr, ◌==◌, ◌||◌, ◌&&◌, nat_le, min, max, bit_and, if◌then◌else◌, nat_tests, or-false, Protocol, Ip, Tcp, Udp, ValueType, Host, Net, Port, PortRange, Source, Destination, And, Or, Direction, CompleteQualifiers, Value, first_bits, Word, field, big_endian_at, Link, type_offset, FrameKind, Elementary, Interval, One, Between, Several, Sides, Transport, MatchResult, Yes, No, Rejected, reading_of, with, field_at, under_mask, kind_test, elementary_reads, Formula, Sought, is_in, is_within, both, either, all_of, sides, Numbers, no_numbers, reads, address_places, address_test, partial_mask, port_is, port_between, port_places, port_sides, transport, following, ip_transport, ip6_transport, port_test, port_formula, net_test, net_formula, value_formula, joined_all, left_out, high_mask, cut, sought, interval, is_address, net_numbers, member_of, several_formula}
+use Rattle.flt_gen.proofs.Ascending.{if_case, Each, each_is, Ordered, within_joined}
+use Rattle.flt_gen.proofs.Common.{◌≡◌, ℕ, ◌+◌, ◌*◌, ◌^◌, ◌%◌, ◌<◌, ◌≤◌, List, [], ◌∷◌, length, map, Bool, true, false, Option, Some, None, refl, sym, ap, ap₂, ◌∙◌, arith, inl, inr, ◌==◌, ◌||◌, ◌&&◌, nat_le, min, max, bit_and, nat_tests, or-false, Protocol, Ip, Tcp, Udp, ValueType, Host, Net, Port, PortRange, Source, Destination, And, Or, Direction, CompleteQualifiers, Value, first_bits, Word, HalfWord, Offset, field, Link, type_offset, FrameKind, Elementary, Interval, One, Between, Several, Sides, Transport, MatchResult, Yes, No, Rejected, reading_of, with, field_at, under_mask, kind_test, elementary_reads, Formula, Sought, is_in, is_within, both, either, all_of, sides, Numbers, no_numbers, reads, address_places, address_test, partial_mask, port_is, port_between, port_places, port_sides, transport, following, ip_transport, ip6_transport, port_test, port_formula, net_test, net_formula, value_formula, joined_all, left_out, high_mask, cut, sought, is_address, net_numbers, member_of, several_formula}
+use Rattle.flt_gen.proofs.Exclusive.{or_no, both_either, kinds_exclude}
+use Rattle.flt_gen.proofs.Prefixes.{Idle, idle_sought, Small, cut_in, cut_within, net_hit}
+use Rattle.flt_gen.proofs.Runs.{one_number}
 use Rattle.std.specs.Prelude.{◌⊎◌}
 use Rattle.std.proofs.Math.Nat.{mod-lt}
 use Rattle.flt_words.specs.declared.token.Protocol.TheVariants.{Arp, Rarp}
 use Rattle.flt_ast.specs.declared.qualifiers.Direction.TheVariants as direction
 use Rattle.flt_ast.specs.declared.value.Value.TheVariants as value
-use Rattle.flt_ast.specs.declared.value.NetMask.TheVariants as mask
+use Rattle.flt_ast.specs.Counts as count
+use Rattle.flt_ast.specs.declared.value.NetMask.{NetMask}
 use Rattle.flt_gen.specs.declared.elementary.FrameKind.TheVariants as kind
 use Rattle.flt_gen.specs.declared.port.Ports.{Ports}
-use Rattle.flt_gen.proofs.Ascending.{Ordered, within_joined}
-use Rattle.flt_gen.proofs.Exclusive.{ip_no_ip6, ip_no_arp, ip_no_rarp, arp_no_rarp}
-use Rattle.flt_gen.proofs.Prefixes.{Idle, idle_sought, Small, cut_in, cut_within, net_hit}
-use Rattle.flt_gen.proofs.Runs.{one_number}
 
 -- the fields of these sides fit the masks that numbers may have
 abbrev pub Fitting : Bool → Sides → Type 0
@@ -27,14 +28,8 @@ unmasked_fitting false at e = λ f. cc
 
 -- a word is below 2^32
 pub word_small : (p : List ℕ) (at x : ℕ) → field p at Word ≡ Some x → x < 2 ^ 32
-word_small p at x e = by (nat_le (at + 4) (length p)) e
-  where
-    by : (b : Bool) → (if b then Some (big_endian_at p at Word) else None) ≡ Some x → x < 2 ^ 32
-    by false f = cc
-    by true f = subst (λ y. y < 2 ^ 32) (some_is _ x f) (mod-lt _ (omega arith))
-      where
-        some_is : (a b : ℕ) → Some a ≡ Some b → a ≡ b
-        some_is a b g = cc
+word_small p at x e =
+    each_is (field p at Word) (λ y. y < 2 ^ 32) x (if_case (λ o. Each o (λ y. y < 2 ^ 32)) (nat_le (at + 4) (length p)) _ _ (λ t. mod-lt _ (omega arith)) (λ t. tt)) e
 
 pub address_fitting : (b : Bool) (link : Link) (k : FrameKind) → Fitting b (address_places link k)
 address_fitting b link k e p x (inl f) = word_small p _ x f
@@ -69,6 +64,10 @@ sides_read (direction.One Destination) s d f a = read_by d a
 sides_read (direction.Both Or) s d f a = either (both (read_by s a) (either (read_by s f) (read_by d (λ x. true)))) (read_by d a)
 sides_read (direction.Both And) s d f a = both (read_by s f) (read_by d f)
 
+yes_and : (b c : Bool) → both (exact b) (exact c) ≡ exact (b && c)
+yes_and true c = refl
+yes_and false c = refl
+
 yes_or : (b c : Bool) → exact (b || c) ≡ either (exact b) (exact c)
 yes_or true c = refl
 yes_or false c = refl
@@ -76,10 +75,6 @@ yes_or false c = refl
 read_or : (o : Option ℕ) (f g : ℕ → Bool) → read_by o (λ x. f x || g x) ≡ either (read_by o f) (read_by o g)
 read_or None f g = refl
 read_or (Some x) f g = yes_or (f x) (g x)
-
-read_same : (o : Option ℕ) (f g : ℕ → Bool) → ((x : ℕ) → f x ≡ g x) → read_by o f ≡ read_by o g
-read_same None f g e = refl
-read_same (Some x) f g e = ap exact (e x)
 
 read_seen : (o : Option ℕ) (f g : ℕ → Bool) → ((x : ℕ) → o ≡ Some x → f x ≡ g x) → read_by o f ≡ read_by o g
 read_seen None f g e = refl
@@ -89,18 +84,16 @@ read_seen (Some x) f g e = ap exact (e x refl)
 both_told : (m k o n b : Bool) → either (both (exact (m || (k || o))) (either (exact m) Yes)) (exact (n || b)) ≡ either (either (exact m) (exact n)) (either (both (exact (k || o)) (either (exact k) Yes)) (exact b))
 both_told true k o n b = refl
 both_told false true o true b = refl
-both_told false true o false b = refl
 both_told false false true true b = refl
-both_told false false true false b = refl
 both_told false false false true b = refl
-both_told false false false false b = refl
+both_told _ _ _ _ b = refl
 
 -- the destination isn't captured
 one_told : (m k o : Bool) → either (both (exact (m || (k || o))) (either (exact m) Rejected)) Rejected ≡ either (either (exact m) Rejected) (either (both (exact (k || o)) (either (exact k) Rejected)) Rejected)
 one_told true k o = refl
 one_told false true o = refl
 one_told false false true = refl
-one_told false false false = refl
+one_told _ _ _ = refl
 
 -- one more in front of those of which k is the first
 one_more : (d : Direction) (s t : Option ℕ) (m k o : ℕ → Bool) → Merged d → sides_read d s t m (λ x. m x || (k x || o x)) ≡ either (plain_reads d s t m) (sides_read d s t k (λ x. k x || o x))
@@ -111,21 +104,18 @@ one_more (direction.Both Or) (Some x) None m k o h = one_told (m x) (k x) (o x)
 one_more (direction.Both Or) (Some x) (Some y) m k o h = both_told (m x) (k x) (o x) (m y) (k y || o y)
 one_more (direction.Both And) s t m k o h = absurd h
 
+-- what holds and is one of two is that one
+absorbed : (r s : MatchResult) → both r (either r s) ≡ r
+absorbed Yes s = refl
+absorbed _ s = refl
+
 one_alone : (d : Direction) (s t : Option ℕ) (m : ℕ → Bool) → sides_read d s t m (λ x. m x || false) ≡ plain_reads d s t m
-one_alone (direction.One Source) s t m = read_same s (λ x. m x || false) m (λ x. or-false (m x))
-one_alone (direction.One Destination) s t m = read_same t (λ x. m x || false) m (λ x. or-false (m x))
-one_alone (direction.Both Or) None t m = refl
-one_alone (direction.Both Or) (Some x) None m = cut (m x)
+one_alone d s t m = ap (sides_read d s t m) (λ i x. or-false (m x) i) ∙ by d
   where
-    cut : (b : Bool) → either (both (exact (b || false)) (either (exact b) Rejected)) Rejected ≡ either (exact b) Rejected
-    cut true = refl
-    cut false = refl
-one_alone (direction.Both Or) (Some x) (Some y) m = last (m x) (m y)
-  where
-    last : (b c : Bool) → either (both (exact (b || false)) (either (exact b) Yes)) (exact (c || false)) ≡ either (exact b) (exact c)
-    last false true = refl
-    last _ _ = refl
-one_alone (direction.Both And) s t m = refl
+    by : (d : Direction) → sides_read d s t m m ≡ plain_reads d s t m
+    by (direction.Both Or) = ap (λ r. either r (read_by t m)) (absorbed (read_by s m) (read_by t (λ x. true)))
+    by (direction.One Source) = refl
+    by _ = refl
 
 sides_seen : (d : Direction) (s t : Option ℕ) (f g a b : ℕ → Bool) → ((x : ℕ) → s ≡ Some x → f x ≡ g x) → ((x : ℕ) → t ≡ Some x → f x ≡ g x) → ((x : ℕ) → s ≡ Some x → a x ≡ b x) → ((x : ℕ) → t ≡ Some x → a x ≡ b x) → sides_read d s t f a ≡ sides_read d s t g b
 sides_seen (direction.One Source) s t f g a b i j h k = read_seen s a b h
@@ -134,35 +124,29 @@ sides_seen (direction.Both Or) s t f g a b i j h k =
     ap₂ either (ap₂ both (read_seen s a b h) (ap (λ r. either r (read_by t (λ x. true))) (read_seen s f g i))) (read_seen t a b k)
 sides_seen (direction.Both And) s t f g a b i j h k = ap₂ both (read_seen s f g i) (read_seen t f g j)
 
+-- how many tests a member has at least by itself
+abbrev pub member_tests : ValueType → Option Protocol → Direction → ℕ
+member_tests Host protocol d = count.ip4_tests protocol d
+member_tests Net protocol d = count.ip4_tests protocol d
+member_tests Port protocol d = count.port_tests protocol d 1
+member_tests PortRange protocol d = count.port_tests protocol d 1
+member_tests _ protocol d = 1
+
+more_tests : (d : Direction) → count.side_tests d 1 ≤ count.side_tests d 2
+more_tests (direction.One s) = omega arith
+more_tests _ = omega arith
+
 module _ (link : Link) (p : List ℕ) (n : ℕ) where
-  or_no : (s : MatchResult) → either s No ≡ s
-  or_no Yes = refl
-  or_no _ = refl
-
-  one_kind : (i a b : MatchResult) → both i (either a b) ≡ either (both i a) (both i b)
-  one_kind Yes a b = refl
-  one_kind _ a b = refl
-
-  -- of three kinds one at most is yes
-  three_kinds : (i r q a b c x y z : MatchResult) → (i ≡ Yes → r ≡ No) → (i ≡ Yes → q ≡ No) → (r ≡ Yes → q ≡ No) → either (both i (either a x)) (either (both r (either b y)) (both q (either c z))) ≡ either (either (both i a) (either (both r b) (both q c))) (either (both i x) (either (both r y) (both q z)))
-  three_kinds Rejected r q a b c x y z ir iq rq = refl
-  three_kinds No Rejected q a b c x y z ir iq rq = refl
-  three_kinds No No q a b c x y z ir iq rq = one_kind q c z
-  three_kinds No Yes No a b c x y z ir iq rq = or_no (either b y) ∙ ap (λ v. either v y) (sym (or_no b)) ∙ ap (λ v. either (either b No) v) (sym (or_no y))
-  three_kinds No Yes _ a b c x y z ir iq rq = absurd (let e = rq refl in cc)
-  three_kinds Yes No No a b c x y z ir iq rq = or_no (either a x) ∙ ap (λ v. either v x) (sym (or_no a)) ∙ ap (λ v. either (either a No) v) (sym (or_no x))
-  three_kinds Yes No _ a b c x y z ir iq rq = absurd (let e = iq refl in cc)
-  three_kinds Yes _ q a b c x y z ir iq rq = absurd (let e = ir refl in cc)
+  -- where a test is yes those after it are no
+  kinds : (i a x s t : MatchResult) → (i ≡ Yes → (s ≡ No) × (t ≡ No)) → either (both i (either a x)) (either s t) ≡ either (either (both i a) s) (either (both i x) t)
+  kinds Yes a x s t only =
+      ap₂ (λ u v. either (either a x) (either u v)) (only refl).0 (only refl).1
+      ∙ or_no (either a x)
+      ∙ sym (ap₂ (λ u v. either (either a u) (either x v)) (only refl).0 (only refl).1 ∙ ap₂ either (or_no a) (or_no x))
+  kinds _ a x s t only = refl
 
   abbrev kind_reads : FrameKind → MatchResult
   kind_reads k = elementary_reads (kind_test link k) p
-
-  -- of two kinds one at most is yes
-  two_kinds : (i r a b x y : MatchResult) → (i ≡ Yes → r ≡ No) → either (both i (either a x)) (both r (either b y)) ≡ either (either (both i a) (both r b)) (either (both i x) (both r y))
-  two_kinds Rejected r a b x y ir = refl
-  two_kinds No r a b x y ir = one_kind r b y
-  two_kinds Yes No a b x y ir = or_no (either a x) ∙ ap (λ v. either v x) (sym (or_no a)) ∙ ap (λ v. either (either a No) v) (sym (or_no x))
-  two_kinds Yes _ a b x y ir = absurd (let e = ir refl in cc)
 
   -- ports: what stands before the sides
   abbrev told : Elementary → MatchResult
@@ -183,8 +167,8 @@ module _ (link : Link) (p : List ℕ) (n : ℕ) where
 
   after_more : (protocol : Option Protocol) (header : Transport) (a b : MatchResult) → after_reads protocol header (either a b) ≡ either (after_reads protocol header a) (after_reads protocol header b)
   after_more protocol header a b =
-      ap (both (transport_reads protocol header)) (one_kind (whole_reads header.no_later_fragment) a b)
-      ∙ one_kind (transport_reads protocol header) (both (whole_reads header.no_later_fragment) a) (both (whole_reads header.no_later_fragment) b)
+      ap (both (transport_reads protocol header)) (both_either (whole_reads header.no_later_fragment) a b)
+      ∙ both_either (transport_reads protocol header) (both (whole_reads header.no_later_fragment) a) (both (whole_reads header.no_later_fragment) b)
 
   whole_is : (o : Option Elementary) (f : Formula) → reads link (following o f) p n ≡ both (whole_reads o) (reads link f p n)
   whole_is None f = refl
@@ -224,18 +208,27 @@ module _ (link : Link) (p : List ℕ) (n : ℕ) where
 
   hosts_join : (protocol : Option Protocol) (x y : Sides → MatchResult) → hosts_by protocol (λ at. either (x at) (y at)) ≡ either (hosts_by protocol x) (hosts_by protocol y)
   hosts_join None x y =
-      three_kinds (kind_reads kind.Ip) (kind_reads kind.Arp) (kind_reads kind.Rarp) _ _ _ _ _ _ (ip_no_arp p (type_offset link)) (ip_no_rarp p (type_offset link)) (arp_no_rarp p (type_offset link))
-  hosts_join (Some Ip) x y = one_kind (kind_reads kind.Ip) _ _
-  hosts_join (Some Arp) x y = one_kind (kind_reads kind.Arp) _ _
-  hosts_join (Some Rarp) x y = one_kind (kind_reads kind.Rarp) _ _
+      let only = kinds_exclude p (type_offset link) in
+      let a = kind_reads kind.Arp in
+      let r = kind_reads kind.Rarp in
+      let u = address_places link kind.Arp in
+      let v = address_places link kind.Rarp in
+      ap (either _) (ap (either _) (both_either r (x v) (y v)) ∙ kinds a (x u) (y u) (both r (x v)) (both r (y v)) (λ e. (ap (λ z. both z (x v)) (only.3 e), ap (λ z. both z (y v)) (only.3 e))))
+      ∙ kinds (kind_reads kind.Ip) (x (address_places link kind.Ip)) (y (address_places link kind.Ip)) (either (both a (x u)) (both r (x v))) (either (both a (y u)) (both r (y v)))
+      (λ e. (ap₂ (λ z w. either (both z (x u)) (both w (x v))) (only.1 e) (only.2 e), ap₂ (λ z w. either (both z (y u)) (both w (y v))) (only.1 e) (only.2 e)))
+  hosts_join (Some Ip) x y = both_either (kind_reads kind.Ip) _ _
+  hosts_join (Some Arp) x y = both_either (kind_reads kind.Arp) _ _
+  hosts_join (Some Rarp) x y = both_either (kind_reads kind.Rarp) _ _
   hosts_join (Some _) x y = refl
 
   ports_join : (protocol : Option Protocol) (x y : Sides → MatchResult) → ports_by protocol (λ at. either (x at) (y at)) ≡ either (ports_by protocol x) (ports_by protocol y)
   ports_join protocol x y =
       let h = port_places (ip_transport link) in
       let k = port_places (ip6_transport link) in
+      let after = after_reads protocol (ip6_transport link) in
       ap₂ (λ v w. either (both (kind_reads kind.Ip) v) (both (kind_reads kind.Ip6) w)) (after_more protocol (ip_transport link) (x h) (y h)) (after_more protocol (ip6_transport link) (x k) (y k))
-      ∙ two_kinds (kind_reads kind.Ip) (kind_reads kind.Ip6) _ _ _ _ (ip_no_ip6 p (type_offset link))
+      ∙ ap (either _) (both_either (kind_reads kind.Ip6) (after (x k)) (after (y k)))
+      ∙ kinds (kind_reads kind.Ip) _ _ (both (kind_reads kind.Ip6) (after (x k))) (both (kind_reads kind.Ip6) (after (y k))) (λ e. let no = (kinds_exclude p (type_offset link)).0 e in (ap (λ z. both z (after (x k))) no, ap (λ z. both z (after (y k))) no))
 
   sides_join : (k : ValueType) (protocol : Option Protocol) (x y : Sides → MatchResult) → by_sides k protocol (λ at. either (x at) (y at)) ≡ either (by_sides k protocol x) (by_sides k protocol y)
   sides_join Host protocol x y = hosts_join protocol x y
@@ -271,7 +264,7 @@ module _ (link : Link) (p : List ℕ) (n : ℕ) where
   members_read k protocol d m ms =
       by_sides k protocol (λ at. sides_read d (source_of at) (destination_of at) (hit m) (λ x. is_within x (m ∷ ms)))
 
-  abbrev member_reads : ValueType → Option Protocol → Direction → Interval → MatchResult
+  abbrev pub member_reads : ValueType → Option Protocol → Direction → Interval → MatchResult
   member_reads k protocol d m = by_sides k protocol (λ at. plain_reads d (source_of at) (destination_of at) (hit m))
 
   pub members_more : (k : ValueType) (protocol : Option Protocol) (d : Direction) (m l : Interval) (ms : List Interval) → Merged d → members_read k protocol d m (l ∷ ms) ≡ either (member_reads k protocol d m) (members_read k protocol d l ms)
@@ -286,63 +279,52 @@ module _ (link : Link) (p : List ℕ) (n : ℕ) where
   abbrev sought_at : Sides → Direction → Numbers → MatchResult
   sought_at at d numbers = reads link (Sought d at numbers) p n
 
-  sides_are : (at : Sides) (d : Direction) (b : Bool) (m : Interval) (ms all : List Interval) → Merged d → Fitting b at → Ordered 0 all → ((y : ℕ) → is_within y all ≡ is_within y (m ∷ ms)) → sought_at at d (sought b m all) ≡ sides_read d (source_of at) (destination_of at) (hit m) (λ x. is_within x (m ∷ ms))
-  sides_are at d b m ms all h fit o w = by d h ∙ sides_seen d (source_of at) (destination_of at) _ _ _ _ (λ x e. one x (small x (inl e))) (λ x e. one x (small x (inr e))) (λ x e. some x (small x (inl e))) (λ x e. some x (small x (inr e)))
-    where
-      last : ℕ
-      last = left_out b m (joined_all all)
+  module _ (q : CompleteQualifiers) (b : Bool) (m : Interval) (ms all : List Interval) (h : Merged q.direction) (o : Ordered 0 all) (w : (y : ℕ) → is_within y all ≡ is_within y (m ∷ ms)) where
+    sides_are : (at : Sides) → Fitting b at → sought_at at q.direction (sought b m all) ≡ sides_read q.direction (source_of at) (destination_of at) (hit m) (λ x. is_within x (m ∷ ms))
+    sides_are at fit = by q.direction h ∙ sides_seen q.direction (source_of at) (destination_of at) _ _ _ _ (λ x e. one x (small x (inl e))) (λ x e. one x (small x (inr e))) (λ x e. some x (small x (inl e))) (λ x e. some x (small x (inr e)))
+      where
+        last : ℕ
+        last = left_out b m (joined_all all)
 
-      idle : Idle last m (joined_all all)
-      idle = idle_sought b m (joined_all all)
+        idle : Idle last m (joined_all all)
+        idle = idle_sought b m (joined_all all)
 
-      u : ℕ → ℕ
-      u x = under_mask (high_mask last) x
+        u : ℕ → ℕ
+        u x = under_mask (high_mask last) x
 
-      small : (x : ℕ) → (source_of at ≡ Some x) ⊎ (destination_of at ≡ Some x) → Small last x
-      small x e = fitting_small b at m (joined_all all) fit p x e
+        small : (x : ℕ) → (source_of at ≡ Some x) ⊎ (destination_of at ≡ Some x) → Small last x
+        small x e = fitting_small b at m (joined_all all) fit p x e
 
-      one : (x : ℕ) → Small last x → is_within (u x) (cut last m ∷ []) ≡ hit m x
-      one x l = or-false (is_in (u x) (cut last m)) ∙ cut_in last x m m (joined_all all) idle idle.first_aligned l
+        one : (x : ℕ) → Small last x → is_within (u x) (cut last m ∷ []) ≡ hit m x
+        one x l = or-false (is_in (u x) (cut last m)) ∙ cut_in last x m m (joined_all all) idle idle.first_aligned l
 
-      some : (x : ℕ) → Small last x → is_within (u x) (map (cut last) (joined_all all)) ≡ is_within x (m ∷ ms)
-      some x l = cut_within last x m (joined_all all) idle l ∙ within_joined x all o ∙ w x
+        some : (x : ℕ) → Small last x → is_within (u x) (map (cut last) (joined_all all)) ≡ is_within x (m ∷ ms)
+        some x l = cut_within last x m (joined_all all) idle l ∙ within_joined x all o ∙ w x
 
-      by : (e : Direction) → Merged e → sought_at at e (sought b m all) ≡ sides_read e (source_of at) (destination_of at) (λ x. is_within (u x) (cut last m ∷ [])) (λ x. is_within (u x) (map (cut last) (joined_all all)))
-      by (direction.Both And) q = absurd q
-      by (direction.One Source) q = refl
-      by _ q = refl
+        by : (e : Direction) → Merged e → sought_at at e (sought b m all) ≡ sides_read e (source_of at) (destination_of at) (λ x. is_within (u x) (cut last m ∷ [])) (λ x. is_within (u x) (map (cut last) (joined_all all)))
+        by (direction.Both And) q = absurd q
+        by (direction.One Source) q = refl
+        by _ q = refl
 
-  -- ports have no mask
-  pub several_are : (q : CompleteQualifiers) (k : ValueType) (b : Bool) (m : Interval) (ms all : List Interval) → (b ≡ true → is_address k ≡ true) → Merged q.direction → Ordered 0 all → ((y : ℕ) → is_within y all ≡ is_within y (m ∷ ms)) → reads link (several_formula link q k (sought b m all)) p n ≡ members_read k q.protocol q.direction m ms
-  several_are q k b m ms all nets h o w = by k nets
-    where
-      numbers : Numbers
-      numbers = sought b m all
+    hosts_are : reads link (several_formula link q Host (sought b m all)) p n ≡ members_read Host q.protocol q.direction m ms
+    hosts_are = by q.protocol ∙ hosts_same q.protocol _ _ (λ k. sides_are (address_places link k) (address_fitting b link k))
+      where
+        by : (protocol : Option Protocol) → reads link (several_formula link (record q { protocol = protocol }) Host (sought b m all)) p n ≡ hosts_by protocol (λ at. sought_at at q.direction (sought b m all))
+        by (Some Ip) = refl
+        by _ = refl
 
-      each : (at : Sides) → Fitting b at → sought_at at q.direction numbers ≡ sides_read q.direction (source_of at) (destination_of at) (hit m) (λ x. is_within x (m ∷ ms))
-      each at fit = sides_are at q.direction b m ms all h fit o w
+    -- ports have no mask
+    several_ports : b ≡ false → reads link (several_formula link q Port (sought b m all)) p n ≡ members_read Port q.protocol q.direction m ms
+    several_ports e =
+        ports_are q.protocol q.direction Several (sought b m all)
+        ∙ ap₂ (two_headers q.protocol) (sides_are (port_places (ip_transport link)) (unmasked_fitting b (port_places (ip_transport link)) e)) (sides_are (port_places (ip6_transport link)) (unmasked_fitting b (port_places (ip6_transport link)) e))
 
-      hosts_are : (protocol : Option Protocol) → reads link (several_formula link (record q { protocol = protocol }) Host numbers) p n ≡ hosts_by protocol (λ at. sought_at at q.direction numbers)
-      hosts_are (Some Ip) = refl
-      hosts_are _ = refl
-
-      hosts : reads link (several_formula link q Host numbers) p n ≡ members_read Host q.protocol q.direction m ms
-      hosts = hosts_are q.protocol ∙ hosts_same q.protocol _ _ (λ k. each (address_places link k) (address_fitting b link k))
-
-      ports : b ≡ false → reads link (several_formula link q Port numbers) p n ≡ members_read Port q.protocol q.direction m ms
-      ports e =
-          ports_are q.protocol q.direction Several numbers
-          ∙ ap₂ (two_headers q.protocol) (each (port_places (ip_transport link)) (unmasked_fitting b (port_places (ip_transport link)) e)) (each (port_places (ip6_transport link)) (unmasked_fitting b (port_places (ip6_transport link)) e))
-
-      no_address : (k : ValueType) → (b ≡ true → is_address k ≡ true) → is_address k ≡ false → b ≡ false
-      no_address k f e = not_both b (is_address k) f e
-
-      by : (k : ValueType) → (b ≡ true → is_address k ≡ true) → reads link (several_formula link q k numbers) p n ≡ by_sides k q.protocol (λ at. sides_read q.direction (source_of at) (destination_of at) (hit m) (λ x. is_within x (m ∷ ms)))
-      by Host f = hosts
-      by Net f = hosts
-      by Port f = ports (no_address Port f refl)
-      by PortRange f = ports (no_address PortRange f refl)
-      by _ f = refl
+    pub several_are : (k : ValueType) → (b ≡ true → is_address k ≡ true) → reads link (several_formula link q k (sought b m all)) p n ≡ members_read k q.protocol q.direction m ms
+    several_are Host f = hosts_are
+    several_are Net f = hosts_are
+    several_are Port f = several_ports (not_both b _ f refl)
+    several_are PortRange f = several_ports (not_both b _ f refl)
+    several_are _ f = refl
 
   -- the row of a member
   row_sides : (at : Sides) (d : Direction) (s t : List Elementary) (f : ℕ → Bool) → reads link (all_of s) p n ≡ read_by (source_of at) f → reads link (all_of t) p n ≡ read_by (destination_of at) f → reads link (sides d s t) p n ≡ plain_reads d (source_of at) (destination_of at) f
@@ -370,62 +352,35 @@ module _ (link : Link) (p : List ℕ) (n : ℕ) where
 
   both_ends : (o : Option ℕ) (a b : ℕ) → both (read_by o (λ x. nat_le a x)) (read_by o (λ x. nat_le x b)) ≡ read_by o (λ x. nat_le a x && nat_le x b)
   both_ends None a b = refl
-  both_ends (Some x) a b = by (nat_le a x) (nat_le x b)
+  both_ends (Some x) a b = yes_and (nat_le a x) (nat_le x b)
+
+  port_row : (protocol : Option Protocol) (d : Direction) (ports : Ports) (tests : Offset → List Elementary) (f : ℕ → Bool) → ((header : Transport) → port_sides ports d header no_numbers ≡ sides d (tests header.source) (tests header.destination)) → ((at : Offset) → reads link (all_of (tests at)) p n ≡ read_by (field_at at HalfWord p) f)
+      → reads link (port_formula link (port_test protocol d ports) no_numbers) p n ≡ ports_by protocol (λ at. plain_reads d (source_of at) (destination_of at) f)
+  port_row protocol d ports tests f are e = ports_are protocol d ports no_numbers ∙ ap₂ (two_headers protocol) (row (ip_transport link)) (row (ip6_transport link))
     where
-      by : (c e : Bool) → both (exact c) (exact e) ≡ exact (c && e)
-      by true e = refl
-      by false e = refl
+      row : (header : Transport) → reads link (port_sides ports d header no_numbers) p n ≡ plain_reads d (source_of (port_places header)) (destination_of (port_places header)) f
+      row header = ap (λ (x : Formula). reads link x p n) (are header) ∙ row_sides (port_places header) d (tests header.source) (tests header.destination) f (e header.source) (e header.destination)
 
-  port_row : (protocol : Option Protocol) (d : Direction) (ports : Ports) (f : ℕ → Bool) → ((header : Transport) → reads link (port_sides ports d header no_numbers) p n ≡ plain_reads d (source_of (port_places header)) (destination_of (port_places header)) f) → reads link (port_formula link (port_test protocol d ports) no_numbers) p n ≡ ports_by protocol (λ at. plain_reads d (source_of at) (destination_of at) f)
-  port_row protocol d ports f e =
-      ports_are protocol d ports no_numbers ∙ ap₂ (two_headers protocol) (e (ip_transport link)) (e (ip6_transport link))
+  -- a value that looks for these numbers: their order, its tests, of which there are no fewer, and how it reads
+  abbrev pub IsMember : ValueType → Option Protocol → Direction → Value → Interval → Type 0
+  IsMember k protocol d v m = (m.low ≤ m.high) × (member_tests k protocol d ≤ count.typed_tests k protocol d v) × (reads link (value_formula link k protocol d v) p n ≡ member_reads k protocol d m)
 
-  one_port : (d : Direction) (a : ℕ) (f : ℕ → Bool) → ((x : ℕ) → (x == a) ≡ f x) → (header : Transport) → reads link (port_sides (One a) d header no_numbers) p n ≡ plain_reads d (source_of (port_places header)) (destination_of (port_places header)) f
-  one_port d a f e header =
-      let at = port_places header in
-      row_sides at d (port_is a header.source) (port_is a header.destination) f (read_same (source_of at) (λ x. x == a) f e) (read_same (destination_of at) (λ x. x == a) f e)
+  abbrev IsNet : Option Protocol → Direction → ℕ → ℕ → Interval → Type 0
+  IsNet protocol d b a m = (m.low ≤ m.high) × (count.ip4_tests protocol d ≤ count.ip4_tests protocol d) × (reads link (net_formula link protocol (net_test d (partial_mask (first_bits 32 b)) a)) p n ≡ member_reads Net protocol d m)
 
-  some_ports : (d : Direction) (a b : ℕ) (f : ℕ → Bool) → ((x : ℕ) → (nat_le a x && nat_le x b) ≡ f x) → (header : Transport) → reads link (port_sides (Between a b) d header no_numbers) p n ≡ plain_reads d (source_of (port_places header)) (destination_of (port_places header)) f
-  some_ports d a b f e header =
-      let at = port_places header in
-      row_sides at d (port_between a b header.source) (port_between a b header.destination) f
-      (both_ends (source_of at) a b ∙ read_same (source_of at) (λ x. nat_le a x && nat_le x b) f e)
-      (both_ends (destination_of at) a b ∙ read_same (destination_of at) (λ x. nat_le a x && nat_le x b) f e)
+  net_row : (protocol : Option Protocol) (d : Direction) (b a : ℕ) → Each (net_numbers (record { address = a; mask = first_bits 32 b })) (IsNet protocol d b a)
+  net_row protocol d b a =
+      if_case (λ o. Each o (IsNet protocol d b a)) (bit_and a (first_bits 32 b) == a) _ _
+      (λ t. (omega arith, omega arith, address_row protocol d (partial_mask (first_bits 32 b)) a _ (λ x s. net_hit b a x s (grind (arith, nat_tests)))))
+      (λ t. tt)
 
-  abbrev Rows : ValueType → Option Protocol → Direction → Value → Interval → Type 0
-  Rows k protocol d v m = reads link (value_formula link k protocol d v) p n ≡ member_reads k protocol d m
-
-  some_member : (l m : Interval) → Some l ≡ Some m → l ≡ m
-  some_member l m e = cc
-
-  net_row : (protocol : Option Protocol) (d : Direction) (b a : ℕ) (m : Interval) → net_numbers (record { address = a; mask = first_bits 32 b }) ≡ Some m → reads link (net_formula link protocol (net_test d (partial_mask (first_bits 32 b)) a)) p n ≡ hosts_by protocol (λ at. plain_reads d (source_of at) (destination_of at) (hit m))
-  net_row protocol d b a m e = by (bit_and a (first_bits 32 b) == a) refl e
-    where
-      l : Interval
-      l = interval a (a + (2 ^ 32 - 1 - first_bits 32 b))
-
-      by : (t : Bool) → (bit_and a (first_bits 32 b) == a) ≡ t → (if t then Some l else None) ≡ Some m → reads link (net_formula link protocol (net_test d (partial_mask (first_bits 32 b)) a)) p n ≡ hosts_by protocol (λ at. plain_reads d (source_of at) (destination_of at) (hit m))
-      by true t h =
-          let inside : bit_and a (first_bits 32 b) ≡ a = grind (arith, nat_tests) in
-          subst (λ (z : Interval). reads link (net_formula link protocol (net_test d (partial_mask (first_bits 32 b)) a)) p n ≡ hosts_by protocol (λ at. plain_reads d (source_of at) (destination_of at) (hit z))) (some_member l m h)
-          (address_row protocol d (partial_mask (first_bits 32 b)) a (hit l) (λ x s. net_hit b a x s inside))
-      by false t h = cc
-
-  pub member_is : (k : ValueType) (protocol : Option Protocol) (d : Direction) (v : Value) (m : Interval) → member_of k v ≡ Some m → Rows k protocol d v m
-  member_is Host protocol d (value.Dotted x z) m e =
-      let l = interval x.address x.address in
-      subst (λ (w : Interval). Rows Host protocol d (value.Dotted x z) w) (some_member l m e)
-      (address_row protocol d None x.address (hit l) (λ y s. one_number y x.address x.address refl))
-  member_is Net protocol d (value.Number x mask.Unwritten) m e = net_row protocol d 8 (x % 256 * 2 ^ 24) m e
-  member_is Net protocol d (value.Number x (mask.Prefix b)) m e = net_row protocol d b (x % 256 * 2 ^ 24) m e
-  member_is Net protocol d (value.Dotted x mask.Unwritten) m e = net_row protocol d (8 * x.parts) x.address m e
-  member_is Net protocol d (value.Dotted x (mask.Prefix b)) m e = net_row protocol d b x.address m e
-  member_is Port protocol d (value.Number x z) m e =
-      let l = interval x x in
-      subst (λ (w : Interval). Rows Port protocol d (value.Number x z) w) (some_member l m e)
-      (port_row protocol d (One x) (hit l) (one_port d x (hit l) (λ y. one_number y x x refl)))
-  member_is PortRange protocol d (value.Range a b) m e =
-      let l = interval (min a b) (max a b) in
-      subst (λ (w : Interval). Rows PortRange protocol d (value.Range a b) w) (some_member l m e)
-      (port_row protocol d (Between (min a b) (max a b)) (hit l) (some_ports d (min a b) (max a b) (hit l) (λ y. refl)))
-  member_is _ protocol d _ m e = cc
+  pub member_is : (k : ValueType) (protocol : Option Protocol) (d : Direction) (v : Value) → Each (member_of k v) (IsMember k protocol d v)
+  member_is Host protocol d (value.Dotted x z) = (omega arith, omega arith, address_row protocol d None x.address _ (λ y s. one_number y x.address x.address refl))
+  member_is Net protocol d (value.Number x NetMask.Unwritten) = net_row protocol d 8 (x % 256 * 2 ^ 24)
+  member_is Net protocol d (value.Number x (NetMask.Prefix b)) = net_row protocol d b (x % 256 * 2 ^ 24)
+  member_is Net protocol d (value.Dotted x NetMask.Unwritten) = net_row protocol d (8 * x.parts) x.address
+  member_is Net protocol d (value.Dotted x (NetMask.Prefix b)) = net_row protocol d b x.address
+  member_is Port protocol d (value.Number x z) = (omega arith, omega arith, port_row protocol d (One x) (port_is x) _ (λ header. refl) (λ at. ap (read_by (field_at at HalfWord p)) (λ i y. one_number y x x refl i)))
+  member_is PortRange protocol d (value.Range a b) =
+      (omega arith, (let more = more_tests d in omega arith), port_row protocol d (Between (min a b) (max a b)) (port_between (min a b) (max a b)) _ (λ header. refl) (λ at. both_ends (field_at at HalfWord p) (min a b) (max a b)))
+  member_is _ protocol d _ = tt

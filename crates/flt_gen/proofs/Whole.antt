@@ -2,6 +2,7 @@
 use Rattle.flt_gen.proofs.Common.{◌≡◌, ℕ, ◌+◌, ◌-◌, ◌*◌, ◌≤◌, List, [], ◌∷◌, length, drop, take, false, cond, Some, None, refl, sym, ap, ◌∙◌, subst, arith, fold, length-drop, ◌≢◌, ◌↔◌, reverse, All-cons, All-drop, All-nil, sum_by-take-drop, Insn, ReturnConstant, answer_of, IsFaultless, IsValidUnlessLong, is_branch, JUMP, HasNoJump, IsShort, start, valid_if_short, faultless_drop, ends_drop, answer_drop, machine_answers, Node, tests_of, nodes_of, words_of, bound_of, expr_nodes, is_unfilled, some_primitive, Expression, empty, truth, Link, MatchResult, Yes, plain, IsProgramOf, short_bound_of, holds, with_folded, folded_expression, no_group, grouped_formula, returns_code, expression_code, program_code, emit_nodes, start_walk, insns_of}
 use Rattle.flt_gen.proofs.Folded.{words_no_more, bound_no_more, short_no_more, filled_folded, nodes_folded, holds_folded}
 use Rattle.flt_gen.proofs.Grouping.{kept_none, grouped_stands}
+use Rattle.flt_gen.proofs.Exclusive.{or_no}
 use Rattle.flt_gen.proofs.Grows.{branches, Sound, grows_none, Fits, fits_more, emitted_fits}
 use Rattle.flt_gen.proofs.Leads.{HasWords, Leads, leads_to}
 use Rattle.flt_gen.proofs.{Runs.pick, Runs.emitted_leads, Turned.program_is}
@@ -60,7 +61,7 @@ leads : (link : Link) (e : Expression) → some_primitive is_unfilled e ≡ fals
 leads link empty filled few p n = hit_leads p n
 leads link (truth a) filled few p n =
     let s = grouped_stands link a no_group kept_none filled in
-    leads_to p n (ap (λ r. pick r 262144 0) (s.reads_are p n))
+    leads_to p n (ap (λ r. pick r 262144 0) (s.reads_are p n ∙ or_no _))
     (emitted_leads p n link (grouped_formula link no_group a) 2 1 262144 0 returns_code (omega (arith, s.words_are)) s.searches (hit_leads p n) (miss_leads p n))
 
 -- what is left of code

@@ -1,38 +1,30 @@
 -- Lists of MAC addresses, of addresses and networks of IPv6, and of protocol numbers, as decision
 -- trees: the first words are compared by halves, and then the next words of those that are left.
-use Rattle.std.specs.Prelude.{ℕ, zero, suc, ◌+◌, ◌-◌, ◌/◌, ◌^◌, ◌==◌, ◌&&◌, nat_lt, nat_le, Bool, true, false, if◌then◌else◌, List, [], ◌∷◌, length, take, drop, slice_get, count_by, Option, Some, None}
 use Rattle.std.specs.List.{list_all, insert}
-use Rattle.flt_words.specs.declared.token.Protocol.{Protocol}
-use Rattle.flt_words.specs.declared.token.Protocol.TheVariants as protocol
-use Rattle.flt_words.specs.declared.token.Side.TheVariants.{Source}
-use Rattle.flt_words.specs.declared.token.ValueType.{ValueType}
+use Rattle.std.specs.Prelude.{ℕ, zero, suc, ◌+◌, ◌-◌, ◌/◌, ◌^◌, ◌==◌, ◌&&◌, nat_lt, nat_le, Bool, true, false, if◌then◌else◌, List, [], ◌∷◌, length, take, drop, slice_get, count_by, Option, Some, None}
+use Rattle.flt_words.specs.declared.token.{Comparison.TheVariants.AtLeast, Protocol.Protocol}
+use Rattle.flt_words.specs.declared.token.{Side.TheVariants.Source, ValueType.ValueType}
 use Rattle.flt_words.specs.declared.token.ValueType.TheVariants.{Host, Net, Proto}
-use Rattle.flt_words.specs.declared.token.Comparison.TheVariants.{AtLeast}
-use Rattle.flt_ast.specs.declared.qualifiers.Direction.{Direction}
-use Rattle.flt_ast.specs.declared.qualifiers.Direction.TheVariants as direction
-use Rattle.flt_ast.specs.declared.value.Value.{Value}
-use Rattle.flt_ast.specs.declared.value.Value.TheVariants as value
-use Rattle.cap_octet.specs.declared.link.Link.{Link}
-use Rattle.cap_octet.specs.Link.{network_offset}
-use Rattle.flt_gen.specs.declared.elementary.FrameKind.{FrameKind}
-use Rattle.flt_gen.specs.declared.elementary.FrameKind.TheVariants as kind
-use Rattle.flt_gen.specs.declared.elementary.Elementary.{Elementary}
-use Rattle.flt_gen.specs.declared.elementary.Elementary.TheVariants.{Outcome, Field}
-use Rattle.flt_gen.specs.declared.cases.Case.{Case}
-use Rattle.flt_gen.specs.declared.cases.Case.TheVariants.{Mac, Ip6, IpProto, Ip6Proto}
-use Rattle.flt_gen.specs.declared.cases.Bound.{Bound}
-use Rattle.flt_gen.specs.declared.cases.Bound.TheVariants.{Below, From, Exactly}
+use Rattle.flt_ast.specs.declared.{qualifiers.Direction.Direction, value.Value.Value}
+use Rattle.cap_octet.specs.{Link.network_offset, declared.link.Link.Link}
 use Rattle.flt_gen.specs.Elementary.{with, kind_test, has_ip_proto, has_ip6_proto}
 use Rattle.flt_gen.specs.Formula.{Formula, Single, Both, Either, Split, all_of}
 use Rattle.flt_gen.specs.Primitives.{mac_tests, ip6_tests, after}
+use Rattle.flt_gen.specs.declared.cases.Bound.{Bound}
+use Rattle.flt_gen.specs.declared.cases.Bound.TheVariants.{Below, From, Exactly}
+use Rattle.flt_gen.specs.declared.cases.Case.{Case}
+use Rattle.flt_gen.specs.declared.cases.Case.TheVariants.{Mac, Ip6, IpProto, Ip6Proto}
+use Rattle.flt_gen.specs.declared.elementary.Elementary.{Elementary}
+use Rattle.flt_gen.specs.declared.elementary.Elementary.TheVariants.{Outcome, Field}
+use Rattle.flt_gen.specs.declared.elementary.FrameKind.{FrameKind}
 
 -- a value as a case, or none: an address of one side, or a protocol of IPv4 or of IPv6
 abbrev pub case_of : ValueType → Option Protocol → Direction → Value → Option Case
-case_of Host p (direction.One s) (value.Mac a) = Some (Mac a)
-case_of Host p (direction.One s) (value.Ip6 a n) = Some (Ip6 None a)
-case_of Net p (direction.One s) (value.Ip6 a n) = Some (Ip6 n a)
-case_of Proto (Some protocol.Ip) d (value.Number n m) = Some (IpProto n)
-case_of Proto (Some protocol.Ip6) d (value.Number n m) = Some (Ip6Proto n)
+case_of Host p (Direction.One s) (Value.Mac a) = Some (Mac a)
+case_of Host p (Direction.One s) (Value.Ip6 a n) = Some (Ip6 None a)
+case_of Net p (Direction.One s) (Value.Ip6 a n) = Some (Ip6 n a)
+case_of Proto (Some Protocol.Ip) d (Value.Number n m) = Some (IpProto n)
+case_of Proto (Some Protocol.Ip6) d (Value.Number n m) = Some (Ip6Proto n)
 case_of _ _ _ _ = None
 
 -- both are compared in the same words
@@ -56,19 +48,19 @@ insert_case c cs = insert cs (count_by (λ d. nat_lt (key_of d) (key_of c)) cs) 
 
 -- the frames in which a case may be
 abbrev pub case_frame : Case → FrameKind
-case_frame (Mac a) = kind.Ethernet
-case_frame (Ip6 n a) = kind.Ip6
-case_frame (IpProto n) = kind.Ip
-case_frame (Ip6Proto n) = kind.Ip6
+case_frame (Mac a) = FrameKind.Ethernet
+case_frame (Ip6 n a) = FrameKind.Ip6
+case_frame (IpProto n) = FrameKind.Ip
+case_frame (Ip6Proto n) = FrameKind.Ip6
 
 -- the place of a side's address in an Ethernet frame
 abbrev pub mac_place : Direction → ℕ
-mac_place (direction.One Source) = 6
+mac_place (Direction.One Source) = 6
 mac_place _ = 0
 
 -- the place of a side's address in an IPv6 header
 abbrev pub ip6_place : Direction → ℕ
-ip6_place (direction.One Source) = 8
+ip6_place (Direction.One Source) = 8
 ip6_place _ = 24
 
 -- the tests of a case's words

@@ -1,24 +1,19 @@
 -- Formulas of which code is emitted, if they aren't those of the table: they read the same.
 use Rattle.std.specs.Prelude.{ℕ, ◌+◌, ◌==◌, ◌&&◌, Bool, true, false, if◌then◌else◌, List, [], ◌∷◌, Option, Some, None}
-use Rattle.flt_words.specs.declared.token.Comparison.{Comparison}
-use Rattle.flt_words.specs.declared.token.Comparison.TheVariants.{AtLeast}
-use Rattle.flt_words.specs.declared.token.ValueType.{ValueType}
-use Rattle.flt_words.specs.declared.token.ValueType.TheVariants.{Net}
+use Rattle.flt_words.specs.declared.token.Comparison.{Comparison, TheVariants.AtLeast}
 use Rattle.flt_words.specs.declared.token.Protocol.{Protocol}
 use Rattle.flt_words.specs.declared.token.Protocol.TheVariants.{Ether, Ip, Ip6, Arp, Rarp, Tcp, Udp, Icmp, Icmp6}
-use Rattle.flt_ast.specs.declared.qualifiers.Direction.{Direction}
+use Rattle.flt_words.specs.declared.token.ValueType.{ValueType, TheVariants.Net}
+use Rattle.flt_ast.specs.Tree.{NumberTree, load, negated, applied}
 use Rattle.flt_ast.specs.declared.qualifiers.CompleteQualifiers.{CompleteQualifiers}
-use Rattle.flt_ast.specs.declared.value.Value.{Value}
-use Rattle.flt_ast.specs.declared.value.Value.TheVariants as value
-use Rattle.flt_ast.specs.Tree.{NumberTree, literal, len, named, load, negated, applied}
-use Rattle.cap_octet.specs.declared.link.Link.{Link}
-use Rattle.flt_gen.specs.declared.elementary.FrameKind.TheVariants as kind
-use Rattle.flt_gen.specs.declared.elementary.Elementary.{Elementary}
-use Rattle.flt_gen.specs.declared.elementary.Elementary.TheVariants.{Outcome, Field}
+use Rattle.flt_ast.specs.declared.{qualifiers.Direction.Direction, value.Value.Value}
+use Rattle.cap_octet.specs.{Link.network_offset, declared.link.Link.Link}
 use Rattle.flt_gen.specs.Elementary.{kind_test}
-use Rattle.cap_octet.specs.Link.{network_offset}
 use Rattle.flt_gen.specs.Formula.{Formula, Compare, checked_formula, sides}
 use Rattle.flt_gen.specs.Primitives.{after, ip6_tests, net_value_formula, value_formula}
+use Rattle.flt_gen.specs.declared.elementary.Elementary.{Elementary}
+use Rattle.flt_gen.specs.declared.elementary.Elementary.TheVariants.{Outcome, Field}
+use Rattle.flt_gen.specs.declared.elementary.FrameKind.{FrameKind}
 
 -- ---- the tests of a protocol's accessors stand once in front of a comparison
 
@@ -49,12 +44,10 @@ with_accessor p ps = p ∷ without_protocol p ps
 -- the protocols of the accessors of arithmetic, in the order of their first words, and then the
 -- rest
 abbrev pub protocols_of : NumberTree → List Protocol → List Protocol
-protocols_of (literal k) rest = rest
-protocols_of (named k) rest = rest
-protocols_of len rest = rest
 protocols_of (load protocol size i) rest = with_accessor protocol (protocols_of i rest)
 protocols_of (negated a) rest = protocols_of a rest
 protocols_of (applied operator l r) rest = protocols_of l (protocols_of r rest)
+protocols_of _ rest = rest
 
 -- a comparison of two numbers, after the tests of its accessors' protocols
 abbrev pub relation_formula : Link → Comparison → NumberTree → NumberTree → Formula
@@ -100,13 +93,13 @@ needed_sides direction source destination =
 -- `host` and `net` of IPv6, without the tests that decide nothing
 abbrev pub ip6_needed : Link → Direction → Option ℕ → ℕ → Formula
 ip6_needed link direction prefix address =
-    after (kind_test link kind.Ip6)
+    after (kind_test link FrameKind.Ip6)
     (needed_sides direction (ip6_tests prefix address (network_offset link + 8))
     (ip6_tests prefix address (network_offset link + 24)))
 
 -- `net` with a network of IPv4 or IPv6, without the tests that decide nothing
 abbrev pub net_needed : Link → Option Protocol → Direction → Value → Formula
-net_needed link protocol direction (value.Ip6 address prefix) =
+net_needed link protocol direction (Value.Ip6 address prefix) =
     ip6_needed link direction prefix address
 net_needed link protocol direction v = net_value_formula link protocol direction v
 

@@ -1,35 +1,27 @@
 -- Addresses, ports or protocols that are looked for together, since they stand one after the other
 -- with `or` between them.
 use Rattle.std.specs.Prelude.{ℕ, ◌+◌, ◌-◌, ◌^◌, ◌==◌, nat_lt, nat_le, min, max, bit_and, not, Bool, true, false, ◌&&◌, if◌then◌else◌, List, [], ◌∷◌, length, Option, Some, None}
+use Rattle.flt_words.specs.declared.token.Join.TheVariants.{And, Or}
 use Rattle.flt_words.specs.declared.token.Protocol.{Protocol}
 use Rattle.flt_words.specs.declared.token.Protocol.TheVariants.{Ip, Tcp, Udp}
 use Rattle.flt_words.specs.declared.token.Side.TheVariants.{Source, Destination}
-use Rattle.flt_words.specs.declared.token.Join.TheVariants.{And, Or}
 use Rattle.flt_words.specs.declared.token.ValueType.{ValueType}
 use Rattle.flt_words.specs.declared.token.ValueType.TheVariants.{Host, Net, Port, PortRange}
-use Rattle.flt_ast.specs.declared.qualifiers.Direction.{Direction}
-use Rattle.flt_ast.specs.declared.qualifiers.Direction.TheVariants as direction
-use Rattle.flt_ast.specs.declared.qualifiers.CompleteQualifiers.{CompleteQualifiers}
-use Rattle.flt_ast.specs.declared.value.Value.{Value}
-use Rattle.flt_ast.specs.declared.value.Value.TheVariants as value
-use Rattle.flt_ast.specs.declared.value.NetMask.TheVariants as mask
-use Rattle.flt_ast.specs.declared.value.Ip4Net.{Ip4Net}
 use Rattle.flt_ast.specs.Nets.{ip4_net}
 use Rattle.flt_ast.specs.Tree.{TruthTree, qualified, compared, denied, joined}
+use Rattle.flt_ast.specs.declared.qualifiers.CompleteQualifiers.{CompleteQualifiers}
+use Rattle.flt_ast.specs.declared.qualifiers.Direction.{Direction}
+use Rattle.flt_ast.specs.declared.value.{Ip4Net.Ip4Net, NetMask.NetMask, Value.Value}
 use Rattle.cap_octet.specs.declared.link.Link.{Link}
-use Rattle.flt_gen.specs.declared.elementary.Interval.{Interval}
-use Rattle.flt_gen.specs.declared.cases.Case.{Case}
-use Rattle.flt_gen.specs.declared.group.Entry.{Entry}
-use Rattle.flt_gen.specs.declared.port.Ports.TheVariants.{Several}
-use Rattle.flt_gen.specs.declared.address.Hosts.TheVariants as hosts
-use Rattle.flt_gen.specs.declared.elementary.Elementary.TheVariants.{Outcome}
-use Rattle.flt_gen.specs.Formula.{Formula, Single, Both, Either, Except, Numbers, no_interval}
 use Rattle.flt_gen.specs.Elementary.{with}
+use Rattle.flt_gen.specs.Formula.{Formula, Single, Both, Either, Except, Numbers, no_interval}
 use Rattle.flt_gen.specs.Primitives.{hosts_formula, port_test, port_formula}
+use Rattle.flt_gen.specs.{Reading.formula, declared.address.Hosts.Hosts, declared.cases.Case.Case}
+use Rattle.flt_gen.specs.declared.elementary.{Elementary.TheVariants.Outcome, Interval.Interval}
+use Rattle.flt_gen.specs.declared.{group.Entry.Entry, port.Ports.TheVariants.Several}
 use Rattle.flt_gen.specs.inside.Cases.{case_of, same_words, insert_case, cases_formula}
 use Rattle.flt_gen.specs.inside.Emitted.{relation_formula, qualified_needed}
 use Rattle.flt_gen.specs.inside.Intervals.{insert_ascending, sought}
-use Rattle.flt_gen.specs.Reading.{formula}
 
 -- the qualifiers of the member that stands first, whether each member is one number, the numbers of
 -- the first and of all, which ascend, or the members as cases, and the members, in the order of the
@@ -45,7 +37,7 @@ pub record Group : Type 0 where
 -- a group without members; its qualifiers decide nothing
 abbrev pub no_group : Group
 no_group = record {
-  qualifiers = record { protocol = None; direction = direction.Both Or; value_type = Host };
+  qualifiers = record { protocol = None; direction = Direction.Both Or; value_type = Host };
   is_plain = true;
   first = no_interval;
   all = [];
@@ -107,9 +99,9 @@ same_protocol _ _ = false
 
 -- both have the same direction; `src and dst` counts as never the same
 abbrev pub same_direction : Direction → Direction → Bool
-same_direction (direction.One Source) (direction.One Source) = true
-same_direction (direction.One Destination) (direction.One Destination) = true
-same_direction (direction.Both Or) (direction.Both Or) = true
+same_direction (Direction.One Source) (Direction.One Source) = true
+same_direction (Direction.One Destination) (Direction.One Destination) = true
+same_direction (Direction.Both Or) (Direction.Both Or) = true
 same_direction _ _ = false
 
 -- how many are looked for together at most
@@ -146,8 +138,8 @@ case_goes_with c d group (e ∷ es) =
 
 -- a network has `mask`, whose bits need be no prefix
 abbrev pub is_masked : Value → Bool
-is_masked (value.Number n (mask.Mask bits)) = true
-is_masked (value.Dotted d (mask.Mask bits)) = true
+is_masked (Value.Number n (NetMask.Mask bits)) = true
+is_masked (Value.Dotted d (NetMask.Mask bits)) = true
 is_masked _ = false
 
 -- the addresses of a network whose address has no other bits than its mask, which is a prefix
@@ -165,9 +157,9 @@ net_member v = if is_masked v then None else with (ip4_net v) net_numbers
 -- port or ports; none of other types and values
 abbrev pub member_of : ValueType → Value → Option Interval
 member_of Net v = net_member v
-member_of Host (value.Dotted dotted m) = Some (interval dotted.address dotted.address)
-member_of Port (value.Number n m) = Some (interval n n)
-member_of PortRange (value.Range a b) = Some (interval (min a b) (max a b))
+member_of Host (Value.Dotted dotted m) = Some (interval dotted.address dotted.address)
+member_of Port (Value.Number n m) = Some (interval n n)
+member_of PortRange (Value.Range a b) = Some (interval (min a b) (max a b))
 member_of _ _ = None
 
 -- a group with one more member, if the value is one and goes with the others, or none
@@ -221,9 +213,9 @@ numbers_of group = sought (has_networks group) group.first group.all
 -- one of several members with these numbers
 abbrev pub several_formula : Link → CompleteQualifiers → ValueType → Numbers → Formula
 several_formula link q Host numbers =
-    hosts_formula link q.protocol (hosts.Several q.direction) numbers
+    hosts_formula link q.protocol (Hosts.Several q.direction) numbers
 several_formula link q Net numbers =
-    hosts_formula link q.protocol (hosts.Several q.direction) numbers
+    hosts_formula link q.protocol (Hosts.Several q.direction) numbers
 several_formula link q Port numbers =
     port_formula link (port_test q.protocol q.direction Several) numbers
 several_formula link q PortRange numbers =
