@@ -45,11 +45,11 @@ COMMANDS = {"edit": [], "print": PREPARED, "merge": [], "infos": [], "compile": 
 STEPS = {"flt_bpf::execute", "flt_bpf::advance"}
 # Crates whose public functions are for other crates here.
 BETWEEN = {
-    "cap_inputs", "cap_process", "flt_lay", "flt_short", "flt_ast",
+    "cap_inputs", "cap_process", "flt_short", "flt_ast",
 }
 # What the pages promise of these.
 PROMISED = {
-    "flt_lay::laid_out", "flt_short::shortened",
+    "flt_short::laid_out", "flt_short::shortened",
     "flt_short::threaded",
 }
 # The headline: what words ask for, what is written, reported and returned, and that a packet passes where its

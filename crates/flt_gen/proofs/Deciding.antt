@@ -238,7 +238,6 @@ module _ (link : Link) (p : List ℕ) (n : ℕ) where
       others : (qs : List (List Elementary)) → (0 < length qs → read_all qs ≡ both (by_field f None k) (read_all (map rest qs))) → either (both (by_field f None k) (told ts)) (read_all qs) ≡ both (by_field f None k) (either (told ts) (read_all (map rest qs)))
       others [] g = or_no _ ∙ ap (both (by_field f None k)) (sym (or_no (told ts)))
       others (q ∷ qs) g = ap (either (both (by_field f None k) (told ts))) (g (omega arith)) ∙ sym (both_either (by_field f None k) (told ts) (read_all (map rest (q ∷ qs))))
-
   same_read f fs k (_ ∷ rs) h a some = absurd h.0
 
   first_told : (f : Offset × Width) (fs : List (Offset × Width)) (t : FieldTest) (ts : List Elementary) (rs : List (List Elementary)) → Shape (f ∷ fs) (Field t ∷ ts) → all_rows (Exactly t.value) ((Field t ∷ ts) ∷ rs) ≡ true → elementary_reads (Field t) p ≡ by_field f None t.value

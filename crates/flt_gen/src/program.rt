@@ -13,8 +13,7 @@ use flt_ast::{Checked, Node};
 use flt_bpf::Wide;
 use flt_bpf::operation::Operation;
 use flt_bpf::program::{Program, check};
-use flt_lay::laid_out;
-use flt_short::{shortened, threaded};
+use flt_short::{laid_out, shortened, threaded};
 use std::alloc::{AllocError, Allocator};
 
 /// `laid_out` takes fewer than 2^30 instructions. A checked expression never has as many (its bound

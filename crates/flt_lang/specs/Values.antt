@@ -58,7 +58,7 @@ pub data ReadsValue : List TokenKind → Value → List TokenKind → Type 0 whe
       → ReadsValue (TokenKind.Number n ∷ ts) (Value.Number n m) rest
   dotted : {a p : ℕ} {ts rest : List TokenKind} {m : NetMask} → ReadsMask ts m rest
       → ReadsValue (TokenKind.Dotted a p ∷ ts)
-          (Value.Dotted (record { address = a; parts = p }) m) rest
+      (Value.Dotted (record { address = a; parts = p }) m) rest
   ip6 : {a : ℕ} {rest : List TokenKind}
       → ReadsValue (TokenKind.Ip6 a ∷ rest) (Value.Ip6 a None) rest
   ip6_prefix : {a m : ℕ} {rest : List TokenKind}

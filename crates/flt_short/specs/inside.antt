@@ -3,3 +3,4 @@
 pub mod Alike
 pub mod Facts
 pub mod Threads
+pub mod Layout

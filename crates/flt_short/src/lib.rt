@@ -1,12 +1,14 @@
 //! Makes code shorter and faster: tests skip tests whose outcome is known, and fewer instructions
-//! replace several that do the same.
+//! replace several that do the same; and lays it out: its tests skip any number of instructions
+//! (`flt_bpf::Wide`), those of a program (`flt_bpf::Insn`) at most 255.
 //!
-//! `flt_gen` calls [`threaded`], then [`shortened`].
+//! `flt_gen` calls [`threaded`], then [`shortened`], and at last [`laid_out`].
 //!
 //! - `thread` moves the targets. `facts` has what is known of a packet and of A and X at each place
 //!   that runs reach.
 //! - `shorten` proposes shorter code. `alike` checks that the new code does what the old one does,
 //!   and breaks no rule.
+//! - `layout` adds a jump (`ja`) only for a target that is too far for its test.
 //!
 //! The terms of this crate:
 //!
@@ -19,8 +21,10 @@
 
 mod alike;
 mod facts;
+mod layout;
 mod shorten;
 mod thread;
 
+pub use layout::laid_out;
 pub use shorten::shortened;
 pub use thread::threaded;

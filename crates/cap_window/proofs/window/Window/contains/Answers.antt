@@ -57,4 +57,3 @@ pub unwrap-requires : goal.unwrap-requires
 unwrap-requires g c =
     let step = least c.loop-step.invariant.way in
     is_there _ _ (c.get.ensures ∙ slice_get-get_or c.self.inside.marks.items (c.loop-step.limit - c.loop-step.step) (record { length = 0; digest = [] }) (omega (arith, c.loop-step.invariant.within, step)))
-

@@ -1,11 +1,11 @@
 -- What is laid out first stays at the end of the code, where its place says; from a jump a run goes on where
 -- the jump leads; so the code that is laid out gives the answers of the wide code.
-use Rattle.flt_lay.proofs.Common.{◌≡◌, ℕ, zero, suc, ◌≤◌, List, [], ◌∷◌, ◌++◌, length, drop, Option, Some, refl, sym, ap, ◌∙◌, arith, append_assoc, length-append, Insn, Operation, JumpIf, Reach, Near, BothFar, PlacedCode, place_at, with_test_by, with_insn, placed_code, laid_out, ◌+◌, ◌-◌, ◌<◌, Bool, true, false, subst, ◌==◌, ◌&&◌, nat_le, if◌then◌else◌, All, nat_tests, All-cons, All-head, All-tail, All-take, All-replicate, State, Jump, answer_of, MOST_OFFSET, YesFar, NoFar, emitted, with_jump, with_noted_jump, jump_near, None, ReturnConstant, ReturnAccumulator, Test, Operand, does_if_known, test_holds, operand_value, answer_after, with_offsets}
+use Rattle.flt_short.proofs.LayoutNames.{◌≡◌, ℕ, zero, suc, ◌≤◌, List, [], ◌∷◌, ◌++◌, length, drop, Option, Some, refl, sym, ap, ◌∙◌, arith, append_assoc, length-append, Insn, Operation, JumpIf, Reach, Near, BothFar, PlacedCode, place_at, with_test_by, with_insn, placed_code, laid_out, ◌+◌, ◌-◌, ◌<◌, Bool, true, false, subst, ◌==◌, ◌&&◌, nat_le, if◌then◌else◌, All, nat_tests, All-cons, All-head, All-tail, All-take, All-replicate, State, Jump, answer_of, MOST_OFFSET, YesFar, NoFar, emitted, with_jump, with_noted_jump, jump_near, None, ReturnConstant, ReturnAccumulator, Test, Operand, does_if_known, test_holds, operand_value, answer_after, with_offsets}
 use Rattle.std.proofs.Common.{add-one}
 use Rattle.std.specs.Prelude.{slice_index}
 use Rattle.flt_bpf.proofs.Both.{plain_both}
 use Rattle.flt_bpf.specs.{Instructions.operation_of, Machine.step}
-use Rattle.flt_lay.specs.{declared.layout.PlacedJump.PlacedJump, inside.Layout.with_test, inside.Layout.near_place}
+use Rattle.flt_short.specs.{declared.layout.PlacedJump.PlacedJump, inside.Layout.with_test, inside.Layout.near_place}
 
 -- code with more in front
 pub record IsEndOf (c d : List Insn) : Type 0 where

@@ -10,9 +10,9 @@ ghost use Rattle.flt_bpf.specs.Instructions.{operation_of};
 ghost use Rattle.flt_bpf.specs.Layout.{is_branch, HasNoJump, JumpsAreNeeded, IsShort};
 ghost use Rattle.flt_bpf.specs.Machine.{start};
 ghost use Rattle.flt_bpf.specs.Valid.{MOST_INSTRUCTIONS, IsValid};
-ghost use Rattle.flt_lay.specs.inside.Layout.{place_at, with_offsets, emitted, with_noted_jump};
-ghost use Rattle.flt_lay.specs.inside.Layout.{jump_near, near_place, test_reach, with_test};
-ghost use Rattle.flt_lay.specs.inside.Layout.{with_place, put, placed_code};
+ghost use Rattle.flt_short.specs.inside.Layout.{place_at, with_offsets, emitted, with_noted_jump};
+ghost use Rattle.flt_short.specs.inside.Layout.{jump_near, near_place, test_reach, with_test};
+ghost use Rattle.flt_short.specs.inside.Layout.{with_place, put, placed_code};
 
 use flt_bpf::insn::Insn;
 use flt_bpf::operation::{Operation, decode};
@@ -83,7 +83,7 @@ struct Layout<A: Allocator> {
 
 impl<A: Allocator> Model for Layout<A> {
     ghost use Rattle.std.specs.Prelude.{reverse};
-    ghost use Rattle.flt_lay.specs.inside.Layout.{PlacedCode};
+    ghost use Rattle.flt_short.specs.inside.Layout.{PlacedCode};
 
     ghost Value = { PlacedCode };
 

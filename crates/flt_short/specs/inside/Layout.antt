@@ -7,9 +7,9 @@ use Rattle.flt_bpf.specs.Layout.{JUMP, MOST_OFFSET}
 use Rattle.flt_bpf.specs.declared.insn.Insn.{Insn}
 use Rattle.flt_bpf.specs.declared.operation.Operation.{Operation}
 use Rattle.flt_bpf.specs.declared.operation.Operation.TheVariants.{Jump, JumpIf}
-use Rattle.flt_lay.specs.declared.layout.PlacedJump.{PlacedJump}
-use Rattle.flt_lay.specs.declared.layout.Reach.{Reach}
-use Rattle.flt_lay.specs.declared.layout.Reach.TheVariants.{Near, YesFar, NoFar, BothFar}
+use Rattle.flt_short.specs.declared.layout.PlacedJump.{PlacedJump}
+use Rattle.flt_short.specs.declared.layout.Reach.{Reach}
+use Rattle.flt_short.specs.declared.layout.Reach.TheVariants.{Near, YesFar, NoFar, BothFar}
 
 -- what is laid out so far: the code, the place of each instruction of the wide code, from the first
 -- to the last, and the four jumps that were laid out last, the last one first

@@ -1,8 +1,8 @@
 -- There is room for one more instruction.
 use Rattle.std.proofs.Common.{length, drop, ap, arith, length-drop}
-use Rattle.flt_lay.specs.inside.Layout.{PlacedCode}
-use Rattle.flt_lay.proofs.Counted.{threefold}
-use Rattle.flt_lay.proofs.layout.Layout.of_wide.Goals as goal
+use Rattle.flt_short.specs.inside.Layout.{PlacedCode}
+use Rattle.flt_short.proofs.Counted.{threefold}
+use Rattle.flt_short.proofs.layout.Layout.of_wide.Goals as goal
 
 pub lay_insn-requires : goal.lay_insn-requires
 lay_insn-requires g c =

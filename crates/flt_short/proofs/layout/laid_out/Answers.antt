@@ -1,10 +1,10 @@
 -- What is proved of the layout holds of the instructions, which are the layout.
-use Rattle.flt_lay.proofs.Common.{◌≡◌, ◌*◌, ◌+◌, ◌≤◌, List, length, count_by, sym, ap, ◌∙◌, subst, Insn, answer_of, IsValidUnlessLong, is_branch, JumpsAreNeeded, IsShort, start, PlacedCode, placed_code, laid_out}
-use Rattle.flt_lay.proofs.Counted.{at_least, at_most, short_stays, laid_needed}
-use Rattle.flt_lay.proofs.{Leads.same_answers, Sound.sound_laid}
+use Rattle.flt_short.proofs.LayoutNames.{◌≡◌, ◌*◌, ◌+◌, ◌≤◌, List, length, count_by, sym, ap, ◌∙◌, subst, Insn, answer_of, IsValidUnlessLong, is_branch, JumpsAreNeeded, IsShort, start, PlacedCode, placed_code, laid_out}
+use Rattle.flt_short.proofs.Counted.{at_least, at_most, short_stays, laid_needed}
+use Rattle.flt_short.proofs.{Leads.same_answers, Sound.sound_laid}
 use Rattle.flt_bpf.specs.Instructions.{operation_of}
 use Rattle.flt_bpf.proofs.Suffix.{valid_if_short}
-use Rattle.flt_lay.proofs.layout.laid_out.Goals as goal
+use Rattle.flt_short.proofs.layout.laid_out.Goals as goal
 
 -- what holds of the layout holds of the instructions
 of_insns : (P : List Insn → Type 0) (insns : List Insn) (l : PlacedCode) (wide : List Insn) → insns ≡ l.code → l ≡ placed_code wide → P (laid_out wide) → P insns

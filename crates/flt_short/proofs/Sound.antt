@@ -1,10 +1,10 @@
 -- Code without a fault stays so.
-use Rattle.flt_lay.proofs.Common.{◌≡◌, ℕ, ◌-◌, ◌<◌, ◌≤◌, List, [], ◌∷◌, ◌++◌, length, drop, true, Option, Some, None, refl, ap, ◌∙◌, arith, length-drop, nat_lt, ◌&&◌, nat_tests, Insn, Operation, Load, Compute, Jump, JumpIf, ReturnConstant, ReturnAccumulator, Memory, Test, Operand, unless, fault_if_known, is_return, ends_in_return, IsFaultless, IsValidUnlessLong, Reach, Near, YesFar, NoFar, BothFar, PlacedCode, place_at, with_offsets, with_jump, with_test_by, with_insn, placed_code, laid_out}
-use Rattle.flt_lay.proofs.Counted.{at_least}
-use Rattle.flt_lay.proofs.Leads.{GoesTo, near_goes, all_lead, emitted_end, target_is, target_inside}
+use Rattle.flt_short.proofs.LayoutNames.{◌≡◌, ℕ, ◌-◌, ◌<◌, ◌≤◌, List, [], ◌∷◌, ◌++◌, length, drop, true, Option, Some, None, refl, ap, ◌∙◌, arith, length-drop, nat_lt, ◌&&◌, nat_tests, Insn, Operation, Load, Compute, Jump, JumpIf, ReturnConstant, ReturnAccumulator, Memory, Test, Operand, unless, fault_if_known, is_return, ends_in_return, IsFaultless, IsValidUnlessLong, Reach, Near, YesFar, NoFar, BothFar, PlacedCode, place_at, with_offsets, with_jump, with_test_by, with_insn, placed_code, laid_out}
+use Rattle.flt_short.proofs.Counted.{at_least}
+use Rattle.flt_short.proofs.Leads.{GoesTo, near_goes, all_lead, emitted_end, target_is, target_inside}
 use Rattle.flt_bpf.specs.{Check.fault_of, Instructions.operation_of}
 use Rattle.flt_bpf.specs.declared.{fault.CheckFault.TheVariants.JumpOut, operation.Operand.TheVariants.Constant}
-use Rattle.flt_lay.specs.inside.Layout.{near_place, with_test}
+use Rattle.flt_short.specs.inside.Layout.{near_place, with_test}
 
 -- places inside the code
 record IsInside (to : ℕ) (c : List Insn) : Type 0 where

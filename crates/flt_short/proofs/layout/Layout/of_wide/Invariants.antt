@@ -1,7 +1,7 @@
 -- What is laid out is the code from the counter on.
 use Rattle.std.proofs.Common.{◌≡◌, drop}
-use Rattle.flt_lay.specs.inside.Layout.{placed_code}
-use Rattle.flt_lay.proofs.layout.Layout.of_wide.Given as goal
+use Rattle.flt_short.specs.inside.Layout.{placed_code}
+use Rattle.flt_short.proofs.layout.Layout.of_wide.Given as goal
 
 abbrev pub invariant-loop-at : goal.invariant-loop-at
 invariant-loop-at g l = l.layout ≡ placed_code (drop l.at l.wide)
