@@ -391,7 +391,7 @@ module _ (p : List ℕ) (n : ℕ) where
   many_leads at numbers hit miss v w c r h m = leads_top p n _ _ (by at.source at.destination r.reached (r.first_in p))
     where
       sides : Offset → Offset → Sides
-      sides a b = record { width = at.width; index = at.index; source = a; destination = b }
+      sides a b = record { width = at.width; index = at.index; is_alone = at.is_alone; source = a; destination = b }
 
       by : (a b : Offset) → Reached at.index numbers.mask a b → ((x : ℕ) → field_at a at.width p ≡ Some x → is_in (under_mask numbers.mask x) numbers.first ≡ true → is_within (under_mask numbers.mask x) numbers.all ≡ true) → Tops p n HasWords (emit_many (sides a b) numbers hit miss c).code (pick (either_reads numbers (field_at a at.width p) (field_at b at.width p)) v w)
       by (Fixed a) (Fixed b) l sub =

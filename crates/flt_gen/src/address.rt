@@ -83,6 +83,7 @@ fn address_places(link: Link, kind: FrameKind) -> Sides
     Sides {
         width: Width::Word,
         index: destination - 16,
+        is_alone: link.type_offset().is_none(),
         source: Offset::Fixed(start + source),
         destination: Offset::Fixed(start + destination),
     }

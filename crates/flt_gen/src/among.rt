@@ -51,12 +51,12 @@ fn fewest_at_index(width: Width, is_plain: bool) -> usize
     }
 }
 
-/// Whether numbers are looked for at X.
+/// Whether numbers are looked for at X: never where headers of one kind have them alone.
 fn are_at_index(at: Sides, numbers: &Numbers<'_>) -> bool
     ensures { result ≡ are_at_index at numbers.now }
 {
     let first = numbers.first;
-    numbers.all.len() >= fewest_at_index(at.width, first.low == first.high)
+    !at.is_alone && numbers.all.len() >= fewest_at_index(at.width, first.low == first.high)
 }
 
 impl<A: Allocator> Code<A> {

@@ -64,6 +64,8 @@ pub enum Elementary {
 pub struct Sides {
     pub width: Width,
     pub index: u32,
+    /// Whether the link has no headers of another kind with such addresses or ports.
+    pub is_alone: bool,
     pub source: Offset,
     pub destination: Offset,
 }

@@ -149,6 +149,7 @@ impl<A: Allocator> Code<A> {
                 let at = Sides {
                     width: Width::HalfWord,
                     index: header.index,
+                    is_alone: false,
                     source,
                     destination,
                 };

@@ -1,6 +1,6 @@
 -- The code of a formula, which is emitted in front of the code that is present.
 use Rattle.std.specs.Option.{is_none}
-use Rattle.std.specs.Prelude.{ℕ, zero, suc, ◌+◌, ◌-◌, ◌/◌, ◌%◌, ◌^◌, true, false, nat_le, ◌==◌, ◌&&◌, if◌then◌else◌, Bool, List, [], ◌∷◌, length, take, drop, Option, Some, None}
+use Rattle.std.specs.Prelude.{not, ℕ, zero, suc, ◌+◌, ◌-◌, ◌/◌, ◌%◌, ◌^◌, true, false, nat_le, ◌==◌, ◌&&◌, if◌then◌else◌, Bool, List, [], ◌∷◌, length, take, drop, Option, Some, None}
 use Rattle.flt_bpf.specs.{Check.constant_fault, Instructions.code_of}
 use Rattle.flt_bpf.specs.declared.{insn.Insn.Insn, operation.AluOperation.AluOperation}
 use Rattle.flt_bpf.specs.declared.operation.Operand.{Operand, TheVariants.Constant, TheVariants.IndexRegister}
@@ -294,10 +294,11 @@ fewest_at_index width false = 5
 fewest_at_index Word true = 24
 fewest_at_index _ true = 8
 
--- numbers are looked for at X
+-- numbers are looked for at X: never where headers of one kind have them alone
 abbrev pub are_at_index : Sides → Numbers → Bool
 are_at_index at numbers =
-    nat_le (fewest_at_index at.width (numbers.first.low == numbers.first.high)) (length numbers.all)
+    not at.is_alone
+    && nat_le (fewest_at_index at.width (numbers.first.low == numbers.first.high)) (length numbers.all)
 
 -- the sides that a direction asks for are some numbers
 abbrev pub emit_among : Direction → Sides → Numbers → ℕ → ℕ → List Insn → Block
