@@ -51,7 +51,7 @@ fn fewest_at_index(width: Width, is_plain: bool) -> usize
     }
 }
 
-/// Whether numbers are looked for at X: never where headers of one kind have them alone.
+/// Whether numbers are looked for at X: never if headers of only one kind have them.
 fn are_at_index(at: Sides, numbers: &Numbers<'_>) -> bool
     ensures { result ≡ are_at_index at numbers.now }
 {

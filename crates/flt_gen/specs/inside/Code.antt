@@ -294,7 +294,7 @@ fewest_at_index width false = 5
 fewest_at_index Word true = 24
 fewest_at_index _ true = 8
 
--- numbers are looked for at X: never where headers of one kind have them alone
+-- numbers are looked for at X: never if headers of only one kind have them
 abbrev pub are_at_index : Sides → Numbers → Bool
 are_at_index at numbers =
     not at.is_alone
