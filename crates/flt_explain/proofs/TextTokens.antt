@@ -44,8 +44,8 @@ clash false true either neither = cc
 clash false false either neither = cc
 
 none_of : {A : Type 0} (o : Option A) → ((a : A) → o ≡ Some a → ⊥) → o ≡ None
-none_of None no = refl
-none_of (Some a) no = absurd (no a refl)
+none_of None never = refl
+none_of (Some a) never = absurd (never a refl)
 
 none_two : (b c : ℕ) → is_end true c || is_alone b ≡ true → look_up symbols (b ∷ c ∷ []) ≡ None
 unfolding two_test
@@ -62,7 +62,7 @@ two_is inside b c = rw (and_false inside (b == 58)) refl
 
 no_two : (inside : Bool) (b : ℕ) (more : List ℕ) → Ends inside more ⊎ (is_alone b ≡ true) → 2 ≤ length (b ∷ more) → symbol_of inside (take 2 (b ∷ more)) ≡ None
 no_two inside b [] stops long = absurd (omega arith)
-no_two inside b (c ∷ more) stops long = two_is inside b c ∙ none_two b c (⊎_elim (λ ends. rw (ends_first ends) refl) (λ alone. rw (alone, or-true) refl) stops)
+no_two inside b (c ∷ more) stops long = two_is inside b c ∙ none_two b c (⊎_elim (λ ends. rw (ends_first ends) refl) (λ alone. ap (λ x. is_end true c || x) alone ∙ or-true _) stops)
   where
     ends_first : Ends inside (c ∷ more) → is_end true c ≡ true
     ends_first (goes_on end) = end_inside inside c end
@@ -88,6 +88,8 @@ sign_found : (inside : Bool) (t : TokenKind) → is_sign t ≡ true → symbol_o
 unfolding symbols
 sign_found true (token.Comparison Comparison.Equal) h = refl
 sign_found true (token.Operator Operator.Divide) h = refl
+sign_found false (token.Comparison Comparison.Equal) h = refl
+sign_found false (token.Operator Operator.Divide) h = refl
 sign_found _ _ h = cc
 
 pub sign_token : (t : TokenKind) (inside : Bool) (place : ℕ) (more : List ℕ) → is_sign t ≡ true → Ends inside more ⊎ (is_alone (get_or (fixed_spelling t) 0 0) ≡ true) → IsToken inside place (fixed_spelling t ++ more) t (length (fixed_spelling t))
