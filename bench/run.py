@@ -58,6 +58,10 @@ EXPRESSIONS = {
     "nets-100": " or ".join(f"net {network(chooser.randrange(8, 29))}" for _ in range(100)),
     "nets-600": " or ".join(f"net {network(24)}" for _ in range(600)),
     "portranges-20": " or ".join(f"portrange {port}-{port + 99}" for port in range(1000, 61000, 3000)),
+    "nets-1800": " or ".join(f"ip net {network(24)}" for _ in range(1800)),
+    "hosts-2730": "ip src host " + " or ".join(network(32)[:-3] for _ in range(2730)),
+    "macs-40": " or ".join("ether src 00" + "".join(f":{chooser.randrange(256):02x}" for _ in range(5)) for _ in range(40)),
+    "ip6-256": " or ".join(f"src host 2001:db8::{k:x}" for k in range(256)),
 }
 
 
