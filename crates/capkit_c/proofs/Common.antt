@@ -4,20 +4,18 @@ pub use Rattle.std.proofs.lemmas.List.{drop-take, length-take-le, take-append-dr
 pub use Rattle.std.specs.{List.slice_get, List.list_all, Option.option_map}
 pub use Rattle.cap_io.specs.Capture.{Declared, Nothing, PcapFile, PcapngFile, IsUnit, Whole, a_block, a_first_block, file_after, first_link_after, front_of, is_pcapng, NoUnit, first_link_of}
 pub use Rattle.cap_io.specs.{Reading.declared_by, declared.file_state.FileState.FileState}
-pub use Rattle.cap_octet.specs.{Checks.checked, Checks.first_failing, Packet.Captured, Packet.captured}
-pub use Rattle.cap_octet.specs.declared.fault.Fault.{Fault, TheVariants.Truncated, TheVariants.TimeOutOfRange}
-pub use Rattle.cap_octet.specs.declared.number.Order.{Order}
+pub use Rattle.cap_octet.specs.{Checks.checked, Checks.first_failing, Packet.Captured, Packet.captured, declared.fault.Fault.Fault}
+pub use Rattle.cap_octet.specs.declared.{fault.Fault.TheVariants.Truncated, fault.Fault.TheVariants.TimeOutOfRange, number.Order.Order}
 pub use Rattle.cap_octet.proofs.Checks.{checked_ok, checked_err, met_front}
 pub use Rattle.cap_pcap.specs.Header.{header_fault, header_in}
 pub use Rattle.cap_pcap.specs.Record.{record_fault, record_header_in, record_size, record_packet, captured_len, field_checks}
 pub use Rattle.cap_pcap.specs.declared.header.{Head.Head, RecordHead.RecordHead}
 pub use Rattle.cap_pcap.proofs.Records.{record_header_in-append, field_checks-append, record_fault-fields, record_fault-short, record_fault-whole}
 pub use Rattle.cap_pcapng.specs.Effect.{LieAsSaid, section_of, Enters, IsBlockFault}
-pub use Rattle.cap_pcapng.specs.Frame.{is_section, frame_checks, frame_fault, frame_in}
-pub use Rattle.cap_pcapng.specs.Interface.{Described}
+pub use Rattle.cap_pcapng.specs.{Frame.is_section, Frame.frame_checks, Frame.frame_fault, Frame.frame_in, Interface.Described}
 pub use Rattle.cap_pcapng.specs.Unit.{Section, packet_of, packets_in, parts_after, block_size, checks_among, frame_after, interfaces_before, order_before, unit_fault}
 pub use Rattle.cap_pcapng.proofs.WrittenBlocks.{packet_joined, plain_joined, comment_after}
-pub use Rattle.capkit_c.specs.{Buffers.WriteLeaves, Buffers.written_packet, Compiling.IsBound, Compiling.IsFor}
+pub use Rattle.capkit_c.specs.{Bounding.IsBound, Buffers.WriteLeaves, Buffers.written_packet, Compiling.IsFor}
 pub use Rattle.capkit_c.specs.Layout.{HasLink, declared_in, first_interfaces, reader_form, most_known}
 pub use Rattle.capkit_c.specs.Matching.{Judges, Skips, at_packet, past_packet, past_unit}
 pub use Rattle.capkit_c.specs.Portable.{sign_bit, half_sign_bit, operation_keeps, keeps_x_small, operation_alike, runs_alike, operation_alike_on_libpcap, runs_alike_on_libpcap, is_live_at, operation_wants, is_live_before, live_places, none_read_unwritten, most_attached, is_portable, portability}

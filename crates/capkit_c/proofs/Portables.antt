@@ -2,13 +2,11 @@
 -- does otherwise.
 use Rattle.capkit_c.proofs.Common.{◌≡◌, ◌↔◌, ◌⊎◌, inl, inr, ℕ, zero, suc, ◌+◌, ◌-◌, ◌%◌, ◌^◌, ◌<◌, ◌≤◌, List, [], ◌∷◌, length, drop, get_or, Bool, true, false, Option, Some, None, refl, sym, ap, ◌∙◌, subst, arith, ◌==◌, nat_lt, nat_le, ◌&&◌, ◌||◌, not, if◌then◌else◌, slice_set, bit_and, list_all, option_map, get_or-drop, Insn, Next, Goes, Ends, Lost, step_if_there, does, does_if_known, into, word_into, into_word, with_register, held, field, compute, operand_value, test_holds, header_length, run_from, progress_after, machine, start, parts, sign_bit, half_sign_bit, operation_keeps, keeps_x_small, operation_alike, runs_alike, operation_alike_on_libpcap, runs_alike_on_libpcap, is_live_at, operation_wants, is_live_before, live_places, none_read_unwritten, most_attached, is_portable, portability}
 use Rattle.std.specs.Prelude.{slice_get}
-use Rattle.std.proofs.lemmas.Bool.{and_parts, and_from, or_right, or_left, cases_lt, eq-eqb, eqb-true, ne_eqb, ltb-true, lt-ltb, not-true}
+use Rattle.std.proofs.lemmas.Bool.{and_parts, and_from, or_right, or_left, cases_lt, eq-eqb, ne_eqb, ltb-true, lt-ltb, not-true}
 use Rattle.std.proofs.lemmas.{Nat.and_le_r, Option.slice_get_past, Option.slice_get-get_or}
-use Rattle.flt_bpf.specs.Instructions.{operation_of}
-use Rattle.flt_bpf.specs.{Machine.step, Valid.IsValid, Valid.WORDS, declared.machine.State.State}
+use Rattle.flt_bpf.specs.{Instructions.operation_of, Machine.step, Valid.IsValid, Valid.WORDS, declared.machine.State.State}
 use Rattle.flt_bpf.specs.declared.operation.AluOperation.TheVariants.{ShiftLeft, ShiftRight}
-use Rattle.flt_bpf.specs.declared.operation.Operand.TheVariants.{Constant, IndexRegister}
-use Rattle.flt_bpf.specs.declared.operation.Operation.{Operation}
+use Rattle.flt_bpf.specs.declared.operation.{Operand.TheVariants.Constant, Operand.TheVariants.IndexRegister, Operation.Operation}
 use Rattle.flt_bpf.specs.declared.operation.Operation.TheVariants.{LoadAbsolute, LoadIndirect, Load, LoadHeaderLength, Store, Compute, Negate, Jump, JumpIf, ReturnConstant, ReturnAccumulator, CopyToIndex, CopyToAccumulator}
 use Rattle.flt_bpf.specs.declared.operation.Register.{Register, TheVariants.Accumulator, TheVariants.Index}
 use Rattle.flt_bpf.specs.declared.operation.Source.TheVariants.{Immediate, Memory, Length}
@@ -141,7 +139,9 @@ index_kept : (o : Option Operation) (i : Insn) (p : List ℕ) (n : ℕ) (s : Sta
 index_kept None i p n s e h = omega arith
 index_kept (Some (LoadAbsolute width)) i p n s e h = into_index (field p i.k width) s half_sign_bit h
 index_kept (Some (LoadIndirect width)) i p n s e h = into_index (field p ((s.index + i.k) % 2 ^ 32) width) s half_sign_bit h
+index_kept (Some (Load Accumulator Immediate)) i p n s e h = h
 index_kept (Some (Load Accumulator Memory)) i p n s e h = word_index (slice_get s.memory i.k) s half_sign_bit h
+index_kept (Some (Load Accumulator Length)) i p n s e h = h
 index_kept (Some (Load Index Immediate)) i p n s e h = ltb-true i.k half_sign_bit e
 index_kept (Some (Load Index Memory)) i p n s e h = cc
 index_kept (Some (Load Index Length)) i p n s e h = cc
@@ -258,38 +258,41 @@ here_from_zeros insns p n t = here_run insns p n t 0 start 0
 
 -- ---- what the bits say
 
--- the bits, by whether a program is short and reads no word unwritten, and by what is found for both machines and for libpcap's
-abbrev bits : Bool → Bool → Bool → ℕ
-bits fits a b = if fits then (if a then 3 else (if b then 1 else 0)) else 0
+abbrev passed : Bool → ℕ
+passed a = if a then 1 else 0
 
-some_bit : (fits a b : Bool) → (bits fits a b ≡ 0 → ⊥) → (fits ≡ true) × ((a ≡ true) ⊎ (b ≡ true))
-some_bit true true b e = (refl, inl refl)
-some_bit true false true e = (refl, inr refl)
-some_bit true false false e = absurd (e refl)
-some_bit false a b e = absurd (e refl)
+-- the bits, by what is found for both machines and for libpcap's
+abbrev bits : Bool → Bool → ℕ
+bits a b = if passed a == 1 then 3 else passed b
 
-second_bit : (fits a b : Bool) → bit_and (bits fits a b) 2 ≡ 2 → (fits ≡ true) × (a ≡ true)
-second_bit true true b e = (refl, refl)
-second_bit true false true e = absurd (omega arith)
-second_bit true false false e = absurd (omega arith)
-second_bit false a b e = absurd (omega arith)
+some_bit : (a b : Bool) → (bits a b ≡ 0 → ⊥) → (a ≡ true) ⊎ (b ≡ true)
+some_bit true b e = inl refl
+some_bit false true e = inr refl
+some_bit false false e = absurd (e refl)
 
-abbrev fits : List Insn → Bool
-fits insns = nat_le (length insns) most_attached && none_read_unwritten WORDS insns
+first_bit : (a b : Bool) → bit_and (bits a b) 1 ≡ 1 → (a ≡ true) ⊎ (b ≡ true)
+first_bit true b e = inl refl
+first_bit false true e = inr refl
+first_bit false false e = absurd (omega arith)
 
-abbrev all : (Bool → Insn → Bool) → List Insn → Bool
-all q insns = list_all (q (list_all keeps_x_small insns)) insns
+second_bit : (a b : Bool) → bit_and (bits a b) 2 ≡ 2 → a ≡ true
+second_bit true b e = refl
+second_bit false true e = absurd (omega arith)
+second_bit false false e = absurd (omega arith)
+
+abbrev tested : (Bool → Insn → Bool) → List Insn → Bool
+tested q insns = nat_le (length insns) most_attached && (list_all (q (list_all keeps_x_small insns)) insns && none_read_unwritten WORDS insns)
 
 -- each instruction passes a test, and no word is read before it is written
 record Tested (q : Bool → Insn → Bool) (insns : List Insn) : Type 0 where
   each : (k : ℕ) (i : Insn) → slice_get insns k ≡ Some i → q (list_all keeps_x_small insns) i ≡ true
   none : none_read_unwritten WORDS insns ≡ true
 
-tests_say : (q : Bool → Insn → Bool) (insns : List Insn) → fits insns ≡ true → all q insns ≡ true → Tested q insns
-tests_say q insns e f = record {
-  each = λ k i g. all_at (q (list_all keeps_x_small insns)) insns k i f g;
-  none = (and_parts (nat_le (length insns) most_attached) (none_read_unwritten WORDS insns) e).1;
-}
+tests_say : (q : Bool → Insn → Bool) (insns : List Insn) → tested q insns ≡ true → Tested q insns
+tests_say q insns e =
+    let a = and_parts (nat_le (length insns) most_attached) (list_all (q (list_all keeps_x_small insns)) insns && none_read_unwritten WORDS insns) e in
+    let b = and_parts (list_all (q (list_all keeps_x_small insns)) insns) (none_read_unwritten WORDS insns) a.1 in
+    record { each = λ k i g. all_at (q (list_all keeps_x_small insns)) insns k i b.0 g; none = b.1 }
 
 alike_known : (o : Option Operation) (k : ℕ) (small : Bool) → operation_alike o k small ≡ true → operation_alike_on_libpcap o k small ≡ true
 alike_known (Some (LoadIndirect width)) k small e =
@@ -298,21 +301,18 @@ alike_known (Some (LoadIndirect width)) k small e =
     and_from small (nat_lt k sign_bit) both.0 (lt-ltb k sign_bit (omega arith))
 alike_known _ k small e = refl
 
-on_libpcap_too : (insns : List Insn) → (portability insns ≡ 0 → ⊥) → Tested runs_alike_on_libpcap insns
-on_libpcap_too insns bit = by (some_bit (fits insns) (all runs_alike insns) (all runs_alike_on_libpcap insns) bit)
-  where
-    by : (fits insns ≡ true) × ((all runs_alike insns ≡ true) ⊎ (all runs_alike_on_libpcap insns ≡ true)) → Tested runs_alike_on_libpcap insns
-    by (e, inl f) =
-        let t = tests_say runs_alike insns e f in
-        record { each = λ k i g. alike_known (operation_of i.code) i.k (list_all keeps_x_small insns) (t.each k i g); none = t.none }
-    by (e, inr f) = tests_say runs_alike_on_libpcap insns e f
+on_libpcap_too : (insns : List Insn) → (tested runs_alike insns ≡ true) ⊎ (tested runs_alike_on_libpcap insns ≡ true) → Tested runs_alike_on_libpcap insns
+on_libpcap_too insns (inl e) =
+    let t = tests_say runs_alike insns e in
+    record { each = λ k i g. alike_known (operation_of i.code) i.k (list_all keeps_x_small insns) (t.each k i g); none = t.none }
+on_libpcap_too insns (inr e) = tests_say runs_alike_on_libpcap insns e
 
 keeps_each : (insns : List Insn) (k : ℕ) (i : Insn) → slice_get insns k ≡ Some i → list_all keeps_x_small insns ≡ true → keeps_x_small i ≡ true
 keeps_each insns k i g e = all_at keeps_x_small insns k i e g
 
 pub same_from_any_words : SameFromAnyWords
 same_from_any_words insns valid bit words p n long =
-    let t = on_libpcap_too insns bit in
+    let t = on_libpcap_too insns (some_bit (tested runs_alike insns) (tested runs_alike_on_libpcap insns) bit) in
     from_start does insns p words n (list_all keeps_x_small insns) valid (keeps_each insns) (λ k i s g x. here_known (operation_of i.code) i p n s) t.none long
 
 -- ---- libpcap
@@ -329,7 +329,7 @@ libpcap_known (Some _) i p n s small e x = refl
 
 pub same_on_libpcap : SameOnLibpcap
 same_on_libpcap insns valid bit words p n long =
-    let t = on_libpcap_too insns (λ none. let one : bit_and 0 1 ≡ 1 = subst (λ n. bit_and n 1 ≡ 1) none bit in omega arith) in
+    let t = on_libpcap_too insns (first_bit (tested runs_alike insns) (tested runs_alike_on_libpcap insns) bit) in
     from_start on_libpcap insns p words n (list_all keeps_x_small insns) valid (keeps_each insns)
     (λ k i s g x. libpcap_known (operation_of i.code) i p n s (list_all keeps_x_small insns) (t.each k i g) x) t.none long
 
@@ -347,26 +347,35 @@ linux_known other (Some (LoadIndirect width)) i p n s small e x =
     let low = ltb-true i.k half_sign_bit both.1 in
     let small_x = x both.0 in
     load_below other ((s.index + i.k) % 2 ^ 32) (LoadIndirect width) i p n s (lt-ltb _ sign_bit (omega arith))
+linux_known other (Some (Load register Immediate)) i p n s small e x = refl
+linux_known other (Some (Load register Memory)) i p n s small e x = refl
 linux_known other (Some (Load register Length)) i p n s small e x = cc
+linux_known other (Some (Compute ShiftLeft Constant)) i p n s small e x = refl
+linux_known other (Some (Compute ShiftRight Constant)) i p n s small e x = refl
 linux_known other (Some (Compute ShiftLeft IndexRegister)) i p n s small e x = cc
 linux_known other (Some (Compute ShiftRight IndexRegister)) i p n s small e x = cc
+linux_known other (Some (Compute _ operand)) i p n s small e x = refl
 linux_known other (Some _) i p n s small e x = refl
 
 pub same_on_linux : SameOnLinux
 same_on_linux insns other valid bit words p n long =
-    let both = second_bit (fits insns) (all runs_alike insns) (all runs_alike_on_libpcap insns) bit in
-    let t = tests_say runs_alike insns both.0 both.1 in
+    let t = tests_say runs_alike insns (second_bit (tested runs_alike insns) (tested runs_alike_on_libpcap insns) bit) in
     from_start (on_linux other) insns p words n (list_all keeps_x_small insns) valid (keeps_each insns)
     (λ k i s g x. linux_known other (operation_of i.code) i p n s (list_all keeps_x_small insns) (t.each k i g) x) t.none long
 
 -- ---- both bits
 
-abbrev passed : Bool → ℕ
-passed a = if a then 1 else 0
+both_tested : (a b : Bool) → passed a ≡ 1 → bits a b ≡ 3
+both_tested true b e = refl
+both_tested false b e = absurd (omega arith)
 
-has_passed : (n : ℕ) (b : Bool) → (n == 3) ≡ b → passed b ≡ 1 → n ≡ 3
-has_passed n true is e = eqb-true n 3 is
-has_passed n false is e = absurd (omega arith)
+tested_both : (a b : Bool) → bits a b ≡ 3 → passed a ≡ 1
+tested_both true b e = refl
+tested_both false true e = absurd (omega arith)
+tested_both false false e = absurd (omega arith)
 
 pub both_bits : (insns : List Insn) → (is_portable insns ≡ 1) ↔ (portability insns ≡ 3)
-both_bits insns = (has_passed (portability insns) _ refl, ap (λ n. passed (n == 3)))
+both_bits insns =
+    let a = tested runs_alike insns in
+    let b = tested runs_alike_on_libpcap insns in
+    (both_tested a b, tested_both a b)

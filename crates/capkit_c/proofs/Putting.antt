@@ -1,13 +1,11 @@
 -- What a put finds, and what it keeps.
 use Rattle.capkit_c.proofs.Common.{◌≡◌, ℕ, ◌+◌, ◌<◌, ◌≤◌, List, [], ◌∷◌, ◌++◌, length, take, Option, None, Some, refl, sym, ap, ◌∙◌, subst, arith, min, zero, suc, Bool, true, false, ◌==◌, nat_lt, ◌&&◌, ◌||◌, not, if◌then◌else◌, slice_set, Captured, Fault, WriteLeaves, Interface, first_failing, append-nil, ap₂}
 use Rattle.std.specs.{List.list_any, List.position_or_len, Prelude.map, Prelude.cond}
-use Rattle.std.proofs.lemmas.{Bool.Decides.nat_tests, Cmp.nat_eq_equiv, Cmp.nat_list_eq_equiv}
-use Rattle.std.proofs.lemmas.List.{take_more_set, length-set}
+use Rattle.std.proofs.lemmas.{Bool.Decides.nat_tests, Cmp.nat_eq_equiv, Cmp.nat_list_eq_equiv, List.take_more_set, List.length-set}
 use Rattle.cap_io.specs.Text as text
 use Rattle.cap_pcapng.specs.Encoding.{interface_text, packet_block, section_text}
 use Rattle.capkit_c.specs.Writer.{output_interface, interfaces_in, most_written, room_for, put_checks, put_refusal, has_all, next_text, HasWritten, KeepsWritten, IsWhole}
-use Rattle.capkit_c.specs.declared.memory.{layout.Writer.Writer, writing.Written.Written}
-use Rattle.capkit_c.specs.inside.Units.{HasAdded}
+use Rattle.capkit_c.specs.{declared.memory.layout.Writer.Writer, declared.memory.writing.Written.Written, inside.Writer.HasAdded}
 
 -- whether an element passes, by the first place of one
 among_by : (b later : Bool) (place count : ℕ) → later ≡ nat_lt place count → (b || later) ≡ nat_lt (if not b then 1 + place else 0) (suc count)

@@ -1,7 +1,6 @@
 -- What a step of a search leaves.
 use Rattle.capkit_c.proofs.Common.{◌≡◌, ℕ, ◌+◌, ◌-◌, ◌<◌, ◌≤◌, List, [], ◌∷◌, length, take, drop, Option, Some, None, refl, sym, ap, ◌∙◌, subst, arith, drop-drop, length-drop, Captured, Declared, NoUnit, Whole, front_of, HasLink, declared_in, Insn, Judges, Skips, at_packet, past_packet, past_unit, DeclaresOne, IsPastUnit, IsPacketFound, IsStop, NextLeaves, PacketLeaves, PassesUnits, Stays, UnitHas, comment_by, ends, fails, finds, is_full, one_passed, passes, Interface, Packet, Reader}
-use Rattle.capkit_c.specs.Laws.{packet_from, reader_from}
-use Rattle.capkit_c.specs.{declared.memory.reader.Found.Found, inside.Units.StepLeaves}
+use Rattle.capkit_c.specs.{Laws.packet_from, Laws.reader_from, declared.memory.reader.Found.Found, inside.Matching.StepLeaves}
 
 -- ---- a unit is passed
 

@@ -1,7 +1,6 @@
 -- The block that a text begins with.
 use Rattle.capkit_c.proofs.Common.{◌≡◌, ℕ, ◌<◌, ◌≤◌, inl, inr, List, [], ◌∷◌, ◌++◌, length, take, drop, Option, Some, None, Ok, Err, refl, sym, ap, ap₂, ◌∙◌, subst, arith, option_map, length-take-le, take-append-drop, take-take, checked, first_failing, Fault, Truncated, Order, checked_err, frame_checks, frame_fault, frame_in, Described, Section, block_size, checks_among, frame_after, interfaces_before, order_before, parts_after, unit_fault, Enters, IsBlockFault, BlockPacketIfAny, BlockStands, IsNoBlock, IsRefusal, LiesIfAny, spans_of, Refusal, UnitPacket}
-use Rattle.cap_pcapng.specs.Block.{Parts, block_checks, parts_in}
-use Rattle.cap_pcapng.specs.declared.{effect.PacketSpans.PacketSpans, frames.Frame.Frame}
+use Rattle.cap_pcapng.specs.{Block.Parts, Block.block_checks, Block.parts_in, declared.effect.PacketSpans.PacketSpans, declared.frames.Frame.Frame}
 use Rattle.cap_pcapng.proofs.Units.{frame_checks-append, frame_in-append, block_checks-append, parts_in-append, unit_fault-frame, unit_fault-short, unit_fault-block, unit_fault-among}
 use Rattle.cap_io.proofs.BlocksCame.{BlockCame, FrontSays, WholeCame, block_came, front_says, says_after}
 use Rattle.cap_io.proofs.BlocksCame as came

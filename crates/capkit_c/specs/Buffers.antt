@@ -5,7 +5,7 @@ use Rattle.cap_octet.specs.declared.fault.Fault.TheVariants.{BadOption, TimeOutO
 use Rattle.cap_io.specs.Text.{most_output_interfaces}
 use Rattle.cap_pcap.specs.Encoding as pcap
 use Rattle.cap_pcapng.specs.Encoding as pcapng
-use Rattle.capkit_c.specs.{Reading.fault_number, declared.memory.writing.Written.Written}
+use Rattle.capkit_c.specs.declared.memory.writing.Written.{Written}
 
 -- a packet by what its record or its block says of it
 abbrev pub written_packet : (time orig : ℕ) → (bytes comment : List ℕ) → Captured
@@ -58,24 +58,3 @@ WriteLeaves refusal bytes old new (Written.Whole count) =
 WriteLeaves refusal bytes old new (Written.NoRoom count) =
     (refusal ≡ None) × FindNoRoom bytes old new count
 WriteLeaves refusal bytes old new (Written.Refused fault) = (refusal ≡ Some fault) × (new ≡ old)
-
--- the number of what became of the bytes
-abbrev pub written_number : Written → ℕ
-written_number (Written.Whole count) = 0
-written_number (Written.NoRoom count) = 225
-written_number (Written.Refused fault) = fault_number fault
-
--- how many bytes are written, or would be if there were room; 0 if they are refused
-abbrev pub written_length : Written → ℕ
-written_length (Written.Whole count) = count
-written_length (Written.NoRoom count) = count
-written_length (Written.Refused fault) = 0
-
--- the bytes are written whole, or find no room, or are refused, and number and length are those of
--- that
-pub record WriteTells (refusal : Option Fault) (bytes old new : List ℕ)
-    (length number : ℕ) : Type 0 where
-  pub written : Written
-  pub leaves : WriteLeaves refusal bytes old new written
-  pub exact : number ≡ written_number written
-  pub counted : length ≡ written_length written

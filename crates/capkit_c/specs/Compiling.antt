@@ -1,4 +1,4 @@
--- The results of a compilation for C, and of asking for an expression's bound and its meaning.
+-- The result of a compilation for C.
 use Rattle.std.specs.List.{list_all}
 use Rattle.std.specs.Prelude.{◌≡◌, ℕ, ◌+◌, ◌<◌, ◌≤◌, ◌==◌, if◌then◌else◌, Bool, true, false, List, length, take, drop, None, Some, unwrap_or}
 use Rattle.std.specs.Str.{IsUtf8, IsValidUpTo}
@@ -7,11 +7,9 @@ use Rattle.flt_words.specs.{Characters.is_blank, declared.fault.ExprFault.ExprFa
 use Rattle.flt_words.specs.Messages as messages
 use Rattle.cap_octet.specs.{Assigned.LINKTYPE_RAW, Link.link_of}
 use Rattle.cap_octet.specs.declared.link.Link.{Link, TheVariants.Ether}
-use Rattle.cap_filter.specs.Expressions.{IsCompiled, IsTextFault, IsExpression}
-use Rattle.capkit_c.specs.{Running.rule_number, Texts.put_text, declared.compiling.Failure.Failure}
+use Rattle.cap_filter.specs.Expressions.{IsCompiled, IsTextFault}
+use Rattle.capkit_c.specs.{Running.rule_number, declared.compiling.Failure.Failure}
 use Rattle.capkit_c.specs.declared.compiling.Failure.TheVariants.{Text, NotUtf8, LinkType, NoRoom, NotListing, Invalid}
-use Rattle.flt_ast.specs.{Counts.bound_of, Tree.Expression}
-use Rattle.flt_explain.specs.Explained.{explained_text}
 
 -- what libpcap's pcap_datalink() calls raw IP
 abbrev pub DLT_RAW : ℕ
@@ -114,35 +112,3 @@ abbrev pub CompilesText : List ℕ → ℕ → (old new : List Insn) → (number
 CompilesText text link_type old new number status =
     Tells (WritesProgram text link_type old new)
     (λ failure. IsFailure text link_type (length old) failure × (new ≡ old)) number status
-
--- the bound of the expression that a text is; no program that is compiled of it has more
--- instructions, whatever the link type
-pub record IsBound (text : List ℕ) (number : ℕ) : Type 0 where
-  pub e : Expression
-  pub expression : IsExpression text e
-  pub is_bound : number ≡ bound_of e
-  pub most : (link_type : ℕ) (prog : List Insn) → IsFor text link_type prog → length prog ≤ number
-
--- 0 and the bound, or another status and the place of the fault (0 if that has no place)
-abbrev pub BoundLeaves : List ℕ → (number status : ℕ) → Type 0
-BoundLeaves text number status = Tells (IsBound text) (IsTextFailure text) number status
-
--- what the expression that a text is means, written out
-pub record Explains (text meaning : List ℕ) : Type 0 where
-  pub e : Expression
-  pub expression : IsExpression text e
-  pub is_text : meaning ≡ explained_text e
-
--- as much of the meaning as fits is put into the buffer, and `number` is the meaning's length
-pub record PutsMeaning (text old new : List ℕ) (number : ℕ) : Type 0 where
-  pub meaning : List ℕ
-  pub explains : Explains text meaning
-  pub put : new ≡ put_text meaning old
-  pub count : number ≡ length meaning
-
--- 0 and the meaning, or another status and the place of the fault (0 if that has no place), and the
--- buffer is as it was
-abbrev pub ExplainLeaves : (text old new : List ℕ) → (number status : ℕ) → Type 0
-ExplainLeaves text old new number status =
-    Tells (PutsMeaning text old new) (λ failure. IsTextFailure text failure × (new ≡ old)) number
-    status

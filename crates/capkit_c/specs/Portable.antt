@@ -87,16 +87,20 @@ none_read_unwritten (suc n) insns = none_read_unwritten n insns && not (is_live_
 abbrev pub most_attached : ℕ
 most_attached = 4096
 
+-- 1 if a valid program surely runs the same on libpcap's and Linux's machines, as far as
+-- its instructions show, and has at most 4,096; else 0
+abbrev pub is_portable : List Insn → ℕ
+is_portable insns =
+    if nat_le (length insns) most_attached
+    && (list_all (runs_alike (list_all keeps_x_small insns)) insns && none_read_unwritten WORDS insns)
+    then 1 else 0
+
 -- the machines on which a valid program surely runs the same, as far as its instructions show, of
 -- at most 4,096: 1 is libpcap's machine, 2 Linux's, and their sum both; 0 is neither
 abbrev pub portability : List Insn → ℕ
 portability insns =
-    let small = list_all keeps_x_small insns in
-    if nat_le (length insns) most_attached && none_read_unwritten WORDS insns
-    then (if list_all (runs_alike small) insns then 3
-    else (if list_all (runs_alike_on_libpcap small) insns then 1 else 0))
-    else 0
-
--- 1 if a valid program surely runs the same on libpcap's and Linux's machines, else 0
-abbrev pub is_portable : List Insn → ℕ
-is_portable insns = if portability insns == 3 then 1 else 0
+    if is_portable insns == 1 then 3
+    else (if nat_le (length insns) most_attached
+    && (list_all (runs_alike_on_libpcap (list_all keeps_x_small insns)) insns
+    && none_read_unwritten WORDS insns)
+    then 1 else 0)

@@ -4,7 +4,7 @@ use Rattle.cap_octet.specs.{Checks.first_failing, Date.TIME_END, Packet.Captured
 use Rattle.cap_octet.specs.declared.fault.Fault.TheVariants.{BadOption, TimeOutOfRange, TooManyOutputInterfaces}
 use Rattle.cap_io.specs.Text as text
 use Rattle.cap_pcapng.specs.Encoding.{block_fit_checks, interface_text, packet_block, section_text}
-use Rattle.capkit_c.specs.{Buffers.WriteLeaves, Buffers.written_length, Reading.fault_number}
+use Rattle.capkit_c.specs.{Buffers.WriteLeaves, Reading.fault_number, Writing.written_length}
 use Rattle.capkit_c.specs.declared.memory.layout.{Interface.Interface, Packet.Packet, Writer.Writer}
 use Rattle.capkit_c.specs.declared.memory.{writer.Put.Put, writing.Written.Written}
 

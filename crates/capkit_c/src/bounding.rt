@@ -1,6 +1,6 @@
 //! The bound of a program's length, before it is compiled.
 ghost use Rattle.std.specs.Prelude.{IfOk, IfErr};
-ghost use Rattle.capkit_c.specs.Compiling.{BoundLeaves, IsBound, IsTextFailure};
+ghost use Rattle.capkit_c.specs.{Bounding.BoundLeaves, Bounding.IsBound, Compiling.IsTextFailure};
 
 use crate::compiling::{Failure, read_text, tell};
 use flt_lang::bound;

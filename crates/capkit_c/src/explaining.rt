@@ -1,6 +1,7 @@
 //! The meaning of an expression, written out as an expression again.
 ghost use Rattle.std.specs.Prelude.{◌≡◌, IfOk, IfErr, OnErr};
-ghost use Rattle.capkit_c.specs.Compiling.{IsTextFailure, ExplainLeaves, PutsMeaning};
+ghost use Rattle.capkit_c.specs.Compiling.{IsTextFailure};
+ghost use Rattle.capkit_c.specs.Explaining.{ExplainLeaves, PutsMeaning};
 
 use crate::compiling::{Failure, read_text, tell};
 use crate::texts::put_text;

@@ -37,7 +37,6 @@ pub fn same_on_libpcap()
 {}
 
 /// A valid program that has Linux's bit returns the same on Linux's machine.
-#[tactic(auto, using(crate::proofs::Portables::same_on_linux))]
 pub fn same_on_linux()
     ensures { SameOnLinux }
 {}

@@ -1,7 +1,7 @@
 //! The next packet that a program accepts.
 ghost use Rattle.flt_bpf.specs.Valid.{IsValid};
 ghost use Rattle.capkit_c.specs.Matching.{Judges, MatchLeaves, Returns, SearchLeaves};
-ghost use Rattle.capkit_c.specs.inside.Units.{StepLeaves};
+ghost use Rattle.capkit_c.specs.inside.Matching.{StepLeaves};
 
 use crate::memory::{Found, Interface, Packet, Reader, bytes_at, next_unit};
 use crate::reading::found_number;

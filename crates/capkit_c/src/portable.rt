@@ -50,6 +50,22 @@ fn runs_alike(insn: &Insn, small: bool) -> bool
     }
 }
 
+/// Whether X is sure to hold less than 2^30 throughout each run: it is 0 first, and every
+/// instruction keeps it so.
+fn all_keep_x_small(insns: &[Insn]) -> bool
+    ensures { result ≡ list_all keeps_x_small insns.now }
+{
+    insns.iter().all(|insn| keeps_x_small(insn))
+}
+
+/// Whether every instruction is sure to do the same on libpcap's and Linux's machines, where
+/// `small` says that X is below 2^30 throughout, and memory isn't looked at.
+fn all_run_alike(insns: &[Insn], small: bool) -> bool
+    ensures { result ≡ list_all (runs_alike small) insns.now }
+{
+    insns.iter().all(|insn| runs_alike(insn, small))
+}
+
 /// Whether an instruction is sure to do the same on libpcap's machine as on the one here, where
 /// `small` says that X is below 2^30, and memory isn't looked at: libpcap doesn't add X and an
 /// offset modulo 2^32.
@@ -60,6 +76,14 @@ fn runs_alike_on_libpcap(insn: &Insn, small: bool) -> bool
         Some(Operation::LoadIndirect(_)) => small && insn.k < SIGN_BIT,
         _ => true,
     }
+}
+
+/// Whether every instruction is sure to do the same on libpcap's machine, where `small` says that X
+/// is below 2^30 throughout, and memory isn't looked at.
+fn all_run_alike_on_libpcap(insns: &[Insn], small: bool) -> bool
+    ensures { result ≡ list_all (runs_alike_on_libpcap small) insns.now }
+{
+    insns.iter().all(|insn| runs_alike_on_libpcap(insn, small))
 }
 
 /// Whether a word of memory is live at one of the instructions after the current one: whether a run
@@ -132,26 +156,6 @@ fn no_word_read_unwritten(insns: &[Insn]) -> bool
     all
 }
 
-/// Where else a valid program returns the same as here, as far as its instructions show, as a sum
-/// of bits: 1 for libpcap's machine, 2 for Linux's with packets that are captured whole. It is 0 of
-/// over 4,096 instructions.
-#[unsafe(no_mangle)]
-pub extern "C" fn capkit_portability(insns: &[Insn]) -> u32
-    ensures { result ≡ portability insns.now }
-{
-    // X is 0 first: it is small throughout each run if every instruction keeps it so.
-    let small = insns.iter().all(|insn| keeps_x_small(insn));
-    let alike = insns.iter().all(|insn| runs_alike(insn, small));
-    let on_libpcap = alike || insns.iter().all(|insn| runs_alike_on_libpcap(insn, small));
-    if insns.len() > MOST_ATTACHED || !on_libpcap || !no_word_read_unwritten(insns) {
-        0
-    } else if alike {
-        3
-    } else {
-        1
-    }
-}
-
 /// 1 if a valid program returns the same as here on libpcap's machine and, of packets that are
 /// captured whole, on Linux's, as far as its instructions show; 0 if it may not, or has over
 /// 4,096 instructions.
@@ -159,5 +163,31 @@ pub extern "C" fn capkit_portability(insns: &[Insn]) -> u32
 pub extern "C" fn capkit_is_portable(insns: &[Insn]) -> u32
     ensures { result ≡ is_portable insns.now }
 {
-    if capkit_portability(insns) == 3 { 1 } else { 0 }
+    if insns.len() <= MOST_ATTACHED
+        && all_run_alike(insns, all_keep_x_small(insns))
+        && no_word_read_unwritten(insns)
+    {
+        1
+    } else {
+        0
+    }
+}
+
+/// Where else a valid program returns the same as here, as far as its instructions show, as a sum
+/// of bits: 1 for libpcap's machine, 2 for Linux's with packets that are captured whole. It is 0 of
+/// over 4,096 instructions.
+#[unsafe(no_mangle)]
+pub extern "C" fn capkit_portability(insns: &[Insn]) -> u32
+    ensures { result ≡ portability insns.now }
+{
+    if capkit_is_portable(insns) == 1 {
+        3
+    } else if insns.len() <= MOST_ATTACHED
+        && all_run_alike_on_libpcap(insns, all_keep_x_small(insns))
+        && no_word_read_unwritten(insns)
+    {
+        1
+    } else {
+        0
+    }
 }

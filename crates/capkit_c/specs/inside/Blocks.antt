@@ -8,8 +8,8 @@ use Rattle.cap_pcapng.specs.Interface.{Described}
 use Rattle.cap_pcapng.specs.Unit.{IsBlock, Section, interfaces_before, order_before, packets_in, parts_after, section_after, unit_fault}
 use Rattle.cap_pcapng.specs.declared.{effect.PacketSpans.PacketSpans, frames.Frame.Frame}
 use Rattle.capkit_c.specs.Layout.{first_interfaces}
-use Rattle.capkit_c.specs.declared.memory.block.{BlockRead.BlockRead, Refusal.Refusal, UnitPacket.UnitPacket}
-use Rattle.capkit_c.specs.declared.memory.layout.Interface.{Interface}
+use Rattle.capkit_c.specs.declared.memory.block.{BlockEffect.BlockEffect, BlockRead.BlockRead, Refusal.Refusal}
+use Rattle.capkit_c.specs.declared.memory.{block.UnitPacket.UnitPacket, layout.Interface.Interface}
 
 -- the place where the parts of a packet lie in a unit of `size` bytes
 abbrev pub spans_of : ℕ → UnitPacket → PacketSpans
@@ -47,16 +47,15 @@ IsRefusal frame interfaces block room Refusal.NoRoom =
     (room ≤ length interfaces)
     × ((i : Described) × Enters frame interfaces block None (interfaces ++ i ∷ []))
 
--- a block passes all of its checks; the effect is how many interfaces there are after it, and its
--- packet
+-- a block passes all of its checks; after it these are the interfaces, and this is its packet
 pub record EntersTable (frame : Frame) (interfaces : List Described) (block : List ℕ)
-    (table' : List Interface) (effect : ℕ × Option UnitPacket) : Type 0 where
-  pub enters : Enters frame interfaces block (option_map (spans_of frame.length) effect.1)
-      (first_interfaces effect.0 table')
-  pub known : effect.0 ≤ length table'
-  pub upper_bound : effect.0 ≤ 256
-  pub of : IsOfIfAny interfaces effect.1
-  pub lies : LiesIfAny (parts_in frame block) (option_map (spans_of frame.length) effect.1)
+    (table' : List Interface) (effect : BlockEffect) : Type 0 where
+  pub enters : Enters frame interfaces block (option_map (spans_of frame.length) effect.packet)
+      (first_interfaces effect.interfaces table')
+  pub known : effect.interfaces ≤ length table'
+  pub upper_bound : effect.interfaces ≤ 256
+  pub of : IsOfIfAny interfaces effect.packet
+  pub lies : LiesIfAny (parts_in frame block) (option_map (spans_of frame.length) effect.packet)
 
 -- ---- a block that a text begins with
 
@@ -97,10 +96,10 @@ pub record BlockIs (section : Option Order) (interfaces : List Described) (text 
     (table' : List Interface) (read : BlockRead) : Type 0 where
   pub stands : Following section interfaces
       (λ before. BlockStands before text read.order read.size
-      (first_interfaces read.interfaces table') read.packet)
-  pub known : read.interfaces ≤ length table'
-  pub upper_bound : read.interfaces ≤ 256
-  pub of : IsOfIfAny interfaces read.packet
+      (first_interfaces read.effect.interfaces table') read.effect.packet)
+  pub known : read.effect.interfaces ≤ length table'
+  pub upper_bound : read.effect.interfaces ≤ 256
+  pub of : IsOfIfAny interfaces read.effect.packet
 
 -- the text begins with a block that passes all checks and declares an interface
 pub record Declares (before : Option Section) (text : List ℕ)

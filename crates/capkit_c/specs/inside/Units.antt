@@ -1,15 +1,14 @@
--- Units of a capture: where their parts lie in a buffer, the steps of a search and of a put.
-use Rattle.std.specs.Prelude.{◌≡◌, ℕ, ◌+◌, ◌<◌, ◌≤◌, List, [], ◌∷◌, length, take, drop, Option, Some, None, true, slice_set}
+-- The place where a unit's parts lie in a buffer.
+use Rattle.std.specs.Prelude.{◌≡◌, ℕ, ◌+◌, ◌<◌, ◌≤◌, List, [], ◌∷◌, length, take, drop, Option, Some, None, true}
 use Rattle.cap_octet.specs.{Packet.Captured, declared.number.Order.Order}
 use Rattle.cap_pcapng.specs.Interface.{Described}
 use Rattle.cap_io.specs.Capture.{Declared, Whole, NoUnit, front_of, is_pcapng}
-use Rattle.cap_io.specs.{Reading.declared_by, Text.interface_of, declared.file_state.FileState.FileState}
-use Rattle.capkit_c.specs.{Layout.first_interfaces, Layout.most_known, Matching.Ends, Matching.Skips}
-use Rattle.capkit_c.specs.{Units.comment_by, Units.name_by, Units.DeclaresOne, Units.UnitHas, Writer.output_interface}
+use Rattle.cap_io.specs.{Reading.declared_by, declared.file_state.FileState.FileState}
+use Rattle.capkit_c.specs.Layout.{first_interfaces, most_known}
+use Rattle.capkit_c.specs.Units.{comment_by, name_by, DeclaresOne, UnitHas}
 use Rattle.capkit_c.specs.declared.memory.block.{Refusal.Refusal, UnitPacket.UnitPacket}
-use Rattle.capkit_c.specs.declared.memory.layout.{Interface.Interface, Packet.Packet, Reader.Reader, Writer.Writer}
+use Rattle.capkit_c.specs.declared.memory.layout.{Interface.Interface, Packet.Packet, Reader.Reader}
 use Rattle.capkit_c.specs.{declared.memory.reader.ReadUnit.ReadUnit, inside.Blocks.spans_of}
-use Rattle.flt_bpf.specs.declared.insn.Insn.{Insn}
 
 -- a packet of a unit of this size, which begins a text, and the places of its parts in the unit
 pub record IsPlaced (declared : Declared) (text : List ℕ) (size : ℕ) (p : UnitPacket)
@@ -66,12 +65,14 @@ Begins (FileState.Pcapng order link) section first interfaces text =
 -- if a unit was read before, something is left
 abbrev pub IsSomeFor : FileState → List ℕ → Type 0
 IsSomeFor FileState.Unknown text = Unit {0}
-IsSomeFor _ text = 0 < length text
+IsSomeFor (FileState.Pcap head) text = 0 < length text
+IsSomeFor (FileState.Pcapng order link) text = 0 < length text
 
 -- if no unit was read, no interface is known
 abbrev pub IsBare : FileState → ℕ → Type 0
 IsBare FileState.Unknown count = count ≡ 0
-IsBare _ count = Unit {0}
+IsBare (FileState.Pcap head) count = Unit {0}
+IsBare (FileState.Pcapng order link) count = Unit {0}
 
 -- a packet of the unit at a place of the capture, with its places from the capture's start
 abbrev pub placed_packet : ℕ → UnitPacket → Packet
@@ -90,26 +91,11 @@ placed_packet at p = record {
 -- `count` interfaces are known, by the reader and the room of the table, if a unit was read
 abbrev pub Counts : FileState → Reader → ℕ → ℕ → Type 0
 Counts FileState.Unknown r room count = Unit {0}
-Counts _ r room count = count ≡ most_known r room
+Counts (FileState.Pcap head) r room count = count ≡ most_known r room
+Counts (FileState.Pcapng order link) r room count = count ≡ most_known r room
 
 -- a unit was read, and nothing is left
 abbrev pub IsAtEnd : FileState → List ℕ → Type 0
 IsAtEnd FileState.Unknown text = ⊥
-IsAtEnd _ text = text ≡ []
-
--- a step, and whether it is the last one
-abbrev pub StepLeaves : List Insn → (link_type : ℕ) → (capture : List ℕ) → (r r' : Reader)
-    → (t t' : List Interface) → (p p' : Packet) → Option ℕ → Type 0
-StepLeaves insns link_type capture r r' t t' p p' None =
-    Skips insns link_type capture r r' t t' p p'
-StepLeaves insns link_type capture r r' t t' p p' (Some number) =
-    Ends insns link_type capture r r' t t' p p' number
-
--- the interface of a packet is the one at `known` of the table, and the writer counts it
-pub record HasAdded (known : ℕ) (p : Captured) (w : Writer) (table : List Interface) (w' : Writer)
-    (table' : List Interface) : Type 0 where
-  pub fits : (known < length table) × (known < 4096)
-  pub entry : Interface
-  pub same : output_interface entry ≡ interface_of p
-  pub put : table' ≡ slice_set table known entry
-  pub counted : w' ≡ record w { interfaces = known + 1 }
+IsAtEnd (FileState.Pcap head) text = text ≡ []
+IsAtEnd (FileState.Pcapng order link) text = text ≡ []

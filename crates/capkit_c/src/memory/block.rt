@@ -1,14 +1,15 @@
 //! One block of a pcapng capture in memory, in the caller's table of interfaces.
-ghost use Rattle.std.specs.List.{slice_get};
+ghost use Rattle.std.specs.{List.slice_get, Option.option_map};
 ghost use Rattle.std.specs.Prelude.{◌≡◌, ℕ, ◌+◌, ◌<◌, ◌≤◌, ◌++◌, ◌∷◌, [], IfOk, IfErr, OnErr, is_some, length, true};
 ghost use Rattle.cap_pcapng.specs.Interface.{description_of};
-ghost use Rattle.capkit_c.specs.Layout.{first_interfaces};
+ghost use Rattle.capkit_c.specs.Layout.{described_of, first_interfaces};
 ghost use Rattle.capkit_c.specs.inside.Blocks.{BlockIs, EntersTable, IsNoBlock, IsOf, IsRefusal, spans_of};
 
 use crate::memory::layout::Interface;
 use cap_octet::{Fault, Order};
 use cap_pcapng::{
-    BlockEffect, Frame, Interface as PcapngInterface, Interfaces, PacketSpans, block_effect, frame,
+    BlockEffect as Effect, Frame, Interface as PcapngInterface, Interfaces, PacketSpans,
+    block_effect, frame,
 };
 
 /// A packet, and the places of its parts in its unit.
@@ -36,6 +37,27 @@ pub(crate) enum Refusal {
     Fault(Fault),
     /// Its interface finds no room in the table.
     NoRoom,
+}
+
+/// A block that passed all of its checks, as the caller's table sees it: the number of interfaces
+/// after it, and its packet. `cap_pcapng` has the effect without a table (`Effect` here).
+#[derive(Clone, Copy)]
+pub(crate) struct BlockEffect {
+    pub(crate) interfaces: usize,
+    pub(crate) packet: Option<UnitPacket>,
+}
+
+/// The interface with this number, from 0, among the first `count` of a table; `None` if there
+/// is none. It is the table's own entry; `KnownInterfaces::get` gives it as `cap_pcapng` has it.
+fn interface_by_number(table: &[Interface], count: usize, number: u32) -> Option<&Interface>
+    requires { count ≤ length table.now }
+    ensures { option_map (λ i. described_of i.now) result
+        ≡ slice_get (first_interfaces count table.now) number }
+{
+    if number as usize >= count {
+        return None;
+    }
+    table.get(number as usize)
 }
 
 /// Puts an interface after the first `count` of a table, instead of the entry there.
@@ -73,21 +95,22 @@ impl Interfaces for KnownInterfaces<'_> {
 }
 
 /// The packet that a block has at these places, with the link type and the snap length of its
-/// interface, which is known.
-fn unit_packet(known: KnownInterfaces<'_>, spans: &PacketSpans) -> UnitPacket
-    requires { is_some (slice_get (first_interfaces known.count known.entries.now)
-        spans.now.interface) ≡ true }
+/// interface, which is among the first `count` of a table.
+fn unit_packet(table: &[Interface], count: usize, spans: &PacketSpans) -> UnitPacket
+    requires known { count ≤ length table.now }
+    requires there { is_some (slice_get (first_interfaces count table.now) spans.now.interface)
+        ≡ true }
     ensures spans { spans_of spans.now.size result ≡ spans.now }
-    ensures interface { IsOf (first_interfaces known.count known.entries.now) result }
+    ensures interface { IsOf (first_interfaces count table.now) result }
 {
-    let interface = known.get(spans.interface).unwrap();
+    let interface = interface_by_number(table, count, spans.interface).unwrap();
     UnitPacket {
         start: spans.bytes.start,
         length: spans.bytes.length,
         options_start: spans.options.start,
         options_length: spans.options.length,
         interface: spans.interface,
-        link_type: interface.link,
+        link_type: interface.link_type,
         snap: interface.snap,
         time: spans.time,
         orig: spans.orig,
@@ -95,14 +118,14 @@ fn unit_packet(known: KnownInterfaces<'_>, spans: &PacketSpans) -> UnitPacket
 }
 
 /// Makes the checks of a whole block of this frame, and adds the interface that it describes, if it
-/// describes one, to the first `count` of a table. Returns the number of interfaces after it, and its
-/// packet. A refusal, by a check or for lack of room in the table, leaves the table unchanged.
+/// describes one, to the first `count` of a table. A refusal, by a check or for lack of room in the
+/// table, leaves the table unchanged.
 fn apply_block(
     table: &mut [Interface],
     count: usize,
     frame: &Frame,
     bytes: &[u8],
-) -> Result<(usize, Option<UnitPacket>), Refusal>
+) -> Result<BlockEffect, Refusal>
     requires known { count ≤ length table.old }
     requires bounds { count ≤ 256 }
     requires whole { length bytes.now ≡ frame.now.length }
@@ -119,16 +142,28 @@ fn apply_block(
         count,
     };
     match block_effect(&known, frame, bytes) {
-        Ok(BlockEffect::Section) => Ok((0, None)),
-        Ok(BlockEffect::Interface(interface)) => {
+        Ok(Effect::Section) => Ok(BlockEffect {
+            interfaces: 0,
+            packet: None,
+        }),
+        Ok(Effect::Interface(interface)) => {
             if count == table.len() {
                 return Err(Refusal::NoRoom);
             }
             append_interface(table, count, &interface);
-            Ok((count + 1, None))
+            Ok(BlockEffect {
+                interfaces: count + 1,
+                packet: None,
+            })
         }
-        Ok(BlockEffect::Packet(spans)) => Ok((count, Some(unit_packet(known, &spans)))),
-        Ok(BlockEffect::Nothing) => Ok((count, None)),
+        Ok(Effect::Packet(spans)) => Ok(BlockEffect {
+            interfaces: count,
+            packet: Some(unit_packet(table, count, &spans)),
+        }),
+        Ok(Effect::Nothing) => Ok(BlockEffect {
+            interfaces: count,
+            packet: None,
+        }),
         Err(fault) => Err(Refusal::Fault(fault)),
     }
 }
@@ -140,10 +175,8 @@ pub(crate) struct BlockRead {
     pub(crate) size: usize,
     /// The byte order of its section.
     pub(crate) order: Order,
-    /// The number of interfaces after it.
-    pub(crate) interfaces: usize,
-    /// Its packet, if it has one.
-    pub(crate) packet: Option<UnitPacket>,
+    /// The number of interfaces after it, and its packet.
+    pub(crate) effect: BlockEffect,
 }
 
 /// Reads the block that a text begins with, in a section of this byte order or, if there is none
@@ -178,11 +211,10 @@ pub(crate) fn read_block(
         return Err(Refusal::Fault(Fault::Truncated));
     }
     match apply_block(table, count, &frame, &text[..size]) {
-        Ok((interfaces, packet)) => Ok(BlockRead {
+        Ok(effect) => Ok(BlockRead {
             size,
             order: frame.order,
-            interfaces,
-            packet,
+            effect,
         }),
         Err(refusal) => Err(refusal),
     }

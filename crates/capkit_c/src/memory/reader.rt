@@ -133,12 +133,12 @@ fn read_block_unit(
 {
     match read_block(section, table, count, text) {
         Ok(read) => {
-            let link = first_link_type(first, table, read.interfaces);
+            let link = first_link_type(first, table, read.effect.interfaces);
             Ok(ReadUnit {
                 size: read.size,
                 form: FileState::Pcapng(read.order, link),
-                interfaces: read.interfaces,
-                packet: read.packet,
+                interfaces: read.effect.interfaces,
+                packet: read.effect.packet,
             })
         }
         Err(why) => Err(why),

@@ -6,7 +6,7 @@ ghost use Rattle.cap_octet.specs.{Checks.first_failing, Packet.captured};
 ghost use Rattle.cap_io.specs.Text.{interface_of, number_among};
 ghost use Rattle.capkit_c.specs.Buffers.{WriteLeaves};
 ghost use Rattle.capkit_c.specs.Writer.{output_interface, put_checks, interfaces_in, most_written, room_for, Puts, IsWhole};
-ghost use Rattle.capkit_c.specs.inside.Units.{HasAdded};
+ghost use Rattle.capkit_c.specs.inside.Writer.{HasAdded};
 ghost use Rattle.cap_pcapng.specs.Encoding.{interface_text, section_text};
 
 use crate::memory::layout::{Interface, Writer};

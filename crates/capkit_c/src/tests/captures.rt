@@ -4,7 +4,6 @@ use crate::matching::capkit_next_match;
 use crate::memory::{Interface, Packet, Reader};
 use crate::reading::{capkit_comment, capkit_next, capkit_next_unit};
 use flt_bpf::Insn;
-use std::alloc::Global;
 use std::test::Fail;
 
 /// The start of a capture.
@@ -19,17 +18,16 @@ const START: Reader = Reader {
     nanoseconds: 0,
 };
 
-/// An entry of a table that no call looks at before it writes it.
-pub(super) const ANY_INTERFACE: Interface = Interface {
-    units: 7,
-    offset: 7,
-    snap: 7,
-    link_type: 7,
-    name_length: 7,
-    name: [7; 255],
+pub(super) const NO_INTERFACE: Interface = Interface {
+    units: 0,
+    offset: 0,
+    snap: 0,
+    link_type: 0,
+    name_length: 0,
+    name: [0; 255],
 };
 
-pub(super) const ANY_PACKET: Packet = Packet {
+pub(super) const NO_PACKET: Packet = Packet {
     time: 77,
     at: 77,
     options_at: 77,
@@ -40,6 +38,13 @@ pub(super) const ANY_PACKET: Packet = Packet {
     snap: 77,
     link_type: 77,
 };
+
+/// A packet: its time and place, its captured and original length, its interface with snapshot
+/// length and link type, its comment.
+type Seen = ((u64, usize), (u32, u32), (u32, u32, u16), &'static [u8]);
+
+/// The room of the table, the number that a call returns, and the packet that it finds.
+type Call = (usize, u32, Option<Seen>);
 
 /// Microseconds, little-endian, Ethernet, snapshot length 262,144: one record.
 const MICROSECONDS: &[u8] = &[
@@ -80,76 +85,98 @@ const SECTIONS: &[u8] = &[
     0, 0, 0, 0, 0, 0, 0, 0, 0, 0, 0, 0, 0, 0, 0, 0, 0, 0, 0x20, 0, 0, 0,
 ];
 
-/// Captures, and what a call for each unit gives, a line each: the room of the table, the number
-/// that is returned, and of a packet its time and place, its captured and original length, its
-/// interface with snapshot length and link type, the length of its options, that of its comment, and
-/// a buffer of four bytes `~` with the comment.
-const CAPTURES: &[(&[u8], &str)] = &[
+const CAPTURES: &[(&[u8], &[Call])] = &[
     (
         MICROSECONDS,
-        "0 223
-0 0 1000005000 40 4 9 0 262144 1 0 0 \0~~~
-0 222",
+        &[
+            (0, 223, None),
+            (
+                0,
+                0,
+                Some(((1_000_005_000, 40), (4, 9), (0, 262_144, 1), b"")),
+            ),
+            (0, 222, None),
+        ],
     ),
     (
         NANOSECONDS,
-        "0 223
-0 0 1000000005 40 2 9 0 96 101 0 0 \0~~~
-0 0 2000000006 58 0 0 0 96 101 0 0 \0~~~
-0 222",
+        &[
+            (0, 223, None),
+            (0, 0, Some(((1_000_000_005, 40), (2, 9), (0, 96, 101), b""))),
+            (0, 0, Some(((2_000_000_006, 58), (0, 0), (0, 96, 101), b""))),
+            (0, 222, None),
+        ],
     ),
     (
         BLOCKS,
-        "0 223\n0 224\n1 223\n1 223
-1 0 10000000007 124 3 60 0 96 1 12 2 hi\0~
-1 224\n2 223
-2 0 3000 192 1 1 1 0 101 0 0 \0~~~
-2 0 0 212 2 2 0 96 1 0 0 \0~~~
-2 222",
+        &[
+            (0, 223, None),
+            (0, 224, None),
+            (1, 223, None),
+            (1, 223, None),
+            (
+                1,
+                0,
+                Some(((10_000_000_007, 124), (3, 60), (0, 96, 1), b"hi")),
+            ),
+            (1, 224, None),
+            (2, 223, None),
+            (2, 0, Some(((3_000, 192), (1, 1), (1, 0, 101), b""))),
+            (2, 0, Some(((0, 212), (2, 2), (0, 96, 1), b""))),
+            (2, 222, None),
+        ],
     ),
     (
         SECTIONS,
-        "2 223\n2 223
-2 0 1500000000 88 1 1 0 0 113 8 3 big\0
-2 223\n2 207",
+        &[
+            (2, 223, None),
+            (2, 223, None),
+            (
+                2,
+                0,
+                Some(((1_500_000_000, 88), (1, 1), (0, 0, 113), b"big")),
+            ),
+            (2, 223, None),
+            (2, 207, None),
+        ],
     ),
 ];
 
-/// What a call gives, as a line of `CAPTURES`. Without a packet it writes none.
-fn line_of_call(
-    alloc: Global,
-    room: usize,
-    reader: &mut Reader,
-    table: &mut [Interface; 2],
-    capture: &[u8],
-) -> Result<String, Fail> {
-    let (mut packet, mut buffer) = (ANY_PACKET, [b'~'; 4]);
-    let number = capkit_next_unit(reader, &mut table[..room.min(2)], capture, &mut packet);
-    let length = capkit_comment(reader, capture, &packet, &mut buffer);
-    let p = packet;
-    if number != 0 {
-        let is_kept = (p.time, p.at, p.link_type) == (77, 77, 77);
-        let change = if is_kept { "" } else { " and a packet" };
-        return Ok(format!(in alloc; "{room} {number}{change}")?);
-    }
-    let data = format!(in alloc; "{} {} {} {}", p.time, p.at, p.captured, p.original)?;
-    let rest = format!(in alloc;
-        "{} {} {} {}",
-        p.interface, p.snap, p.link_type, p.options_length
-    )?;
-    let comment = str::from_utf8(&buffer).unwrap_or("");
-    Ok(format!(in alloc; "{room} 0 {data} {rest} {length} {comment}")?)
+/// Whether what a call left is the packet of a row, with its comment.
+fn is_seen(seen: &Seen, reader: &Reader, capture: &[u8], packet: &Packet) -> bool {
+    let (place, lengths, interface, comment) = *seen;
+    let mut buffer = [b'~'; 4];
+    let length = capkit_comment(reader, capture, packet, &mut buffer);
+    let size = comment.len().min(3);
+    let is_commented = length == comment.len() && &buffer[..size] == &comment[..size];
+    let is_kept = buffer[size] == 0 && buffer[size + 1..].iter().all(|byte| *byte == b'~');
+    (packet.time, packet.at) == place
+        && (packet.captured, packet.original) == lengths
+        && (packet.interface, packet.snap, packet.link_type) == interface
+        && (reader.form != 1 || packet.options_length == 0)
+        && is_commented
+        && is_kept
+}
+
+/// Whether a call is as its row says; without a packet it writes none.
+fn is_right(call: &Call, reader: &mut Reader, table: &mut [Interface; 2], capture: &[u8]) -> bool {
+    let mut packet = NO_PACKET;
+    let room = call.0.min(2);
+    let number = capkit_next_unit(reader, &mut table[..room], capture, &mut packet);
+    number == call.1
+        && match &call.2 {
+            Some(seen) => is_seen(seen, reader, capture, &packet),
+            None => packet.time == 77 && packet.at == 77 && packet.link_type == 77,
+        }
 }
 
 #[test]
 fn captures_are_read(rt: HostRuntime) -> Result<(), Fail> {
-    for (capture, lines) in CAPTURES {
-        let (mut reader, mut table) = (START, [ANY_INTERFACE; 2]);
-        for expected in lines.lines() {
-            let is_more = !expected.starts_with('0');
-            let room = usize::from(is_more) + usize::from(expected.starts_with('2'));
-            let line = line_of_call(rt.alloc(), room, &mut reader, &mut table, capture)?;
-            assert!(rt; line.as_str() == expected, "{expected}");
+    for (number, (capture, calls)) in CAPTURES.iter().enumerate() {
+        let (mut reader, mut table) = (START, [NO_INTERFACE; 2]);
+        for (at, call) in calls.iter().enumerate() {
+            let is_right = is_right(call, &mut reader, &mut table, capture);
+            assert!(rt; is_right, "capture {number}, call {at}");
         }
     }
     Ok(())
@@ -157,7 +184,7 @@ fn captures_are_read(rt: HostRuntime) -> Result<(), Fail> {
 
 /// Reads units up to a fault or the end, and gives its number, with the reader as it is then.
 fn read_all(capture: &[u8], table: &mut [Interface]) -> (u32, Reader) {
-    let (mut reader, mut packet) = (START, ANY_PACKET);
+    let (mut reader, mut packet) = (START, NO_PACKET);
     let mut number = 0;
     for _ in 0..300 {
         number = capkit_next_unit(&mut reader, table, capture, &mut packet);
@@ -171,7 +198,7 @@ fn read_all(capture: &[u8], table: &mut [Interface]) -> (u32, Reader) {
 /// What C sees of the reader and of the table.
 #[test]
 fn what_is_declared(rt: HostRuntime) -> Result<(), Fail> {
-    let mut table = [ANY_INTERFACE; 2];
+    let mut table = [NO_INTERFACE; 2];
     let (_, reader) = read_all(NANOSECONDS, &mut table);
     assert!(rt; (reader.form, reader.big_endian, reader.nanoseconds) == (1, 1, 1));
     assert!(rt; (reader.link_type, reader.has_link_type, reader.snap) == (101, 1, 96));
@@ -209,7 +236,7 @@ const FAULTS: &[(&[u8], usize, u8, u32, usize)] = &[
 
 #[test]
 fn faults_are_found(rt: HostRuntime) -> Result<(), Fail> {
-    let mut table = [ANY_INTERFACE; 2];
+    let mut table = [NO_INTERFACE; 2];
     for (capture, at, byte, expected, offset) in FAULTS {
         let mut altered = Vec::from_slice(rt.alloc(), capture)?;
         if let Some(place) = altered.get_mut(*at) {
@@ -231,7 +258,7 @@ fn most_interfaces(rt: HostRuntime) -> Result<(), Fail> {
     for _ in 0..256 {
         capture.extend_from_slice(&BLOCKS[144..164])?;
     }
-    let mut table = vec![in rt.alloc(); ANY_INTERFACE; 300]?;
+    let mut table = vec![in rt.alloc(); NO_INTERFACE; 300]?;
     for is_good in [false, true] {
         let mut whole = Vec::from_slice(rt.alloc(), &capture)?;
         whole.extend_from_slice(&BLOCKS[28..46])?;
@@ -247,7 +274,7 @@ fn most_interfaces(rt: HostRuntime) -> Result<(), Fail> {
 /// truncated.
 #[test]
 fn prefixes_are_truncated(rt: HostRuntime) -> Result<(), Fail> {
-    let mut table = [ANY_INTERFACE; 2];
+    let mut table = [NO_INTERFACE; 2];
     for capture in [MICROSECONDS, NANOSECONDS, BLOCKS] {
         for size in 0..capture.len() {
             let (number, reader) = read_all(&capture[..size], &mut table);
@@ -275,7 +302,7 @@ const SEARCHES: &[(&[u8], u32, u16, u32)] = &[
 #[test]
 fn packets_are_sought(rt: HostRuntime) -> Result<(), Fail> {
     for (capture, answer, link_type, expected) in SEARCHES {
-        let (mut reader, mut table, mut packet) = (START, [ANY_INTERFACE; 2], ANY_PACKET);
+        let (mut reader, mut table, mut packet) = (START, [NO_INTERFACE; 2], NO_PACKET);
         let found = capkit_next(&mut reader, &mut table, capture, &mut packet);
         assert!(rt; found == if capture.is_empty() { 201 } else { 0 });
         let insns = [Insn {

@@ -6,11 +6,6 @@ use std::test::Fail;
 
 const RETURN: Row = (22, 0, 0, 0);
 
-/// A write of word 3 of memory, and a read of it.
-const WRITE: Row = (0x02, 0, 0, 3);
-
-const READ: Row = (0x60, 0, 0, 3);
-
 /// 2^31.
 const HIGH: u32 = 0x8000_0000;
 
@@ -34,10 +29,16 @@ const ALIKE: &[&[Row]] = &[
     &[(0x03, 0, 0, 0), (0x61, 0, 0, 0), RETURN],
     // Jumps past the read.
     &[(0x05, 0, 0, 1), (0x60, 0, 0, 0), RETURN],
-    &[(0x15, 1, 1, 0), READ, RETURN],
+    &[(0x15, 1, 1, 0), (0x60, 0, 0, 3), RETURN],
     // A return before the write.
-    &[(0x15, 1, 0, 0), RETURN, WRITE, READ, RETURN],
-    &[WRITE, (0x15, 0, 0, 0), READ, RETURN],
+    &[
+        (0x15, 1, 0, 0),
+        RETURN,
+        (0x02, 0, 0, 3),
+        (0x60, 0, 0, 3),
+        RETURN,
+    ],
+    &[(0x02, 0, 0, 3), (0x15, 0, 0, 0), (0x60, 0, 0, 3), RETURN],
 ];
 
 /// Programs that may run another way elsewhere.
@@ -75,16 +76,22 @@ const OTHERWISE: &[&[Row]] = &[
     &[(0x61, 0, 0, 15), RETURN],
     // Jumps to the read, and past the write.
     &[(0x05, 0, 0, 0), (0x60, 0, 0, 0), RETURN],
-    &[(0x15, 1, 0, 0), WRITE, READ, RETURN],
-    &[(0x15, 0, 1, 0), WRITE, READ, RETURN],
+    &[(0x15, 1, 0, 0), (0x02, 0, 0, 3), (0x60, 0, 0, 3), RETURN],
+    &[(0x15, 0, 1, 0), (0x02, 0, 0, 3), (0x60, 0, 0, 3), RETURN],
     // Linux's check goes on past a return.
-    &[(0x15, 1, 0, 0), RETURN, (0x06, 0, 0, 0), READ, RETURN],
+    &[
+        (0x15, 1, 0, 0),
+        RETURN,
+        (0x06, 0, 0, 0),
+        (0x60, 0, 0, 3),
+        RETURN,
+    ],
     &[
         (0x15, 0, 2, 0),
-        WRITE,
+        (0x02, 0, 0, 3),
         (0x05, 0, 0, 1),
         RETURN,
-        READ,
+        (0x60, 0, 0, 3),
         RETURN,
     ],
 ];

@@ -1,6 +1,6 @@
 //! Packets that are put into a pcapng file, held against its units as other calls write them.
 
-use super::captures::{ANY_INTERFACE, ANY_PACKET};
+use super::captures::{NO_INTERFACE, NO_PACKET};
 use crate::memory::{Interface, Packet, Writer};
 use crate::writing::{
     capkit_write_interface, capkit_write_packet, capkit_write_section, capkit_writer_put,
@@ -54,7 +54,7 @@ impl File<'_> {
             original: 60,
             snap,
             link_type,
-            ..ANY_PACKET
+            ..NO_PACKET
         };
         // At most three units: a section header, an interface, a packet.
         for _ in 0..3 {
@@ -108,7 +108,7 @@ fn write_units(buffer: &mut [u8]) -> usize {
 fn packets_are_put(rt: HostRuntime) -> Result<(), Fail> {
     let (mut expected, mut buffer) = ([0; 1024], [0; 1024]);
     let size = write_units(&mut expected);
-    let mut table = [ANY_INTERFACE; 4];
+    let mut table = [NO_INTERFACE; 4];
     let mut file = File {
         writer: START,
         table: &mut table,
@@ -126,7 +126,7 @@ fn packets_are_put(rt: HostRuntime) -> Result<(), Fail> {
 /// Nothing is written, and nothing is kept of the packet.
 #[test]
 fn packets_are_not_put(rt: HostRuntime) -> Result<(), Fail> {
-    let (mut table, mut buffer) = ([ANY_INTERFACE; 1], [0xa5; 512]);
+    let (mut table, mut buffer) = ([NO_INTERFACE; 1], [0xa5; 512]);
     let mut file = File {
         writer: START,
         table: &mut table,

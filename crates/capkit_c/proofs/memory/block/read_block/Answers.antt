@@ -19,8 +19,8 @@ returns-in-Ok-apply_block-clause-ok c =
     let there = c.if-text-size.false in
     let e = c.in-Ok-apply_block.ensures.ok in
     record {
-      stands = λ before is same. stands before c.args.section (first_interfaces c.args.count c.args.table.now) (first_interfaces c.in-Ok-apply_block.interfaces c.apply_block.new.table) c.args.text.now c.in-Some.first.now
-          c.in-Ok.frame c.in-Ok-apply_block.packet is same c.in-Some.ensures.cases.enough c.in-Some.ensures.cases.same c.in-Ok.ensures.answer c.in-Ok.ensures.shortest (omega (arith, there)) e.enters e.lies;
+      stands = λ before is same. stands before c.args.section (first_interfaces c.args.count c.args.table.now) (first_interfaces c.in-Ok-apply_block.effect.interfaces c.apply_block.new.table) c.args.text.now c.in-Some.first.now
+          c.in-Ok.frame c.in-Ok-apply_block.effect.packet is same c.in-Some.ensures.cases.enough c.in-Some.ensures.cases.same c.in-Ok.ensures.answer c.in-Ok.ensures.shortest (omega (arith, there)) e.enters e.lies;
       known = e.known;
       upper_bound = e.upper_bound;
       of = e.of;

@@ -1,6 +1,5 @@
 -- The first 24 bytes say what the text says.
-use Rattle.capkit_c.proofs.Common.{◌∙◌, ap, checked, header_fault, header_in}
-use Rattle.capkit_c.proofs.Savefiles.{head_taken}
+use Rattle.capkit_c.proofs.{Common.◌∙◌, Common.ap, Common.checked, Common.header_fault, Common.header_in, Savefiles.head_taken}
 use Rattle.capkit_c.proofs.memory.pcap.header_in.Goals as goal
 
 pub returns : goal.returns

@@ -2,8 +2,7 @@
 use Rattle.std.proofs.Common.{◌≡◌, ◌++◌, ◌-◌, List, ℕ, take, drop, replicate, refl, sym, ◌∙◌}
 use Rattle.cap_pcapng.specs.Encoding.{name_text}
 use Rattle.cap_pcapng.proofs.WrittenBlocks.{interface_joined, named, unnamed}
-use Rattle.capkit_c.proofs.Writes.{unrefused}
-use Rattle.capkit_c.proofs.memory.writing.put_interface.Goals.{then-is_empty, else-is_empty}
+use Rattle.capkit_c.proofs.{Writes.unrefused, memory.writing.put_interface.Goals.then-is_empty, memory.writing.put_interface.Goals.else-is_empty}
 use Rattle.capkit_c.proofs.memory.writing.put_interface.Goals as goal
 
 pub returns : goal.returns
