@@ -1,10 +1,11 @@
 //! The inputs of a job, and which of them is next.
-ghost use Rattle.std.specs.Option.{IfSome};
-ghost use Rattle.std.specs.Prelude.{◌≡◌, ◌&&◌, [], true, ◌<◌, ◌≤◌, ◌-◌, ◌^◌, IsTrue, Ok, false, length, map};
-ghost use Rattle.cap_inputs.specs.Fresh.{fresh_view};
+ghost use Rattle.std.specs.Prelude.{◌≡◌, ◌&&◌, [], true, ◌<◌, ◌≤◌, ◌-◌, ◌^◌, IsTrue, Ok, false};
+ghost use Rattle.std.specs.{Option.IfSome, Prelude.length, Prelude.map};
+ghost use Rattle.cap_inputs.specs.inside.Cursor.{EntersQueue, HasPlaceFor, IsAtCursor};
+ghost use Rattle.cap_inputs.specs.inside.Cursor.{IsNextOfMerge, IsQueued, Leaves, first_schedule};
+ghost use Rattle.cap_inputs.specs.{Fresh.fresh_view, inside.Inputs.first_declared_link};
 ghost use Rattle.cap_inputs.specs.Inputs.{is_packet_found, key_of, packet_time};
-ghost use Rattle.cap_inputs.specs.inside.Cursor.{EntersQueue, HasPlaceFor, IsAtCursor, IsNextOfMerge, IsQueued, Leaves, first_schedule, is_merge, schedule_after, schedule_after_decided};
-ghost use Rattle.cap_inputs.specs.inside.Inputs.{first_declared_link};
+ghost use Rattle.cap_inputs.specs.inside.Cursor.{is_merge, schedule_after, schedule_after_decided};
 ghost use Rattle.cap_io.specs.Sequence.{order_of};
 ghost use Rattle.cap_octet.specs.Views.{fresh_input};
 
@@ -70,11 +71,13 @@ fn current_time<I: Input, A: Allocator>(source: &Source<I, A>) -> u64
 }
 
 impl<I: Input, A: Allocator> InputCursor<I, A> {
-    ghost use Rattle.cap_inputs.specs.Inputs.{InputView, input_after, is_packet_found, input_after_decided};
+    ghost use Rattle.cap_inputs.specs.Inputs.{InputView, input_after, is_packet_found};
+    ghost use Rattle.cap_inputs.specs.Inputs.{input_after_decided};
     ghost use Rattle.std.specs.Option.{option_map, IfSome};
     ghost use Rattle.std.specs.Prelude.{IsTrue, false, true, ◌≤◌, IsSome, length};
-    ghost use Rattle.cap_io.specs.{Capture.first_link_of, Capture.kind_of, Reading.most_in_unit};
-    ghost use Rattle.cap_io.specs.Source.{SourceView, Advances, SectionFits, Reading, Steps, TakesIfAtHand, phase_after};
+    ghost use Rattle.cap_io.specs.Source.{Advances, SectionFits, Reading, Steps, TakesIfAtHand};
+    ghost use Rattle.cap_io.specs.{Source.phase_after, Reading.most_in_unit};
+    ghost use Rattle.cap_io.specs.Capture.{first_link_of, kind_of};
     ghost use Rattle.cap_octet.specs.Packet.{captured};
 
     /// An input over a source of which nothing was read: no packet of it waits or is decided.
@@ -218,8 +221,8 @@ impl<I: Input, A: Allocator> Model for Inputs<I, A> {
 }
 
 impl<I: Input, A: Allocator> Inputs<I, A> {
-    ghost use Rattle.cap_inputs.specs.Fresh.{fresh_inputs};
-    ghost use Rattle.cap_inputs.specs.Inputs.{offset_at, InputsView, IsInput, MarksDecided, ReadSteps, ReadsInput};
+    ghost use Rattle.cap_inputs.specs.Inputs.{offset_at, InputsView, IsInput, MarksDecided};
+    ghost use Rattle.cap_inputs.specs.{Fresh.fresh_inputs, Inputs.ReadSteps, Inputs.ReadsInput};
     ghost use Rattle.cap_inputs.specs.inside.Inputs.{IsNext, first_declared_link, is_in_turn};
     ghost use Rattle.std.specs.List.{slice_get};
 

@@ -1,6 +1,6 @@
 //! Laws of the definitions: each is the contract of a function that does nothing.
-ghost use Rattle.cap_io.specs.Laws.{EachHasCut, EachHasOneCut, CutTellsItems, EachPutGoesByPackets, PutExtendsText};
-ghost use Rattle.cap_io.specs.{Merging.MergesSort, RoundTrip.ItemsBack};
+ghost use Rattle.cap_io.specs.Laws.{EachHasCut, EachHasOneCut, CutTellsItems, EachPutGoesByPackets};
+ghost use Rattle.cap_io.specs.{Merging.MergesSort, Laws.PutExtendsText, RoundTrip.ItemsBack};
 
 /// Each text is cut into units in exactly one way, and the cut shows the text's items: its packets
 /// and how it ends.

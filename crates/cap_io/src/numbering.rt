@@ -1,9 +1,8 @@
 //! The interfaces of a pcapng file that is written, numbered by first use.
 ghost use Rattle.std.specs.Prelude.{◌≡◌, ◌++◌, ◌≤◌, [], length, nat_le};
 ghost use Rattle.cap_octet.specs.Packet.{captured};
-ghost use Rattle.cap_io.specs.Numbering.{interface_in};
+ghost use Rattle.cap_io.specs.{Numbering.interface_in, inside.Numbering.Numbers};
 ghost use Rattle.cap_io.specs.Text.{interface_of, is_same, most_output_interfaces, new_among};
-ghost use Rattle.cap_io.specs.inside.Numbering.{Numbers};
 
 use cap_octet::{Fault, Packet};
 use cap_pcapng::Name;

@@ -1,8 +1,9 @@
 //! The units of a pcap file, read from a device.
-ghost use Rattle.std.specs.Prelude.{◌≡◌, ℕ, ◌+◌, ◌^◌, ◌<◌, ◌≤◌, ◌++◌, false, true, IsTrue, IfOk, IfErr, List, [], length, IfSome, IsNone};
+ghost use Rattle.std.specs.Prelude.{◌≡◌, ◌+◌, ◌<◌, ◌≤◌, ◌++◌, false, true, IsTrue, IfOk, IfErr, []};
+ghost use Rattle.std.specs.Prelude.{length};
 ghost use Rattle.cap_pcapng.specs.Frame.{is_section};
-ghost use Rattle.cap_io.specs.Capture.{Nothing, PcapFile};
-ghost use Rattle.cap_io.specs.inside.Reading.{HeaderCame, Moves, ReadsUnit, NoUnitCame, UnitLent, record_spans};
+ghost use Rattle.cap_io.specs.inside.Reading.{HeaderCame, Moves, ReadsUnit, NoUnitCame, UnitLent};
+ghost use Rattle.cap_io.specs.{Capture.Nothing, Capture.PcapFile, inside.Reading.record_spans};
 ghost use Rattle.cap_pcap.specs.Record.{most_captured};
 ghost use Rattle.cap_io.specs.declared.file_state.FileState.TheVariants as state;
 
@@ -38,9 +39,9 @@ pub(crate) fn read_header<I: Input>(input: &mut I, first: &[u8; 4]) -> Result<He
     read_head(&bytes)
 }
 
-/// Lends the next record, and puts the place of its packet into `spans`, if the device has all of it
-/// at hand and would pass it, it has at most `room` bytes, and it fails no check. `false` if not: then
-/// nothing changes.
+/// Lends the next record, and puts the place of its packet into `spans`, if the device has all of
+/// it at hand and would pass it, it has at most `room` bytes, and it fails no check. `false` if
+/// not: then nothing changes.
 #[inline(always)]
 pub(crate) fn lend_record<I: Input>(
     input: &mut Lending<I>,

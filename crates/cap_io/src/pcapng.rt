@@ -1,9 +1,11 @@
 //! The blocks of a pcapng file, read from a device.
-ghost use Rattle.std.specs.Prelude.{◌≡◌, ℕ, ◌+◌, ◌^◌, ◌<◌, ◌≤◌, ◌++◌, ◌∷◌, ◌⊎◌, IfOk, IfErr, true, IsTrue, OnErr, [], Option, false, is_some, length};
-ghost use Rattle.cap_pcapng.specs.Effect.{Enters, section_of};
-ghost use Rattle.cap_pcapng.specs.{Interface.FitSection, inside.Effect.IsEntryFault};
-ghost use Rattle.cap_io.specs.{Capture.first_link_after, Reading.declared_by};
-ghost use Rattle.cap_io.specs.inside.Reading.{BeginsBlock, IsConsistent, ReadsUnit, UnitLent, known_order};
+ghost use Rattle.std.specs.Prelude.{◌≡◌, ◌^◌, ◌<◌, ◌≤◌, IfOk, IfErr, true, IsTrue, OnErr, []};
+ghost use Rattle.std.specs.Prelude.{Option, false, is_some, length};
+ghost use Rattle.cap_pcapng.specs.{Interface.FitSection, Effect.Enters, Effect.section_of};
+ghost use Rattle.cap_pcapng.specs.inside.Effect.{IsEntryFault};
+ghost use Rattle.cap_io.specs.inside.Reading.{BeginsBlock, IsConsistent, ReadsUnit, UnitLent};
+ghost use Rattle.cap_io.specs.{Reading.declared_by, Capture.first_link_after};
+ghost use Rattle.cap_io.specs.inside.Reading.{known_order};
 
 use crate::file_state::{FileState, NextUnit};
 use crate::lending::Lending;

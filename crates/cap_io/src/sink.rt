@@ -65,8 +65,8 @@ impl<O: Output, A: Allocator + Copy> Sink<O, A> {
 
 impl<O: Output, A: Allocator> Sink<O, A> {
     ghost use Rattle.cap_octet.specs.Packet.{captured};
-    ghost use Rattle.cap_io.specs.Sink.{AddsPacket, PutsPacket, PutWrites, WritesPacket, Finishes, FinishWrites, added_in, refusal_in};
-    ghost use Rattle.cap_io.specs.Text.{FitFile};
+    ghost use Rattle.cap_io.specs.Sink.{AddsPacket, PutsPacket, PutWrites, WritesPacket, Finishes};
+    ghost use Rattle.cap_io.specs.{Text.FitFile, Sink.FinishWrites, Sink.added_in, Sink.refusal_in};
 
     /// Appends a packet, after the file header or section header if it is the first, and in
     /// pcapng after the description of its interface if that is new.
@@ -121,7 +121,7 @@ impl<O: Output, A: Allocator> Sink<O, A> {
         }
     }
 
-    /// Makes the device pass on what it holds back, and returns whether it could. The sink's state
+    /// Passes on what the device holds back, and returns whether that succeeded. The sink's state
     /// stays as it was in either case.
     pub fn release(&mut self) -> bool
         ensures kept { self.new ≡ self.old }

@@ -37,9 +37,9 @@ pub(crate) enum Stage {
     Failed(Fault),
 }
 
-/// Reads the packets of a capture from a device. A unit with a packet stays in the device's buffer, if
-/// that has all of it; other units are read into one buffer. For pcapng there is also the table of a
-/// section's interfaces.
+/// Reads the packets of a capture from a device. A unit with a packet stays in the device's buffer,
+/// if that has all of it; other units are read into one buffer. For pcapng there is also the table
+/// of a section's interfaces.
 #[derive(Drop)]
 pub struct Source<I: Input, A: Allocator> {
     reader: UnitReader<Lending<I>, A>,
@@ -59,12 +59,14 @@ impl<I: Input, A: Allocator> Model for Source<I, A> {
 }
 
 impl<I: Input, A: Allocator> Source<I, A> {
-    ghost use Rattle.std.specs.Option.{IfSome, option_map};
-    ghost use Rattle.std.specs.Prelude.{◌≡◌, ◌+◌, ◌≤◌, IsTrue, OnOk, OnErr, IfErr, [], false, length, true};
+    ghost use Rattle.std.specs.Prelude.{◌≡◌, ◌+◌, ◌≤◌, IsTrue, OnOk, OnErr, IfErr, [], false};
+    ghost use Rattle.std.specs.{Prelude.length, Prelude.true, Option.IfSome, Option.option_map};
     ghost use Rattle.cap_octet.specs.Packet.{captured};
-    ghost use Rattle.cap_io.specs.{Capture.kind_of, Capture.first_link_of, Reading.most_in_unit};
-    ghost use Rattle.cap_io.specs.Source.{Reading, Advances, KeepsBounds, SectionFits, Steps, TakesIfAtHand, phase_after, source_at};
-    ghost use Rattle.cap_io.specs.inside.Source.{Continues, FindsNext, IsBetween, NextBounds, past_unit, TakesNext};
+    ghost use Rattle.cap_io.specs.Source.{Reading, Advances, KeepsBounds, SectionFits, Steps};
+    ghost use Rattle.cap_io.specs.inside.Source.{Continues, FindsNext, IsBetween, NextBounds};
+    ghost use Rattle.cap_io.specs.{Reading.most_in_unit, Capture.kind_of, Capture.first_link_of};
+    ghost use Rattle.cap_io.specs.inside.Source.{past_unit, TakesNext};
+    ghost use Rattle.cap_io.specs.Source.{TakesIfAtHand, phase_after, source_at};
 
     /// A source of which nothing is read yet. It takes no memory.
     pub fn new(alloc: A, input: I) -> Self
@@ -109,8 +111,8 @@ impl<I: Input, A: Allocator> Source<I, A> {
         }
     }
 
-    /// Goes on to the next packet, as `advance` does, if it follows a current packet that is lent, and
-    /// the device has it at hand too. `false` if not: then nothing changes.
+    /// Goes on to the next packet, as `advance` does, if it follows a current packet that is lent,
+    /// and the device has it at hand too. `false` if not: then nothing changes.
     #[inline(always)]
     pub fn take_at_hand(&mut self) -> bool
         ensures takes { TakesIfAtHand I.tells self.old result self.new }
@@ -225,9 +227,9 @@ impl<I: Input, A: Allocator> Source<I, A> {
         self.skip_to_packet()
     }
 
-    /// Ends the current unit, if there is one, and lends the next one, if it has a packet, the device
-    /// has it at hand, the buffer has room for it and it fails no check: its packet is the current one
-    /// then. `false` if not: then nothing changes.
+    /// Ends the current unit, if there is one, and lends the next one, if it has a packet, the
+    /// device has it at hand, the buffer has room for it and it fails no check: its packet is the
+    /// current one then. `false` if not: then nothing changes.
     // A unit for which the buffer has no room makes it grow: so memory runs out only at a unit that
     // is longer than all before it.
     #[inline(always)]

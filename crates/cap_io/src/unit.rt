@@ -1,6 +1,7 @@
 //! The bytes of a unit, read from a device to the start of the buffer for units. What is called
 //! `front` is the first bytes of a unit, which are read before its length is known.
-ghost use Rattle.std.specs.Prelude.{◌≡◌, ℕ, ◌+◌, ◌^◌, ◌<◌, ◌≤◌, ◌++◌, true, false, IsTrue, IfOk, IfErr, OnOk, if◌then◌else◌, length, take, drop, vec_len};
+ghost use Rattle.std.specs.Prelude.{◌≡◌, ◌+◌, ◌<◌, ◌≤◌, ◌++◌, true, false, IsTrue, IfOk, IfErr};
+ghost use Rattle.std.specs.Prelude.{OnOk, if◌then◌else◌, length, take, drop, vec_len};
 ghost use Rattle.cap_io.specs.Reading.{most_in_unit};
 ghost use Rattle.cap_io.specs.inside.Reading.{FrontCame, FrontMissing, Moves, RestMissing};
 

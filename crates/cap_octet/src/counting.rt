@@ -1,10 +1,11 @@
 //! std's buffered readers and writers, with a count of the reads or writes that are made of them.
 //! The lines of `read`, `write` and `flush` are all that must be believed of the counts: only they
 //! count, and each makes its call.
-ghost use Rattle.std.specs.Io.{ReadsAtMost, WritesAtMost, BufRead.DropsConsumable};
-ghost use Rattle.std.specs.Io.Buffered.{reader_buffer, reader_remaining, writer_buffer, writer_contents};
-ghost use Rattle.std.specs.Io.KnownBytes.{Keeps, ReadConsumes, WriteAppends};
+ghost use Rattle.std.specs.Io.Buffered.{reader_buffer, reader_remaining, writer_buffer};
+ghost use Rattle.std.specs.Io.{BufRead.DropsConsumable, Buffered.writer_contents};
+ghost use Rattle.std.specs.Io.{ReadsAtMost, WritesAtMost};
 ghost use Rattle.std.specs.Prelude.{◌≡◌, ◌+◌, [], OnOk, Some, drop, length};
+ghost use Rattle.std.specs.Io.KnownBytes.{Keeps, ReadConsumes, WriteAppends};
 ghost use Rattle.cap_octet.specs.Device.{failures_of};
 
 use crate::count::ContractCount;
@@ -55,7 +56,8 @@ impl<R: Read> CountingReader<R> {
         ensures bytes { DropsConsumable (reader_remaining R.remaining self.old.reader)
             (reader_remaining R.remaining self.new.reader)
             (Some (length (reader_buffer self.old.reader))) count }
-        ensures buffer { reader_buffer self.new.reader ≡ drop count (reader_buffer self.old.reader) }
+        ensures buffer { reader_buffer self.new.reader
+            ≡ drop count (reader_buffer self.old.reader) }
         ensures calls { self.new.calls.count ≡ self.old.calls.count }
     {
         self.reader.consume(count);

@@ -1,8 +1,10 @@
 //! Devices: what a contract sees of bytes that come and go; and reads and writes of all that is
 //! asked for, by as many calls of a device as that takes.
+ghost use Rattle.std.specs.Prelude.{◌≡◌, ℕ, ◌+◌, ◌^◌, ◌<◌, ◌≤◌, Bool, IsTrue, List, length, IfOk};
 ghost use Rattle.std.specs.{Io.StartsWith, List.flat_map};
-ghost use Rattle.std.specs.Prelude.{◌≡◌, ℕ, ◌+◌, ◌^◌, ◌<◌, ◌≤◌, Bool, IsTrue, List, length, IfOk, IfErr, Option, Some, [], drop, if◌then◌else◌, true};
-ghost use Rattle.cap_octet.specs.Device.{AppendsOrStops, HasGiven, Passes, Reads, Fills, Writes, WritesAll, count_of, failures_of};
+ghost use Rattle.std.specs.Prelude.{IfErr, Option, Some, [], drop, if◌then◌else◌, true};
+ghost use Rattle.cap_octet.specs.Device.{AppendsOrStops, HasGiven, Passes, Reads, Fills, Writes};
+ghost use Rattle.cap_octet.specs.Device.{WritesAll, count_of, failures_of};
 
 /// The device failed in this call.
 #[derive(Clone, Copy, Debug, PartialEq, Eq)]

@@ -1,7 +1,6 @@
 //! Numbers that are written in digits, of a radix from 2 to 16.
-ghost use Rattle.std.specs.Char.{digit_value};
+ghost use Rattle.std.specs.{Char.digit_value, Str.Parse.digits_value};
 ghost use Rattle.std.specs.Prelude.{◌≡◌, ◌<◌, ◌≤◌, ◌^◌, ◌+◌, ◌*◌, IfSome, IfNone, true, nat_lt};
-ghost use Rattle.std.specs.Str.Parse.{digits_value};
 ghost use Rattle.cap_octet.specs.Digits.{are_digits, in_u64, decimal_value};
 
 /// Whether a byte is the digit of a radix in ASCII; for a letter both cases count.

@@ -18,7 +18,8 @@ pub enum Link {
 
 impl Link {
     ghost use Rattle.std.specs.Prelude.{◌≡◌, ◌+◌, ◌≤◌, IfSome, length};
-    ghost use Rattle.cap_octet.specs.Link.{link_name, link_of_name, link_of, link_type, longest_header, network_offset, type_offset};
+    ghost use Rattle.cap_octet.specs.Link.{link_name, link_of_name, link_of, link_type};
+    ghost use Rattle.cap_octet.specs.Link.{longest_header, network_offset, type_offset};
 
     /// Every link.
     pub const ALL: [Link; 3] = [Link::Ether, Link::Raw, Link::Cooked];

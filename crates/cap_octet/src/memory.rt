@@ -1,9 +1,10 @@
 //! Devices over memory, which show their bytes. The first clauses of a method are those of its
 //! trait with this device's ghost members put in (`tells`, `failures` and so on).
+ghost use Rattle.std.specs.Prelude.{◌≡◌, ℕ, ◌+◌, ◌≤◌, ◌<◌, ◌^◌, IsTrue, [], length, take};
 ghost use Rattle.std.specs.Io.{StartsWith};
-ghost use Rattle.std.specs.Prelude.{◌≡◌, ℕ, ◌+◌, ◌≤◌, ◌<◌, ◌^◌, IsTrue, List, [], length, take, if◌then◌else◌, drop, true, IfOk, None, OnErr, Option, IsOk};
 ghost use Rattle.std.proofs.Common.{rules};
-ghost use Rattle.cap_octet.specs.Device.{Passes, Reads, Writes, count_of, failures_of};
+ghost use Rattle.std.specs.Prelude.{if◌then◌else◌, drop, true, None, Option};
+ghost use Rattle.cap_octet.specs.Device.{Passes, Writes};
 
 use crate::count::ContractCount;
 use crate::device::{DeviceFault, Input, Output};

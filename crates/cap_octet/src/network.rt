@@ -1,7 +1,8 @@
 //! What network header a packet has, by its link type.
 ghost use Rattle.std.specs.Prelude.{◌≡◌, ◌≤◌, IfSome};
+ghost use Rattle.cap_octet.specs.NetworkHeader.{header_after, link_header_length, network_header};
 ghost use Rattle.cap_octet.specs.Link.{longest_header};
-ghost use Rattle.cap_octet.specs.NetworkHeader.{header_after, link_header_length, network_header, header_by_ethertype, header_by_version};
+ghost use Rattle.cap_octet.specs.NetworkHeader.{header_by_ethertype, header_by_version};
 
 use crate::assigned::{ETHERTYPE_ARP, ETHERTYPE_IPV4, ETHERTYPE_IPV6, ETHERTYPE_RARP};
 use crate::link::Link;

@@ -1,6 +1,7 @@
 //! Durations: decimal numbers of seconds that are read as nanoseconds; and the bound of all times.
 ghost use Rattle.std.specs.Prelude.{◌≡◌, ◌<◌, ◌==◌, IfSome, length, position};
-ghost use Rattle.cap_octet.specs.Seconds.{fraction_nanoseconds, duration_of_parts, duration_value, time_below_end};
+ghost use Rattle.cap_octet.specs.Seconds.{fraction_nanoseconds, duration_of_parts, duration_value};
+ghost use Rattle.cap_octet.specs.Seconds.{time_below_end};
 
 use crate::date::{NANOS_PER_SECOND, TIME_END};
 use crate::digits::decimal_value;

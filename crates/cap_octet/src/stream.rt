@@ -1,11 +1,12 @@
 //! Devices over std's buffered readers and writers.
-ghost use Rattle.std.specs.Io.{StartsWith};
-ghost use Rattle.std.specs.Io.Buffered.{reader_buffer, reader_remaining, writer_buffer, writer_contents};
-ghost use Rattle.std.specs.Io.KnownBytes.{Keeps};
-ghost use Rattle.std.specs.Prelude.{◌≡◌, ℕ, ◌+◌, ◌≤◌, ◌<◌, ◌^◌, ◌||◌, IsTrue, IfOk, None, Option, Some, false, [], List, true, drop, if◌then◌else◌, is_err, is_some, length};
+ghost use Rattle.std.specs.Io.Buffered.{reader_buffer, reader_remaining, writer_buffer};
+ghost use Rattle.std.specs.Prelude.{◌≡◌, ℕ, ◌+◌, ◌≤◌, ◌<◌, ◌^◌, ◌||◌, IsTrue, IfOk, None, Option};
+ghost use Rattle.std.specs.Prelude.{Some, false, [], List, true, drop, if◌then◌else◌, is_some};
+ghost use Rattle.std.specs.{Io.StartsWith, Prelude.length, Io.KnownBytes.Keeps};
 ghost use Rattle.std.proofs.Common.{rules};
+ghost use Rattle.std.specs.Io.Buffered.{writer_contents};
+ghost use Rattle.cap_octet.specs.Stream.{IsOneRead, IsOneWrite, IsPassed};
 ghost use Rattle.cap_octet.specs.Device.{Passes, Reads, Writes, count_of, failures_of};
-ghost use Rattle.cap_octet.specs.Stream.{HandsOver, IsOneRead, IsOneWrite, IsPassed, TakesOver};
 
 use crate::count::ContractCount;
 use crate::counting::{CountingReader, CountingWriter};

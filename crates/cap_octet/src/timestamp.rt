@@ -1,6 +1,9 @@
 //! Timestamps that are read as times.
 ghost use Rattle.std.specs.Prelude.{◌≡◌, ◌≤◌, ◌+◌, IsTrue, length};
-ghost use Rattle.cap_octet.specs.Timestamp.{day_number, day_of_parts, second_of_day, clock_of_parts, time_of_parts, number_at, optional_fraction, is_date_time, date_time_value, time_value};
+ghost use Rattle.cap_octet.specs.Timestamp.{day_number, day_of_parts, second_of_day};
+ghost use Rattle.cap_octet.specs.Timestamp.{clock_of_parts, time_of_parts, number_at};
+ghost use Rattle.cap_octet.specs.Timestamp.{optional_fraction, is_date_time, date_time_value};
+ghost use Rattle.cap_octet.specs.Timestamp.{time_value};
 
 use crate::date::{NANOS_PER_SECOND, SECONDS_PER_DAY};
 use crate::digits::decimal_value;

@@ -1,8 +1,9 @@
 //! Devices for tests, over memory: they move a few bytes per call and fail when a test asks, and
 //! the input counts its reads. The first clauses of a method are those of its trait with this
 //! device's ghost members put in (`tells`, `failures` and so on).
-ghost use Rattle.std.specs.{Io.StartsWith, Option.option_map};
-ghost use Rattle.std.specs.Prelude.{◌≡◌, ℕ, ◌+◌, ◌-◌, ◌≤◌, ◌<◌, ◌^◌, IsTrue, List, [], length, Some, None, true, IfOk, IsErr, OnErr, OnOk, min, is_some, drop, if◌then◌else◌, take};
+ghost use Rattle.std.specs.{Io.StartsWith, Option.option_map, Prelude.◌≡◌, Prelude.ℕ, Prelude.◌+◌};
+ghost use Rattle.std.specs.Prelude.{◌-◌, ◌≤◌, ◌<◌, ◌^◌, IsTrue, [], length, Some, None, true, IfOk};
+ghost use Rattle.std.specs.Prelude.{IsErr, OnErr, min, is_some, drop, if◌then◌else◌, take};
 ghost use Rattle.std.proofs.Common.{rules};
 ghost use Rattle.cap_octet.specs.Device.{Passes, Reads, Writes, count_of, failures_of};
 

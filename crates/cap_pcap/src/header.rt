@@ -8,8 +8,9 @@
 //! ```
 ghost use Rattle.std.specs.Prelude.{◌≡◌, ◌/◌, ◌≤◌, ◌<◌, ◌^◌, length, IfOk};
 ghost use Rattle.cap_octet.specs.Checks.{checked, first_failing};
+ghost use Rattle.cap_pcap.specs.Record.{field_checks, most_captured, nanoseconds_of_part};
+ghost use Rattle.cap_pcap.specs.Record.{parts_of_second, record_header_in};
 ghost use Rattle.cap_pcap.specs.Header.{form_in, header_fault, header_in, magic};
-ghost use Rattle.cap_pcap.specs.Record.{field_checks, most_captured, nanoseconds_of_part, parts_of_second, record_header_in};
 
 use cap_octet::date::NANOS_PER_SECOND;
 use cap_octet::{Fault, Order, u16_at, u32_at};

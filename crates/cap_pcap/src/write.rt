@@ -1,9 +1,9 @@
 //! The headers of a savefile and of its records, as they are written: little-endian, at the places
 //! that `header.rt` has.
 ghost use Rattle.std.specs.Prelude.{◌≡◌, None};
-ghost use Rattle.cap_octet.specs.{Checks.checked, Checks.first_failing, Packet.captured};
-ghost use Rattle.cap_pcap.specs.Encoding.{IsPcap, file_header, record_header, resolution_of, record_fit_checks};
-ghost use Rattle.cap_pcap.specs.Header.{magic};
+ghost use Rattle.cap_octet.specs.{Packet.captured, Checks.checked, Checks.first_failing};
+ghost use Rattle.cap_pcap.specs.Encoding.{IsPcap, file_header, record_header, resolution_of};
+ghost use Rattle.cap_pcap.specs.{Header.magic, Encoding.record_fit_checks};
 
 use crate::header::{MOST_CAPTURED, Resolution};
 use byteorder::{ByteOrder, LittleEndian};

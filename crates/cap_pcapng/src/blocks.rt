@@ -9,9 +9,8 @@
 //! ```
 ghost use Rattle.std.specs.Prelude.{◌≡◌, drop, take};
 ghost use Rattle.cap_octet.specs.Checks.{checked, first_failing};
-ghost use Rattle.cap_pcapng.specs.Answer.{ChecksGive};
-ghost use Rattle.cap_pcapng.specs.Block.{body_checks, data_checks, parts_in_body, parts_of, simple_captured};
-ghost use Rattle.cap_pcapng.specs.Padding.{padded_length};
+ghost use Rattle.cap_pcapng.specs.Block.{body_checks, data_checks, parts_in_body, parts_of};
+ghost use Rattle.cap_pcapng.specs.{Answer.ChecksGive, Block.simple_captured, Padding.padded_length};
 ghost use Rattle.cap_pcapng.specs.declared.blocks.Block.TheVariants as a;
 ghost use Rattle.cap_pcapng.specs.declared.frames.BlockType.TheVariants as kind;
 

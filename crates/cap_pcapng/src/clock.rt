@@ -1,7 +1,8 @@
 //! How the ticks of an interface become times.
 ghost use Rattle.std.specs.Option.{ok_or};
 ghost use Rattle.std.specs.Prelude.{◌≡◌, ◌<◌, ◌^◌, if◌then◌else◌, IfOk};
-ghost use Rattle.cap_pcapng.specs.Time.{is_resolution, time_by, representable_time, units_per_second};
+ghost use Rattle.cap_pcapng.specs.Time.{is_resolution, time_by, representable_time};
+ghost use Rattle.cap_pcapng.specs.Time.{units_per_second};
 
 use cap_octet::Fault;
 use cap_octet::date::{NANOS_PER_SECOND, TIME_END};

@@ -1,10 +1,9 @@
 //! What a block does among the interfaces of its section: it begins a section, adds an interface or
 //! has a packet; with the checks of it that need these interfaces.
 ghost use Rattle.std.specs.Prelude.{◌≡◌, ◌+◌, ◌≤◌, IfOk, IfErr, length};
-ghost use Rattle.cap_pcapng.specs.{Answer.ChecksGive, Block.parts_in, Block.parts_of};
+ghost use Rattle.cap_pcapng.specs.{Answer.ChecksGive, Unit.checks_among, inside.Effect.PacketFound};
+ghost use Rattle.cap_pcapng.specs.{inside.Effect.fault_among, Block.parts_in, Block.parts_of};
 ghost use Rattle.cap_pcapng.specs.Effect.{HasEffect, IsBlockFault, LiesAsSaid, span_bytes};
-ghost use Rattle.cap_pcapng.specs.Unit.{checks_among};
-ghost use Rattle.cap_pcapng.specs.inside.Effect.{PacketFound, fault_among};
 ghost use Rattle.cap_pcapng.specs.declared.blocks.Block.TheVariants as a;
 
 use crate::blocks::{Block, EnhancedBlock, SimpleBlock};

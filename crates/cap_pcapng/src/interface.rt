@@ -1,7 +1,8 @@
 //! Interface description blocks: an interface, and the options that describe it.
 ghost use Rattle.std.specs.Prelude.{◌≡◌, ◌≤◌, ◌++◌, if◌then◌else◌, [], length, IfOk};
+ghost use Rattle.cap_pcapng.specs.InterfaceOptions.{name_checks, offset_checks, offset_in_value};
 ghost use Rattle.cap_pcapng.specs.Answer.{ChecksGive};
-ghost use Rattle.cap_pcapng.specs.InterfaceOptions.{name_checks, offset_checks, offset_in_value, resolution_checks, units_in_value};
+ghost use Rattle.cap_pcapng.specs.InterfaceOptions.{resolution_checks, units_in_value};
 
 use crate::blocks::InterfaceBlock;
 use crate::clock::{Clock, units_per_second};
@@ -133,8 +134,8 @@ impl<'a> FoundOptions<'a> {
 }
 
 impl<'a> InterfaceBlock<'a> {
-    ghost use Rattle.cap_pcapng.specs.Block.{body_checks, option_checks, parts_in_body, parts_of_interface};
-    ghost use Rattle.cap_pcapng.specs.Interface.{IsDescribed};
+    ghost use Rattle.cap_pcapng.specs.Block.{body_checks, option_checks, parts_in_body};
+    ghost use Rattle.cap_pcapng.specs.{Interface.IsDescribed, Block.parts_of_interface};
     ghost use Rattle.cap_pcapng.specs.declared.frames.BlockType.TheVariants as kind;
 
     /// Reads the body of an interface description block, or returns the first check that it fails:

@@ -1,8 +1,9 @@
 //! A block is read in two steps: its first 12 bytes, then all of them.
 ghost use Rattle.std.specs.Prelude.{◌≡◌, ◌≤◌, ◌%◌, ◌++◌, IfOk, IfErr, None, Some};
 ghost use Rattle.cap_octet.specs.Checks.{checked};
+ghost use Rattle.cap_pcapng.specs.Block.{IsDescribedIfAny, block_fault, body_checks, option_checks};
 ghost use Rattle.cap_pcapng.specs.Answer.{ChecksGive};
-ghost use Rattle.cap_pcapng.specs.Block.{IsDescribedIfAny, block_fault, body_checks, option_checks, parts_in, parts_in_body, parts_of};
+ghost use Rattle.cap_pcapng.specs.Block.{parts_in, parts_in_body, parts_of};
 ghost use Rattle.cap_pcapng.specs.Frame.{frame_fault, frame_in, is_section, most_block};
 
 use crate::blocks::{Block, EnhancedBlock, InterfaceBlock, SimpleBlock, check_section_body};

@@ -10,10 +10,12 @@
 //! text before it; the first of these zeros are left out if the text needs fewer.
 ghost use Rattle.std.specs.Prelude.{◌≡◌, ◌+◌, ◌<◌, ◌^◌, ◌++◌, length, replicate, None};
 ghost use Rattle.byteorder.specs.Endian.{little_bytes};
-ghost use Rattle.cap_octet.specs.Checks.{checked, first_failing};
 ghost use Rattle.cap_octet.specs.{Packet.captured, Writer.WritesExactly};
-ghost use Rattle.cap_pcapng.specs.Encoding.{comment_text, end_text, block_fit_checks, interface_header, interface_text, packet_header, packet_block, resolution_text, section_text};
+ghost use Rattle.cap_octet.specs.Checks.{checked, first_failing};
+ghost use Rattle.cap_pcapng.specs.Encoding.{comment_text, end_text, block_fit_checks};
+ghost use Rattle.cap_pcapng.specs.Encoding.{interface_header, interface_text, packet_header};
 ghost use Rattle.cap_pcapng.specs.Padding.{padded_length};
+ghost use Rattle.cap_pcapng.specs.Encoding.{packet_block, resolution_text, section_text};
 
 use crate::frames::{
     BYTE_ORDER_MAGIC, ENHANCED_PACKET_TYPE, INTERFACE_TYPE, MOST_BLOCK, SECTION_TYPE,

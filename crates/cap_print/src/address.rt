@@ -1,6 +1,7 @@
 //! Addresses and ports of the bytes of a packet, appended to a line.
 ghost use Rattle.std.specs.Prelude.{◌≡◌, ◌+◌, ◌≤◌, ◌<◌, ◌++◌, length};
-ghost use Rattle.cap_print.specs.Addresses.{four_groups, ipv4_text, ipv6_text, mac_text, port_text, three_bytes, two_groups, network_u16};
+ghost use Rattle.cap_print.specs.Addresses.{four_groups, ipv4_text, ipv6_text, mac_text, port_text};
+ghost use Rattle.cap_print.specs.Addresses.{three_bytes, two_groups, network_u16};
 
 use crate::hexadecimal::{push_hex_group, push_hex_two};
 use crate::text::Text;

@@ -1,6 +1,7 @@
 //! Numbers in hexadecimal, with lower-case digits.
 ghost use Rattle.std.specs.Prelude.{◌≡◌, ◌+◌, ◌≤◌, ◌<◌, ◌++◌, length, drop};
-ghost use Rattle.cap_print.specs.Hexadecimal.{hex_digit, hex_two, hex_four, hex_eight, hex_sixteen, hex_group, hex_place, without_zeros};
+ghost use Rattle.cap_print.specs.Hexadecimal.{hex_digit, hex_two, hex_four, hex_eight, hex_sixteen};
+ghost use Rattle.cap_print.specs.Hexadecimal.{hex_group, hex_place, without_zeros};
 
 use crate::text::Text;
 

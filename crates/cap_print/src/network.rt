@@ -5,7 +5,10 @@
 //! packet's bytes; places in the header are added to it.
 ghost use Rattle.std.specs.Prelude.{◌≡◌, ◌+◌, ◌*◌, ◌≤◌, ◌<◌, ◌++◌, decimal, length};
 ghost use Rattle.cap_octet.specs.Link.{longest_header};
-ghost use Rattle.cap_print.specs.Network.{address_text, arp_part, address_with_port, has_ports, header_end, header_part, ip_endpoints, ip_name, ip_part, is_later_fragment, layout_of, addresses_end, network_part, ports_at, protocol_text};
+ghost use Rattle.cap_print.specs.Network.{address_text, arp_part, address_with_port, has_ports};
+ghost use Rattle.cap_print.specs.Network.{header_end, header_part, ip_endpoints, ip_name, ip_part};
+ghost use Rattle.cap_print.specs.Network.{is_later_fragment, layout_of, addresses_end};
+ghost use Rattle.cap_print.specs.Network.{network_part, ports_at, protocol_text};
 
 use crate::address::{network_u16, push_ipv4, push_ipv6, push_port};
 use crate::hexadecimal::push_hex_four;

@@ -14,18 +14,21 @@ use cap_io::laws::items_back;
 
 /// What `infos` counts packet by packet is what the list of a file's packets has: how many there
 /// are, the sums of their lengths, their least, greatest and last time, and whether times ascend.
+#[tactic(auto, using(crate::proofs::Lists::counts_all))]
 pub fn report_counts_all()
     ensures { CountsAll }
 {}
 
 /// A filter passes the packets that its rule keeps, up to the first that it refuses; with a count,
 /// the first `count` of them.
+#[tactic(auto, using(crate::proofs::Lists::passes_filtered))]
 pub fn print_passes_filtered()
     ensures { PassesFiltered }
 {}
 
 /// The window of an edit that looks for duplicates among n packets in a row has the marks (lengths
 /// and digests) of the last n - 1 packets that were selected.
+#[tactic(auto, using(crate::proofs::Lists::has_last_marks))]
 pub fn window_has_last_marks()
     ensures { HasLastMarks }
 {}
@@ -33,6 +36,7 @@ pub fn window_has_last_marks()
 /// The selection of an edit ends at the first packet that is selected and whose time, once moved,
 /// is out of range, and for a time nowhere else. What passes is what is unique of what is selected
 /// before it.
+#[tactic(auto, using(crate::proofs::Lists::ends_without_time))]
 pub fn edit_ends_without_time()
     ensures { EndsWithoutTime }
 {}
@@ -72,12 +76,14 @@ pub fn merge_writes_all()
 
 /// `infos` writes the report of each input, up to the first that ends by a fault, which it then
 /// reports; else its status is 0.
+#[tactic(auto, using(crate::proofs::Wholes::infos_reports, crate::proofs::Wholes::infos_ends))]
 pub fn infos_has_each_report()
     ensures output { InfosReports }
     ensures ends { InfosEnds }
 {}
 
 /// A merge of one file is its edit without options.
+#[tactic(auto, using(crate::proofs::Wholes::merges_one))]
 pub fn merge_of_one_is_its_edit()
     ensures { MergesOne }
 {}
@@ -102,11 +108,13 @@ pub fn edit_again_is_alike()
 /// For packets with link types that expressions are read on, three lists are made: those that match
 /// an expression, those that match its negation, and those that it rejects. Each packet is in one
 /// of them, once.
+#[tactic(auto, using(crate::proofs::Negations::negation_parts))]
 pub fn negation_parts_packets()
     ensures { NegationParts }
 {}
 
 /// The packets of a file that is cut anywhere are the first ones of the whole file's.
+#[tactic(auto, using(crate::proofs::Wholes::cuts_give_prefixes))]
 pub fn cuts_give_prefixes()
     ensures { CutsGivePrefixes }
 {}

@@ -2,11 +2,10 @@
 //!
 //! An error of these functions means that the device failed, unless a function says otherwise.
 ghost use Rattle.std.specs.Prelude.{◌≡◌, ◌+◌, IfErr, IsTrue, true};
-ghost use Rattle.cap_octet.specs.{Device.AppendsOrStops, Device.failures_of, Packet.captured};
+ghost use Rattle.cap_octet.specs.{Packet.captured, Device.AppendsOrStops, Device.failures_of};
 ghost use Rattle.cap_print.specs.Rendering.{printed_text};
 ghost use Rattle.cap_process.specs.Output.{Capture, HasFewOutputInterfaces, failures_to, room_to};
-ghost use Rattle.cap_process.specs.Output.{target_at, written_to};
-ghost use Rattle.cap_process.specs.Reports.{file_report};
+ghost use Rattle.cap_process.specs.{Reports.file_report, Output.target_at, Output.written_to};
 ghost use Rattle.cap_process.specs.inside.Output.{EndsOutput, PutsIntoOutput, Reports, is_text};
 ghost use Rattle.flt_bpf.specs.Listing.{listing};
 
@@ -195,7 +194,7 @@ fn put_whole_line<O: Output>(
     }
 }
 
-/// Writes the listing of a program.
+/// Writes the listing of a program, as `write_listing` does. A device's failure is the one error.
 fn put_listing<O: Output, A: Allocator>(
     program: &Program<A>,
     output: &mut O,

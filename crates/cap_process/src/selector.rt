@@ -1,20 +1,18 @@
 //! What becomes of each packet: a selector judges packets in turn by its policy, which is an edit,
 //! a filter, that all are kept, or that all are counted.
 ghost use Rattle.std.specs.Prelude.{◌≡◌, ℕ, ◌+◌, ◌-◌, ◌<◌, ◌≤◌, [], IfOk, None, Some, false};
-ghost use Rattle.std.specs.Prelude.{if◌then◌else◌, length};
+ghost use Rattle.std.specs.Prelude.{length};
 ghost use Rattle.cap_octet.specs.Packet.{Captured, captured};
 ghost use Rattle.cap_io.specs.Reading.{most_in_unit};
-ghost use Rattle.cap_filter.specs.{Filters.programs_of, Filters.rule_of, Programs.spent_in};
-ghost use Rattle.cap_process.specs.Reports.{Tally};
+ghost use Rattle.cap_filter.specs.{Programs.spent_in, Filters.programs_of, Filters.rule_of};
 ghost use Rattle.cap_process.specs.Selector.{is_count, marks_in, most_spent, policy_of};
 ghost use Rattle.cap_process.specs.Selector.{programs_in, spent_by, state_of, window_of};
 ghost use Rattle.cap_process.specs.Selector.{SelectorView, spent_by_verdict};
-ghost use Rattle.cap_process.specs.Verdict.{is_last, judge_by, Filter as AskedFilter};
-ghost use Rattle.cap_process.specs.Verdict.{initial_state, judge};
 ghost use Rattle.cap_process.specs.inside.Selector.{IsWindowFor, ReturnsVerdict, count_limit};
 ghost use Rattle.cap_process.specs.inside.Selector.{verdict_if, verdict_of, FitsTally, GrowsByOne};
 ghost use Rattle.cap_process.specs.inside.Selector.{HasFewMarks, IsVerdict, TakesTally};
-ghost use Rattle.cap_process.specs.inside.Selector.{policy_state};
+ghost use Rattle.cap_process.specs.{inside.Selector.policy_state, Reports.Tally, Verdict.is_last};
+ghost use Rattle.cap_process.specs.Verdict.{judge_by, Filter as AskedFilter, initial_state, judge};
 ghost use Rattle.cap_window.specs.View.{window};
 
 use crate::edit::edit_packet;
@@ -39,7 +37,7 @@ pub enum Verdict {
     Skip,
 }
 
-/// By what packets are judged.
+/// How packets are selected.
 #[derive(Drop)]
 pub enum Policy<A: Allocator> {
     Edit(Edit<A>),

@@ -205,8 +205,8 @@ fn is_done(work: &Work, seen: &Seen) -> bool {
     seen.ended.status == Some(work.status) && [first.bytes, second.bytes] == work.bytes
 }
 
-/// Whether the job, closed after each number of steps, reads as much of its inputs as its steps did,
-/// and after its last step as much as the work says.
+/// Whether the job, closed after each number of steps, reads as much of its inputs as its steps
+/// did, and after its last step as much as the work says.
 fn closes_quietly(alloc: Global, work: &Work, lends: bool) -> Result<bool, Fail> {
     for steps in 0..1_000 {
         let way = Way {

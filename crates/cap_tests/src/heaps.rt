@@ -56,8 +56,8 @@ fn longest_blocks(alloc: Global, packets: u32) -> Result<Vec<u8>, Fail> {
     Ok(bytes)
 }
 
-/// Runs the words, with `count` inputs `a` after them, in a heap of this size. The inputs have these
-/// bytes; the devices are outside of the heap. The result is the status, how many bytes were
+/// Runs the words, with `count` inputs `a` after them, in a heap of this size. The inputs have
+/// these bytes; the devices are outside of the heap. The result is the status, how many bytes were
 /// written, and the messages.
 fn run_in(
     alloc: Global,

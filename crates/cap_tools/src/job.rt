@@ -1,20 +1,18 @@
 //! Jobs: one for all commands, step by step.
 ghost use Rattle.std.specs.Prelude.{ℕ, ◌≡◌, ◌<◌, ◌≤◌, IfErr, IfOk, IsTrue, None, Some, length};
 ghost use Rattle.std.specs.Prelude.{false, map, string_bytes, true, vec_len};
-ghost use Rattle.cap_command.specs.{Call.call_of, Call.run_result, Command.is_proper};
+ghost use Rattle.cap_command.specs.{Command.is_proper, Call.call_of, Call.run_result};
 ghost use Rattle.cap_process.specs.{Messages.IsTold, inside.Output.is_text};
 ghost use Rattle.cap_octet.specs.Views.{device_view, fresh_input, fresh_output, output_view};
-ghost use Rattle.cap_tools.specs.Bounds.{ReadsNothing};
 ghost use Rattle.cap_tools.specs.Commands.{DecidedBy, PreparesBy, StepKeeps, StepReadsBy};
-ghost use Rattle.cap_tools.specs.Commands.{RefusesStart, filtering};
 ghost use Rattle.cap_tools.specs.Jobs.{end_status, end_message, JobGives, JobView, first_job};
-ghost use Rattle.cap_tools.specs.Jobs.{turn_goes_on};
-ghost use Rattle.cap_tools.specs.Packets.{failures_by, room_by, written_by};
-ghost use Rattle.cap_tools.specs.Run.{CommandRuns};
-ghost use Rattle.cap_tools.specs.Start.{assignment, Compiles, ReadsFilter, asked_by};
 ghost use Rattle.cap_tools.specs.inside.Jobs.{KeepsFirst, MakesStep, MakesStepUnless, MakesSteps};
 ghost use Rattle.cap_tools.specs.inside.Jobs.{with_preparing, EndsList, IsFresh, IsSound, IsStep};
+ghost use Rattle.cap_tools.specs.{Run.CommandRuns, Jobs.turn_goes_on, Bounds.ReadsNothing};
+ghost use Rattle.cap_tools.specs.Commands.{RefusesStart, filtering};
+ghost use Rattle.cap_tools.specs.Packets.{failures_by, room_by, written_by};
 ghost use Rattle.cap_tools.specs.inside.Jobs.{IsUncounted, MayCount, ending};
+ghost use Rattle.cap_tools.specs.Start.{assignment, Compiles, ReadsFilter, asked_by};
 ghost use Rattle.cap_inputs.specs.{Fresh.nothing_done, inside.Inputs.most_steps};
 ghost use Rattle.cap_inputs.specs.inside.Inputs as input_spec;
 ghost use Rattle.cap_filter.specs.FilterRules.{refusal_status};
@@ -364,8 +362,8 @@ impl<I: Input, O: Output, E: Output, A: Allocator + Copy + Drop> Job<I, O, E, A>
         }
     }
 
-    /// Reads an input on. It returns the end if the job ends here: by a fault of the input, or since
-    /// the output failed.
+    /// Reads an input on. It returns the end if the job ends here: by a fault of the input, or
+    /// since the output failed.
     // What is at hand makes no read that may wait, so that nothing is released before it.
     #[inline(always)]
     fn read_next(&mut self, input: usize) -> Option<JobEnd>

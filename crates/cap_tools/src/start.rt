@@ -28,7 +28,7 @@ pub enum Preparation<A: Allocator> {
 pub struct Assignment<A: Allocator> {
     /// What is done before the first packet, if anything is.
     pub preparation: Option<Preparation<A>>,
-    /// By what packets are judged, unless a preparation reads the filter by which they are.
+    /// How packets are selected, unless a preparation reads the filter for that.
     pub policy: Policy<A>,
     /// What is written: a capture, lines or a text.
     pub writing: Writing,

@@ -1,13 +1,12 @@
 //! The parts of a step: a packet is decided, or an input that was read to its end is reported.
 ghost use Rattle.std.specs.Prelude.{◌≡◌, ◌<◌, ◌≤◌, IsTrue, false, length, true};
 ghost use Rattle.cap_octet.specs.Packet.{captured};
-ghost use Rattle.cap_process.specs.Output.{HasFewOutputInterfaces, room_to};
 ghost use Rattle.cap_process.specs.inside.Selector.{FitsTally, GrowsByOne, HasFewMarks};
 ghost use Rattle.cap_process.specs.inside.Selector.{policy_state};
-ghost use Rattle.cap_tools.specs.Packets.{asks_report};
+ghost use Rattle.cap_process.specs.Output.{HasFewOutputInterfaces, room_to};
 ghost use Rattle.cap_tools.specs.inside.Packets.{Closes, DecidesPacket, Offers, Spends, sieve};
-ghost use Rattle.cap_tools.specs.inside.Packets.{end_after};
-ghost use Rattle.cap_tools.specs.inside.Packets.{end_of_failed_write, end_of_write, unless_failed};
+ghost use Rattle.cap_tools.specs.inside.Packets.{end_after, end_of_failed_write, end_of_write};
+ghost use Rattle.cap_tools.specs.{Packets.asks_report, inside.Packets.unless_failed};
 
 use crate::messages::Messages;
 use cap_inputs::{InputCursor, Inputs};

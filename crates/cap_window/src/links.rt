@@ -1,5 +1,4 @@
-//! The trees of the index: how the marks of one hash hang together, and how the newest comes on
-//! top.
+//! The trees of the index: one binary tree for each hash, with its newest mark at the root.
 ghost use Rattle.std.specs.Prelude.{◌≡◌, ℕ, ◌-◌, ◌<◌, ◌^◌, length};
 ghost use Rattle.cap_window.specs.inside.Index.{IsHung, IsPutOnTop, mark_bit};
 

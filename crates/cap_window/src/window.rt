@@ -13,8 +13,8 @@ const MOST_HEADS: u32 = 0x0010_0000;
 
 /// The marks of the last packets, as many as fit.
 ///
-/// The marks of one hash, the low bits of the digest, hang together as a tree with the newest on
-/// top. Those below a mark go by one bit each, of the digest and then of the length, so that no
+/// The marks of one hash, the low bits of the digest, are a binary tree with the newest at the
+/// root. Those below a mark go by one bit each, of the digest and then of the length, so that no
 /// mark is deeper than it has bits, whoever chooses the packets. Marks are numbered from 1, and a
 /// link is a difference of two numbers: since a mark is newer than those below it, a tree ends by
 /// itself at the end of the window, and no mark is deleted from it for that.
@@ -44,9 +44,9 @@ impl<A: Allocator> Model for Window<A> {
 }
 
 impl<A: Allocator> Window<A> {
-    ghost use Rattle.std.specs.List.{Contains};
-    ghost use Rattle.std.specs.Prelude.{◌≡◌, ◌+◌, ◌^◌, ◌<◌, ◌↔◌, [], ◌∷◌, ◌++◌, length, IsTrue, IfOk};
-    ghost use Rattle.cap_window.specs.{Marks.last, Marks.mark_of, View.window};
+    ghost use Rattle.std.specs.Prelude.{◌≡◌, ◌+◌, ◌^◌, ◌<◌, ◌↔◌, [], ◌∷◌, ◌++◌, length, IsTrue};
+    ghost use Rattle.std.specs.{Prelude.IfOk, List.Contains};
+    ghost use Rattle.cap_window.specs.{View.window, Marks.last, Marks.mark_of};
 
     /// A window for `capacity` packets' marks. It takes all its memory here: 28 bytes for each,
     /// and 4 for each of its heads, which are as many, rounded up to a power of two, and 2^20 at

@@ -3,8 +3,10 @@
 ghost use Rattle.std.specs.Prelude.{◌≡◌, IfOk, IfErr, map, false, string_bytes};
 ghost use Rattle.clap.specs.Words.{app_of, new_rule, rule_of, subcommand_rows_of};
 ghost use Rattle.clap.specs.declared.builder.command.Command.TheViews.{out-Command as fields_of};
-ghost use Rattle.capkit.specs.Arguments.{AreChoices, TakesWords, RefusesWords, format_names, link_names, line_without_commands, line_app, with_rules, with_shapes};
-ghost use Rattle.capkit.specs.inside.Arguments.{app_by, with_name, rule_by, shape_by, subcommand_of_name};
+ghost use Rattle.capkit.specs.Arguments.{AreChoices, TakesWords, RefusesWords, format_names};
+ghost use Rattle.capkit.specs.Arguments.{link_names, line_without_commands, line_app, with_rules};
+ghost use Rattle.capkit.specs.inside.Arguments.{app_by, with_name, rule_by, shape_by};
+ghost use Rattle.capkit.specs.{Arguments.with_shapes, inside.Arguments.subcommand_of_name};
 
 use crate::examples::{LINE_HELP, VERSION};
 use crate::options::{Argument, COMMANDS, CommandRow, Name, Value};

@@ -1,9 +1,10 @@
 //! The command line of `edit`: its options, its ranges and its names, or the first fault of them.
-ghost use Rattle.std.specs.Prelude.{◌≡◌, ◌⊎◌, IfOk, IfErr, OnOk, Some, None, map, true};
+ghost use Rattle.std.specs.Prelude.{◌≡◌, IfOk, IfErr, OnOk, Some, None, map, true};
 ghost use Rattle.cap_command.specs.Command.{has_proper_ranges, is_proper_edit, is_proper_shift};
 ghost use Rattle.clap.specs.Words.{found_of, rows_of};
-ghost use Rattle.capkit.specs.Line.{edit_fault, has_bad_time, has_two_shifts, is_bad_duration, is_bad_time, is_ready, option_fault, range_fault, shift_in, HasOptions, IsEditOf, IsUsageOf};
-ghost use Rattle.capkit.specs.Range.{range_of};
+ghost use Rattle.capkit.specs.Line.{edit_fault, has_bad_time, has_two_shifts, is_bad_duration};
+ghost use Rattle.capkit.specs.Line.{is_bad_time, is_ready, option_fault, range_fault, shift_in};
+ghost use Rattle.capkit.specs.{Range.range_of, Line.HasOptions, Line.IsEditOf, Line.IsUsageOf};
 
 use crate::files::copies_of_texts;
 use crate::ids;

@@ -1,8 +1,8 @@
 //! How a run ends: what is buffered is written, and what became of it is reported.
-ghost use Rattle.std.specs.Prelude.{◌≡◌, ◌≢◌, ◌<◌, ◌≤◌, IfOk, IfSome, IsOkAnd, IsSome, IsUtf8, List, [], ◌∷◌, ◌++◌, ℕ, OnOk, is_some, true, false};
+ghost use Rattle.std.specs.Prelude.{◌≡◌, ◌<◌, ◌≤◌, IfOk, IfSome, IsOkAnd, IsSome, IsUtf8, List, []};
 ghost use Rattle.std.specs.Result.{result_ok};
+ghost use Rattle.std.specs.Prelude.{◌∷◌, ◌++◌, ℕ, is_some, true, false};
 ghost use Rattle.capkit.specs.Ending.{has_failed, is_broken_pipe, status_after_writes};
-ghost use Rattle.capkit.specs.Streams.{holds_old_bytes};
 
 use crate::FAULT;
 use crate::message::Shown;

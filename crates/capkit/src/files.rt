@@ -1,5 +1,6 @@
 //! The names of the inputs of a command that has several, and copies of names.
-ghost use Rattle.std.specs.Prelude.{◌≡◌, IfOk, IfErr, OnOk, None, map, option_map, string_bytes, length, true, vec_len};
+ghost use Rattle.std.specs.Prelude.{◌≡◌, IfOk, IfErr, OnOk, None, map, option_map, string_bytes};
+ghost use Rattle.std.specs.Prelude.{length, true, vec_len};
 ghost use Rattle.clap.specs.Words.{found_of, rows_of};
 ghost use Rattle.cap_command.specs.Command.{is_input_count};
 ghost use Rattle.capkit.specs.Line.{files_fault, files_in, IsUsageOf};

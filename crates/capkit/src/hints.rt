@@ -8,7 +8,7 @@ use std::alloc::{AllocError, Global};
 /// What clap's refusal of an option that it doesn't know begins with.
 const UNKNOWN: &str = "error: unexpected argument '";
 
-/// What stands before the name of the command whose usage is shown.
+/// The text in front of the command's name in clap's usage line.
 const USAGE_OF: &str = "\nUsage: capkit ";
 
 /// The head of the list of commands in the help of the program.

@@ -1,7 +1,8 @@
 //! What the words of a command line ask for.
 ghost use Rattle.std.specs.Prelude.{◌≡◌, IfOk, IfErr, OnOk, None, map, true, string_bytes};
 ghost use Rattle.clap.specs.Words.{found_of, rows_of};
-ghost use Rattle.capkit.specs.Line.{fault_in, is_ready, with_code, IsUsageOf, IsLineOf, SaysLine, SaysFault};
+ghost use Rattle.capkit.specs.Line.{fault_in, is_ready, with_code, IsUsageOf, IsLineOf, SaysLine};
+ghost use Rattle.capkit.specs.Line.{SaysFault};
 
 use crate::arguments::{Subcommand, matches_of, subcommand_of_name};
 use crate::edit_line::edit_line;

@@ -1,7 +1,8 @@
 //! The command lines of `merge` and of `infos`.
 ghost use Rattle.std.specs.Prelude.{◌≡◌, IfOk, IfErr, OnOk, None, true};
 ghost use Rattle.clap.specs.Words.{found_of, rows_of};
-ghost use Rattle.capkit.specs.Line.{infos_fault, is_ready, merge_fault, IsInfosOf, IsMergeOf, IsUsageOf};
+ghost use Rattle.capkit.specs.Line.{infos_fault, is_ready, merge_fault, IsInfosOf, IsMergeOf};
+ghost use Rattle.capkit.specs.Line.{IsUsageOf};
 
 use crate::files::input_names;
 use crate::ids;

@@ -1,7 +1,6 @@
 //! Names of inputs and outputs: which are standard streams, and which are used twice.
-ghost use Rattle.std.specs.List.{list_any};
+ghost use Rattle.std.specs.{Str.bytes_eq, List.list_any};
 ghost use Rattle.std.specs.Prelude.{◌≡◌, option_map, map, count_by};
-ghost use Rattle.std.specs.Str.{bytes_eq};
 ghost use Rattle.capkit.specs.Names.{is_standard, uses_name_twice};
 
 /// The name of a standard stream: input if it is read, output if it is written.

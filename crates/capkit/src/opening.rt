@@ -1,6 +1,8 @@
 //! What a command is run over: its listing, its inputs and its output, opened in this order.
+ghost use Rattle.std.specs.Prelude.{◌≡◌, ◌&&◌, ◌||◌, ◌+◌, ◌++◌, ◌∷◌, [], ℕ, not, is_none, IfErr};
+ghost use Rattle.std.specs.Prelude.{IfOk, Ok, codes, false, length, map, option_map, string_bytes};
 ghost use Rattle.std.specs.{Global.Vec, IoError.error_kind};
-ghost use Rattle.std.specs.Prelude.{◌≡◌, ◌&&◌, ◌||◌, ◌+◌, ◌++◌, ◌∷◌, [], ℕ, not, is_none, IfErr, IfOk, Ok, codes, false, length, map, option_map, string_bytes, true, unwrap_or, vec_len};
+ghost use Rattle.std.specs.Prelude.{true, unwrap_or, vec_len};
 ghost use Rattle.cap_command.specs.Command.{is_proper};
 ghost use Rattle.capkit.specs.Line.{has_expression, with_code};
 ghost use Rattle.capkit.specs.Streams.{is_output_beside_streams};

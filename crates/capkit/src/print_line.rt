@@ -1,14 +1,16 @@
 //! The command lines of `print`, with its expression or its listing, its options and its names, or
 //! the first fault of them, and of `compile`.
+ghost use Rattle.std.specs.Prelude.{◌≡◌, ◌∷◌, ◌≤◌, IfOk, IfErr, IfSome, OnOk, Some, None};
 ghost use Rattle.std.specs.Option.{option_map_or, option_to_list};
-ghost use Rattle.std.specs.Prelude.{◌≡◌, ◌∷◌, ◌≤◌, IfOk, IfErr, IfSome, OnOk, Some, None, option_map, string_bytes, true};
+ghost use Rattle.std.specs.Prelude.{option_map, string_bytes, true};
 ghost use Rattle.cap_command.specs.Command.{is_at_least_one};
 ghost use Rattle.clap.specs.Words.{found_of, rows_of};
-ghost use Rattle.capkit.specs.Arguments.{most_64};
-ghost use Rattle.capkit.specs.Line.{expression_in, flag_in, has_exclusion, has_idle_format, has_two_filters, has_two_outputs, is_ready, argument_number, print_fault, write_in, IsUsageOf, IsPrintOf, IsCompileOf};
-ghost use Rattle.capkit.specs.Names.{uses_name_twice};
-ghost use Rattle.capkit.specs.declared.ids.TheConstants.{BYTES, COUNT, LINK_HEADER};
+ghost use Rattle.capkit.specs.Line.{expression_in, flag_in, has_exclusion, has_idle_format};
+ghost use Rattle.capkit.specs.Line.{has_two_filters, has_two_outputs, is_ready, argument_number};
+ghost use Rattle.capkit.specs.{Arguments.most_64, Names.uses_name_twice};
 ghost use Rattle.capkit.specs.declared.usage.Usage.TheVariants.{Memory};
+ghost use Rattle.capkit.specs.declared.ids.TheConstants.{BYTES, COUNT, LINK_HEADER};
+ghost use Rattle.capkit.specs.Line.{print_fault, write_in, IsUsageOf, IsPrintOf, IsCompileOf};
 
 use crate::files::copies_of_texts;
 use crate::ids;

@@ -1,9 +1,10 @@
 //! What names mean: files and the standard streams.
 ghost use Rattle.std.specs.{Fd.file_raw_fd, Io.WritesAtMost, Io.KnownBytes.WriteAppends};
-ghost use Rattle.std.specs.Prelude.{◌≡◌, ◌≢◌, ◌||◌, IfOk, OnOk, None, false, true, not, is_err};
-ghost use Rattle.capkit.specs.Names.{is_standard};
-ghost use Rattle.capkit.specs.Streams.{holds_old_bytes, is_beside_streams, is_output_beside_streams};
-ghost use Rattle.capkit.specs.inside.Streams.{is_input_beside_streams, is_standard_input, is_standard_output};
+ghost use Rattle.std.specs.Prelude.{◌≡◌, ◌≢◌, IfOk, OnOk, None, false, true, not, is_err};
+ghost use Rattle.capkit.specs.Streams.{holds_old_bytes, is_beside_streams};
+ghost use Rattle.capkit.specs.inside.Streams.{is_input_beside_streams, is_standard_input};
+ghost use Rattle.capkit.specs.{Names.is_standard, Streams.is_output_beside_streams};
+ghost use Rattle.capkit.specs.inside.Streams.{is_standard_output};
 
 use crate::{STANDARD, USAGE};
 use std::fs::{File, OpenOptions};

@@ -1,10 +1,12 @@
 //! The values that clap's matches have of an argument, by its id (`ids`): its
 //! flag, its texts, or what its text names.
+ghost use Rattle.std.specs.Prelude.{◌≡◌, ◌≤◌, ◌&&◌, IfSome, Some, None, map, nat_le, option_map};
+ghost use Rattle.std.specs.Prelude.{true, if◌then◌else◌};
 ghost use Rattle.std.specs.Option.{option_and_then, option_map_or};
-ghost use Rattle.std.specs.Prelude.{◌≡◌, ◌≤◌, ◌&&◌, IfSome, Some, None, map, nat_le, option_map, true, if◌then◌else◌};
 ghost use Rattle.cap_command.specs.Command.{is_time};
 ghost use Rattle.clap.specs.Words.{found_of, rows_of, first_of};
-ghost use Rattle.capkit.specs.Line.{flag_in, format_in, link_in, argument_number, duration_in, text_in, texts_in, time_in};
+ghost use Rattle.capkit.specs.Line.{flag_in, format_in, link_in, argument_number, duration_in};
+ghost use Rattle.capkit.specs.Line.{text_in, texts_in, time_in};
 
 use cap_octet::{Format, Link, span_of, time_of};
 use clap::ArgMatches;

@@ -1,8 +1,10 @@
 //! Compilations into the caller's memory.
-ghost use Rattle.std.specs.Prelude.{◌≡◌, ◌≤◌, IfOk, IfErr, IfSome, IfNone, OnErr, length};
+ghost use Rattle.std.specs.Prelude.{◌≡◌, IfOk, IfErr, IfSome, IfNone, OnErr, length};
 ghost use Rattle.flt_words.specs.Characters.{is_blank};
 ghost use Rattle.cap_filter.specs.Expressions.{IsExpression};
-ghost use Rattle.capkit_c.specs.Compiling.{CompilesText, IsFailure, IsTextFailure, WritesProgram, HasNoLink, IsLinkFor, IsNotUtf8, are_blanks, failure_number, failure_status, file_link_type};
+ghost use Rattle.capkit_c.specs.Compiling.{CompilesText, IsFailure, IsTextFailure, WritesProgram};
+ghost use Rattle.capkit_c.specs.Compiling.{HasNoLink, IsLinkFor, IsNotUtf8, are_blanks};
+ghost use Rattle.capkit_c.specs.Compiling.{failure_number, failure_status, file_link_type};
 
 use crate::running::rule_number;
 use cap_filter::expression::{compile_text, read_expression};

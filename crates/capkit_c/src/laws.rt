@@ -1,8 +1,8 @@
 //! Laws of the definitions: each is the contract of a function that does nothing.
 ghost use Rattle.std.specs.Prelude.{◌≡◌, ◌↔◌, List};
 ghost use Rattle.flt_bpf.specs.declared.insn.Insn.{Insn};
-ghost use Rattle.capkit_c.specs.Elsewhere.{HereFromZeros, SameFromAnyWords, SameOnLibpcap, SameOnLinux};
-ghost use Rattle.capkit_c.specs.Laws.{NumberStays, RestIsRead};
+ghost use Rattle.capkit_c.specs.Elsewhere.{HereFromZeros, SameFromAnyWords, SameOnLibpcap};
+ghost use Rattle.capkit_c.specs.{Elsewhere.SameOnLinux, Laws.NumberStays, Laws.RestIsRead};
 ghost use Rattle.capkit_c.specs.Portable.{is_portable, portability};
 
 /// The rest of a capture, from the reader's place on, is read as the capture is.

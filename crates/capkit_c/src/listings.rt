@@ -1,6 +1,7 @@
 //! Listings of instructions, read into the caller's memory and written to it.
 ghost use Rattle.std.specs.Prelude.{◌≡◌, IfOk, IfErr, OnErr, length};
-ghost use Rattle.capkit_c.specs.Listings.{HoldsListing, IsUnlisted, IsUnread, ListingLeaves, ListingTells, PutsListing};
+ghost use Rattle.capkit_c.specs.Listings.{HoldsListing, IsUnlisted, IsUnread, ListingLeaves};
+ghost use Rattle.capkit_c.specs.Listings.{ListingTells, PutsListing};
 
 use crate::compiling::{Failure, tell};
 use crate::texts::put_text;
@@ -78,8 +79,8 @@ fn put_listing(alloc: Global, insns: &[Insn], buffer: &mut [u8]) -> Result<usize
     }
 }
 
-/// Puts the listing of a program into a buffer, as far as there is room. If it returns 0 `length` is
-/// that of the whole listing. Else the buffer is unchanged and `length` is 0: 101 to 108 are the
+/// Puts the listing of a program into a buffer, as far as there is room. If it returns 0 `length`
+/// is that of the whole listing. Else the buffer is unchanged and `length` is 0: 101 to 108 are the
 /// first rule of valid programs that the instructions break, and 13 is that memory ran out.
 #[unsafe(no_mangle)]
 pub extern "C" fn capkit_write_listing(

@@ -1,6 +1,8 @@
 //! Whether a program gives the same answers on libpcap's machine and on Linux's.
 ghost use Rattle.std.specs.{List.list_all, Prelude.◌≡◌, Prelude.◌≤◌, Prelude.length};
-ghost use Rattle.capkit_c.specs.Portable.{is_portable, keeps_x_small, runs_alike, live_places, is_live_at, is_live_before, none_read_unwritten, portability, runs_alike_on_libpcap};
+ghost use Rattle.capkit_c.specs.Portable.{is_portable, keeps_x_small, runs_alike, live_places};
+ghost use Rattle.capkit_c.specs.Portable.{is_live_at, is_live_before, none_read_unwritten};
+ghost use Rattle.capkit_c.specs.Portable.{portability, runs_alike_on_libpcap};
 
 use flt_bpf::Insn;
 use flt_bpf::operation::{AluOperation, Operand, Operation, Register, Source, decode};

@@ -1,9 +1,8 @@
 //! The units of a capture that lies in memory, pcap or pcapng.
 ghost use Rattle.std.specs.Prelude.{◌≡◌, List, length, take, drop};
-ghost use Rattle.capkit_c.specs.Layout.{declared_in};
+ghost use Rattle.capkit_c.specs.{Texts.put_text, Units.comment_by, Layout.declared_in};
+ghost use Rattle.capkit_c.specs.declared.memory.layout.Interface.{Interface};
 ghost use Rattle.capkit_c.specs.Reading.{CallLeaves, UnitLeaves, fault_number, found_number};
-ghost use Rattle.capkit_c.specs.Texts.{put_text};
-ghost use Rattle.capkit_c.specs.{Units.comment_by, declared.memory.layout.Interface.Interface};
 
 use crate::memory::{Found, Interface, Packet, Reader, comment_of, next_packet, next_unit};
 use crate::texts::put_text;

@@ -1,6 +1,7 @@
 //! The texts of numbers, and how a text is put into a buffer.
 ghost use Rattle.std.specs.Prelude.{◌≡◌, ◌+◌, ◌<◌, ◌∷◌, ◌++◌, drop, length};
-ghost use Rattle.capkit_c.specs.Texts.{found_text, number_text, put_text, rule_text, status_text, version};
+ghost use Rattle.capkit_c.specs.Texts.{found_text, number_text, put_text, rule_text, status_text};
+ghost use Rattle.capkit_c.specs.Texts.{version};
 
 use cap_octet::Fault;
 use flt_bpf::CheckFault;

@@ -1,14 +1,14 @@
 //! Calls for C that write a capture to the caller's buffer, one file header, record or block per
 //! call.
 ghost use Rattle.std.specs.Prelude.{◌≡◌, ◌<◌, ◌≤◌, [], Bool, IfSome, None, Some, length};
-ghost use Rattle.cap_octet.specs.{Checks.first_failing, Date.TIME_END, Packet.Captured};
+ghost use Rattle.cap_octet.specs.{Date.TIME_END, Packet.Captured, Checks.first_failing};
 ghost use Rattle.cap_io.specs.Text.{record_text};
 ghost use Rattle.cap_pcap.specs.Encoding.{file_header};
 ghost use Rattle.cap_pcapng.specs.Encoding.{interface_text, packet_block, section_text};
-ghost use Rattle.capkit_c.specs.Buffers.{written_block_checks, interface_checks, written_packet, written_record_checks};
-ghost use Rattle.capkit_c.specs.Layout.{resolution_by};
-ghost use Rattle.capkit_c.specs.Writer.{PutTells, packet_put, put_checks, put_number};
+ghost use Rattle.capkit_c.specs.Buffers.{written_block_checks, interface_checks, written_packet};
+ghost use Rattle.capkit_c.specs.{Layout.resolution_by, Buffers.written_record_checks};
 ghost use Rattle.capkit_c.specs.Writing.{WriteTells, written_length, written_number};
+ghost use Rattle.capkit_c.specs.Writer.{PutTells, packet_put, put_checks, put_number};
 
 use crate::memory::{
     Interface, MOST_COMMENT, Packet, Put, Writer, Written, put_next, write_file_header,

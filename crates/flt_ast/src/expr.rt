@@ -1,5 +1,5 @@
-//! Expressions: a tree as the list of its nodes, operands first, and checked ones, of which code can
-//! be made: `flt_lang::check` returns them, and the compiler takes them.
+//! Expressions: a tree as the list of its nodes, operands first, and checked ones, of which code
+//! can be made: `flt_lang::check` returns them, and the compiler takes them.
 
 ghost use Rattle.std.specs.Prelude.{◌≡◌, ◌≤◌, false};
 ghost use Rattle.flt_ast.specs.{Checks.divides_by_zero, Counts.words_of, Counts.bound_of};
@@ -17,10 +17,9 @@ pub struct Expr<A: Allocator> {
 }
 
 impl<A: Allocator> Model for Expr<A> {
-    ghost use Rattle.std.specs.{Coded.code_by, Coded.coded_list, Prelude.List};
-    ghost use Rattle.flt_ast.specs.Nodes.{tree_of, expr_nodes};
-    ghost use Rattle.flt_ast.specs.{Tree.Expression, declared.node.Node.Node};
-    ghost use Rattle.flt_ast.specs.inside.Nodes.{IsTree, tree_back};
+    ghost use Rattle.std.specs.{Prelude.List, Coded.code_by, Coded.coded_list};
+    ghost use Rattle.flt_ast.specs.{Nodes.tree_of, Nodes.expr_nodes, declared.node.Node.Node};
+    ghost use Rattle.flt_ast.specs.{Tree.Expression, inside.Nodes.IsTree, inside.Nodes.tree_back};
     ghost use Rattle.flt_ast.specs.contracts.node.Node as stored;
 
     ghost Value = { Expression };

@@ -1,8 +1,7 @@
 //! Values, as they are written, and the networks that they mean: an address and its mask.
 
 ghost use Rattle.std.specs.Prelude.{◌≡◌};
-ghost use Rattle.flt_ast.specs.Nets.{first_bits, ip4_mask, ip6_mask, ip4_net, ip6_net};
-ghost use Rattle.flt_ast.specs.Nets.{is_past_mask};
+ghost use Rattle.flt_ast.specs.Nets.{first_bits, ip4_mask, ip4_net, ip6_net, is_past_mask};
 
 /// An IPv4 address or its first parts.
 #[derive(Clone, Copy)]

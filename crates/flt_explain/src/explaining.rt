@@ -1,7 +1,6 @@
 //! What an expression means, as an expression: for people, who see which qualifiers each value has.
 
-ghost use Rattle.std.specs.Prelude.{◌≡◌, IfOk};
-ghost use Rattle.std.specs.String.{string_bytes};
+ghost use Rattle.std.specs.{Prelude.◌≡◌, Prelude.IfOk, String.string_bytes};
 ghost use Rattle.flt_explain.specs.Explained.{explained_text, explained_tokens};
 
 use crate::backward::Writer;

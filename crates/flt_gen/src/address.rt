@@ -4,9 +4,11 @@
 
 ghost use Rattle.std.specs.Prelude.{◌≡◌, ◌+◌, ◌≤◌};
 ghost use Rattle.cap_octet.specs.{Link.longest_header, declared.link.Link.Link};
-ghost use Rattle.flt_gen.specs.Primitives.{partial_mask, net_test, address_test, address_places, hosts_of_kind, hosts_formula, ip6_test, ip6_tests};
-ghost use Rattle.flt_gen.specs.inside.{Code.emit_all, Emits.Emits, Emits.EmitsFormula};
-ghost use Rattle.flt_gen.specs.inside.Emitted.{is_idle, last_test, needed_tests, needed_sides, ip6_needed};
+ghost use Rattle.flt_gen.specs.Primitives.{partial_mask, net_test, address_test, address_places};
+ghost use Rattle.flt_gen.specs.inside.Emitted.{is_idle, last_test, needed_tests, needed_sides};
+ghost use Rattle.flt_gen.specs.inside.{Code.emit_all, Emitted.ip6_needed};
+ghost use Rattle.flt_gen.specs.inside.Emits.{Emits, EmitsFormula};
+ghost use Rattle.flt_gen.specs.Primitives.{hosts_of_kind, hosts_formula, ip6_test, ip6_tests};
 
 use crate::code::{Code, Targets};
 use crate::elementary::{
@@ -180,8 +182,8 @@ impl<A: Allocator> Code<A> {
         numbers: &Numbers<'_>,
         to: Targets,
     ) -> Result<usize, AllocError>
-        ensures { EmitsFormula link (hosts_formula link protocol wanted numbers.now) to self.old result
-            self.new }
+        ensures { EmitsFormula link (hosts_formula link protocol wanted numbers.now) to self.old
+            result self.new }
     {
         let kind = match protocol {
             Some(Protocol::Ip) => FrameKind::Ip,

@@ -1,8 +1,10 @@
 //! Emits the code that checks whether a field, or one of two, is in one of some intervals.
 
 ghost use Rattle.std.specs.Prelude.{◌≡◌, OnOk};
-ghost use Rattle.flt_gen.specs.inside.Code.{are_few, low_of, emit_interval, emit_chain, emit_search, emit_masked, emit_side, emit_few, emit_index, emit_at_index, emit_many, emit_among, fewest_at_index, are_at_index};
-ghost use Rattle.flt_gen.specs.inside.Emits.{Emits};
+ghost use Rattle.flt_gen.specs.inside.Code.{are_few, low_of, emit_interval, emit_chain};
+ghost use Rattle.flt_gen.specs.inside.Code.{emit_search, emit_masked, emit_side, emit_few};
+ghost use Rattle.flt_gen.specs.inside.Code.{emit_index, emit_at_index, emit_many, emit_among};
+ghost use Rattle.flt_gen.specs.inside.{Emits.Emits, Code.fewest_at_index, Code.are_at_index};
 
 use crate::code::{Code, Targets};
 use crate::elementary::{Interval, Offset, Sides};
@@ -132,8 +134,8 @@ impl<A: Allocator> Code<A> {
         Ok(self.top())
     }
 
-    /// Emits whether A, under a mask if there is one, is in some intervals, of which there is one at
-    /// least. They ascend.
+    /// Emits whether A, under a mask if there is one, is in some intervals, of which there is one
+    /// at least. They ascend.
     fn emit_masked(
         &mut self,
         mask: Option<u32>,

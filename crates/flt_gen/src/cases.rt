@@ -4,8 +4,11 @@
 //! is in A.
 
 ghost use Rattle.std.specs.Prelude.{◌≡◌, drop, OnOk};
-ghost use Rattle.flt_gen.specs.inside.Cases.{case_of, same_words, key_of, insert_case, case_frame, case_tests, lowest, reach, word_test, keeps, all_keep, test_at, from_test, middle, is_parted, chain, decision, cases_formula};
-ghost use Rattle.flt_gen.specs.inside.{Code.emit_all, Code.emit_formula, Emits.Emits};
+ghost use Rattle.flt_gen.specs.inside.Cases.{case_of, same_words, key_of, insert_case, case_frame};
+ghost use Rattle.flt_gen.specs.inside.Cases.{case_tests, lowest, reach, word_test, keeps, all_keep};
+ghost use Rattle.flt_gen.specs.inside.Cases.{test_at, from_test, middle, is_parted, chain};
+ghost use Rattle.flt_gen.specs.inside.{Emits.Emits, Code.emit_all, Code.emit_formula};
+ghost use Rattle.flt_gen.specs.inside.Cases.{decision, cases_formula};
 
 use crate::address::ip6_test;
 use crate::code::{Code, Targets};
@@ -45,7 +48,8 @@ enum Bound {
 /// A value with its qualifiers as a case: an address of one side, or a protocol of IPv4 or of IPv6.
 /// `None` for any other.
 pub fn case_of(qualifiers: CompleteQualifiers, value: Value) -> Option<Case>
-    ensures { result ≡ case_of qualifiers.value_type qualifiers.protocol qualifiers.direction value }
+    ensures { result
+        ≡ case_of qualifiers.value_type qualifiers.protocol qualifiers.direction value }
 {
     match (qualifiers.value_type, qualifiers.direction, value) {
         (ValueType::Host, Direction::One(_), Value::Mac(address)) => Some(Case::Mac(address)),

@@ -4,7 +4,9 @@
 
 ghost use Rattle.std.specs.Prelude.{◌≡◌, ◌≤◌, IfSome, Some, None};
 ghost use Rattle.cap_octet.specs.Link.{longest_header, network_offset};
-ghost use Rattle.flt_gen.specs.Elementary.{is_at, is_masked, compares_at, kind_test, type_test, has_type, has_type_at, first_fragment, has_ip_proto, has_ip6_proto};
+ghost use Rattle.flt_gen.specs.Elementary.{is_at, is_masked, compares_at, kind_test, type_test};
+ghost use Rattle.flt_gen.specs.Elementary.{has_type, has_type_at, first_fragment, has_ip_proto};
+ghost use Rattle.flt_gen.specs.Elementary.{has_ip6_proto};
 
 use cap_octet::Link;
 use cap_octet::assigned::{ETHERTYPE_ARP, ETHERTYPE_IPV4, ETHERTYPE_IPV6, ETHERTYPE_RARP};
@@ -58,8 +60,8 @@ pub enum Elementary {
 }
 
 /// The places of a source and a destination, both addresses or both ports, and their width. If they
-/// are read at X, it holds `index`, or the length of the header before them; so fields of headers of
-/// several kinds are at the same place after X.
+/// are read at X, it holds `index`, or the length of the header before them; so fields of headers
+/// of several kinds are at the same place after X.
 #[derive(Clone, Copy)]
 pub struct Sides {
     pub width: Width,

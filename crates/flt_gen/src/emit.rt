@@ -1,9 +1,9 @@
 //! Emits the code of elementary tests.
 
 ghost use Rattle.std.specs.Prelude.{◌≡◌, length, OnOk};
+ghost use Rattle.flt_gen.specs.inside.{Emits.Emits, Emits.EmitsFormula, Code.emit_field};
+ghost use Rattle.flt_gen.specs.inside.Code.{emit_mask, emit_comparison, emit_elementary, emit_all};
 ghost use Rattle.flt_gen.specs.{Formula.sides, Primitives.sized_formula};
-ghost use Rattle.flt_gen.specs.inside.Code.{emit_field, emit_mask, emit_comparison, emit_elementary, emit_all};
-ghost use Rattle.flt_gen.specs.inside.Emits.{Emits, EmitsFormula};
 ghost use Rattle.cap_octet.specs.declared.link.Link.{Link};
 
 use crate::code::{Code, Targets};

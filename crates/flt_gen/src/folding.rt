@@ -4,7 +4,9 @@
 
 ghost use Rattle.std.specs.Option.{IfSome};
 ghost use Rattle.std.specs.Prelude.{◌≡◌, [], fold, reverse, OnOk, IfOk};
-ghost use Rattle.flt_gen.specs.inside.Folding.{node_constant, applied_constant, with_negation, with_operator, with_folded, and_operands, hold, put_back, with_held, with_conjunction};
+ghost use Rattle.flt_gen.specs.inside.Folding.{node_constant, applied_constant, with_negation};
+ghost use Rattle.flt_gen.specs.inside.Folding.{with_operator, with_folded, and_operands, hold};
+ghost use Rattle.flt_gen.specs.inside.Folding.{put_back, with_held, with_conjunction};
 
 use crate::number::alu_operation;
 use crate::stack::Stack;

@@ -1,11 +1,15 @@
 //! Groups of addresses, ports or protocols, which one search or decision tree looks for together.
 //! The walk adds the members from the last one in the expression to the first.
 
-ghost use Rattle.std.specs.List.{insert};
-ghost use Rattle.std.specs.Prelude.{◌≡◌, ◌≤◌, [], nat_lt, if◌then◌else◌, Some, None, length, IfOk, OnOk, reverse};
+ghost use Rattle.std.specs.Prelude.{◌≡◌, ◌≤◌, [], if◌then◌else◌, Some, None, length, IfOk, OnOk};
+ghost use Rattle.std.specs.{List.insert, Prelude.reverse};
+ghost use Rattle.flt_gen.specs.inside.Group.{no_group, same_type, same_protocol, same_direction};
+ghost use Rattle.flt_gen.specs.inside.Group.{goes_with, is_masked, net_member, member_of, is_empty};
+ghost use Rattle.flt_gen.specs.inside.Group.{larger_group, is_searched, group_formula};
+ghost use Rattle.flt_gen.specs.inside.Group.{rows_formula, several_formula, is_address};
 ghost use Rattle.flt_gen.specs.inside.{Cases.case_of, Emits.EmitsFormula};
-ghost use Rattle.flt_gen.specs.inside.Group.{no_group, same_type, same_protocol, same_direction, goes_with, is_masked, net_member, member_of, is_empty, larger_group, is_searched, group_formula, rows_formula, several_formula, is_address, has_networks, case_goes_with, with_case};
 ghost use Rattle.flt_gen.specs.inside.Intervals.{insert_ascending};
+ghost use Rattle.flt_gen.specs.inside.Group.{has_networks, case_goes_with, with_case};
 
 use crate::address::Hosts;
 use crate::cases::{Case, case_of, put_case, same_words};

@@ -3,8 +3,9 @@
 
 ghost use Rattle.std.specs.List.{list_all};
 ghost use Rattle.std.specs.Prelude.{◌≡◌, ◌≤◌, map, OnOk, IfOk};
+ghost use Rattle.flt_gen.specs.inside.Intervals.{is_gap, joined_all, sought, is_aligned, idle_bits};
 ghost use Rattle.flt_gen.specs.Formula.{no_numbers};
-ghost use Rattle.flt_gen.specs.inside.Intervals.{is_gap, joined_all, sought, is_aligned, idle_bits, is_block, left_out, high_mask, cut, without};
+ghost use Rattle.flt_gen.specs.inside.Intervals.{is_block, left_out, high_mask, cut, without};
 
 use crate::elementary::Interval;
 use std::alloc::{AllocError, Allocator};

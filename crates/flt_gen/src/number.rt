@@ -8,9 +8,11 @@
 //! first.
 
 ghost use Rattle.std.specs.Prelude.{◌≡◌, OnOk, reverse};
-ghost use Rattle.flt_gen.specs.Numbers.{accessor_tests, width_of};
-ghost use Rattle.flt_gen.specs.inside.Code.{emit_base, emit_transport, emit_accessor, accessor_offset, alu_operation, computation, takes_constant, emit_operands, emit_all};
-ghost use Rattle.flt_gen.specs.inside.{Emits.Emits, ProgramCode.emit_accessor_tests};
+ghost use Rattle.flt_gen.specs.inside.Code.{emit_base, emit_transport, emit_accessor};
+ghost use Rattle.flt_gen.specs.inside.Code.{accessor_offset, alu_operation, computation};
+ghost use Rattle.flt_gen.specs.{inside.Emits.Emits, Numbers.accessor_tests, Numbers.width_of};
+ghost use Rattle.flt_gen.specs.inside.ProgramCode.{emit_accessor_tests};
+ghost use Rattle.flt_gen.specs.inside.Code.{takes_constant, emit_operands, emit_all};
 
 use crate::code::{Code, Targets};
 use crate::elementary::{

@@ -3,9 +3,10 @@
 //! (`emit_ports_after`), the ports (`emit_port_sides`).
 
 ghost use Rattle.std.specs.Prelude.{◌≡◌};
-ghost use Rattle.flt_gen.specs.Elementary.{kind_test};
-ghost use Rattle.flt_gen.specs.Primitives.{port_test, port_is, port_between, port_sides, ports_after, transport_ports, ip_transport, ip6_transport, port_formula, after};
-ghost use Rattle.flt_gen.specs.inside.Emits.{EmitsFormula};
+ghost use Rattle.flt_gen.specs.Primitives.{port_test, port_is, port_between, port_sides};
+ghost use Rattle.flt_gen.specs.Primitives.{ports_after, transport_ports, ip_transport};
+ghost use Rattle.flt_gen.specs.{Elementary.kind_test, inside.Emits.EmitsFormula};
+ghost use Rattle.flt_gen.specs.Primitives.{ip6_transport, port_formula, after};
 ghost use Rattle.cap_octet.specs.declared.link.Link.{Link};
 
 use crate::code::{Code, Targets};
@@ -124,7 +125,8 @@ impl<A: Allocator> Code<A> {
         to: Targets,
     ) -> Result<usize, AllocError>
         ensures { (link : Link) → EmitsFormula link
-            (port_sides wanted.ports wanted.direction header numbers.now) to self.old result self.new }
+            (port_sides wanted.ports wanted.direction header numbers.now) to self.old result
+            self.new }
     {
         let (direction, source, destination) = (
             wanted.direction,
@@ -167,8 +169,8 @@ impl<A: Allocator> Code<A> {
         numbers: &Numbers<'_>,
         to: Targets,
     ) -> Result<usize, AllocError>
-        ensures { (link : Link) → EmitsFormula link (ports_after header wanted numbers.now) to self.old
-            result self.new }
+        ensures { (link : Link) → EmitsFormula link (ports_after header wanted numbers.now) to
+            self.old result self.new }
     {
         let yes = self.emit_port_sides(header, wanted, numbers, to)?;
         match header.no_later_fragment {

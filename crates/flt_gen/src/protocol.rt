@@ -1,8 +1,9 @@
 //! Protocols, Ethernet addresses, `broadcast` and `multicast`, as rows of the table of primitives.
 
 ghost use Rattle.std.specs.Prelude.{◌≡◌, ◌≤◌};
-ghost use Rattle.flt_gen.specs.Primitives.{ip_proto, ip6_proto, any_proto, check_formula, proto_formula, ether_host, mac_tests, is_group_address, cast_formula};
-ghost use Rattle.flt_gen.specs.inside.Emits.{EmitsFormula};
+ghost use Rattle.flt_gen.specs.Primitives.{ip_proto, ip6_proto, any_proto, check_formula};
+ghost use Rattle.flt_gen.specs.Primitives.{proto_formula, ether_host, mac_tests, is_group_address};
+ghost use Rattle.flt_gen.specs.{Primitives.cast_formula, inside.Emits.EmitsFormula};
 
 use crate::code::{Code, Targets};
 use crate::elementary::{

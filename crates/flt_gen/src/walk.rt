@@ -16,13 +16,18 @@
 //! - `>` and 5 become one test (`emit_both_nodes`).
 //! - `+`: its left operand waits in `numbers`, with the word of memory (`slot`) for it.
 //! - `len`: its load is emitted, and in front of that the store of the left operand, which is next.
-//! - `tcp[..]` and 13, a constant index, become one load. Its protocol goes into `accessors`. Nothing
-//!   waits in `numbers`, so the tests of `accessors` are emitted in front (`finish_relation`).
+//! - `tcp[..]` and 13, a constant index, become one load. Its protocol goes into `accessors`.
+//!   Nothing waits in `numbers`, so their tests are emitted in front (`finish_relation`).
 
 ghost use Rattle.std.specs.Prelude.{◌≡◌, true, Some, None, if◌then◌else◌, OnOk, IfOk, reverse};
-ghost use Rattle.flt_gen.specs.inside.Code.{block};
+ghost use Rattle.flt_gen.specs.inside.Walk.{start_walk, insns_of, emit_nodes, emit_both_nodes};
+ghost use Rattle.flt_gen.specs.inside.Walk.{emit_load_at, emit_operator_with, emit_comparison_with};
+ghost use Rattle.flt_gen.specs.inside.Walk.{emit_node, emit_join, emit_value, emit_truth_node};
+ghost use Rattle.flt_gen.specs.inside.Walk.{is_truth_node, begin_right, flush_group};
+ghost use Rattle.flt_gen.specs.inside.Walk.{finish_formula, finish_truth, is_number_node};
+ghost use Rattle.flt_gen.specs.inside.Walk.{emit_leaf, begin_operands, finish_number};
+ghost use Rattle.flt_gen.specs.inside.{Code.block, Walk.finish_relation};
 ghost use Rattle.flt_gen.specs.inside.Group.{no_group, larger_group, group_formula};
-ghost use Rattle.flt_gen.specs.inside.Walk.{start_walk, insns_of, emit_nodes, emit_both_nodes, emit_load_at, emit_operator_with, emit_comparison_with, emit_node, emit_join, emit_value, emit_truth_node, is_truth_node, begin_right, flush_group, finish_formula, finish_truth, is_number_node, emit_leaf, begin_operands, finish_number, finish_relation};
 ghost use Rattle.cap_octet.specs.declared.link.Link.{Link};
 
 use crate::code::{Code, Targets};

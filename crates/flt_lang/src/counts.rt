@@ -5,12 +5,10 @@
 //! contract is about the tree. The public ones, of a checked expression, are last.
 
 ghost use Rattle.std.specs.Prelude.{◌≡◌, ◌≤◌, ◌*◌, ◌^◌, sum_by, fold, false};
-ghost use Rattle.flt_ast.specs.Checks.{divides_by_zero};
 ghost use Rattle.flt_ast.specs.Counts.{tests_of, nodes_of, words_of, bound_of, node_tests};
-ghost use Rattle.flt_ast.specs.Counts.{node_size};
+ghost use Rattle.flt_ast.specs.{Counts.node_size, inside.Heights.climb, Checks.divides_by_zero};
 ghost use Rattle.flt_ast.specs.Resolved.{some_primitive};
 ghost use Rattle.flt_ast.specs.inside.Checks.{is_division_node, is_zero_node, some_zero_divisor};
-ghost use Rattle.flt_ast.specs.inside.Heights.{climb};
 
 use flt_ast::{Checked, Expr, Node};
 use flt_words::Operator;

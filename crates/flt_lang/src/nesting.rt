@@ -1,8 +1,7 @@
 //! Checks, before anything is read, how deep tokens nest (E6). Up to 100 levels are allowed, and up
 //! to 100 tokens `not` and `-` in a row, as docs/FILTER.md has it.
 
-ghost use Rattle.std.specs.Prelude.{◌≡◌, ◌↔◌, IsTrue};
-ghost use Rattle.std.specs.List.{list_all};
+ghost use Rattle.std.specs.{List.list_all, Prelude.◌≡◌, Prelude.◌↔◌, Prelude.IsTrue};
 ghost use Rattle.flt_lang.specs.Nesting.{is_opening, is_closing, is_prefix_operator, HasDeepFront};
 ghost use Rattle.flt_lang.specs.Nesting.{BeginsWithLongPrefix, HasLongPrefix, IsTooDeep};
 

@@ -1,16 +1,15 @@
 //! Reads the parts of a primitive: the role of a protocol, by the token after it, and values with
-//! the qualifiers before them. Each reader of these begins at the first of its tokens, takes as many
-//! as it can, and returns what it read and how many tokens that is.
+//! the qualifiers before them. Each reader of these begins at the first of its tokens, takes as
+//! many as it can, and returns what it read and how many tokens that is.
 
-ghost use Rattle.std.specs.Prelude.{◌≡◌, ◌∷◌, ◌⊎◌, List, IsTrue, IfSome, IfNone, Some, None};
-ghost use Rattle.std.specs.Prelude.{length, slice_get, drop, ◌<◌, ◌≤◌};
+ghost use Rattle.std.specs.Prelude.{◌≡◌, ◌∷◌, ◌⊎◌, IfSome, IfNone, Some, None, length, slice_get};
+ghost use Rattle.std.specs.Prelude.{drop, ◌<◌, ◌≤◌};
 ghost use Rattle.flt_words.specs.declared.token.TokenKind.{TokenKind};
 ghost use Rattle.flt_ast.specs.declared.qualifiers.Qualifiers.{Qualifiers};
-ghost use Rattle.flt_lang.specs.Grammar.{stands_alone, is_accessor, has_casts, kinds_of};
-ghost use Rattle.flt_lang.specs.inside.Parser.{protocol_role, valued_of};
 ghost use Rattle.flt_lang.specs.inside.Values.{qualifiers_of, protocol_of, direction_of, type_of};
 ghost use Rattle.flt_lang.specs.inside.Values.{is_opposite, both_of, Takes, mask_of, prefix_of};
-ghost use Rattle.flt_lang.specs.inside.Values.{value_of};
+ghost use Rattle.flt_lang.specs.inside.{Values.value_of, Parser.protocol_role, Parser.valued_of};
+ghost use Rattle.flt_lang.specs.Grammar.{stands_alone, is_accessor, has_casts, kinds_of};
 
 use flt_ast::{Direction, Dotted, NetMask, Qualifiers, Value};
 use flt_words::{Cast, Join, Operator, Protocol, Side, Token, TokenKind, ValueType};

@@ -10,15 +10,14 @@
 //! Most clauses cite definitions that mirror the code, with the same names or without `is_`; the
 //! contract of `replaces` states what follows from them (`Shortens`).
 
-ghost use Rattle.std.specs.Prelude.{◌≡◌, ◌≢◌, ◌↔◌, ◌+◌, ◌-◌, ◌%◌, ◌^◌, ◌==◌, ◌&&◌, length, IsTrue};
-ghost use Rattle.std.specs.Prelude.{All, true, false, None, count_by};
-ghost use Rattle.flt_bpf.specs.Instructions.{operation_of};
-ghost use Rattle.flt_bpf.specs.Layout.{JUMP, is_branch};
-ghost use Rattle.flt_bpf.specs.Check.{fault_of, ends_in_return, IsFaultless, IsValidUnlessLong};
+ghost use Rattle.std.specs.Prelude.{◌≡◌, ◌≢◌, ◌↔◌, ◌+◌, ◌-◌, ◌%◌, ◌==◌, ◌&&◌, length, IsTrue, All};
+ghost use Rattle.std.specs.Prelude.{true, false, None, count_by};
+ghost use Rattle.flt_bpf.specs.{Layout.JUMP, Layout.is_branch, Instructions.operation_of};
 ghost use Rattle.flt_bpf.specs.inside.Flow.{goes_on_or_rejects};
-ghost use Rattle.flt_short.specs.Alike.{Shortens};
+ghost use Rattle.flt_bpf.specs.Check.{fault_of, ends_in_return, IsFaultless, IsValidUnlessLong};
 ghost use Rattle.flt_short.specs.inside.Alike.{goes_on, same_step, is_masked_test, one_test};
 ghost use Rattle.flt_short.specs.inside.Alike.{rejects, is_sure, begins, code_from, are_copies};
+ghost use Rattle.flt_short.specs.Alike.{Shortens};
 ghost use Rattle.flt_short.specs.inside.Alike.{lands_at, left_out, stands, are_alike};
 
 use flt_bpf::operation::{AluOperation, Operand, Operation, Register, Source, Test, decode};

@@ -2,14 +2,11 @@
 //! are placed before the test. The instructions placed so far are always a whole end of the code;
 //! each function here puts more in front of them.
 
-ghost use Rattle.std.specs.Prelude.{◌≡◌, ◌+◌, ◌-◌, ◌*◌, ◌^◌, ◌<◌, ◌≤◌, ℕ, List, [], ◌∷◌, length};
-ghost use Rattle.std.specs.Prelude.{IfOk, OnOk, count_by};
-ghost use Rattle.flt_bpf.specs.Answer.{answer_of};
-ghost use Rattle.flt_bpf.specs.Check.{IsValidUnlessLong};
-ghost use Rattle.flt_bpf.specs.Instructions.{operation_of};
+ghost use Rattle.std.specs.Prelude.{◌≡◌, ◌+◌, ◌-◌, ◌*◌, ◌^◌, ◌<◌, ◌≤◌, ℕ, List, [], length, IfOk};
+ghost use Rattle.std.specs.Prelude.{OnOk, count_by};
+ghost use Rattle.flt_bpf.specs.{Machine.start, Answer.answer_of, Check.IsValidUnlessLong};
+ghost use Rattle.flt_bpf.specs.{Instructions.operation_of, Valid.MOST_INSTRUCTIONS, Valid.IsValid};
 ghost use Rattle.flt_bpf.specs.Layout.{is_branch, HasNoJump, JumpsAreNeeded, IsShort};
-ghost use Rattle.flt_bpf.specs.Machine.{start};
-ghost use Rattle.flt_bpf.specs.Valid.{MOST_INSTRUCTIONS, IsValid};
 ghost use Rattle.flt_short.specs.inside.Layout.{place_at, with_offsets, emitted, with_noted_jump};
 ghost use Rattle.flt_short.specs.inside.Layout.{jump_near, near_place, test_reach, with_test};
 ghost use Rattle.flt_short.specs.inside.Layout.{with_place, put, placed_code};

@@ -11,8 +11,7 @@
 //! answers. `replaces` (`alike.rt`) checks the new code with the landings noted here; if it returns
 //! `false`, the old code is kept.
 
-ghost use Rattle.std.specs.Option.{IfSome};
-ghost use Rattle.std.specs.Prelude.{IfOk};
+ghost use Rattle.std.specs.{Prelude.IfOk, Option.IfSome};
 ghost use Rattle.flt_short.specs.Alike.{Shortens};
 
 use crate::alike::{Landing, goes_on_or_rejects, is_masked_test, is_rejection, is_sure, replaces};

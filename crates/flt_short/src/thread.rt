@@ -9,12 +9,11 @@
 //! In a walk a place is an index of the code that follows the test. Clauses cite definitions of the
 //! same names; the contract of `threaded` states what follows from them (`Threads`).
 
-ghost use Rattle.std.specs.Prelude.{IfOk, ◌≡◌, ◌<◌, ◌^◌, nat_lt, if◌then◌else◌, length};
+ghost use Rattle.std.specs.Prelude.{IfOk, ◌≡◌, ◌<◌, ◌^◌, length};
 ghost use Rattle.flt_bpf.specs.Instructions.{operation_of};
-ghost use Rattle.flt_short.specs.Threads.{Threads};
-ghost use Rattle.flt_short.specs.inside.Facts.{at_start};
 ghost use Rattle.flt_short.specs.inside.Threads.{skipped_by_test, skipped_after, is_free, can_stop};
 ghost use Rattle.flt_short.specs.inside.Threads.{walk, threaded_offset, threaded_insn};
+ghost use Rattle.flt_short.specs.{Threads.Threads, inside.Facts.at_start};
 ghost use Rattle.flt_short.specs.inside.Threads.{place_or_best, with_arrivals, flow};
 
 use crate::alike::is_test;

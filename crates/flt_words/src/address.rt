@@ -1,13 +1,12 @@
 //! Reads addresses in words: groups of digits that a separator joins.
 
-ghost use Rattle.std.specs.Prelude.{◌≡◌, ◌≤◌, ◌<◌, ◌+◌, ◌*◌, ◌^◌, ℕ, MatchOption, length};
 ghost use Rattle.std.specs.Str.Parse.{IsNumeral, digits_value};
+ghost use Rattle.std.specs.Prelude.{◌≡◌, ◌≤◌, ◌<◌, ◌+◌, ◌*◌, ◌^◌, ℕ, MatchOption, length};
 ghost use Rattle.flt_words.specs.Addresses.{AreIp6Ends, IsDotted, IsGroup, IsIp6, IsMac};
-ghost use Rattle.flt_words.specs.Addresses.{IsWholeAddress};
-ghost use Rattle.flt_words.specs.Addresses.{group_value, separator_of};
-ghost use Rattle.flt_words.specs.declared.address.Group.TheVariants.{Octet};
 ghost use Rattle.flt_words.specs.inside.Addresses.{FindsAddress, IsDoubleColon, ReadsGroups};
 ghost use Rattle.flt_words.specs.inside.Addresses.{base_of};
+ghost use Rattle.flt_words.specs.declared.address.Group.TheVariants.{Octet};
+ghost use Rattle.flt_words.specs.Addresses.{IsWholeAddress, group_value, separator_of};
 
 use crate::number::{parse_decimal, parse_digits};
 

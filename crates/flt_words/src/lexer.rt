@@ -5,10 +5,9 @@
 ghost use Rattle.std.specs.Prelude.{◌≡◌, ◌≢◌, ◌<◌, ◌+◌, ◌==◌, ◌≤◌, IfErr, IfOk, MatchOption};
 ghost use Rattle.std.specs.Prelude.{MatchResult, Ok, Err, None, Some, length, slice_index, take};
 ghost use Rattle.std.specs.Prelude.{false, true, ℕ};
-ghost use Rattle.flt_words.specs.Characters.{is_blank, starts_word, within_word};
 ghost use Rattle.flt_words.specs.Spellings.{symbol_of};
-ghost use Rattle.flt_words.specs.Tokens.{IsLongest, IsPiece, IsRefused, IsToken, PieceMeans};
-ghost use Rattle.flt_words.specs.Tokens.{Tokens};
+ghost use Rattle.flt_words.specs.Characters.{is_blank, starts_word, within_word};
+ghost use Rattle.flt_words.specs.Tokens.{IsLongest, IsPiece, IsRefused, IsToken, Tokens};
 
 use crate::fault::ExprFault;
 use crate::spelling::symbol_of;

@@ -74,8 +74,8 @@ fn runs_leave_files_as_they_say(rt: HostRuntime) -> Result<(), Fail> {
 /// writer.
 const LONG: usize = 24 + 5 * (16 + 262_144);
 
-/// More than 1 MiB goes through the readers and writers of std unchanged: five packets, each as long
-/// as a record may be. For a listing one byte more than it may have is read.
+/// More than 1 MiB goes through the readers and writers of std unchanged: five packets, each as
+/// long as a record may be. For a listing one byte more than it may have is read.
 #[test]
 fn long_files_are_copied(rt: HostRuntime) -> Result<(), Fail> {
     enter(&rt, "long")?;

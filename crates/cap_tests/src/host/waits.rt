@@ -11,10 +11,10 @@ use std::cell::Cell;
 use std::io::{BufReader, BufWriter, Error, ErrorKind, Read, Result as IoResult, Write};
 use std::test::Fail;
 
-/// The words of a line over one capture or two (`capture_of`); how long the output is once the first
-/// packet or report is decided, and how much longer with each that follows; and for each of these
-/// how much must have been given of the first input and of the second, an end counting as one byte
-/// more.
+/// The words of a line over one capture or two (`capture_of`); how long the output is once the
+/// first packet or report is decided, and how much longer with each that follows; and for each of
+/// these how much must have been given of the first input and of the second, an end counting as one
+/// byte more.
 const ROWS: &str = "\
 edit -F pcap in out | section ether on-0 unknown on-0 | - | 44 | 20 | 84/0 132/0
 edit -F pcap in out | pcap 1 3 5 7 9 | - | 44 | 20 | 44/0 64/0 84/0 104/0 124/0
@@ -209,8 +209,8 @@ fn steps_past_the_end(mut job: RowJob<'_>, course: &Cell<Course>) -> bool {
     is_done
 }
 
-/// The status of a row's run, and why a write failed, if one did. The steps of a job have status 0 if
-/// they reached its end and did nothing after that.
+/// The status of a row's run, and why a write failed, if one did. The steps of a job have status 0
+/// if they reached its end and did nothing after that.
 type Ended = (u8, Option<ErrorKind>);
 
 /// Runs a row, or makes the steps of its job.

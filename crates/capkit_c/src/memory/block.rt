@@ -1,9 +1,10 @@
 //! One block of a pcapng capture in memory, in the caller's table of interfaces.
-ghost use Rattle.std.specs.{List.slice_get, Option.option_map};
-ghost use Rattle.std.specs.Prelude.{◌≡◌, ℕ, ◌+◌, ◌<◌, ◌≤◌, ◌++◌, ◌∷◌, [], IfOk, IfErr, OnErr, is_some, length, true};
+ghost use Rattle.std.specs.Prelude.{◌≡◌, ◌+◌, ◌<◌, ◌≤◌, ◌++◌, ◌∷◌, [], IfOk, IfErr, OnErr, is_some};
+ghost use Rattle.std.specs.{List.slice_get, Option.option_map, Prelude.length, Prelude.true};
 ghost use Rattle.cap_pcapng.specs.Interface.{description_of};
+ghost use Rattle.capkit_c.specs.inside.Blocks.{BlockIs, EntersTable, IsNoBlock, IsOf, IsRefusal};
+ghost use Rattle.capkit_c.specs.inside.Blocks.{spans_of};
 ghost use Rattle.capkit_c.specs.Layout.{described_of, first_interfaces};
-ghost use Rattle.capkit_c.specs.inside.Blocks.{BlockIs, EntersTable, IsNoBlock, IsOf, IsRefusal, spans_of};
 
 use crate::memory::layout::Interface;
 use cap_octet::{Fault, Order};

@@ -1,10 +1,10 @@
 //! The caller's state of a capture, in C's layout.
 ghost use Rattle.std.specs.Prelude.{◌≡◌, ◌≤◌, [], length};
 ghost use Rattle.cap_pcapng.specs.Interface.{description_of};
-ghost use Rattle.cap_io.specs.{Capture.first_link_of, Reading.declared_by};
+ghost use Rattle.cap_io.specs.{Reading.declared_by, Capture.first_link_of};
 ghost use Rattle.cap_io.specs.Text.{interface_of, is_same};
-ghost use Rattle.capkit_c.specs.Layout.{HasLink, described_of, reader_form, most_known, order_of_flag};
-ghost use Rattle.capkit_c.specs.Writer.{output_interface};
+ghost use Rattle.capkit_c.specs.Layout.{HasLink, described_of, reader_form, most_known};
+ghost use Rattle.capkit_c.specs.{Layout.order_of_flag, Writer.output_interface};
 ghost use Rattle.cap_octet.specs.Packet.{captured};
 
 use cap_io::FileState;
@@ -225,7 +225,8 @@ impl Interface {
 
     /// Whether this is the interface of a packet: link type, snapshot length and name are equal.
     pub(crate) fn is_of(&self, packet: &OctetPacket<'_>) -> bool
-        ensures { result ≡ is_same (interface_of (captured packet.now)) (output_interface self.now) }
+        ensures { result
+            ≡ is_same (interface_of (captured packet.now)) (output_interface self.now) }
     {
         packet.link == self.link_type
             && (packet.snap == self.snap && packet.name == &self.name[..self.name_length as usize])

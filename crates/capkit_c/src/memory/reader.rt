@@ -1,10 +1,12 @@
 //! The units of a capture in memory, one at a time.
-ghost use Rattle.std.specs.Prelude.{◌≡◌, ℕ, ◌+◌, ◌^◌, ◌≤◌, ◌<◌, IfOk, IfErr, IsTrue, OnErr, List, false, drop, length, take};
+ghost use Rattle.std.specs.Prelude.{◌≡◌, ℕ, ◌+◌, ◌^◌, ◌≤◌, ◌<◌, IfOk, IfErr, IsTrue, OnErr, List};
+ghost use Rattle.std.specs.Prelude.{false, drop, length, take};
 ghost use Rattle.cap_pcapng.specs.{Effect.section_of, Interface.Described};
 ghost use Rattle.cap_io.specs.Capture.{first_link_after, is_pcapng};
+ghost use Rattle.capkit_c.specs.inside.Units.{Begins, Counts, IsBare, IsNoUnit, IsAtEnd, IsSomeFor};
 ghost use Rattle.capkit_c.specs.Layout.{declared_in, first_interfaces};
 ghost use Rattle.capkit_c.specs.Units.{NextLeaves, PacketLeaves, comment_by};
-ghost use Rattle.capkit_c.specs.inside.Units.{Begins, Counts, IsBare, IsNoUnit, IsAtEnd, IsSomeFor, BeginsWithUnit, placed_packet};
+ghost use Rattle.capkit_c.specs.inside.Units.{BeginsWithUnit, placed_packet};
 ghost use Rattle.cap_io.specs.declared.file_state.FileState.TheVariants as form;
 
 use crate::memory::block::{Refusal, UnitPacket, read_block};

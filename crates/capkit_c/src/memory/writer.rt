@@ -2,11 +2,11 @@
 //! descriptions of its interfaces, and the blocks of its packets. What is written so far is the
 //! caller's, in C's layout.
 ghost use Rattle.std.specs.Prelude.{◌≡◌, ◌≤◌, ◌<◌, ◌==◌, ◌&&◌, not, nat_lt, None, map, length};
-ghost use Rattle.cap_octet.specs.{Checks.first_failing, Packet.captured};
+ghost use Rattle.cap_octet.specs.{Packet.captured, Checks.first_failing};
 ghost use Rattle.cap_io.specs.Text.{interface_of, number_among};
-ghost use Rattle.capkit_c.specs.Buffers.{WriteLeaves};
-ghost use Rattle.capkit_c.specs.Writer.{output_interface, put_checks, interfaces_in, most_written, room_for, Puts, IsWhole};
-ghost use Rattle.capkit_c.specs.inside.Writer.{HasAdded};
+ghost use Rattle.capkit_c.specs.Writer.{output_interface, put_checks, interfaces_in, most_written};
+ghost use Rattle.capkit_c.specs.{Buffers.WriteLeaves, inside.Writer.HasAdded};
+ghost use Rattle.capkit_c.specs.Writer.{room_for, Puts, IsWhole};
 ghost use Rattle.cap_pcapng.specs.Encoding.{interface_text, section_text};
 
 use crate::memory::layout::{Interface, Writer};

@@ -1,11 +1,14 @@
 //! File headers, records and blocks into the caller's buffer, whole or not at all.
-ghost use Rattle.std.specs.{List.flat_map, Prelude.◌≡◌, Prelude.None, Prelude.[], Prelude.length};
-ghost use Rattle.cap_octet.specs.{Checks.first_failing, Packet.captured};
+ghost use Rattle.std.specs.List.{flat_map};
+ghost use Rattle.std.specs.Prelude.{◌≡◌, None, [], length};
+ghost use Rattle.cap_octet.specs.{Packet.captured, Checks.first_failing};
 ghost use Rattle.cap_io.specs.Text.{record_text};
 ghost use Rattle.cap_pcap.specs.Encoding.{IsPcap, file_header, resolution_of};
-ghost use Rattle.cap_pcapng.specs.Encoding.{block_fit_checks, interface_text, packet_block, section_text};
-ghost use Rattle.capkit_c.specs.Buffers.{WriteLeaves, written_block_checks, interface_checks, written_packet, written_record_checks};
+ghost use Rattle.cap_pcapng.specs.Encoding.{block_fit_checks, interface_text, packet_block};
+ghost use Rattle.cap_pcapng.specs.Encoding.{section_text};
+ghost use Rattle.capkit_c.specs.Buffers.{WriteLeaves, written_block_checks, interface_checks};
 ghost use Rattle.capkit_c.specs.Layout.{resolution_by};
+ghost use Rattle.capkit_c.specs.Buffers.{written_packet, written_record_checks};
 
 use cap_octet::date::TIME_END;
 use cap_octet::{Fault, Format, Packet};

@@ -48,8 +48,8 @@ const OTHERWISE: &[&[Row]] = &[
     &[(0x28, 0, 0, HIGH), RETURN],
     &[(0x30, 0, 0, HIGH), RETURN],
     &[(0xb1, 0, 0, HIGH), RETURN],
-    // Indexed loads, where X may not be small, or X + k may be 2^31 or more, where Linux counts back
-    // from 2^32: the second loads a byte of the network header there.
+    // Indexed loads, where X may not be small, or X + k may be 2^31 or more, where Linux counts
+    // back from 2^32: the second loads a byte of the network header there.
     &[(0x01, 0, 0, HIGH - 1), (0x50, 0, 0, HIGH - 1), RETURN],
     &[(0x01, 0, 0, 0x7ff8_0000), (0x50, 0, 0, 0x7ff8_0000), RETURN],
     &[(0x01, 0, 0, HIGH), (0x50, 0, 0, 0), RETURN],
