@@ -1,9 +1,9 @@
 #!/usr/bin/env python3
 """Proves the crates that a program or a library for C needs, side by side, and builds it. usage: build.py CRATE PRODUCT
 
-A crate is proved as soon as those that it needs are, the longest chain first. Each is one call of rattle, the prover
-of rt's kit, as `rt ci` makes it: a library has its statements only, which halves what the program's own check takes. A
-crate with work of `rt check` (in out/incremental) is proved over that.
+A crate is proved as soon as those that it needs are. Others stand back (`nice`) for the one with the longest chain. Each
+is one call of rattle, the prover of rt's kit, as `rt ci` makes it: a library has its statements only, which halves what
+the program's own check takes. A crate with work of `rt check` (in out/incremental) is proved over that.
 """
 import fcntl
 import hashlib
@@ -50,7 +50,7 @@ class Crate:
 
     def command(self):
         """What proves the crate, and builds its library or the program. Other runs of rt wait for its folder."""
-        words = [word for it in self.below for word in ("flock", "-s", it.home)]
+        words = ["nice", "-n", self.behind, *(word for it in self.below for word in ("flock", "-s", it.home))]
         words += ["flock", self.home, RATTLE, "build", "--crate-name", self.name]
         words += ["src/main.rt" if self.is_program else "src/lib.rt", *LOGIC, "--links", f"{self.name}=", "--jobs", self.jobs]
         libraries = {it: RLIBS / f"{it}.rlib" for it in self.of_kit} | {it.name: it.made for it in self.needs}
@@ -63,9 +63,9 @@ class Crate:
             return f"{join([*words, '-o', parts[0]])} && {join([*LINK, '-o', self.made, *parts])}"
         return join([*words, *(["--crate-type", "staticlib"] if self.is_last else []), "-o", self.made])
 
-    def begin(self, lock):
+    def begin(self, lock, longest):
         """Begins to prove the crate, unless its library was built of just what there is."""
-        self.begun, self.process = time.monotonic(), None
+        self.begun, self.process, self.behind = time.monotonic(), None, 8 - 8 * self.chain // longest
         self.stamp.parent.mkdir(parents=True, exist_ok=True)
         if not self.is_last and self.stamp.exists() and self.stamp.read_text() == self.sum:
             return
@@ -73,7 +73,7 @@ class Crate:
         for it in (self.stamp, self.stamp.with_name("stamp")):
             it.unlink(missing_ok=True)
         # The process keeps the lock of the build: after a build that was killed, the next one waits for it too.
-        how = {"cwd": self.home, "start_new_session": True, "pass_fds": [lock.fileno()], "stdin": subprocess.DEVNULL}
+        how = {"cwd": self.home, "preexec_fn": os.setpgrp, "pass_fds": [lock.fileno()], "stdin": subprocess.DEVNULL}
         with self.log.open("w") as log:
             self.process = subprocess.Popen(self.command(), shell=True, stdout=log, stderr=log, **how)
 
@@ -97,9 +97,9 @@ def crates_below(top):
     return found
 
 
-def jobs_for(crate, waiting, running, room):
+def jobs_for(crate, waiting, running, room, longest):
     """As many jobs as keep the longest chain from being what all else waits for, if there is room; without room none."""
-    free = room - sum(it.jobs for it in running)
+    free = room + (MOST_JOBS if crate.chain == longest else 0) - sum(it.jobs for it in running)
     # What each processor has left to do: of what runs, half on average.
     share = (sum(it.size for it in waiting) + sum(it.size for it in running) / 2) / max(room - 1, 1)
     most = min(free, MOST_JOBS, 1 + crate.size // LARGE)
@@ -109,14 +109,15 @@ def jobs_for(crate, waiting, running, room):
 def prove(crates, lock):
     """Proves all crates, by one job more than there are processors, as far as there is memory."""
     free = 1024 * int(re.search(r"MemAvailable:\s+(\d+)", pathlib.Path("/proc/meminfo").read_text())[1])
-    room = min(len(os.sched_getaffinity(0)) + 1, free // MEMORY)
+    room = min(len(os.sched_getaffinity(0)) + 1, free // MEMORY - MOST_JOBS)
     waiting, running, proved = sorted(crates, key=lambda it: -it.chain), [], []
     try:
         while waiting or running:
+            longest = max(1, *(it.chain for it in [*waiting, *running]))
             for crate in [it for it in waiting if set(it.needs) <= set(proved)]:
-                crate.jobs = jobs_for(crate, waiting, running, room)
+                crate.jobs = jobs_for(crate, waiting, running, room, longest)
                 if crate.jobs:
-                    crate.begin(lock)
+                    crate.begin(lock, longest)
                     waiting.remove(crate)
                     running.append(crate)
             time.sleep(0.1)
