@@ -97,13 +97,14 @@ def crates_below(top):
     return found
 
 
-def jobs_for(crate, waiting, running, room, longest):
-    """As many jobs as keep the longest chain from being what all else waits for, if there is room; without room none."""
-    free = room + (MOST_JOBS if crate.chain == longest else 0) - sum(it.jobs for it in running)
+def jobs_for(crate, ready, waiting, running, room, longest):
+    """As many jobs as keep all else from waiting for the longest chain, or as no other crate can use; without room none."""
+    taken = sum(it.jobs for it in running)
+    free = room + (MOST_JOBS if crate.chain == longest else 0) - taken
     # What each processor has left to do: of what runs, half on average.
     share = (sum(it.size for it in waiting) + sum(it.size for it in running) / 2) / max(room - 1, 1)
-    most = min(free, MOST_JOBS, 1 + crate.size // LARGE)
-    return max(min(most, int(1.2 * crate.chain / max(share, 1))), min(free, 1), not running)
+    wanted = max(int(1.2 * crate.chain / max(share, 1)), room - len(ready) - taken)
+    return max(min(wanted, free, MOST_JOBS, 1 + crate.size // LARGE), min(free, 1), not running)
 
 
 def prove(crates, lock):
@@ -114,8 +115,8 @@ def prove(crates, lock):
     try:
         while waiting or running:
             longest = max(1, *(it.chain for it in [*waiting, *running]))
-            for crate in [it for it in waiting if set(it.needs) <= set(proved)]:
-                crate.jobs = jobs_for(crate, waiting, running, room, longest)
+            for crate in (ready := [it for it in waiting if set(it.needs) <= set(proved)]):
+                crate.jobs = jobs_for(crate, ready, waiting, running, room, longest)
                 if crate.jobs:
                     crate.begin(lock, longest)
                     waiting.remove(crate)
@@ -147,7 +148,7 @@ def build(top, made):
         fcntl.flock(lock, fcntl.LOCK_EX)
     if made.exists():
         return
-    say("proving and building: once, some 30 minutes of processor time from nothing")
+    say("proving and building: once, 30 to 70 minutes of processor time from nothing")
     prove(crates := crates_below(top), lock)
     made.parent.mkdir(parents=True, exist_ok=True)
     os.rename(shutil.copy2(crates[-1].made, f"{made}.new"), made)
