@@ -18,7 +18,7 @@ PARTS = (
     "Answers Carried Code Given Goals Instances Invariants Key Kinds Layout Lts Met Named Proof "
     "Reads Statement TheLaws TheLink Tie View"
 ).split()
-PROOF = re.compile(rf"\w+-proofs\.(.*?)\.({'|'.join(PARTS)})\b")
+PROOF = re.compile(rf"\w+-proofs\.(.*)\.({'|'.join(PARTS)})\b")
 
 
 def place_of(file):
