@@ -97,10 +97,9 @@ def crates_below(top):
     return found
 
 
-def jobs_for(crate, ready, waiting, running, room, longest):
+def jobs_for(crate, ready, waiting, running, room, beyond):
     """As many jobs as keep all else from waiting for the longest chain, or as no other crate can use; without room none."""
-    taken = sum(it.jobs for it in running)
-    free = room + (MOST_JOBS if crate.chain == longest else 0) - taken
+    free = room + beyond - (taken := sum(it.jobs for it in running))
     # What each processor has left to do: of what runs, half on average.
     share = (sum(it.size for it in waiting) + sum(it.size for it in running) / 2) / max(room - 1, 1)
     wanted = max(int(1.2 * crate.chain / max(share, 1)), room - len(ready) - taken)
@@ -108,15 +107,16 @@ def jobs_for(crate, ready, waiting, running, room, longest):
 
 
 def prove(crates, lock):
-    """Proves all crates, by one job more than there are processors, as far as there is memory."""
-    free = 1024 * int(re.search(r"MemAvailable:\s+(\d+)", pathlib.Path("/proc/meminfo").read_text())[1])
-    room = min(len(os.sched_getaffinity(0)) + 1, free // MEMORY - MOST_JOBS)
+    """Proves all crates, by one job more than there are processors, and a few for the longest chain, as far as there is memory."""
+    memory = 1024 * int(re.search(r"MemAvailable:\s+(\d+)", pathlib.Path("/proc/meminfo").read_text())[1]) // MEMORY
+    room = min(len(os.sched_getaffinity(0)) + 1, memory)
     waiting, running, proved = sorted(crates, key=lambda it: -it.chain), [], []
     try:
         while waiting or running:
             longest = max(1, *(it.chain for it in [*waiting, *running]))
             for crate in (ready := [it for it in waiting if set(it.needs) <= set(proved)]):
-                crate.jobs = jobs_for(crate, ready, waiting, running, room, longest)
+                beyond = (crate.chain == longest) * min(MOST_JOBS, memory - room)
+                crate.jobs = jobs_for(crate, ready, waiting, running, room, beyond)
                 if crate.jobs:
                     crate.begin(lock, longest)
                     waiting.remove(crate)
