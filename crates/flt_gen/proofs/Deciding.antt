@@ -9,7 +9,7 @@ use Rattle.std.specs.{List.list_all, List.insert, Prelude.slice_get}
 use Rattle.flt_gen.specs.Formula.{choose, Split}
 use Rattle.flt_gen.specs.declared.cases.Bound.{Bound, TheVariants.Below, TheVariants.From, TheVariants.Exactly}
 use Rattle.flt_gen.specs.declared.cases.Case.{Case}
-use Rattle.flt_gen.specs.declared.cases.Case.TheVariants.{Mac, Ip6, IpProto, Ip6Proto}
+use Rattle.flt_gen.specs.declared.cases.Case.TheVariants.{Mac, Ip6, EitherIp6, IpProto, Ip6Proto}
 use Rattle.flt_gen.specs.declared.elementary.FieldTest.{FieldTest}
 use Rattle.flt_gen.specs.inside.Cases.{same_words, case_frame, mac_place, ip6_place, case_tests, word_test, lowest, is_whole, keeps, all_keep, chain, test_at, from_test, middle, is_parted, same_word, decided, decision, FEW_CASES}
 use Rattle.std.proofs.lemmas.{List.length-map, List.map-append, List.take-append-drop, List.length-drop, List.length-append, Nat.and-not, Nat.and_comm}
@@ -37,6 +37,9 @@ fields_of link d (Mac a) = (Fixed (mac_place d), Word) ∷ (Fixed (mac_place d +
 fields_of link d (Ip6 n a) =
     let at = network_offset link + ip6_place d in
     (Fixed (at + 4 * 0), Word) ∷ (Fixed (at + 4 * 1), Word) ∷ (Fixed (at + 4 * 2), Word) ∷ (Fixed (at + 4 * 3), Word) ∷ []
+fields_of link d (EitherIp6 a) =
+    let at = network_offset link + ip6_place d in
+    (Fixed (at + 4 * 0), Word) ∷ (Fixed (at + 4 * 1), Word) ∷ (Fixed (at + 4 * 2), Word) ∷ (Fixed (at + 4 * 3), Word) ∷ []
 fields_of link d (IpProto n) = (Fixed (network_offset link + 9), Byte) ∷ []
 fields_of link d (Ip6Proto n) = (Fixed (network_offset link + 6), Byte) ∷ []
 
@@ -50,18 +53,27 @@ pub shape_of : (link : Link) (d : Direction) (c : Case) → Shape (fields_of lin
 shape_of link d (Mac a) = (refl, refl, refl, tt, (refl, refl, refl, tt, tt))
 shape_of link d (Ip6 n a) =
     (refl, refl, refl, masked_part _ n 0, (refl, refl, refl, masked_part _ n 1, (refl, refl, refl, masked_part _ n 2, (refl, refl, refl, masked_part _ n 3, tt))))
+shape_of link d (EitherIp6 a) =
+    (refl, refl, refl, tt, (refl, refl, refl, tt, (refl, refl, refl, tt, (refl, refl, refl, tt, tt))))
 shape_of link d _ = (refl, refl, refl, tt, tt)
+
+-- how many tests a host of either side has
+abbrev pub both_tests : Case → ℕ
+both_tests (EitherIp6 a) = 9
+both_tests _ = 0
 
 pub some_fields : (link : Link) (d : Direction) (c : Case) → 0 < length (fields_of link d c)
 some_fields link d (Mac a) = omega arith
 some_fields link d (Ip6 n a) = omega arith
+some_fields link d (EitherIp6 a) = omega arith
 some_fields link d _ = omega arith
 
-pub alike : (link : Link) (d : Direction) (a b : Case) → same_words a b ≡ true → (fields_of link d b ≡ fields_of link d a) × (case_frame b ≡ case_frame a)
-alike link d (Mac a) (Mac b) e = (refl, refl)
-alike link d (Ip6 m a) (Ip6 n b) e = (refl, refl)
-alike link d (IpProto a) (IpProto b) e = (refl, refl)
-alike link d (Ip6Proto a) (Ip6Proto b) e = (refl, refl)
+pub alike : (link : Link) (d : Direction) (a b : Case) → same_words a b ≡ true → (fields_of link d b ≡ fields_of link d a) × (case_frame b ≡ case_frame a) × (both_tests b ≡ both_tests a)
+alike link d (Mac a) (Mac b) e = (refl, refl, refl)
+alike link d (Ip6 m a) (Ip6 n b) e = (refl, refl, refl)
+alike link d (EitherIp6 a) (EitherIp6 b) e = (refl, refl, refl)
+alike link d (IpProto a) (IpProto b) e = (refl, refl, refl)
+alike link d (Ip6Proto a) (Ip6Proto b) e = (refl, refl, refl)
 alike link d _ _ e = cc
 
 -- ---- what is read of words
@@ -164,6 +176,18 @@ sizes_rest f fs [] h = omega arith
 sizes_rest f fs ((Field t ∷ ts) ∷ rs) h = let more = sizes_rest f fs rs h.1 in omega arith
 sizes_rest f fs (_ ∷ rs) h = absurd h.0
 
+-- a reading that isn't a rejection
+abbrev pub Known : MatchResult → Type 0
+Known r = (b : Bool) × (r ≡ reading_of (Some b))
+
+pub known_both : {r s : MatchResult} → Known r → Known s → Known (both r s)
+known_both (true, e) (b, f) = (b, ap₂ both e f)
+known_both (false, e) (b, f) = (false, ap₂ both e f)
+
+known_either : {r s : MatchResult} → Known r → Known s → Known (either r s)
+known_either (true, e) (b, f) = (true, ap₂ either e f)
+known_either (false, e) (b, f) = (b, ap₂ either e f)
+
 module _ (link : Link) (p : List ℕ) (n : ℕ) where
   abbrev told : List Elementary → MatchResult
   told ts = reads link (all_of ts) p n
@@ -247,6 +271,15 @@ module _ (link : Link) (p : List ℕ) (n : ℕ) where
   all_over [] h some = absurd (omega arith)
   all_over ([] ∷ rs) h some = refl
   all_over ((t ∷ ts) ∷ rs) h some = absurd h.0
+
+  -- single words that are captured
+  pub rows_known : (f : Offset × Width) (rs : List (List Elementary)) (x : ℕ) → Shapes (f ∷ []) rs → field_at f.0 f.1 p ≡ Some x → Known (read_all rs)
+  rows_known f [] x h e = (false, refl)
+  rows_known f ((Field t ∷ []) ∷ rs) x h e =
+      let r = word_read f t (h.0).0 (h.0).1 (h.0).2 ∙ ap (λ o. reading_of (with o (λ y. Some (under_mask t.mask y == t.value)))) e in
+      known_either (under_mask t.mask x == t.value, r) (rows_known f rs x h.1 e)
+  rows_known f ((Field t ∷ u ∷ us) ∷ rs) x h e = absurd (h.0).4
+  rows_known f (_ ∷ rs) x h e = absurd h.0
 
   -- ---- cases in another order
 
@@ -373,12 +406,13 @@ shapes_of link d k (c ∷ cs) h = (subst (λ fs. Shape fs (case_tests link d c))
 pub alike_alike : (a b c : Case) → same_words a b ≡ true → same_words b c ≡ true → same_words a c ≡ true
 alike_alike (Mac a) (Mac b) (Mac c) e f = refl
 alike_alike (Ip6 m a) (Ip6 n b) (Ip6 l c) e f = refl
+alike_alike (EitherIp6 a) (EitherIp6 b) (EitherIp6 c) e f = grind (arith, nat_tests)
 alike_alike (IpProto a) (IpProto b) (IpProto c) e f = refl
 alike_alike (Ip6Proto a) (Ip6Proto b) (Ip6Proto c) e f = refl
 alike_alike _ _ _ e f = cc
 
 pub self_alike : (a : Case) → same_words a a ≡ true
-self_alike (Mac a) = refl
+self_alike (EitherIp6 a) = grind (arith, nat_tests)
 self_alike _ = refl
 
 pub likes_put : (k c : Case) (i : ℕ) (cs : List Case) → same_words k c ≡ true → Likes k cs → Likes k (insert cs i c)
@@ -396,8 +430,8 @@ length_put c zero cs = omega arith
 length_put c (suc i) [] = refl
 length_put c (suc i) (d ∷ ds) = let h = length_put c i ds in omega arith
 
-pub read_put : (link : Link) (p : List ℕ) (n : ℕ) (by : Case → List Elementary) (fs : List (Offset × Width)) (c : Case) (i : ℕ) (cs : List Case) → Shape fs (by c) → Shapes fs (rows by 0 cs) → read_all link p n (rows by 0 (insert cs i c)) ≡ either (reads link (all_of (by c)) p n) (read_all link p n (rows by 0 cs))
-read_put link p n by fs c i cs h k =
-    ap (read_all link p n) (map-append (λ (c : Case). drop 0 (by c)) (take i cs) (c ∷ drop i cs))
-    ∙ read_inserted link p n fs (by c) (rows by 0 (take i cs)) (rows by 0 (drop i cs)) h (shapes_take fs by 0 i cs k)
-    ∙ ap (λ rs. either (reads link (all_of (by c)) p n) (read_all link p n rs)) (rows_parts by 0 i cs)
+pub read_put : (link : Link) (p : List ℕ) (n w : ℕ) (by : Case → List Elementary) (fs : List (Offset × Width)) (c : Case) (i : ℕ) (cs : List Case) → Shape fs (drop w (by c)) → Shapes fs (rows by w cs) → read_all link p n (rows by w (insert cs i c)) ≡ either (reads link (all_of (drop w (by c))) p n) (read_all link p n (rows by w cs))
+read_put link p n w by fs c i cs h k =
+    ap (read_all link p n) (map-append (λ (c : Case). drop w (by c)) (take i cs) (c ∷ drop i cs))
+    ∙ read_inserted link p n fs (drop w (by c)) (rows by w (take i cs)) (rows by w (drop i cs)) h (shapes_take fs by w i cs k)
+    ∙ ap (λ rs. either (reads link (all_of (drop w (by c))) p n) (read_all link p n rs)) (rows_parts by w i cs)

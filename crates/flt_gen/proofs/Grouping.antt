@@ -1,17 +1,18 @@
 -- The formula of a truth in which hosts or ports are looked for together reads as the truth's own,
 -- and has no more tests.
 use Rattle.flt_gen.proofs.Ascending.{if_case, Each, each_is, Searchable, Reached, Ready, Ordered, Points, ordered_inserted, points_inserted, length_inserted, within_inserted, within_joined, searchable_joined, ends_few, one_point, joined_few, joined_points}
-use Rattle.flt_gen.proofs.Common.{◌≡◌, ℕ, ◌+◌, ◌-◌, ◌*◌, ◌<◌, ◌≤◌, max, List, [], ◌∷◌, length, Bool, true, false, Option, Some, None, refl, sym, ap, ap₂, ◌∙◌, subst, arith, ◌==◌, ◌||◌, ◌&&◌, nat_lt, nat_le, if◌then◌else◌, suc-mul, nat_tests, and_parts, or_parts, Protocol, Ip, Tcp, Udp, Source, Destination, And, Or, ValueType, Host, Net, Port, PortRange, Direction, CompleteQualifiers, Value, Interval, Sides, FrameKind, network_offset, not, map, and-false, inl, inr, Sought, sought_tests, is_address, joined_all, left_out, high_mask, cut, address_places, port_places, ip_transport, ip6_transport, sought, Entry, TruthTree, check, cast, sized, bare, valued, qualified, compared, denied, joined, is_unfilled, any_primitive, Link, MatchResult, Several, Formula, Both, Either, Except, is_in, is_within, both, either, negation, Numbers, reads, check_formula, cast_formula, sized_formula, hosts_formula, port_test, port_formula, qualified_formula, relation_formula, qualified_needed, formula, first_ends, Group, no_group, entry, with_member, same_type, same_protocol, same_direction, goes_with, member_of, group_and, larger_group, is_searched, numbers_of, several_formula, all_of, kind_test, elementary_reads, value_formula, Proto, rows_formula, group_formula, or_any, or_group, truth_member, choice, grouped_formula, MOST_TOGETHER, FEWEST_RANGES}
+use Rattle.flt_gen.proofs.Common.{◌≡◌, ℕ, ◌+◌, ◌-◌, ◌*◌, ◌/◌, ◌^◌, ◌<◌, suc, ◌≤◌, max, List, [], ◌∷◌, length, Bool, true, false, Option, Some, None, refl, sym, ap, ap₂, ◌∙◌, subst, arith, ◌==◌, ◌||◌, ◌&&◌, nat_lt, nat_le, if◌then◌else◌, suc-mul, nat_tests, and_parts, or_parts, Protocol, Ip, Tcp, Udp, Source, Destination, And, Or, ValueType, Host, Net, Port, PortRange, Direction, CompleteQualifiers, Value, Interval, Sides, FrameKind, network_offset, not, map, and-false, inl, inr, Sought, sought_tests, is_address, joined_all, left_out, high_mask, cut, address_places, port_places, ip_transport, ip6_transport, sought, Entry, TruthTree, check, cast, sized, bare, valued, qualified, compared, denied, joined, is_unfilled, any_primitive, Link, MatchResult, Several, Formula, Both, Either, Except, is_in, is_within, both, either, negation, Numbers, reads, check_formula, cast_formula, sized_formula, hosts_formula, port_test, port_formula, qualified_formula, relation_formula, qualified_needed, formula, first_ends, Group, no_group, entry, with_member, same_type, same_protocol, same_direction, goes_with, member_of, group_and, larger_group, is_searched, numbers_of, several_formula, all_of, kind_test, elementary_reads, value_formula, Proto, rows_formula, group_formula, or_any, or_group, truth_member, choice, grouped_formula, MOST_TOGETHER, FEWEST_RANGES}
 use Rattle.flt_gen.proofs.Counted.{Sized, Bare, bare_within, bare_some, bare_both, bare_either, bare_else, bare_after, bare_sought, bare_check, bare_cast, of_kinds, bare_hosts, bare_ports}
-use Rattle.flt_gen.proofs.Deciding.{Shapes, fields_of, some_fields, shapes_of, rows, read_all, sizes, decision_good, Likes, likes_put, sizes_put, length_put, read_put, alike, alike_alike, self_alike}
+use Rattle.flt_gen.proofs.Deciding.{Shapes, fields_of, some_fields, shapes_of, both_tests, rows, read_all, sizes, decision_good, Likes, likes_put, sizes_put, length_put, read_put, alike, alike_alike, self_alike}
+use Rattle.flt_gen.proofs.EitherSide.{host_read, either_alone, either_put, either_bare}
 use Rattle.flt_gen.proofs.{Exclusive.or_no, Exclusive.both_either, Exclusive.either_assoc, IdleBits.uncut}
 use Rattle.flt_gen.proofs.{Needed.bare_needed, Needed.value_same, Once.relation_sizes, Once.relation_same}
 use Rattle.flt_gen.proofs.Prefixes.{Idle, idle_sought, cut_in, cut_within, cut_order, cut_apart}
 use Rattle.flt_gen.proofs.Together.{Fitting, fitting_small, unmasked_fitting, address_fitting, Merged, members_read, members_more, members_alone, member_reads, IsMember, member_tests, several_are, member_is}
 use Rattle.std.specs.Prelude.{◌⊎◌, count_by}
 use Rattle.flt_words.specs.declared.token.Protocol.TheVariants as protocol
-use Rattle.flt_gen.specs.declared.{address.Hosts.Hosts, cases.Case.Case}
-use Rattle.flt_gen.specs.inside.Cases.{case_of, same_words, key_of, case_frame, case_tests, MOST_DECISIONS}
+use Rattle.flt_gen.specs.declared.{address.Hosts.Hosts, cases.Case.Case, cases.Case.TheVariants.EitherIp6}
+use Rattle.flt_gen.specs.inside.Cases.{case_of, same_words, key_of, insert_case, case_frame, case_tests, either_ip6, sides_decision, MOST_DECISIONS}
 use Rattle.flt_gen.specs.inside.Group.{with_case, has_none, shares_words, case_goes_with, larger_by, together_formula, FEWEST_CASES}
 use Rattle.std.proofs.lemmas.List.{length-map}
 use Rattle.cap_octet.specs.declared.link.Link.TheVariants as link
@@ -42,13 +43,31 @@ pub record Held (group : Group) (ms : List Interval) : Type 0 where
   pub counted : length group.entries * member_tests group.qualifiers.value_type group.qualifiers.protocol group.qualifiers.direction ≤ group_tests group
   pub rows : (link : Link) (p : List ℕ) (n : ℕ) → reads link (rows_formula link group.entries) p n ≡ members_read link p n group.qualifiers.value_type group.qualifiers.protocol group.qualifiers.direction group.first ms
 
+-- how a case reads, in the frames in which it may be
+abbrev case_read : Link → List ℕ → ℕ → Direction → Case → MatchResult
+case_read link p n d (EitherIp6 a) = host_read link p n a
+case_read link p n d c = reads link (all_of (case_tests link d c)) p n
+
+-- how cases with the words of one read, of which the first has this key
+abbrev cases_read : Link → List ℕ → ℕ → Direction → ℕ → Case → List Case → MatchResult
+cases_read link p n d a (EitherIp6 b) cs = reads link (either_ip6 link a cs) p n
+cases_read link p n d a _ cs = read_all link p n (rows (case_tests link d) 0 cs)
+
+-- the key of a case that has the words of another one
+abbrev IsKey : ℕ → Case → Type 0
+IsKey a (EitherIp6 b) = (b / 2 ^ 32 == a / 2 ^ 32) ≡ true
+IsKey a _ = Unit {0}
+
 -- a group of cases of this direction, which have the words of one
 pub record Listed (d : Direction) (group : Group) : Type 0 where
   pub kind : Case
   pub like : Likes kind group.cases
   pub some : 0 < length group.cases
+  pub all_count : length group.cases ≡ length group.entries
+  pub key : IsKey group.first_key kind
   pub counted : (link : Link) → sizes (rows (case_tests link d) 0 group.cases) + length group.cases ≤ group_tests group
-  pub rows_are : (link : Link) (p : List ℕ) (n : ℕ) → reads link (rows_formula link group.entries) p n ≡ both (elementary_reads (kind_test link (case_frame kind)) p) (read_all link p n (rows (case_tests link d) 0 group.cases))
+  pub counted_both : length group.cases * both_tests kind ≤ group_tests group
+  pub rows_are : (link : Link) (p : List ℕ) (n : ℕ) → reads link (rows_formula link group.entries) p n ≡ both (elementary_reads (kind_test link (case_frame kind)) p) (cases_read link p n d group.first_key kind group.cases)
 
 -- a group that waits: it has no members, or numbers or cases
 pub data Kept (group : Group) : Type 0 where
@@ -192,21 +211,37 @@ rows_bare link (e ∷ []) l = bare_within _ (omega arith) (bare_needed link e.qu
 rows_bare link (e ∷ f ∷ es) l =
     bare_either (bare_needed link e.qualifiers.value_type e.qualifiers.protocol e.qualifiers.direction e.value) (rows_bare link (f ∷ es) (omega arith))
 
--- a group of cases has few tests, and reads as one after the other
-listed_is : (link : Link) (group : Group) → Listed group.qualifiers.direction group → (cs : List Case) → cs ≡ group.cases → Bare (together_formula link group cs) (group_tests group) × ((p : List ℕ) (n : ℕ) → reads link (together_formula link group cs) p n ≡ reads link (rows_formula link group.entries) p n)
-listed_is link group h [] e = absurd (let some = h.some in let z = ap length e in omega arith)
-listed_is link group h (c ∷ cs) e =
-    let d = group.qualifiers.direction in
+-- the tests of cases with the words of one: how they read, and how many they are
+sides_good : (link : Link) (d : Direction) (a m : ℕ) (kind c : Case) (cs : List Case) → Likes kind (c ∷ cs) → 3 ≤ length (c ∷ cs) → sizes (rows (case_tests link d) 0 (c ∷ cs)) + length (c ∷ cs) ≤ m → length (c ∷ cs) * both_tests kind ≤ m → ((p : List ℕ) (n : ℕ) → reads link (sides_decision link d a c (c ∷ cs)) p n ≡ cases_read link p n d a kind (c ∷ cs)) × Bare (sides_decision link d a c (c ∷ cs)) (m - 1)
+sides_good link d a m (EitherIp6 b) (EitherIp6 x) cs like l few both = (λ p n. refl, bare_within _ (omega arith) (either_bare link a b (EitherIp6 x ∷ cs) like l))
+sides_good link d a m (EitherIp6 b) _ cs like l few both = (let no = like.0 in cc)
+sides_good link d a m _ (EitherIp6 x) cs like l few both = (let no = like.0 in cc)
+sides_good link d a m kind c cs like l few both =
     let by = case_tests link d in
+    let good = decision_good link by MOST_DECISIONS 0 (fields_of link d kind) (c ∷ cs) (shapes_of link d kind (c ∷ cs) like) in
+    let long = length-map cs by in
+    (good.0, bare_within _ (omega arith) (good.1 (some_fields link d kind) (omega arith)))
+
+many : (cs : List Case) (plain : Bool) (n : ℕ) → 0 < length cs → nat_le (if not (has_none cs) then FEWEST_CASES else (if plain then 2 else FEWEST_RANGES)) n ≡ true → 3 ≤ n
+many [] plain n l e = absurd (omega arith)
+many (c ∷ cs) plain n l e = grind (arith, nat_tests)
+
+-- a group of cases has few tests, and reads as one after the other
+listed_is : (link : Link) (group : Group) → Listed group.qualifiers.direction group → is_searched group ≡ true → (cs : List Case) → cs ≡ group.cases → Bare (together_formula link group cs) (group_tests group) × ((p : List ℕ) (n : ℕ) → reads link (together_formula link group cs) p n ≡ reads link (rows_formula link group.entries) p n)
+listed_is link group h searched [] e = absurd (let some = h.some in let z = ap length e in omega arith)
+listed_is link group h searched (c ∷ cs) e =
+    let d = group.qualifiers.direction in
     let like = subst (Likes h.kind) (sym e) h.like in
-    let good = decision_good link by MOST_DECISIONS 0 (fields_of link d h.kind) (c ∷ cs) (shapes_of link d h.kind (c ∷ cs) like) in
-    let few = h.counted link in
-    let same : sizes (rows by 0 (c ∷ cs)) + length (c ∷ cs) ≡ sizes (rows by 0 group.cases) + length group.cases = ap (λ ds. sizes (rows by 0 ds) + length ds) e in
-    let long = length-map cs by in (
-      bare_within _ (omega arith) (bare_after (good.1 (some_fields link d h.kind) (omega arith))),
+    let long = ap length e in
+    let count = h.all_count in
+    let lots = many group.cases group.is_plain (length group.entries) h.some searched in
+    let good = sides_good link d group.first_key (group_tests group) h.kind c cs like (omega arith)
+    (subst (λ ds. sizes (rows (case_tests link d) 0 ds) + length ds ≤ group_tests group) (sym e) (h.counted link))
+    (subst (λ ds. length ds * both_tests h.kind ≤ group_tests group) (sym e) h.counted_both) in
+    let few = h.counted link in (
+      bare_within _ (omega arith) (bare_after good.1),
       λ p n. ap (both (elementary_reads (kind_test link (case_frame c)) p)) (good.0 p n)
-          ∙ ap (λ k. both (elementary_reads (kind_test link k) p) (read_all link p n (rows by 0 (c ∷ cs)))) (alike link d h.kind c like.0).1
-          ∙ ap (λ ds. both (elementary_reads (kind_test link (case_frame h.kind)) p) (read_all link p n (rows by 0 ds))) e
+          ∙ ap₂ (λ k ds. both (elementary_reads (kind_test link k) p) (cases_read link p n d group.first_key h.kind ds)) (alike link d h.kind c like.0).1 e
           ∙ sym (h.rows_are link p n),
     )
 
@@ -216,7 +251,7 @@ group_bare link group k l = if_case (λ (f : Formula). Bare f (group_tests group
     by : Kept group → is_searched group ≡ true → Bare (together_formula link group group.cases) (group_tests group)
     by (nothing none all empty) e = absurd (let z = ap length none in omega arith)
     by (numbered l empty ms h) e = subst (λ cs. Bare (together_formula link group cs) (group_tests group)) (sym empty) (group_bare_several link group ms h (sym (by_numbers group empty) ∙ e))
-    by (listed l h) e = (listed_is link group h group.cases refl).0
+    by (listed l h) e = (listed_is link group h e group.cases refl).0
 
 -- members that are looked for together read as one after the other
 searched_two : (group : Group) → nat_le (if group.is_plain then 2 else FEWEST_RANGES) (length group.entries) ≡ true → 2 ≤ length group.entries
@@ -234,7 +269,7 @@ group_rows link p n group k =
         ∙ several_are link p n group.qualifiers (is_address group.qualifiers.value_type && not group.is_plain) group.first ms group.all (h.merged (searched_two group few)) h.ascends h.all_within group.qualifiers.value_type
         (λ t. (and_parts (is_address group.qualifiers.value_type) (not group.is_plain) t).0)
         ∙ sym (h.rows link p n)
-    by (listed l h) e = (listed_is link group h group.cases refl).1 p n
+    by (listed l h) e = (listed_is link group h e group.cases refl).1 p n
 
 -- a formula stands for a truth, or else for the group after it
 pub record Stands (link : Link) (f : Formula) (a : TruthTree) (group : Group) : Type 0 where
@@ -355,43 +390,69 @@ kept_with q v m group (listed l h) g w = absurd (no_cases group.cases (fits_in q
 
 -- a value that is a case: its tests are fewer than those that are counted, and how it reads
 abbrev IsCase : Link → ValueType → Option Protocol → Direction → Value → Case → Type 0
-IsCase link k o d v c = (length (case_tests link d c) + 1 ≤ count.typed_tests k o d v) × ((p : List ℕ) (n : ℕ) → reads link (value_formula link k o d v) p n ≡ both (elementary_reads (kind_test link (case_frame c)) p) (reads link (all_of (case_tests link d c)) p n))
+IsCase link k o d v c = (length (case_tests link d c) + 1 ≤ count.typed_tests k o d v) × (both_tests c ≤ count.typed_tests k o d v) × ((p : List ℕ) (n : ℕ) → reads link (value_formula link k o d v) p n ≡ both (elementary_reads (kind_test link (case_frame c)) p) (case_read link p n d c))
 
 case_is : (link : Link) (k : ValueType) (o : Option Protocol) (d : Direction) (v : Value) → Each (case_of k o d v) (IsCase link k o d v)
-case_is link Host o (direction.One Source) (value.Mac a) = (omega arith, λ p n. refl)
-case_is link Host o (direction.One Destination) (value.Mac a) = (omega arith, λ p n. refl)
-case_is link Host o (direction.One Source) (value.Ip6 a m) = (omega arith, λ p n. refl)
-case_is link Host o (direction.One Destination) (value.Ip6 a m) = (omega arith, λ p n. refl)
-case_is link Net o (direction.One Source) (value.Ip6 a m) = (omega arith, λ p n. refl)
-case_is link Net o (direction.One Destination) (value.Ip6 a m) = (omega arith, λ p n. refl)
-case_is link Proto (Some Ip) d (value.Number x m) = (omega arith, λ p n. refl)
-case_is link Proto (Some protocol.Ip6) d (value.Number x m) = (omega arith, λ p n. refl)
+case_is link Host o (direction.One Source) (value.Mac a) = (omega arith, omega arith, λ p n. refl)
+case_is link Host o (direction.One Destination) (value.Mac a) = (omega arith, omega arith, λ p n. refl)
+case_is link Host o (direction.One Source) (value.Ip6 a m) = (omega arith, omega arith, λ p n. refl)
+case_is link Host o (direction.One Destination) (value.Ip6 a m) = (omega arith, omega arith, λ p n. refl)
+case_is link Host o (direction.Both Or) (value.Ip6 a m) = (omega arith, omega arith, λ p n. refl)
+case_is link Net o (direction.One Source) (value.Ip6 a m) = (omega arith, omega arith, λ p n. refl)
+case_is link Net o (direction.One Destination) (value.Ip6 a m) = (omega arith, omega arith, λ p n. refl)
+case_is link Proto (Some Ip) d (value.Number x m) = (omega arith, omega arith, λ p n. refl)
+case_is link Proto (Some protocol.Ip6) d (value.Number x m) = (omega arith, omega arith, λ p n. refl)
 case_is link _ o d _ = tt
 
 -- where a case is put among others
 abbrev place : Case → List Case → ℕ
 place c cs = count_by (λ d. nat_lt (key_of d) (key_of c)) cs
 
+-- the key of one that has the words of another, and how it reads, by itself and in front of others
+key_is : (kind c : Case) → same_words kind c ≡ true → IsKey (key_of c) kind
+key_is (EitherIp6 b) (EitherIp6 a) e = e
+key_is (EitherIp6 b) _ e = cc
+key_is _ c e = tt
+
+read_alone : (link : Link) (p : List ℕ) (n : ℕ) (d : Direction) (c : Case) → case_read link p n d c ≡ cases_read link p n d (key_of c) c (insert_case c [])
+read_alone link p n d (EitherIp6 a) = either_alone link p n a
+read_alone link p n d _ = sym (or_no _)
+
+read_more : (link : Link) (p : List ℕ) (n : ℕ) (d : Direction) (a : ℕ) (kind c : Case) (cs : List Case) → Likes kind cs → same_words kind c ≡ true → IsKey a kind → either (case_read link p n d c) (cases_read link p n d a kind cs) ≡ cases_read link p n d (key_of c) kind (insert_case c cs)
+read_more link p n d a (EitherIp6 b) (EitherIp6 x) cs h e key =
+    either_put link p n a x b cs key e h (likes_put (EitherIp6 b) (EitherIp6 x) (place (EitherIp6 x) cs) cs e h)
+read_more link p n d a (EitherIp6 b) _ cs h e key = cc
+read_more link p n d a _ (EitherIp6 x) cs h e key = cc
+read_more link p n d a kind c cs h e key =
+    sym (read_put link p n 0 (case_tests link d) (fields_of link d kind) c (place c cs) cs (shapes_of link d kind (c ∷ []) (e, tt)).0 (shapes_of link d kind cs h))
+
 -- one more case before those of a group without numbers
-listed_put : (q : CompleteQualifiers) (v : Value) (c kind : Case) (group : Group) → case_of q.value_type q.protocol q.direction v ≡ Some c → Likes kind group.cases → same_words kind c ≡ true → ((link : Link) → sizes (rows (case_tests link q.direction) 0 group.cases) + length group.cases ≤ group_tests group)
-    → ((link : Link) (p : List ℕ) (n : ℕ) (r : MatchResult) → let frame = elementary_reads (kind_test link (case_frame kind)) p in either (both frame r) (reads link (rows_formula link group.entries) p n) ≡ both frame (either r (read_all link p n (rows (case_tests link q.direction) 0 group.cases))))
+listed_put : (q : CompleteQualifiers) (v : Value) (c kind : Case) (group : Group) → case_of q.value_type q.protocol q.direction v ≡ Some c → Likes kind group.cases → same_words kind c ≡ true → length group.cases ≡ length group.entries → ((link : Link) → sizes (rows (case_tests link q.direction) 0 group.cases) + length group.cases ≤ group_tests group) → length group.cases * both_tests kind ≤ group_tests group
+    → ((link : Link) (p : List ℕ) (n : ℕ) → let frame = elementary_reads (kind_test link (case_frame kind)) p in either (both frame (case_read link p n q.direction c)) (reads link (rows_formula link group.entries) p n) ≡ both frame (cases_read link p n q.direction (key_of c) kind (insert_case c group.cases)))
     → Listed q.direction (with_case q v c group)
-listed_put q v c kind group w likes like few rows_are = record {
+listed_put q v c kind group w likes like count few both_few rows_are = record {
   kind = kind;
   like = likes_put kind c (place c group.cases) group.cases like likes;
   some = let l = length_put c (place c group.cases) group.cases in omega arith;
+  all_count = let l = length_put c (place c group.cases) group.cases in omega arith;
+  key = key_is kind c like;
   counted = λ link.
       let l = length_put c (place c group.cases) group.cases in
       let s = sizes_put (case_tests link q.direction) c (place c group.cases) group.cases in
       let one = (its link).0 in
       let old = few link in
       omega arith;
+  counted_both =
+      let l : length (insert_case c group.cases) ≡ suc (length group.cases) = length_put c (place c group.cases) group.cases ∙ omega arith in
+      let all = ap (λ k. k * both_tests kind) l in
+      let more = suc-mul (length group.cases) (both_tests kind) in
+      let one = (its Ether).1 in
+      let same = (alike Ether q.direction kind c like).2 in
+      omega arith;
   rows_are = λ link p n.
-      let by = case_tests link q.direction in
       rows_put link p n q v group.entries
-      ∙ ap (λ r. either r (reads link (rows_formula link group.entries) p n)) ((its link).1 p n ∙ ap (λ k. both (elementary_reads (kind_test link k) p) (reads link (all_of (by c)) p n)) (alike link q.direction kind c like).1)
-      ∙ rows_are link p n (reads link (all_of (by c)) p n)
-      ∙ ap (both (elementary_reads (kind_test link (case_frame kind)) p)) (sym (read_put link p n by (fields_of link q.direction kind) c (place c group.cases) group.cases (shapes_of link q.direction kind (c ∷ []) (like, tt)).0 (shapes_of link q.direction kind group.cases likes)));
+      ∙ ap (λ r. either r (reads link (rows_formula link group.entries) p n)) ((its link).2 p n ∙ ap (λ k. both (elementary_reads (kind_test link k) p) (case_read link p n q.direction c)) (alike link q.direction kind c like).1)
+      ∙ rows_are link p n;
 }
   where
     its : (link : Link) → IsCase link q.value_type q.protocol q.direction v c
@@ -411,16 +472,21 @@ shared kind c (x ∷ xs) h e = alike_alike kind x c h.0 e
 kept_with_case : (q : CompleteQualifiers) (v : Value) (c : Case) (group : Group) → Kept group → case_goes_with c q.direction group group.entries ≡ true → case_of q.value_type q.protocol q.direction v ≡ Some c → Kept (with_case q v c group)
 kept_with_case q v c group (nothing none all empty) g w =
     listed (omega arith)
-    (listed_put q v c c group w (subst (Likes c) (sym empty) tt) (self_alike c) (λ link. subst (λ cs. sizes (rows (case_tests link q.direction) 0 cs) + length cs ≤ group_tests group) (sym empty) (omega arith))
-    (λ link p n r.
+    (listed_put q v c c group w (subst (Likes c) (sym empty) tt) (self_alike c) (ap length empty ∙ sym (ap length none))
+    (λ link. subst (λ cs. sizes (rows (case_tests link q.direction) 0 cs) + length cs ≤ group_tests group) (sym empty) (omega arith))
+    (subst (λ (cs : List Case). length cs * both_tests c ≤ group_tests group) (sym empty) (omega arith))
+    (λ link p n.
     let frame = elementary_reads (kind_test link (case_frame c)) p in
-    ap (λ es. either (both frame r) (reads link (rows_formula link es) p n)) none ∙ or_no _ ∙ ap (both frame) (sym (or_no r))
-    ∙ ap (λ cs. both frame (either r (read_all link p n (rows (case_tests link q.direction) 0 cs)))) (sym empty)))
+    ap (λ es. either (both frame (case_read link p n q.direction c)) (reads link (rows_formula link es) p n)) none ∙ or_no _
+    ∙ ap (both frame) (read_alone link p n q.direction c ∙ ap (λ cs. cases_read link p n q.direction (key_of c) c (insert_case c cs)) (sym empty))))
 kept_with_case q v c group (numbered l empty ms h) g w = absurd (let no = ap (shares_words c) (sym empty) ∙ (case_fits c q.direction group group.entries l g).0 in cc)
 kept_with_case q v c group (listed l h) g w =
     let fit = case_fits c q.direction group group.entries l g in
     let j = subst (λ d. Listed d group) fit.1 h in
-    listed (omega arith) (listed_put q v c j.kind group w j.like (shared j.kind c group.cases j.like fit.0) j.counted (λ link p n r. ap (either (both _ r)) (j.rows_are link p n) ∙ sym (both_either _ r _)))
+    let like = shared j.kind c group.cases j.like fit.0 in
+    listed (omega arith)
+    (listed_put q v c j.kind group w j.like like j.all_count j.counted j.counted_both
+    (λ link p n. ap (either (both _ (case_read link p n q.direction c))) (j.rows_are link p n) ∙ sym (both_either _ (case_read link p n q.direction c) _) ∙ ap (both _) (read_more link p n q.direction group.first_key j.kind c group.cases j.like like j.key)))
 
 -- what a member and those after it are, and how they read
 record Taken (link : Link) (q : CompleteQualifiers) (v : Value) (group more : Group) : Type 0 where
@@ -462,19 +528,26 @@ value_stands link q v group k None e =
 value_stands link q v group k (Some more) e =
     let t = taken link q v group more k e in record { counts = bare_within _ t.tests_fit (group_bare link more t.kept t.some); reads_are = t.reads_are }
 
-either_stands : (link : Link) (a b : TruthTree) (group : Group) → Kept group → (o : Option Group) → truth_member b group ≡ o → Stands link (grouped_formula link no_group a) a no_group → Stands link (grouped_formula link group b) b group → ((more : Group) → Kept more → Stands link (grouped_formula link more a) a more) → Stands link (choice o (λ more. grouped_formula link more a) (Either (grouped_formula link no_group a) (grouped_formula link group b))) (joined Or a b) group
-either_stands link a b group k None e h g m = record {
+either_stands : (link : Link) (a b : TruthTree) (group : Group) → Kept group → (o p : Option Group) → truth_member b group ≡ o → truth_member b no_group ≡ p → Stands link (grouped_formula link no_group a) a no_group → Stands link (grouped_formula link group b) b group → ((more : Group) → Kept more → Stands link (grouped_formula link more a) a more) → Stands link (choice o (λ more. grouped_formula link more a) (choice p (λ new. or_group link (grouped_formula link new a) group) (Either (grouped_formula link no_group a) (grouped_formula link group b)))) (joined Or a b) group
+either_stands link a b group k None None e i h g m = record {
   counts = bare_within _ (omega arith) (bare_either h.counts g.counts);
   reads_are = λ p n. ap₂ either (h.reads_are p n ∙ or_no _) (g.reads_are p n) ∙ sym (either_assoc (reads link (formula link a) p n) (reads link (formula link b) p n) _);
 }
-either_stands link a (qualified q v) group k (Some more) e h g m =
+either_stands link a (qualified q v) group k None (Some new) e i h g m =
+    let t = taken link q v no_group new kept_none i in
+    let f = m new t.kept in
+    or_stands link (grouped_formula link new a) (joined Or a (qualified q v)) group k
+    (record { nodes_are = omega (arith, f.nodes_are); words_are = omega (arith, f.words_are); searches = f.searches; tests_fit = omega (arith, f.tests_fit, t.tests_fit) })
+    (λ p n. f.reads_are p n ∙ ap (either (reads link (formula link a) p n)) (t.reads_are p n ∙ or_no _))
+either_stands link a _ group k None (Some new) e i h g m = cc
+either_stands link a (qualified q v) group k (Some more) p e i h g m =
     let t = taken link q v group more k e in
     let f = m more t.kept in
     record {
       counts = record { nodes_are = omega (arith, f.nodes_are); words_are = omega (arith, f.words_are); searches = f.searches; tests_fit = omega (arith, f.tests_fit, t.tests_fit) };
       reads_are = λ p n. f.reads_are p n ∙ ap (either (reads link (formula link a) p n)) (t.reads_are p n) ∙ sym (either_assoc (reads link (formula link a) p n) (reads link (qualified_formula link q v) p n) _);
     }
-either_stands link a _ group k (Some more) e h g m = cc
+either_stands link a _ group k (Some more) p e i h g m = cc
 
 -- members that are looked for together change neither the reading nor what is counted
 pub grouped_stands : (link : Link) (a : TruthTree) (group : Group) → Kept group → any_primitive is_unfilled a ≡ false → Stands link (grouped_formula link group a) a group
@@ -494,4 +567,4 @@ grouped_stands link (joined And a b) group k u =
     let g = grouped_stands link b no_group kept_none parts.1 in
     or_stands link (Both (grouped_formula link no_group a) (grouped_formula link no_group b)) (joined And a b) group k (bare_within _ (omega arith) (bare_both h.counts g.counts)) (λ p n. ap₂ both (h.reads_are p n ∙ or_no _) (g.reads_are p n ∙ or_no _))
 grouped_stands link (joined Or a b) group k u =
-    either_stands link a b group k (truth_member b group) refl (grouped_stands link a no_group kept_none (or_parts _ _ u).0) (grouped_stands link b group k (or_parts _ _ u).1) (λ more j. grouped_stands link a more j (or_parts _ _ u).0)
+    either_stands link a b group k (truth_member b group) (truth_member b no_group) refl refl (grouped_stands link a no_group kept_none (or_parts _ _ u).0) (grouped_stands link b group k (or_parts _ _ u).1) (λ more j. grouped_stands link a more j (or_parts _ _ u).0)

@@ -26,4 +26,5 @@ pub mod Masks
 pub mod Flushed
 pub mod Whole
 pub mod Deciding
+pub mod EitherSide
 pub mod Decision

@@ -2,6 +2,7 @@
 use Rattle.flt_gen.proofs.Common.{◌+◌, if◌then◌else◌, ◌≡◌, ℕ, List, [], ◌∷◌, Bool, true, false, Option, Some, None, refl, sym, ap, ◌∙◌, Insn, And, Or, Comparison, CompleteQualifiers, Value, Node, Apply, Literal, Not, Constant, IndexRegister, Operator, formula, Group, no_group, larger_group, truth_member, choice, or_any, or_group, group_formula, grouped_formula, NumberTree, literal, len, named, load, negated, applied, TruthTree, qualified, compared, denied, joined, Expression, empty, truth, number_onto, truth_onto, expr_onto, Link, Entry, protocols_of, relation_formula, qualified_needed, accessor_tests, Elementary, Protocol, plain, computation, takes_constant, emit_comparison, emit_operands, emit_right, emit_number, Block, emit_elementary, emit_formula, emit_all, emit_accessor_tests, expression_code, Walk, targets, finish_truth, finish_number, with_insns, finish_formula, flush_members, flush_group, emit_value, emit_truth_node, emit_node, or_walk, start_walk, emit_nodes}
 use Rattle.flt_ast.specs.declared.node.Node.TheVariants.{Compare}
 use Rattle.flt_gen.specs.Formula.{Formula, Both, Either, Except, Compare as compare, guarded_formula, checked_formula}
+use Rattle.flt_gen.specs.inside.Walk.{others, emit_apart}
 use Rattle.flt_gen.specs.declared.{code.Targets.Targets, waiting.LeftTruth.LeftTruth, waiting.Pending.Pending}
 
 guarded_emitted : (link : Link) (ts : List Elementary) (f : Formula) (hit miss : ℕ) (c : List Insn) → emit_formula link (guarded_formula ts f) hit miss c ≡ (let e = emit_formula link f hit miss c in emit_all ts e.entry miss e.code)
@@ -88,17 +89,24 @@ member_waits : (link : Link) (b : TruthTree) (c : List Insn) (to : Targets) (ts 
 member_waits link (qualified q v) c to ts group more d e = ap (λ o. emit_nodes link (emit_value link q v (after_or c to ts group) o) d) e
 member_waits link _ c to ts group more d e = cc
 
+-- the group that waited is empty then
+flushed_group : (link : Link) (w : Walk) (bs : List Entry) → (flush_members link w bs).group ≡ no_group
+flushed_group link w [] = refl
+flushed_group link w (b ∷ bs) = refl
+
 -- any other right operand is on its own, and the left one waits for it
 abbrev left_after_or : Targets → LeftTruth
 left_after_or to = record { join = Or; to = to }
 
-right_begins : (link : Link) (b : TruthTree) (c : List Insn) (to : Targets) (ts : List LeftTruth) (group : Group) (d : List Node) → truth_member b group ≡ None → emit_nodes link (after_or c to ts group) (truth_onto b d) ≡ emit_nodes link (waiting c to (left_after_or to ∷ ts) group) (truth_onto b d)
-right_begins link (qualified q v) c to ts group d e =
-    ap (λ o. emit_nodes link (emit_value link q v (after_or c to ts group) o) d) e ∙ sym (ap (λ o. emit_nodes link (emit_value link q v (waiting c to (left_after_or to ∷ ts) group) o) d) e)
-right_begins link (compared k a b) c to ts group d e =
+right_begins : (link : Link) (b : TruthTree) (c : List Insn) (to : Targets) (ts : List LeftTruth) (group : Group) (d : List Node) → truth_member b group ≡ None → truth_member b no_group ≡ None → emit_nodes link (after_or c to ts group) (truth_onto b d) ≡ emit_nodes link (waiting c to (left_after_or to ∷ ts) group) (truth_onto b d)
+right_begins link (qualified q v) c to ts group d e alone =
+    ap (λ o. emit_nodes link (emit_value link q v (after_or c to ts group) o) d) e
+    ∙ ap (λ o. emit_nodes link (emit_apart link q v (flush_group link (after_or c to ts group)) Pending.Or o) d) (ap (larger_group q v) (flushed_group link (waiting c to (left_after_or to ∷ ts) group) group.entries) ∙ alone)
+    ∙ sym (ap (λ o. emit_nodes link (emit_value link q v (waiting c to (left_after_or to ∷ ts) group) o) d) e)
+right_begins link (compared k a b) c to ts group d e alone =
     compare_walked link k b (after_or c to ts group) (number_onto a d) ∙ sym (compare_walked link k b (waiting c to (left_after_or to ∷ ts) group) (number_onto a d))
-right_begins link (joined And a b) c to ts group d e = refl
-right_begins link _ c to ts group d e = refl
+right_begins link (joined And a b) c to ts group d e alone = refl
+right_begins link _ c to ts group d e alone = refl
 
 abbrev Walks : Link → TruthTree → Group → Type 0
 Walks link a group =
@@ -119,11 +127,29 @@ settled_both link a b ha hb c to ts group d [] = both_walked link a b ha hb c to
 settled_both link a b ha hb c to ts group d (x ∷ xs) =
     let e = emit_formula link (group_formula link group) to.yes to.no c in both_walked link a b ha hb e.code (targets to.yes e.entry) ts d
 
-either_walked : (link : Link) (a b : TruthTree) (group : Group) (o : Option Group) → truth_member b group ≡ o → Walks link a no_group → ((more : Group) → Walks link a more) → Walks link b group → (c : List Insn) (to : Targets) (ts : List LeftTruth) (d : List Node) → emit_nodes link (after_or c to ts group) (truth_onto b (truth_onto a d)) ≡ emit_nodes link (emit_of link (choice o (λ more. grouped_formula link more a) (Either (grouped_formula link no_group a) (grouped_formula link group b))) c to ts) d
-either_walked link a b group None e ha hm hb c to ts d =
+-- a right operand that goes with no group after it begins another one
+new_begun : (link : Link) (a : TruthTree) (new : Group) → Walks link a new → (c : List Insn) (to : Targets) (ts : List LeftTruth) (group : Group) (d : List Node) (bs : List Entry) → emit_nodes link (record (flush_members link (waiting c to (left_after_or to ∷ ts) group) bs) { truths = ts; group = new }) (truth_onto a d) ≡ emit_nodes link (emit_of link (or_any (grouped_formula link new a) (group_formula link group) bs) c to ts) d
+new_begun link a new h c to ts group d [] = h c to ts d
+new_begun link a new h c to ts group d (b ∷ bs) =
+    let e = emit_formula link (group_formula link group) to.yes to.no c in h e.code (targets to.yes e.entry) ts d
+
+new_waits : (link : Link) (b : TruthTree) (c : List Insn) (to : Targets) (ts : List LeftTruth) (group new : Group) (d : List Node) → truth_member b group ≡ None → truth_member b no_group ≡ Some new → emit_nodes link (after_or c to ts group) (truth_onto b d) ≡ emit_nodes link (record (flush_members link (waiting c to (left_after_or to ∷ ts) group) group.entries) { truths = ts; group = new }) d
+new_waits link (qualified q v) c to ts group new d e begun =
+    ap (λ o. emit_nodes link (emit_value link q v (after_or c to ts group) o) d) e
+    ∙ ap (λ o. emit_nodes link (emit_apart link q v (flush_group link (after_or c to ts group)) Pending.Or o) d) (ap (larger_group q v) (flushed_group link (waiting c to (left_after_or to ∷ ts) group) group.entries) ∙ begun)
+    ∙ same group.entries
+  where
+    same : (bs : List Entry) → (let v = flush_members link (waiting c to (left_after_or to ∷ ts) group) bs in emit_nodes link (record v { truths = others v.truths; group = new }) d ≡ emit_nodes link (record v { truths = ts; group = new }) d)
+    same [] = refl
+    same (x ∷ xs) = refl
+new_waits link _ c to ts group new d e begun = cc
+
+either_walked : (link : Link) (a b : TruthTree) (group : Group) (o p : Option Group) → truth_member b group ≡ o → truth_member b no_group ≡ p → Walks link a no_group → ((more : Group) → Walks link a more) → Walks link b group → (c : List Insn) (to : Targets) (ts : List LeftTruth) (d : List Node) → emit_nodes link (after_or c to ts group) (truth_onto b (truth_onto a d)) ≡ emit_nodes link (emit_of link (choice o (λ more. grouped_formula link more a) (choice p (λ new. or_group link (grouped_formula link new a) group) (Either (grouped_formula link no_group a) (grouped_formula link group b)))) c to ts) d
+either_walked link a b group None None e f ha hm hb c to ts d =
     let x = emit_formula link (grouped_formula link group b) to.yes to.no c in
-    right_begins link b c to ts group (truth_onto a d) e ∙ hb c to (left_after_or to ∷ ts) (truth_onto a d) ∙ ha x.code (targets to.yes x.entry) ts d
-either_walked link a b group (Some more) e ha hm hb c to ts d = member_waits link b c to ts group more (truth_onto a d) e ∙ hm more c to ts d
+    right_begins link b c to ts group (truth_onto a d) e f ∙ hb c to (left_after_or to ∷ ts) (truth_onto a d) ∙ ha x.code (targets to.yes x.entry) ts d
+either_walked link a b group None (Some new) e f ha hm hb c to ts d = new_waits link b c to ts group new (truth_onto a d) e f ∙ new_begun link a new (hm new) c to ts group d group.entries
+either_walked link a b group (Some more) p e f ha hm hb c to ts d = member_waits link b c to ts group more (truth_onto a d) e ∙ hm more c to ts d
 
 truth_walked : (link : Link) (a : TruthTree) (group : Group) → Walks link a group
 truth_walked link (qualified q v) group = λ c to ts d. ap (λ w. emit_nodes link w d) (value_walked link q v c to ts group (larger_group q v group))
@@ -132,7 +158,7 @@ truth_walked link (denied a) group = λ c to ts d. denied_walked link a (truth_w
 truth_walked link (joined And a b) group =
     λ c to ts d. settled_both link a b (truth_walked link a no_group) (truth_walked link b no_group) c to ts group d group.entries
 truth_walked link (joined Or a b) group =
-    λ c to ts d. either_walked link a b group (truth_member b group) refl (truth_walked link a no_group) (λ more. truth_walked link a more) (truth_walked link b group) c to ts d
+    λ c to ts d. either_walked link a b group (truth_member b group) (truth_member b no_group) refl refl (truth_walked link a no_group) (λ more. truth_walked link a more) (truth_walked link b group) c to ts d
 truth_walked link a group = λ c to ts d. ap (λ w. emit_nodes link w d) (leaf_put link (formula link a) c to ts group group.entries)
 
 -- the walk over a whole expression ends with its code, entered where both targets are

@@ -108,7 +108,7 @@ pub fn ip6_test(prefix: Option<u32>, address: u128, at: u32, word: u32) -> Eleme
 
 /// The tests of all four words of the IPv6 address that begins at a place, as `ip6_test` makes
 /// them.
-fn ip6_tests(prefix: Option<u32>, address: u128, at: u32) -> [Elementary; 4]
+pub fn ip6_tests(prefix: Option<u32>, address: u128, at: u32) -> [Elementary; 4]
     requires { at ≤ longest_header + 24 }
     ensures { result ≡ ip6_tests prefix address at }
 {

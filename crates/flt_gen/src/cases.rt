@@ -1,16 +1,18 @@
 //! Lists of MAC addresses, of addresses and networks of IPv6, and of protocol numbers, each on one
 //! side, as decision trees: the first words of the values are compared by halves, and then the next
 //! words of those that are left. Each test loads its word; `flt_short` leaves out the loads of what
-//! is in A.
+//! is in A. Hosts of IPv6 on either side are a tree for each side, if they differ only in the last
+//! word.
 
 ghost use Rattle.std.specs.Prelude.{◌≡◌, drop, OnOk};
 ghost use Rattle.flt_gen.specs.inside.Cases.{case_of, same_words, key_of, insert_case, case_frame};
 ghost use Rattle.flt_gen.specs.inside.Cases.{case_tests, lowest, reach, word_test, keeps, all_keep};
 ghost use Rattle.flt_gen.specs.inside.Cases.{test_at, from_test, middle, is_parted, chain};
 ghost use Rattle.flt_gen.specs.inside.{Emits.Emits, Code.emit_all, Code.emit_formula};
-ghost use Rattle.flt_gen.specs.inside.Cases.{decision, cases_formula};
+ghost use Rattle.flt_gen.specs.inside.Cases.{decision, cases_formula, either_ip6, sides_decision};
+ghost use Rattle.flt_gen.specs.inside.Emits.{EmitsFormula};
 
-use crate::address::ip6_test;
+use crate::address::{ip6_test, ip6_tests};
 use crate::code::{Code, Targets};
 use crate::elementary::{
     Elementary, FieldTest, FrameKind, has_ip_proto, has_ip6_proto, kind_test, network_offset,
@@ -18,7 +20,7 @@ use crate::elementary::{
 use crate::protocol::mac_tests;
 use cap_octet::Link;
 use flt_ast::{CompleteQualifiers, Direction, Value};
-use flt_words::{Comparison, Protocol, Side, ValueType};
+use flt_words::{Comparison, Join, Protocol, Side, ValueType};
 use std::alloc::{AllocError, Allocator};
 
 /// How many cases are compared one after the other, since a test more would part them.
@@ -27,12 +29,17 @@ const FEW_CASES: usize = 2;
 /// How often cases are halved, or all have the same word, at most.
 const MOST_DECISIONS: usize = 64;
 
+/// An address of IPv6 divided by this is all of its words but the last.
+const LAST_WORD: u128 = 0x1_0000_0000;
+
 /// A value that is compared word by word.
 #[derive(Clone, Copy)]
 pub enum Case {
     Mac(u64),
     /// An address of IPv6, with the length of its prefix where not all of its bits count.
     Ip6(Option<u32>, u128),
+    /// An address of IPv6 that may be the source or the destination.
+    EitherIp6(u128),
     IpProto(u32),
     Ip6Proto(u32),
 }
@@ -45,8 +52,8 @@ enum Bound {
     Exactly(u32),
 }
 
-/// A value with its qualifiers as a case: an address of one side, or a protocol of IPv4 or of IPv6.
-/// `None` for any other.
+/// A value with its qualifiers as a case: an address of one side, a host of IPv6 on either side, or
+/// a protocol of IPv4 or of IPv6. `None` for any other.
 pub fn case_of(qualifiers: CompleteQualifiers, value: Value) -> Option<Case>
     ensures { result
         ≡ case_of qualifiers.value_type qualifiers.protocol qualifiers.direction value }
@@ -55,6 +62,9 @@ pub fn case_of(qualifiers: CompleteQualifiers, value: Value) -> Option<Case>
         (ValueType::Host, Direction::One(_), Value::Mac(address)) => Some(Case::Mac(address)),
         (ValueType::Host, Direction::One(_), Value::Ip6(address, _)) => {
             Some(Case::Ip6(None, address))
+        }
+        (ValueType::Host, Direction::Both(Join::Or), Value::Ip6(address, _)) => {
+            Some(Case::EitherIp6(address))
         }
         (ValueType::Net, Direction::One(_), Value::Ip6(address, prefix)) => {
             Some(Case::Ip6(prefix, address))
@@ -68,7 +78,8 @@ pub fn case_of(qualifiers: CompleteQualifiers, value: Value) -> Option<Case>
     }
 }
 
-/// Whether both are compared in the same words.
+/// Whether both are compared in the same words, which for either side have to differ only in the
+/// last.
 pub fn same_words(one: Case, other: Case) -> bool
     ensures { result ≡ same_words one other }
 {
@@ -77,17 +88,18 @@ pub fn same_words(one: Case, other: Case) -> bool
         | (Case::Ip6(_, _), Case::Ip6(_, _))
         | (Case::IpProto(_), Case::IpProto(_))
         | (Case::Ip6Proto(_), Case::Ip6Proto(_)) => true,
+        (Case::EitherIp6(one), Case::EitherIp6(other)) => one / LAST_WORD == other / LAST_WORD,
         _ => false,
     }
 }
 
 /// The number by which cases ascend.
-fn key_of(case: Case) -> u128
+pub fn key_of(case: Case) -> u128
     ensures { result ≡ key_of case }
 {
     match case {
         Case::Mac(address) => address.into(),
-        Case::Ip6(_, address) => address,
+        Case::Ip6(_, address) | Case::EitherIp6(address) => address,
         Case::IpProto(number) | Case::Ip6Proto(number) => number.into(),
     }
 }
@@ -108,7 +120,7 @@ fn case_frame(case: Case) -> FrameKind
 {
     match case {
         Case::Mac(_) => FrameKind::Ethernet,
-        Case::Ip6(_, _) | Case::Ip6Proto(_) => FrameKind::Ip6,
+        Case::Ip6(_, _) | Case::EitherIp6(_) | Case::Ip6Proto(_) => FrameKind::Ip6,
         Case::IpProto(_) => FrameKind::Ip,
     }
 }
@@ -128,6 +140,10 @@ fn word_test(link: Link, direction: Direction, case: Case, word: usize) -> Optio
             // The addresses stand at bytes 8 and 24 of the header (RFC 8200, section 3).
             let at = network_offset(link) + if is_source { 8 } else { 24 };
             Some(ip6_test(prefix, address, at, word as u32))
+        }
+        (Case::EitherIp6(address), 0..=3) => {
+            let at = network_offset(link) + if is_source { 8 } else { 24 };
+            Some(ip6_test(None, address, at, word as u32))
         }
         (Case::IpProto(number), 0) => Some(has_ip_proto(link, number)),
         (Case::Ip6Proto(number), 0) => Some(has_ip6_proto(link, number)),
@@ -316,22 +332,81 @@ impl<A: Allocator> Code<A> {
         self.emit_elementary(from_test(test, number), Targets { yes, no })
     }
 
-    /// Emits cases that look for a value, in the frames in which they may be. Returns the place
-    /// where the code begins.
+    /// Emits whether either side is one of some hosts of IPv6 that differ only in the last word; the
+    /// first in the expression is `address`. If the source is another one, the words of the
+    /// destination are asked for, as a test of the first one would: the packet is rejected if
+    /// one of them isn't captured.
+    fn emit_either_ip6(
+        &mut self,
+        link: Link,
+        address: u128,
+        cases: &[Case],
+        to: Targets,
+    ) -> Result<usize, AllocError>
+        ensures { EmitsFormula link (either_ip6 link address cases.now) to self.old result self.new }
+    {
+        let start = network_offset(link);
+        let source = ip6_tests(None, address, start + 8);
+        let destination = ip6_tests(None, address, start + 24);
+        let (yes, no) = (to.yes, to.no);
+        let side = Direction::One(Side::Destination);
+        let found = self.emit_decision(MOST_DECISIONS, link, side, 3, cases, to)?;
+        let other = self.emit_all(&destination[..3], Targets { yes: found, no })?;
+        let asked = self.emit_all(&destination, Targets { yes, no: yes })?;
+        let first = self.emit_all(&source[3..], Targets { yes, no: asked })?;
+        let to = Targets {
+            yes: first,
+            no: other,
+        };
+        let side = Direction::One(Side::Source);
+        let found = self.emit_decision(MOST_DECISIONS, link, side, 3, cases, to)?;
+        self.emit_all(
+            &source[..3],
+            Targets {
+                yes: found,
+                no: other,
+            },
+        )
+    }
+
+    /// Emits cases with the words of one; `key` is that of the first in the expression.
+    fn emit_cases_like(
+        &mut self,
+        link: Link,
+        direction: Direction,
+        key: u128,
+        one: Case,
+        cases: &[Case],
+        to: Targets,
+    ) -> Result<usize, AllocError>
+        ensures { EmitsFormula link (sides_decision link direction key one cases.now) to self.old
+            result self.new }
+    {
+        match one {
+            Case::EitherIp6(_) => self.emit_either_ip6(link, key, cases, to),
+            Case::Mac(_) | Case::Ip6(_, _) | Case::IpProto(_) | Case::Ip6Proto(_) => {
+                self.emit_decision(MOST_DECISIONS, link, direction, 0, cases, to)
+            }
+        }
+    }
+
+    /// Emits cases that look for a value, in the frames in which they may be; `key` is that of the
+    /// first in the expression. Returns the place where the code begins.
     pub fn emit_cases(
         &mut self,
         link: Link,
         direction: Direction,
+        key: u128,
         cases: &[Case],
         to: Targets,
     ) -> Result<usize, AllocError>
-        ensures { Emits result (emit_formula link (cases_formula link direction cases.now)
-            to.yes to.no self.old) self.new }
+        ensures { EmitsFormula link (cases_formula link direction key cases.now) to self.old result
+            self.new }
     {
         let [first, ..] = cases else {
             return Ok(to.no);
         };
-        let yes = self.emit_decision(MOST_DECISIONS, link, direction, 0, cases, to)?;
+        let yes = self.emit_cases_like(link, direction, key, *first, cases, to)?;
         self.emit_elementary(
             kind_test(link, case_frame(*first)),
             Targets { yes, no: to.no },

@@ -12,7 +12,7 @@ ghost use Rattle.flt_gen.specs.inside.Intervals.{insert_ascending};
 ghost use Rattle.flt_gen.specs.inside.Group.{has_networks, case_goes_with, with_case};
 
 use crate::address::Hosts;
-use crate::cases::{Case, case_of, put_case, same_words};
+use crate::cases::{Case, case_of, key_of, put_case, same_words};
 use crate::code::{Code, Targets};
 use crate::elementary::Interval;
 use crate::intervals::{Numbers, Room};
@@ -55,6 +55,8 @@ pub struct Group<A: Allocator> {
     all: Vec<Interval, A>,
     /// The members that are compared word by word, which ascend; the others have numbers.
     cases: Vec<Case, A>,
+    /// The number by which the value that stands first ascends among them.
+    first_key: u128,
     /// The members, of which the first in the expression is the latest.
     entries: Stack<Entry, A>,
     room: Room<A>,
@@ -71,6 +73,7 @@ impl<A: Allocator> Model for Group<A> {
       first = g.first;
       all = g.all.items;
       cases = g.cases.items;
+      first_key = g.first_key;
       entries = g.entries;
     } };
 }
@@ -190,6 +193,7 @@ impl<A: Allocator> Group<A> {
         self.first = Interval { low: 0, high: 0 };
         self.all.clear();
         self.cases.clear();
+        self.first_key = 0;
         self.entries.clear();
     }
 
@@ -251,6 +255,7 @@ impl<A: Allocator> Group<A> {
         put_case(&mut self.cases, case)?;
         self.entries.push(Entry { qualifiers, value })?;
         self.qualifiers = qualifiers;
+        self.first_key = key_of(case);
         Ok(true)
     }
 
@@ -306,7 +311,8 @@ impl<A: Allocator> Group<A> {
             return code.emit_rows(link, self.entries.entries(), to);
         }
         if !self.cases.is_empty() {
-            return code.emit_cases(link, self.qualifiers.direction, &self.cases, to);
+            let direction = self.qualifiers.direction;
+            return code.emit_cases(link, direction, self.first_key, &self.cases, to);
         }
         let has_networks = self.has_networks();
         let numbers = self.room.numbers(has_networks, self.first, &self.all)?;
@@ -374,6 +380,7 @@ impl<A: Allocator + Clone> Group<A> {
             first: Interval { low: 0, high: 0 },
             all: Vec::new(alloc.clone()?),
             cases: Vec::new(alloc.clone()?),
+            first_key: 0,
             entries: Stack::new(alloc.clone()?),
             room: Room::new(alloc)?,
         })

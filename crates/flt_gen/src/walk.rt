@@ -23,10 +23,10 @@ ghost use Rattle.std.specs.Prelude.{◌≡◌, true, Some, None, if◌then◌els
 ghost use Rattle.flt_gen.specs.inside.Walk.{start_walk, insns_of, emit_nodes, emit_both_nodes};
 ghost use Rattle.flt_gen.specs.inside.Walk.{emit_load_at, emit_operator_with, emit_comparison_with};
 ghost use Rattle.flt_gen.specs.inside.Walk.{emit_node, emit_join, emit_value, emit_truth_node};
-ghost use Rattle.flt_gen.specs.inside.Walk.{is_truth_node, begin_right, flush_group};
+ghost use Rattle.flt_gen.specs.inside.Walk.{emit_apart, is_truth_node, begin_right, flush_group};
 ghost use Rattle.flt_gen.specs.inside.Walk.{finish_formula, finish_truth, is_number_node};
 ghost use Rattle.flt_gen.specs.inside.Walk.{emit_leaf, begin_operands, finish_number};
-ghost use Rattle.flt_gen.specs.inside.{Code.block, Walk.finish_relation};
+ghost use Rattle.flt_gen.specs.inside.{Code.block, Walk.finish_relation, Emitted.qualified_needed};
 ghost use Rattle.flt_gen.specs.inside.Group.{no_group, larger_group, group_formula};
 ghost use Rattle.cap_octet.specs.declared.link.Link.{Link};
 
@@ -240,7 +240,8 @@ impl<A: Allocator + Clone> Walk<A> {
 
     /// Emits a value with all its qualifiers. A host or port that goes with the group of those
     /// after it joins it: as the right operand of an `or` it waits there for one more; else the
-    /// group is emitted. Any other value is emitted by itself, after the group that waits.
+    /// group is emitted. Any other value comes after the group that waits: as the right operand
+    /// of an `or` it begins a new group if it may be a member, and else it is emitted by itself.
     fn emit_value(
         &mut self,
         link: Link,
@@ -257,7 +258,45 @@ impl<A: Allocator + Clone> Walk<A> {
             }
             return self.emit_group(link);
         }
+        let pending = self.pending;
         self.flush_group(link)?;
+        self.emit_apart(link, pending, qualifiers, value)
+    }
+
+    /// Emits a value that doesn't go with the group after it, whose code is emitted by now.
+    fn emit_apart(
+        &mut self,
+        link: Link,
+        pending: Pending,
+        qualifiers: CompleteQualifiers,
+        value: Value,
+    ) -> Result<(), AllocError>
+        ensures { OnOk result (self.new ≡ emit_apart link qualifiers value self.old pending
+            (larger_group qualifiers value self.old.group)) }
+    {
+        match pending {
+            Pending::Nothing => self.emit_alone(link, qualifiers, value),
+            Pending::Or => {
+                if !self.group.add(qualifiers, value)? {
+                    return self.emit_alone(link, qualifiers, value);
+                }
+                // The left operand, which `flush_group` made wait, may be a member too.
+                self.truths.pop();
+                Ok(())
+            }
+        }
+    }
+
+    /// Emits a value by itself.
+    fn emit_alone(
+        &mut self,
+        link: Link,
+        qualifiers: CompleteQualifiers,
+        value: Value,
+    ) -> Result<(), AllocError>
+        ensures { OnOk result (self.new ≡ finish_formula link
+            (qualified_needed link qualifiers value) self.old) }
+    {
         let entry = self.code.emit_value(link, qualifiers, value, self.to)?;
         self.finish_truth(entry);
         Ok(())

@@ -1,9 +1,11 @@
 -- Lists of MAC addresses, of addresses and networks of IPv6, and of protocol numbers, as decision
 -- trees: the first words are compared by halves, and then the next words of those that are left.
+-- Hosts of IPv6 on either side that differ only in the last word are a tree for each side.
 use Rattle.std.specs.List.{list_all, insert}
 use Rattle.std.specs.Prelude.{ℕ, zero, suc, ◌+◌, ◌-◌, ◌/◌, ◌^◌, ◌==◌, ◌&&◌, nat_lt, nat_le, Bool, true, false, if◌then◌else◌, List, [], ◌∷◌, length, take, drop, slice_get, count_by, Option, Some, None}
 use Rattle.flt_words.specs.declared.token.{Comparison.TheVariants.AtLeast, Protocol.Protocol}
-use Rattle.flt_words.specs.declared.token.{Side.TheVariants.Source, ValueType.ValueType}
+use Rattle.flt_words.specs.declared.token.{Join.TheVariants.Or, ValueType.ValueType}
+use Rattle.flt_words.specs.declared.token.Side.TheVariants.{Source, Destination}
 use Rattle.flt_words.specs.declared.token.ValueType.TheVariants.{Host, Net, Proto}
 use Rattle.flt_ast.specs.declared.{qualifiers.Direction.Direction, value.Value.Value}
 use Rattle.cap_octet.specs.{Link.network_offset, declared.link.Link.Link}
@@ -13,32 +15,36 @@ use Rattle.flt_gen.specs.Primitives.{mac_tests, ip6_tests, after}
 use Rattle.flt_gen.specs.declared.cases.Bound.{Bound}
 use Rattle.flt_gen.specs.declared.cases.Bound.TheVariants.{Below, From, Exactly}
 use Rattle.flt_gen.specs.declared.cases.Case.{Case}
-use Rattle.flt_gen.specs.declared.cases.Case.TheVariants.{Mac, Ip6, IpProto, Ip6Proto}
+use Rattle.flt_gen.specs.declared.cases.Case.TheVariants.{Mac, Ip6, EitherIp6, IpProto, Ip6Proto}
 use Rattle.flt_gen.specs.declared.elementary.Elementary.{Elementary}
 use Rattle.flt_gen.specs.declared.elementary.Elementary.TheVariants.{Outcome, Field}
 use Rattle.flt_gen.specs.declared.elementary.FrameKind.{FrameKind}
 
--- a value as a case, or none: an address of one side, or a protocol of IPv4 or of IPv6
+-- a value as a case, or none: an address of one side, a host of IPv6 on either side, or a protocol of
+-- IPv4 or of IPv6
 abbrev pub case_of : ValueType → Option Protocol → Direction → Value → Option Case
 case_of Host p (Direction.One s) (Value.Mac a) = Some (Mac a)
 case_of Host p (Direction.One s) (Value.Ip6 a n) = Some (Ip6 None a)
+case_of Host p (Direction.Both Or) (Value.Ip6 a n) = Some (EitherIp6 a)
 case_of Net p (Direction.One s) (Value.Ip6 a n) = Some (Ip6 n a)
 case_of Proto (Some Protocol.Ip) d (Value.Number n m) = Some (IpProto n)
 case_of Proto (Some Protocol.Ip6) d (Value.Number n m) = Some (Ip6Proto n)
 case_of _ _ _ _ = None
 
--- both are compared in the same words
+-- both are compared in the same words, which for either side have to differ only in the last
 abbrev pub same_words : Case → Case → Bool
 same_words (Mac a) (Mac b) = true
 same_words (Ip6 m a) (Ip6 n b) = true
 same_words (IpProto a) (IpProto b) = true
 same_words (Ip6Proto a) (Ip6Proto b) = true
+same_words (EitherIp6 a) (EitherIp6 b) = a / 2 ^ 32 == b / 2 ^ 32
 same_words _ _ = false
 
 -- the number by which cases ascend
 abbrev pub key_of : Case → ℕ
 key_of (Mac a) = a
 key_of (Ip6 n a) = a
+key_of (EitherIp6 a) = a
 key_of (IpProto n) = n
 key_of (Ip6Proto n) = n
 
@@ -50,6 +56,7 @@ insert_case c cs = insert cs (count_by (λ d. nat_lt (key_of d) (key_of c)) cs) 
 abbrev pub case_frame : Case → FrameKind
 case_frame (Mac a) = FrameKind.Ethernet
 case_frame (Ip6 n a) = FrameKind.Ip6
+case_frame (EitherIp6 a) = FrameKind.Ip6
 case_frame (IpProto n) = FrameKind.Ip
 case_frame (Ip6Proto n) = FrameKind.Ip6
 
@@ -67,6 +74,7 @@ ip6_place _ = 24
 abbrev pub case_tests : Link → Direction → Case → List Elementary
 case_tests link d (Mac a) = mac_tests (mac_place d) a
 case_tests link d (Ip6 n a) = ip6_tests n a (network_offset link + ip6_place d)
+case_tests link d (EitherIp6 a) = ip6_tests None a (network_offset link + ip6_place d)
 case_tests link d (IpProto n) = has_ip_proto link n ∷ []
 case_tests link d (Ip6Proto n) = has_ip6_proto link n ∷ []
 
@@ -164,8 +172,28 @@ decision (suc k) tests word cs = decided (decision k tests) tests word cs
 abbrev pub MOST_DECISIONS : ℕ
 MOST_DECISIONS = 64
 
+-- either side is one of some hosts of IPv6 that differ only in the last word. If the source is one of
+-- them, but not the first, each word of the destination has to be captured that a test of the first
+-- one reads
+abbrev pub either_ip6 : Link → ℕ → List Case → Formula
+either_ip6 link a cs =
+    let s = ip6_tests None a (network_offset link + 8) in
+    let d = ip6_tests None a (network_offset link + 24) in
+    let source = decision MOST_DECISIONS (case_tests link (Direction.One Source)) 3 cs in
+    let other = decision MOST_DECISIONS (case_tests link (Direction.One Destination)) 3 cs in
+    Either
+    (Both (all_of (take 3 s))
+    (Both source (Either (all_of (drop 3 s)) (Either (all_of d) (Single (Outcome true))))))
+    (Both (all_of (take 3 d)) other)
+
+-- the tests of cases with the words of one; the number is the one by which the first in the
+-- expression ascends
+abbrev pub sides_decision : Link → Direction → ℕ → Case → List Case → Formula
+sides_decision link d a (EitherIp6 b) cs = either_ip6 link a cs
+sides_decision link d a c cs = decision MOST_DECISIONS (case_tests link d) 0 cs
+
 -- cases with the same words, in the frames in which they may be
-abbrev pub cases_formula : Link → Direction → List Case → Formula
-cases_formula link d [] = Single (Outcome false)
-cases_formula link d (c ∷ cs) =
-    after (kind_test link (case_frame c)) (decision MOST_DECISIONS (case_tests link d) 0 (c ∷ cs))
+abbrev pub cases_formula : Link → Direction → ℕ → List Case → Formula
+cases_formula link d a [] = Single (Outcome false)
+cases_formula link d a (c ∷ cs) =
+    after (kind_test link (case_frame c)) (sides_decision link d a c (c ∷ cs))

@@ -19,19 +19,20 @@ use Rattle.flt_gen.specs.Primitives.{hosts_formula, port_test, port_formula}
 use Rattle.flt_gen.specs.{Reading.formula, declared.address.Hosts.Hosts, declared.cases.Case.Case}
 use Rattle.flt_gen.specs.declared.elementary.{Elementary.TheVariants.Outcome, Interval.Interval}
 use Rattle.flt_gen.specs.declared.{group.Entry.Entry, port.Ports.TheVariants.Several}
-use Rattle.flt_gen.specs.inside.Cases.{case_of, same_words, insert_case, cases_formula}
+use Rattle.flt_gen.specs.inside.Cases.{case_of, same_words, key_of, insert_case, cases_formula}
 use Rattle.flt_gen.specs.inside.Emitted.{relation_formula, qualified_needed}
 use Rattle.flt_gen.specs.inside.Intervals.{insert_ascending, sought}
 
 -- the qualifiers of the member that stands first, whether each member is one number, the numbers of
--- the first and of all, which ascend, or the members as cases, and the members, in the order of the
--- expression
+-- the first and of all, which ascend, or the members as cases and the number by which the first
+-- ascends, and the members, in the order of the expression
 pub record Group : Type 0 where
   pub qualifiers : CompleteQualifiers
   pub is_plain : Bool
   pub first : Interval
   pub all : List Interval
   pub cases : List Case
+  pub first_key : ℕ
   pub entries : List Entry
 
 -- a group without members; its qualifiers decide nothing
@@ -42,6 +43,7 @@ no_group = record {
   first = no_interval;
   all = [];
   cases = [];
+  first_key = 0;
   entries = [];
 }
 
@@ -66,6 +68,7 @@ with_member q v i group = record {
   first = i;
   all = insert_ascending i group.all;
   cases = group.cases;
+  first_key = group.first_key;
   entries = entry q v ∷ group.entries;
 }
 
@@ -74,6 +77,7 @@ abbrev pub with_case : CompleteQualifiers → Value → Case → Group → Group
 with_case q v c group = record group {
   qualifiers = q;
   cases = insert_case c group.cases;
+  first_key = key_of c;
   entries = entry q v ∷ group.entries;
 }
 
@@ -233,7 +237,8 @@ rows_formula link (e ∷ f ∷ es) =
 abbrev pub together_formula : Link → Group → List Case → Formula
 together_formula link group [] =
     several_formula link group.qualifiers group.qualifiers.value_type (numbers_of group)
-together_formula link group (c ∷ cs) = cases_formula link group.qualifiers.direction (c ∷ cs)
+together_formula link group (c ∷ cs) =
+    cases_formula link group.qualifiers.direction group.first_key (c ∷ cs)
 
 -- a packet has one of the members
 abbrev pub group_formula : Link → Group → Formula
@@ -261,11 +266,12 @@ choice None f g = g
 choice (Some group) f g = f group
 
 -- the formula of a truth, or else one of the group after it: the hosts or ports at its end are
--- looked for together with it
+-- looked for together with it, or with one another if they don't go with it
 abbrev pub grouped_formula : Link → Group → TruthTree → Formula
 grouped_formula link group (joined Or a b) =
     choice (truth_member b group) (λ more. grouped_formula link more a)
-    (Either (grouped_formula link no_group a) (grouped_formula link group b))
+    (choice (truth_member b no_group) (λ new. or_group link (grouped_formula link new a) group)
+    (Either (grouped_formula link no_group a) (grouped_formula link group b)))
 grouped_formula link group (joined And a b) =
     or_group link (Both (grouped_formula link no_group a) (grouped_formula link no_group b)) group
 grouped_formula link group (denied a) =

@@ -122,9 +122,18 @@ finish_group link w group Pending.Or = record w { group = group; pending = Pendi
 finish_group link w group Pending.Nothing =
     finish_formula link (group_formula link group) (record w { group = no_group })
 
--- a value with its qualifiers: a member of the group, if there is such a group, or else on its own
+-- a value after the group that waited: if it is the right operand of an or, it begins a group, if it
+-- may be a member, and its left operand, which waits by now, is next; else it is on its own
+abbrev pub emit_apart : Link → CompleteQualifiers → Value → Walk → Pending → Option Group → Walk
+emit_apart link q v w Pending.Or (Some group) =
+    record w { truths = others w.truths; group = group }
+emit_apart link q v w _ _ = finish_formula link (qualified_needed link q v) w
+
+-- a value with its qualifiers: a member of the group, if there is such a group, or else after it
 abbrev pub emit_value : Link → CompleteQualifiers → Value → Walk → Option Group → Walk
-emit_value link q v w None = finish_formula link (qualified_needed link q v) (flush_group link w)
+emit_value link q v w None =
+    let flushed = flush_group link w in
+    emit_apart link q v flushed w.pending (larger_group q v flushed.group)
 emit_value link q v w (Some group) = finish_group link w group w.pending
 
 -- `and` or `or`: its right operand is next. The left one of `and` waits; of `or` it waits only once

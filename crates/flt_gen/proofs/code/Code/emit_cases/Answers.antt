@@ -9,6 +9,6 @@ returns g c =
     let a = c.args in
     let r = c.emit_elementary in
     subst (λ (e : Block). Emits r.result e r.new.self)
-    (sym (ap (λ (x : Formula). emit_formula a.link x a.to.yes a.to.no a.self.now) (cases_put a.link a.direction a.cases.now _ c.in-len1-up.len_at_least)
+    (sym (ap (λ (x : Formula). emit_formula a.link x a.to.yes a.to.no a.self.now) (cases_put a.link a.direction a.key a.cases.now _ c.in-len1-up.len_at_least)
     ∙ ap₂ (λ t (e : Block). emit_elementary t e.entry a.to.no e.code) (sym (c.kind_test.ensures ∙ ap (kind_test a.link) c.case_frame.ensures)) c.in_ok-yes.ensures))
     r.ensures

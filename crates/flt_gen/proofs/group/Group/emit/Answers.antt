@@ -19,7 +19,7 @@ returns g c =
     let a = c.args in
     let i = c.self.inside in
     let r = c.emit_several in
-    let group : Group = record { qualifiers = i.qualifiers; is_plain = i.is_plain; first = i.first; all = i.all.items; cases = i.cases.items; entries = i.entries } in
+    let group : Group = record { qualifiers = i.qualifiers; is_plain = i.is_plain; first = i.first; all = i.all.items; cases = i.cases.items; first_key = i.first_key; entries = i.entries } in
     let is : group ≡ a.self.now = c.self.view_is in
     let searched : is_searched a.self.now ≡ true = sym c.is_searched.ensures ∙ c.if-not-is_searched.false in
     let none : nat_eq (length i.cases.items) 0 ≡ true = search rules in

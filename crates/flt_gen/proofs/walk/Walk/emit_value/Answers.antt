@@ -1,35 +1,28 @@
--- A value that joins no group is emitted after the group.
-use Rattle.flt_gen.proofs.Common.{◌≡◌, Some, None, ◌∙◌, sym, ap, subst, if◌then◌else◌, qualified_needed, Block, Group, larger_group, Walk, emit_value, finish_truth, finish_formula, flush_group}
+-- A value that joins no group comes after the group.
+use Rattle.flt_gen.proofs.Common.{◌≡◌, Some, None, OnOk, ◌∙◌, sym, ap, subst, if◌then◌else◌, Group, larger_group, Walk, emit_value, flush_group}
+use Rattle.flt_gen.specs.inside.Walk.{emit_apart}
 use Rattle.flt_gen.proofs.walk.Walk.emit_value.Goals as goal
 
 pub returns : goal.returns
 returns g c =
     let a = c.args in
-    let f = qualified_needed a.link a.qualifiers a.value in
+    let i = c.self.inside in
     let walk : Group → Walk = λ h. record {
-      code = c.self.inside.code;
-      to = c.self.inside.to;
-      slot = c.self.inside.slot;
-      truths = c.self.inside.truths;
-      numbers = c.self.inside.numbers;
-      accessors = c.self.inside.accessors;
-      group = h;
-      pending = c.self.inside.pending;
-    } in
-    let kept : walk c.add.new.self ≡ a.self.now = ap walk (c.in_ok-add.ensures.same ∙ ap (λ t. if t then c.add.new.self else c.self.inside.group) c.if-branch.false) ∙ c.self.view_is in
-    let none = c.in_ok-add.ensures.taken ∙ ap (λ t. if t then Some c.add.new.self else None) c.if-branch.false in
-    let none_now = subst (λ (w : Walk). larger_group a.qualifiers a.value w.group ≡ None) c.self.view_is none in
-    let flushed : c.flush_group.new.self ≡ flush_group a.link a.self.now = c.in_ok-flush_group.ensures ∙ ap (flush_group a.link) kept in
-    let i = c.self-2.inside in
-    let inner : Walk = record {
       code = i.code;
       to = i.to;
       slot = i.slot;
       truths = i.truths;
       numbers = i.numbers;
       accessors = i.accessors;
-      group = i.group;
+      group = h;
       pending = i.pending;
     } in
-    c.finish_truth.ensures ∙ ap (λ (e : Block). finish_truth e inner) (sym c.in_ok-entry.ensures) ∙ ap (finish_formula a.link f) (c.self-2.view_is ∙ flushed)
-    ∙ ap (emit_value a.link a.qualifiers a.value a.self.now) (sym none_now)
+    let kept : walk c.add.new.self ≡ a.self.now = ap walk (c.in_ok-add.ensures.same ∙ ap (λ t. if t then c.add.new.self else i.group) c.if-branch.false) ∙ c.self.view_is in
+    let none = c.in_ok-add.ensures.taken ∙ ap (λ t. if t then Some c.add.new.self else None) c.if-branch.false in
+    let none_now = subst (λ (w : Walk). larger_group a.qualifiers a.value w.group ≡ None) c.self.view_is none in
+    let apart : Walk → Walk → Walk = λ w f. emit_apart a.link a.qualifiers a.value f w.pending (larger_group a.qualifiers a.value f.group) in
+    subst (λ (w : Walk). OnOk c.emit_apart.result (c.emit_apart.new.self ≡ w))
+    (ap (apart (walk i.group)) (c.in_ok-flush_group.ensures ∙ ap (flush_group a.link) kept)
+    ∙ ap (λ (w : Walk). apart w (flush_group a.link a.self.now)) c.self.view_is
+    ∙ ap (emit_value a.link a.qualifiers a.value a.self.now) (sym none_now))
+    c.emit_apart.ensures
