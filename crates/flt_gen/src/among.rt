@@ -80,13 +80,8 @@ impl<A: Allocator> Code<A> {
         if is_above {
             return Ok(self.top());
         }
-        let yes = self.top();
-        self.emit_branch(
-            Test::AtLeast,
-            Operand::Constant,
-            item.low,
-            Targets { yes, no: to.no },
-        )?;
+        let (yes, no) = (self.top(), to.no);
+        self.emit_branch(Test::AtLeast, Operand::Constant, item.low, Targets { yes, no })?;
         Ok(self.top())
     }
 
@@ -183,20 +178,10 @@ impl<A: Allocator> Code<A> {
         if !numbers.others.is_empty() {
             no = self.emit_side(at.source, width, mask, numbers.others, to)?;
         }
-        let no = self.emit_side(
-            at.destination,
-            width,
-            mask,
-            numbers.all,
-            Targets { yes, no },
-        )?;
-        self.emit_side(
-            at.source,
-            width,
-            mask,
-            &[numbers.first],
-            Targets { yes, no },
-        )
+        let to = Targets { yes, no };
+        let no = self.emit_side(at.destination, width, mask, numbers.all, to)?;
+        let to = Targets { yes, no };
+        self.emit_side(at.source, width, mask, &[numbers.first], to)
     }
 
     /// Emits the load into X of the number from which both sides are counted.

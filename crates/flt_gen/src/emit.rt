@@ -1,9 +1,10 @@
 //! Emits the code of elementary tests.
 
-ghost use Rattle.std.specs.Prelude.{◌≡◌, length, OnOk};
+ghost use Rattle.std.specs.Prelude.{◌≡◌, length, OnOk, if◌then◌else◌};
 ghost use Rattle.flt_gen.specs.inside.{Emits.Emits, Emits.EmitsFormula, Code.emit_field};
 ghost use Rattle.flt_gen.specs.inside.Code.{emit_mask, emit_comparison, emit_elementary, emit_all};
 ghost use Rattle.flt_gen.specs.{Formula.sides, Primitives.sized_formula};
+ghost use Rattle.flt_gen.specs.inside.Emitted.{needed_tests};
 ghost use Rattle.cap_octet.specs.declared.link.Link.{Link};
 
 use crate::code::{Code, Targets};
@@ -94,28 +95,49 @@ impl<A: Allocator> Code<A> {
         }
     }
 
-    /// Emits the tests of the source and of the destination, as a direction asks for them.
+    /// Emits tests that all have to hold: of words of an address (`are_words`) those that decide.
+    fn emit_tests(
+        &mut self,
+        are_words: bool,
+        tests: &[Elementary],
+        to: Targets,
+    ) -> Result<usize, AllocError>
+        ensures { Emits result (emit_all (if are_words then needed_tests tests.now else tests.now)
+            to.yes to.no self.old) self.new }
+    {
+        if are_words {
+            self.emit_words(tests, to)
+        } else {
+            self.emit_all(tests, to)
+        }
+    }
+
+    /// Emits the tests of the source and of the destination, as a direction asks for them. Of words
+    /// of addresses (`are_words`) only those that decide come.
     #[tactic(auto, using(crate::proofs::Decision::all_emitted))]
     pub fn emit_sides(
         &mut self,
         direction: Direction,
+        are_words: bool,
         source: &[Elementary],
         destination: &[Elementary],
         to: Targets,
     ) -> Result<usize, AllocError>
-        ensures { (link : Link) → EmitsFormula link (sides direction source.now destination.now) to
-            self.old result self.new }
+        ensures { (link : Link) → EmitsFormula link
+            (sides direction (if are_words then needed_tests source.now else source.now)
+            (if are_words then needed_tests destination.now else destination.now)) to self.old
+            result self.new }
     {
         match direction {
-            Direction::One(Side::Source) => self.emit_all(source, to),
-            Direction::One(Side::Destination) => self.emit_all(destination, to),
+            Direction::One(Side::Source) => self.emit_tests(are_words, source, to),
+            Direction::One(Side::Destination) => self.emit_tests(are_words, destination, to),
             Direction::Both(Join::And) => {
-                let yes = self.emit_all(destination, to)?;
-                self.emit_all(source, Targets { yes, no: to.no })
+                let yes = self.emit_tests(are_words, destination, to)?;
+                self.emit_tests(are_words, source, Targets { yes, no: to.no })
             }
             Direction::Both(Join::Or) => {
-                let no = self.emit_all(destination, to)?;
-                self.emit_all(source, Targets { yes: to.yes, no })
+                let no = self.emit_tests(are_words, destination, to)?;
+                self.emit_tests(are_words, source, Targets { yes: to.yes, no })
             }
         }
     }

@@ -87,8 +87,8 @@ fn emit_base<A: Allocator>(code: &mut Code<A>, at: u32, width: Width) -> Result<
     code.emit_plain(Operation::CopyToIndex, 0)
 }
 
-/// Emits A = the field A bytes past the IPv4 header: X = the header's length, A = A + X, X = A,
-/// then a load at X + the header's place.
+/// Emits A = the field A bytes past the IPv4 header: X = the header's length, A = A + X, then the
+/// field A bytes past the header's place.
 fn emit_transport<A: Allocator>(
     code: &mut Code<A>,
     link: Link,
@@ -97,8 +97,7 @@ fn emit_transport<A: Allocator>(
     ensures { OnOk result (code.new ≡ emit_transport link width code.old) }
 {
     let start = network_offset(link);
-    code.emit_plain(Operation::LoadIndirect(width), start)?;
-    code.emit_plain(Operation::CopyToIndex, 0)?;
+    emit_base(code, start, width)?;
     code.emit_plain(computation(Operator::Add, Operand::IndexRegister), 0)?;
     code.emit_plain(Operation::LoadHeaderLength, start)
 }
