@@ -5,9 +5,8 @@
 ghost use Rattle.std.specs.Prelude.{◌≡◌, ◌+◌, ◌≤◌};
 ghost use Rattle.cap_octet.specs.Link.{longest_header};
 ghost use Rattle.flt_gen.specs.Primitives.{partial_mask, net_test, address_test, address_places};
-ghost use Rattle.flt_gen.specs.inside.Emitted.{is_idle, last_test, needed_tests};
-ghost use Rattle.flt_gen.specs.inside.{Code.emit_all, Emitted.ip6_needed};
-ghost use Rattle.flt_gen.specs.inside.Emits.{Emits, EmitsFormula};
+ghost use Rattle.flt_gen.specs.inside.Emitted.{is_idle, last_test, ip6_needed};
+ghost use Rattle.flt_gen.specs.{inside.Emits.EmitsFormula};
 ghost use Rattle.flt_gen.specs.Primitives.{hosts_of_kind, hosts_formula, ip6_test, ip6_tests};
 
 use crate::code::{Code, Targets};
@@ -116,7 +115,7 @@ fn ip6_tests(prefix: Option<u32>, address: u128, at: u32) -> [Elementary; 4]
 
 /// Whether a test that `ip6_test` makes is of a word of which no bit counts, and compares it with
 /// 0, so that it is yes wherever the word is captured.
-fn is_idle(test: Elementary) -> bool
+pub fn is_idle(test: Elementary) -> bool
     ensures { result ≡ is_idle test }
 {
     match test {
@@ -127,7 +126,7 @@ fn is_idle(test: Elementary) -> bool
 
 /// The test of the last of some words. If no bit of it counts, it only asks whether the word is
 /// captured: every number is 0 at least.
-fn last_test(test: Elementary) -> Elementary
+pub fn last_test(test: Elementary) -> Elementary
     ensures { result ≡ last_test test }
 {
     match test {
@@ -194,24 +193,6 @@ impl<A: Allocator> Code<A> {
             }
         };
         self.emit_hosts_of_kind(link, kind, wanted, numbers, to)
-    }
-
-    /// Emits the tests of words that all have to hold, each after the one before. One of which no
-    /// bit counts is left out in front of another: if its word isn't captured, no later one is.
-    pub fn emit_words(&mut self, tests: &[Elementary], to: Targets) -> Result<usize, AllocError>
-        ensures { Emits result (emit_all (needed_tests tests.now) to.yes to.no self.old) self.new }
-    {
-        match tests {
-            [] => Ok(to.yes),
-            [only] => self.emit_elementary(last_test(*only), to),
-            [first, others @ ..] => {
-                let yes = self.emit_words(others, to)?;
-                if is_idle(*first) {
-                    return Ok(yes);
-                }
-                self.emit_elementary(*first, Targets { yes, no: to.no })
-            }
-        }
     }
 
     /// Emits `host` and `net` of IPv6, with the length of the prefix where not the whole address

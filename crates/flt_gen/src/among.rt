@@ -81,7 +81,12 @@ impl<A: Allocator> Code<A> {
             return Ok(self.top());
         }
         let (yes, no) = (self.top(), to.no);
-        self.emit_branch(Test::AtLeast, Operand::Constant, item.low, Targets { yes, no })?;
+        self.emit_branch(
+            Test::AtLeast,
+            Operand::Constant,
+            item.low,
+            Targets { yes, no },
+        )?;
         Ok(self.top())
     }
 

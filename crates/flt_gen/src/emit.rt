@@ -7,6 +7,7 @@ ghost use Rattle.flt_gen.specs.{Formula.sides, Primitives.sized_formula};
 ghost use Rattle.flt_gen.specs.inside.Emitted.{needed_tests};
 ghost use Rattle.cap_octet.specs.declared.link.Link.{Link};
 
+use crate::address::{is_idle, last_test};
 use crate::code::{Code, Targets};
 use crate::elementary::{Elementary, Offset};
 use flt_ast::Direction;
@@ -81,22 +82,12 @@ impl<A: Allocator> Code<A> {
         }
     }
 
-    /// Emits some tests that all have to hold. Returns the place where they begin; for no test that
-    /// is `to.yes`. It calls itself for each: they are few.
-    pub fn emit_all(&mut self, tests: &[Elementary], to: Targets) -> Result<usize, AllocError>
-        ensures { Emits result (emit_all tests.now to.yes to.no self.old) self.new }
-    {
-        match tests {
-            [] => Ok(to.yes),
-            [first, others @ ..] => {
-                let yes = self.emit_all(others, to)?;
-                self.emit_elementary(*first, Targets { yes, no: to.no })
-            }
-        }
-    }
-
-    /// Emits tests that all have to hold: of words of an address (`are_words`) those that decide.
-    fn emit_tests(
+    /// Emits some tests that all have to hold, each after the one before. Returns the place where
+    /// they begin; for no test that is `to.yes`. It calls itself for each: they are few.
+    ///
+    /// Of words of an address (`are_words`) one of which no bit counts is left out in front of
+    /// another: if its word isn't captured, no later one is.
+    pub fn emit_tests(
         &mut self,
         are_words: bool,
         tests: &[Elementary],
@@ -105,10 +96,16 @@ impl<A: Allocator> Code<A> {
         ensures { Emits result (emit_all (if are_words then needed_tests tests.now else tests.now)
             to.yes to.no self.old) self.new }
     {
-        if are_words {
-            self.emit_words(tests, to)
-        } else {
-            self.emit_all(tests, to)
+        match tests {
+            [] => Ok(to.yes),
+            [only] if are_words => self.emit_elementary(last_test(*only), to),
+            [first, others @ ..] => {
+                let yes = self.emit_tests(are_words, others, to)?;
+                if are_words && is_idle(*first) {
+                    return Ok(yes);
+                }
+                self.emit_elementary(*first, Targets { yes, no: to.no })
+            }
         }
     }
 

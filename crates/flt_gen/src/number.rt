@@ -145,16 +145,36 @@ fn emit_protocol_tests<A: Allocator>(
 {
     let (ip, first) = (kind_test(link, FrameKind::Ip), first_fragment(link));
     match protocol {
-        Protocol::Ether => code.emit_all(&[kind_test(link, FrameKind::Ethernet)], to),
-        Protocol::Ip => code.emit_all(&[ip], to),
+        Protocol::Ether => code.emit_tests(false, &[kind_test(link, FrameKind::Ethernet)], to),
+        Protocol::Ip => code.emit_tests(false, &[ip], to),
         // There is no `icmp6[..]` in the grammar.
-        Protocol::Ip6 | Protocol::Icmp6 => code.emit_all(&[kind_test(link, FrameKind::Ip6)], to),
-        Protocol::Arp => code.emit_all(&[kind_test(link, FrameKind::Arp)], to),
-        Protocol::Rarp => code.emit_all(&[kind_test(link, FrameKind::Rarp)], to),
-        Protocol::Tcp => { code.emit_all(&[ip, has_ip_proto(link, IPPROTO_TCP.into()), first], to) }
-        Protocol::Udp => { code.emit_all(&[ip, has_ip_proto(link, IPPROTO_UDP.into()), first], to) }
+        Protocol::Ip6 | Protocol::Icmp6 => code.emit_tests(
+            false,
+            &[kind_test(link, FrameKind::Ip6)],
+            to,
+        ),
+        Protocol::Arp => code.emit_tests(false, &[kind_test(link, FrameKind::Arp)], to),
+        Protocol::Rarp => code.emit_tests(false, &[kind_test(link, FrameKind::Rarp)], to),
+        Protocol::Tcp => {
+            code.emit_tests(
+                false,
+                &[ip, has_ip_proto(link, IPPROTO_TCP.into()), first],
+                to,
+            )
+        }
+        Protocol::Udp => {
+            code.emit_tests(
+                false,
+                &[ip, has_ip_proto(link, IPPROTO_UDP.into()), first],
+                to,
+            )
+        }
         Protocol::Icmp => {
-            code.emit_all(&[ip, has_ip_proto(link, IPPROTO_ICMP.into()), first], to)
+            code.emit_tests(
+                false,
+                &[ip, has_ip_proto(link, IPPROTO_ICMP.into()), first],
+                to,
+            )
         }
     }
 }
