@@ -4,7 +4,7 @@
 
 ghost use Rattle.std.specs.Prelude.{◌≡◌, ◌+◌, ◌≤◌};
 ghost use Rattle.cap_octet.specs.Link.{longest_header};
-ghost use Rattle.flt_gen.specs.Primitives.{partial_mask, net_test, address_test, address_places};
+ghost use Rattle.flt_gen.specs.Primitives.{partial_mask, address_test, address_places};
 ghost use Rattle.flt_gen.specs.inside.Emitted.{is_idle, last_test, ip6_needed};
 ghost use Rattle.flt_gen.specs.{inside.Emits.EmitsFormula};
 ghost use Rattle.flt_gen.specs.Primitives.{hosts_of_kind, hosts_formula, ip6_test, ip6_tests};
@@ -27,19 +27,6 @@ pub struct NetTest {
     pub direction: Direction,
     pub mask: Option<u32>,
     pub address: u32,
-}
-
-impl NetTest {
-    /// A test of this address, as far as the mask goes.
-    pub fn new(direction: Direction, mask: Option<u32>, address: u32) -> Self
-        ensures { result ≡ net_test direction mask address }
-    {
-        NetTest {
-            direction,
-            mask,
-            address,
-        }
-    }
 }
 
 /// The hosts of IPv4 that are looked for.

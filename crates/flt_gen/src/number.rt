@@ -143,40 +143,23 @@ fn emit_protocol_tests<A: Allocator>(
     ensures { Emits result (emit_all (accessor_tests link protocol) to.yes to.no code.old)
         code.new }
 {
-    let (ip, first) = (kind_test(link, FrameKind::Ip), first_fragment(link));
-    match protocol {
-        Protocol::Ether => code.emit_tests(false, &[kind_test(link, FrameKind::Ethernet)], to),
-        Protocol::Ip => code.emit_tests(false, &[ip], to),
+    let (kind, number) = match protocol {
+        Protocol::Ether => (FrameKind::Ethernet, None),
+        Protocol::Ip => (FrameKind::Ip, None),
         // There is no `icmp6[..]` in the grammar.
-        Protocol::Ip6 | Protocol::Icmp6 => code.emit_tests(
-            false,
-            &[kind_test(link, FrameKind::Ip6)],
-            to,
-        ),
-        Protocol::Arp => code.emit_tests(false, &[kind_test(link, FrameKind::Arp)], to),
-        Protocol::Rarp => code.emit_tests(false, &[kind_test(link, FrameKind::Rarp)], to),
-        Protocol::Tcp => {
-            code.emit_tests(
-                false,
-                &[ip, has_ip_proto(link, IPPROTO_TCP.into()), first],
-                to,
-            )
-        }
-        Protocol::Udp => {
-            code.emit_tests(
-                false,
-                &[ip, has_ip_proto(link, IPPROTO_UDP.into()), first],
-                to,
-            )
-        }
-        Protocol::Icmp => {
-            code.emit_tests(
-                false,
-                &[ip, has_ip_proto(link, IPPROTO_ICMP.into()), first],
-                to,
-            )
-        }
+        Protocol::Ip6 | Protocol::Icmp6 => (FrameKind::Ip6, None),
+        Protocol::Arp => (FrameKind::Arp, None),
+        Protocol::Rarp => (FrameKind::Rarp, None),
+        Protocol::Tcp => (FrameKind::Ip, Some(IPPROTO_TCP)),
+        Protocol::Udp => (FrameKind::Ip, Some(IPPROTO_UDP)),
+        Protocol::Icmp => (FrameKind::Ip, Some(IPPROTO_ICMP)),
+    };
+    let mut yes = to.yes;
+    if let Some(number) = number {
+        let number = has_ip_proto(link, number.into());
+        yes = code.emit_tests(false, &[number, first_fragment(link)], to)?;
     }
+    code.emit_elementary(kind_test(link, kind), Targets { yes, no: to.no })
 }
 
 /// Emits the tests of accessors' protocols. The first of `protocols` is that of the rightmost

@@ -37,7 +37,12 @@ impl<A: Allocator> Code<A> {
         let none = Numbers::none();
         match (value_type, value) {
             (ValueType::Host, Value::Dotted(host, _)) => {
-                let net = NetTest::new(direction, None, host.address);
+                let (mask, address) = (None, host.address);
+                let net = NetTest {
+                    direction,
+                    mask,
+                    address,
+                };
                 self.emit_hosts(link, protocol, Hosts::Net(net), &none, to)
             }
             (ValueType::Host, Value::Ip6(address, _)) => {
@@ -52,7 +57,12 @@ impl<A: Allocator> Code<A> {
             (ValueType::Net, value) => match value.ip4_net() {
                 None => Ok(to.no),
                 Some(net) => {
-                    let net = NetTest::new(direction, partial_mask(net.mask), net.address);
+                    let (mask, address) = (partial_mask(net.mask), net.address);
+                    let net = NetTest {
+                        direction,
+                        mask,
+                        address,
+                    };
                     self.emit_hosts(link, protocol, Hosts::Net(net), &none, to)
                 }
             },
