@@ -205,7 +205,7 @@ number_put _ d rest = refl
 join_put : (j : Join) (b a : TruthTree) (d : List Node) → with_folded (truth_onto b (truth_onto a d)) (node.Join j) ≡ truth_onto (joined_truth j a b) d
 join_put Join.Or b a d = refl
 join_put Join.And (denied b) a d =
-    ap (λ (h : Held). with_held h.held h.rest) (held_truth b 0 [] (truth_onto a d) ∙ none_held (truth_nodes b []) (truth_onto a d)) ∙ after b a d
+    ap (λ (h : Held). with_held h.held h.rest) (held_truth b 0 [] (truth_onto a d) ∙ none_held 0 (truth_nodes b []) (truth_onto a d) refl) ∙ after b a d
   where
     after : (b a : TruthTree) (d : List Node) → with_held (truth_nodes b []) (truth_onto a d) ≡ truth_onto (joined_truth Join.And a (denied b)) d
     after b (denied a) d = ap (λ ns. node.Not ∷ node.Join Join.Or ∷ ns) (back_truth b [] (truth_onto a d))

@@ -73,6 +73,7 @@ fn address_places(link: Link, kind: FrameKind) -> Sides
 
 /// The test that one of the four words (0 to 3) of the IPv6 address that begins at a place is that
 /// of `address`, as far as the prefix goes; without a prefix all bits count.
+#[tactic(auto, using(crate::proofs::Masks::word_power))]
 pub fn ip6_test(prefix: Option<u32>, address: u128, at: u32, word: u32) -> Elementary
     requires { (at ≤ longest_header + 24) × (word ≤ 3) }
     ensures { result ≡ ip6_test prefix address at word }

@@ -94,6 +94,7 @@ fn and_operands(node: Node, need: usize) -> Option<usize>
 
 /// Moves the latest tree out of the nodes; what was held before goes. An error is a failed
 /// allocation, or that too many operands are looked for.
+#[tactic(auto, using(crate::proofs::Held::none_held))]
 fn hold_latest<A: Allocator>(
     nodes: &mut Stack<Node, A>,
     held: &mut Stack<Node, A>,

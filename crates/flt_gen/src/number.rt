@@ -165,6 +165,7 @@ fn emit_protocol_tests<A: Allocator>(
 /// Emits the tests of accessors' protocols. The first of `protocols` is that of the rightmost
 /// accessor, whose tests are the last of the code. Returns the place where they begin; for no
 /// protocol that is `to.yes`.
+#[tactic(auto, using(crate::proofs::Accessors::one_more))]
 pub fn emit_accessor_tests<A: Allocator>(
     code: &mut Code<A>,
     link: Link,
