@@ -9,9 +9,8 @@ turned xs k other l =
     ap reverse taken ∙ reverse-append (take k xs) (get_or xs k other ∷ [])
 
 -- one more
-pub one_more : (link : Link) (ps : List Protocol) (k : ℕ) (other : Protocol) (hit miss : ℕ) (c d d' : List Insn) (entry entry' : ℕ) → k < length ps → emit_accessor_tests link (reverse (take k ps)) hit miss c ≡ block d entry → emit_all (accessor_tests link (get_or ps k other)) entry miss d ≡ block d' entry' → emit_accessor_tests link (reverse (take (k + 1) ps)) hit miss c ≡ block d' entry'
-one_more link ps k other hit miss c d d' entry entry' l h n =
-    ap (λ qs. emit_accessor_tests link qs hit miss c) (turned ps k other l) ∙ ap (λ (e : Block). emit_all (accessor_tests link (get_or ps k other)) e.entry miss e.code) h ∙ n
+pub one_more : (link : Link) (ps : List Protocol) (k : ℕ) (other : Protocol) (hit miss : ℕ) (c : List Insn) → k < length ps → emit_accessor_tests link (reverse (take (k + 1) ps)) hit miss c ≡ (let e = emit_accessor_tests link (reverse (take k ps)) hit miss c in emit_all (accessor_tests link (get_or ps k other)) e.entry miss e.code)
+one_more link ps k other hit miss c l = ap (λ qs. emit_accessor_tests link qs hit miss c) (turned ps k other l)
 
 row_first : (link : Link) (e : Entry) (es : List Entry) (hit miss : ℕ) (c : List Insn) → let b = emit_formula link (rows_formula link es) hit miss c in emit_formula link (rows_formula link (e ∷ es)) hit miss c ≡ emit_formula link (qualified_needed link e.qualifiers e.value) hit b.entry b.code
 row_first link e [] hit miss c = refl

@@ -1,6 +1,6 @@
 -- An expression with its arithmetic of numbers folded means the same, and counts no more.
-use Rattle.flt_gen.proofs.Common.{◌≡◌, ℕ, ◌+◌, ◌%◌, ◌^◌, ◌≤◌, List, [], ◌∷◌, false, Option, Some, None, refl, sym, ap, ◌∙◌, arith, fold, or_assoc, ◌||◌, Operator, Comparison, Protocol, field, Node, NumberTree, literal, named, load, negated, applied, TruthTree, compared, denied, joined, Expression, empty, truth, number_size, number_words, number_tests, truth_size, truth_words, truth_tests, bound_of, words_of, number_nodes, truth_nodes, expr_nodes, number_onto, truth_onto, expr_onto, is_unfilled, any_primitive, some_primitive, Link, MatchResult, Yes, with, reading_of, compares, elementary_reads, width_of, base, number, result_of, accessors, accessor_tests, Formula, Compare, both, either, negation, reads, relation_reads, guarded_formula, checked_formula, Elementary, constant, formula, holds, short_bound_of, negated_constant, applied_constant, number_or, negated_number, applied_number, folded_number, and_denied, joined_truth, folded_truth, folded_expression, node_or, with_negation, with_operator, Held, with_held, with_folded}
-use Rattle.flt_gen.proofs.{Held.held_truth, Held.none_held, Held.back_truth, Numbers.constant_is, Once.both_again}
+use Rattle.flt_gen.proofs.Common.{◌≡◌, ℕ, ◌+◌, ◌%◌, ◌^◌, ◌≤◌, List, [], ◌∷◌, false, Option, Some, None, refl, sym, ap, ap₂, ◌∙◌, arith, fold, or_assoc, ◌||◌, Operator, Comparison, Protocol, field, Node, NumberTree, literal, named, load, negated, applied, TruthTree, compared, denied, joined, Expression, empty, truth, number_size, number_words, number_tests, truth_size, truth_words, truth_tests, bound_of, words_of, number_nodes, truth_nodes, expr_nodes, number_onto, truth_onto, expr_onto, is_unfilled, any_primitive, some_primitive, Link, MatchResult, Yes, with, reading_of, compares, elementary_reads, width_of, base, number, result_of, accessors, accessor_tests, Formula, Compare, both, either, negation, reads, guarded_formula, checked_formula, Elementary, constant, formula, holds, short_bound_of, negated_constant, applied_constant, number_or, negated_number, applied_number, folded_number, and_denied, joined_truth, folded_truth, folded_expression, node_or, with_negation, with_operator, Held, with_held, with_folded}
+use Rattle.flt_gen.proofs.{Held.held_truth, Held.none_held, Held.back_truth, Numbers.constant_is, Once.both_again, Once.checked_same}
 use Rattle.flt_words.specs.declared.token.Join.{Join}
 use Rattle.flt_ast.specs.declared.node.Node.TheVariants as node
 
@@ -23,179 +23,161 @@ constant_alone (literal j) k rest e = refl
 constant_alone (named j) k rest e = refl
 constant_alone _ k rest e = cc
 
-accessors_folded : (a : NumberTree) (rest : List Protocol) → accessors (folded_number a) rest ≡ accessors a rest
-accessors_folded (load p s a) rest = ap (λ ps. p ∷ ps) (accessors_folded a rest)
-accessors_folded (negated a) rest =
-    let b = folded_number a in
-    by_fold (λ t. accessors t rest ≡ accessors b rest) (negated_constant (constant b)) (negated b)
-    (λ k e. let s = negated_some (constant b) k e in sym (constant_alone b s.0 rest s.1))
-    refl
-    ∙ accessors_folded a rest
-accessors_folded (applied o a b) rest =
-    let c = folded_number a in
-    let d = folded_number b in
-    by_fold (λ t. accessors t rest ≡ accessors c (accessors d rest)) (applied_constant o (constant c) (constant d)) (applied o c d)
-    (λ k e. let s = applied_some o (constant d) (constant c) k e in
-    sym (ap (accessors c) (constant_alone d s.1 rest s.3) ∙ constant_alone c s.0 rest s.2))
-    refl
-    ∙ ap (accessors c) (accessors_folded b rest)
-    ∙ accessors_folded a (accessors b rest)
-accessors_folded _ rest = refl
-
--- it counts no more
-record Fewer (b a : NumberTree) : Type 0 where
-  size : number_size b ≤ number_size a
-  words : number_words b ≤ number_words a
-  tests : number_tests b ≤ number_tests a
-
-number_fewer : (a : NumberTree) → Fewer (folded_number a) a
-number_fewer (load p s a) =
-    let h = number_fewer a in
-    record { size = omega (arith, h.size); words = h.words; tests = omega (arith, h.tests) }
-number_fewer (negated a) =
-    let h = number_fewer a in
-    by_fold (λ t. Fewer t (negated a)) (negated_constant (constant (folded_number a))) (negated (folded_number a))
-    (λ k e. record { size = omega arith; words = omega arith; tests = omega arith })
-    (record { size = omega (arith, h.size); words = h.words; tests = h.tests })
-number_fewer (applied o a b) =
-    let h = number_fewer a in
-    let g = number_fewer b in
-    by_fold (λ t. Fewer t (applied o a b)) (applied_constant o (constant (folded_number a)) (constant (folded_number b))) (applied o (folded_number a) (folded_number b))
-    (λ k e. record { size = omega arith; words = omega arith; tests = omega arith })
-    (record { size = omega (arith, h.size, g.size); words = omega (arith, h.words, g.words); tests = omega (arith, h.tests, g.tests) })
-number_fewer _ = record { size = omega arith; words = omega arith; tests = omega arith }
-
-record NoMore (a b : TruthTree) : Type 0 where
-  size : truth_size a ≤ truth_size b
-  words : truth_words a ≤ truth_words b
-  tests : truth_tests a ≤ truth_tests b
-
-denied_no_more : (a b : TruthTree) → NoMore (and_denied a b) (joined Join.And a (denied b))
-denied_no_more (denied a) b = record { size = omega arith; words = omega arith; tests = omega arith }
-denied_no_more (joined Join.And x (denied a)) b = record { size = omega arith; words = omega arith; tests = omega arith }
-denied_no_more a b = record { size = omega arith; words = omega arith; tests = omega arith }
-
-joined_no_more : (j : Join) (a b : TruthTree) → NoMore (joined_truth j a b) (joined j a b)
-joined_no_more Join.And a (denied b) = denied_no_more a b
-joined_no_more _ a b = record { size = omega arith; words = omega arith; tests = omega arith }
-
-no_more : (a : TruthTree) → NoMore (folded_truth a) a
-no_more (compared c a b) =
-    let h = number_fewer a in
-    let g = number_fewer b in
-    record { size = omega (arith, h.size, g.size); words = omega (arith, h.words, g.words); tests = omega (arith, h.tests, g.tests) }
-no_more (denied a) = let h = no_more a in record { size = h.size; words = h.words; tests = h.tests }
-no_more (joined j a b) =
-    let h = no_more a in
-    let g = no_more b in
-    let k = joined_no_more j (folded_truth a) (folded_truth b) in
-    record { size = omega (arith, h.size, g.size, k.size); words = omega (arith, h.words, g.words, k.words); tests = omega (arith, h.tests, g.tests, k.tests) }
-no_more _ = record { size = omega arith; words = omega arith; tests = omega arith }
-
-pub words_no_more : (e : Expression) → words_of (folded_expression e) ≤ words_of e
-words_no_more empty = omega arith
-words_no_more (truth a) = (no_more a).words
-
-pub bound_no_more : (e : Expression) → bound_of (folded_expression e) ≤ bound_of e
-bound_no_more empty = omega arith
-bound_no_more (truth a) = let h = no_more a in let s = h.size in let t = h.tests in omega arith
-
-pub short_no_more : (e : Expression) → short_bound_of (folded_expression e) ≤ short_bound_of e
-short_no_more empty = omega arith
-short_no_more (truth a) = let h = no_more a in let s = h.size in let t = h.tests in omega arith
-
-filled_denied : (a b : TruthTree) → any_primitive is_unfilled (and_denied a b) ≡ (any_primitive is_unfilled a || any_primitive is_unfilled b)
-filled_denied (denied a) b = refl
-filled_denied (joined Join.And x (denied a)) b = sym (or_assoc (any_primitive is_unfilled x) (any_primitive is_unfilled a) (any_primitive is_unfilled b))
-filled_denied a b = refl
-
-filled_joined : (j : Join) (a b : TruthTree) → any_primitive is_unfilled (joined_truth j a b) ≡ any_primitive is_unfilled (joined j a b)
-filled_joined Join.And a (denied b) = filled_denied a b
-filled_joined _ a b = refl
-
-filled_truth : (a : TruthTree) → any_primitive is_unfilled (folded_truth a) ≡ any_primitive is_unfilled a
-filled_truth (denied a) = filled_truth a
-filled_truth (joined j a b) = filled_joined j (folded_truth a) (folded_truth b) ∙ ap (λ x. x || any_primitive is_unfilled (folded_truth b)) (filled_truth a) ∙ ap (λ x. any_primitive is_unfilled a || x) (filled_truth b)
-filled_truth _ = refl
-
-pub filled_folded : (e : Expression) → some_primitive is_unfilled e ≡ false → some_primitive is_unfilled (folded_expression e) ≡ false
-filled_folded empty h = h
-filled_folded (truth a) h = filled_truth a ∙ h
-
--- ---- it means the same
-
 denied_both : (r q : MatchResult) → negation (either r q) ≡ both (negation r) (negation q)
 denied_both Yes q = refl
 denied_both _ q = refl
 
-module _ (p : List ℕ) (n : ℕ) where
-  negated_is : (link : Link) (a : NumberTree) (u : Option ℕ) → constant a ≡ u → (k : ℕ) → negated_constant u ≡ Some k → number link (negated a) p n ≡ Some k
-  negated_is link a None c k e = cc
-  negated_is link a (Some x) c k e = ap (λ o. negated_constant o) (constant_is p n link a x c) ∙ e
+module _ (p : List ℕ) (n : ℕ) (link : Link) where
+  negated_is : (a : NumberTree) (u : Option ℕ) → constant a ≡ u → (k : ℕ) → negated_constant u ≡ Some k → number link (negated a) p n ≡ Some k
+  negated_is a None c k e = cc
+  negated_is a (Some x) c k e = ap (λ o. negated_constant o) (constant_is p n link a x c) ∙ e
 
-  applied_is : (link : Link) (o : Operator) (a b : NumberTree) (v u : Option ℕ) → constant a ≡ u → constant b ≡ v → (k : ℕ) → applied_constant o u v ≡ Some k → number link (applied o a b) p n ≡ Some k
-  applied_is link o a b (Some y) (Some x) c d k e =
+  applied_is : (o : Operator) (a b : NumberTree) (v u : Option ℕ) → constant a ≡ u → constant b ≡ v → (k : ℕ) → applied_constant o u v ≡ Some k → number link (applied o a b) p n ≡ Some k
+  applied_is o a b (Some y) (Some x) c d k e =
       ap (λ q. with q (λ v. with (number link b p n) (λ w. result_of o v w))) (constant_is p n link a x c)
       ∙ ap (λ q. with q (λ w. result_of o x w)) (constant_is p n link b y d)
       ∙ e
-  applied_is link o a b _ _ c d k e = cc
+  applied_is o a b _ _ c d k e = cc
 
-  number_folded : (link : Link) (a : NumberTree) → number link (folded_number a) p n ≡ number link a p n
-  number_folded link (load q s a) = ap (λ o. with o (λ v. with (base link q p) (λ at. field p ((at + v) % 2 ^ 32) (width_of s)))) (number_folded link a)
-  number_folded link (negated a) =
-      let b = folded_number a in
-      by_fold (λ t. number link t p n ≡ number link (negated b) p n) (negated_constant (constant b)) (negated b)
-      (λ k e. sym (negated_is link b (constant b) refl k e))
-      refl
-      ∙ ap (λ o. negated_constant o) (number_folded link a)
-  number_folded link (applied o a b) =
-      let c = folded_number a in
-      let d = folded_number b in
-      by_fold (λ t. number link t p n ≡ number link (applied o c d) p n) (applied_constant o (constant c) (constant d)) (applied o c d)
-      (λ k e. sym (applied_is link o c d (constant d) (constant c) refl refl k e))
-      refl
-      ∙ ap (λ q. with q (λ v. with (number link d p n) (λ w. result_of o v w))) (number_folded link a)
-      ∙ ap (λ q. with (number link a p n) (λ v. with q (λ w. result_of o v w))) (number_folded link b)
-  number_folded link _ = refl
+-- a number in the place of another one: it counts no more, has the same accessors and the same value
+record Replaces (b a : NumberTree) : Type 0 where
+  size : number_size b ≤ number_size a
+  words : number_words b ≤ number_words a
+  tests : number_tests b ≤ number_tests a
+  accessors_are : (rest : List Protocol) → accessors b rest ≡ accessors a rest
+  same : (p : List ℕ) (n : ℕ) (link : Link) → number link b p n ≡ number link a p n
 
-  relation_folded : (link : Link) (c : Comparison) (a b : NumberTree) → relation_reads link c (folded_number a) (folded_number b) p n ≡ relation_reads link c a b p n
-  relation_folded link c a b =
-      ap (λ o. reading_of (with o (λ x. with (number link (folded_number b) p n) (λ y. Some (compares c x y))))) (number_folded link a)
-      ∙ ap (λ o. reading_of (with (number link a p n) (λ x. with o (λ y. Some (compares c x y))))) (number_folded link b)
+operands_same : (o : Operator) (c a d b : NumberTree) → Replaces c a → Replaces d b → (p : List ℕ) (n : ℕ) (link : Link) → number link (applied o c d) p n ≡ number link (applied o a b) p n
+operands_same o c a d b h g p n link =
+    ap₂ (λ q r. with q (λ v. with r (λ w. result_of o v w))) (h.same p n link) (g.same p n link)
 
-  -- after the same tests
-  guarded_same : (link : Link) (ts : List Elementary) (f g : Formula) → reads link f p n ≡ reads link g p n → reads link (guarded_formula ts f) p n ≡ reads link (guarded_formula ts g) p n
-  guarded_same link [] f g h = h
-  guarded_same link (t ∷ ts) f g h = ap (λ r. both (elementary_reads t p) r) (guarded_same link ts f g h)
+number_folded : (a : NumberTree) → Replaces (folded_number a) a
+number_folded (load q s a) =
+    let h = number_folded a in
+    record {
+      size = omega (arith, h.size);
+      words = h.words;
+      tests = omega (arith, h.tests);
+      accessors_are = λ rest. ap (λ ps. q ∷ ps) (h.accessors_are rest);
+      same = λ p n link. ap (λ o. with o (λ v. with (base link q p) (λ at. field p ((at + v) % 2 ^ 32) (width_of s)))) (h.same p n link);
+    }
+number_folded (negated a) =
+    let h = number_folded a in
+    let b = folded_number a in
+    by_fold (λ t. Replaces t (negated a)) (negated_constant (constant b)) (negated b)
+    (λ k e. let s = negated_some (constant b) k e in record {
+      size = omega arith;
+      words = omega arith;
+      tests = omega arith;
+      accessors_are = λ rest. sym (constant_alone b s.0 rest s.1) ∙ h.accessors_are rest;
+      same = λ p n link. sym (negated_is p n link b (constant b) refl k e) ∙ ap (λ o. negated_constant o) (h.same p n link);
+    })
+    (record { size = omega (arith, h.size); words = h.words; tests = h.tests; accessors_are = h.accessors_are; same = λ p n link. ap (λ o. negated_constant o) (h.same p n link) })
+number_folded (applied o a b) =
+    let h = number_folded a in
+    let g = number_folded b in
+    let c = folded_number a in
+    let d = folded_number b in
+    let all = λ (rest : List Protocol). ap (accessors c) (g.accessors_are rest) ∙ h.accessors_are (accessors b rest) in
+    by_fold (λ t. Replaces t (applied o a b)) (applied_constant o (constant c) (constant d)) (applied o c d)
+    (λ k e. let s = applied_some o (constant d) (constant c) k e in record {
+      size = omega arith;
+      words = omega arith;
+      tests = omega arith;
+      accessors_are = λ rest. sym (ap (accessors c) (constant_alone d s.1 rest s.3) ∙ constant_alone c s.0 rest s.2) ∙ all rest;
+      same = λ p n link. sym (applied_is p n link o c d (constant d) (constant c) refl refl k e) ∙ operands_same o c a d b h g p n link;
+    })
+    (record { size = omega (arith, h.size, g.size); words = omega (arith, h.words, g.words); tests = omega (arith, h.tests, g.tests); accessors_are = all; same = operands_same o c a d b h g })
+number_folded _ = record { size = omega arith; words = omega arith; tests = omega arith; accessors_are = λ rest. refl; same = λ p n link. refl }
 
-  checked_same : (link : Link) (ps : List Protocol) (f g : Formula) → reads link f p n ≡ reads link g p n → reads link (checked_formula link ps f) p n ≡ reads link (checked_formula link ps g) p n
-  checked_same link [] f g h = h
-  checked_same link (q ∷ qs) f g h = guarded_same link (accessor_tests link q) (checked_formula link qs f) (checked_formula link qs g) (checked_same link qs f g h)
+-- a truth in the place of another one: it counts no more, has primitives that lack qualifiers only
+-- if that has, and reads the same
+record Stands (a b : TruthTree) : Type 0 where
+  size : truth_size a ≤ truth_size b
+  words : truth_words a ≤ truth_words b
+  tests : truth_tests a ≤ truth_tests b
+  filled : any_primitive is_unfilled a ≡ any_primitive is_unfilled b
+  same : (p : List ℕ) (n : ℕ) (link : Link) → reads link (formula link a) p n ≡ reads link (formula link b) p n
 
-  denied_same : (link : Link) (a b : TruthTree) → reads link (formula link (and_denied a b)) p n ≡ reads link (formula link (joined Join.And a (denied b))) p n
-  denied_same link (denied a) b = denied_both (reads link (formula link a) p n) (reads link (formula link b) p n)
-  denied_same link (joined Join.And x (denied a)) b =
-      ap (λ r. both (reads link (formula link x) p n) r) (denied_both (reads link (formula link a) p n) (reads link (formula link b) p n))
-      ∙ both_again (reads link (formula link x) p n) (negation (reads link (formula link a) p n)) (negation (reads link (formula link b) p n))
-  denied_same link a b = refl
+itself : (a : TruthTree) → Stands a a
+itself a = record { size = omega arith; words = omega arith; tests = omega arith; filled = refl; same = λ p n link. refl }
 
-  joined_same : (link : Link) (j : Join) (a b : TruthTree) → reads link (formula link (joined_truth j a b)) p n ≡ reads link (formula link (joined j a b)) p n
-  joined_same link Join.And a (denied b) = denied_same link a b
-  joined_same link _ a b = refl
+denied_stands : (a b : TruthTree) → Stands (and_denied a b) (joined Join.And a (denied b))
+denied_stands (denied a) b = record {
+  size = omega arith;
+  words = omega arith;
+  tests = omega arith;
+  filled = refl;
+  same = λ p n link. denied_both (reads link (formula link a) p n) (reads link (formula link b) p n);
+}
+denied_stands (joined Join.And x (denied a)) b = record {
+  size = omega arith;
+  words = omega arith;
+  tests = omega arith;
+  filled = sym (or_assoc (any_primitive is_unfilled x) (any_primitive is_unfilled a) (any_primitive is_unfilled b));
+  same = λ p n link. ap (λ r. both (reads link (formula link x) p n) r) (denied_both (reads link (formula link a) p n) (reads link (formula link b) p n))
+      ∙ both_again (reads link (formula link x) p n) (negation (reads link (formula link a) p n)) (negation (reads link (formula link b) p n));
+}
+denied_stands a b = itself (joined Join.And a (denied b))
 
-  truth_folded : (link : Link) (a : TruthTree) → reads link (formula link (folded_truth a)) p n ≡ reads link (formula link a) p n
-  truth_folded link (compared c a b) =
-      ap (λ ps. reads link (checked_formula link ps (Compare c (folded_number a) (folded_number b))) p n)
-      (accessors_folded a (accessors (folded_number b) []) ∙ ap (accessors a) (accessors_folded b []))
-      ∙ checked_same link (accessors a (accessors b [])) (Compare c (folded_number a) (folded_number b)) (Compare c a b) (relation_folded link c a b)
-  truth_folded link (denied a) = ap negation (truth_folded link a)
-  truth_folded link (joined Join.And a b) = joined_same link Join.And (folded_truth a) (folded_truth b) ∙ ap (λ r. both r (reads link (formula link (folded_truth b)) p n)) (truth_folded link a) ∙ ap (λ r. both (reads link (formula link a) p n) r) (truth_folded link b)
-  truth_folded link (joined Join.Or a b) = ap (λ r. either r (reads link (formula link (folded_truth b)) p n)) (truth_folded link a) ∙ ap (λ r. either (reads link (formula link a) p n) r) (truth_folded link b)
-  truth_folded link _ = refl
+joined_stands : (j : Join) (a b : TruthTree) → Stands (joined_truth j a b) (joined j a b)
+joined_stands Join.And a (denied b) = denied_stands a b
+joined_stands j a b = itself (joined j a b)
 
-  pub holds_folded : (link : Link) (e : Expression) → holds (folded_expression e) link p n ≡ holds e link p n
-  holds_folded link empty = refl
-  holds_folded link (truth a) = truth_folded link a
+both_same : (j : Join) (a c b d : TruthTree) → Stands a c → Stands b d → (p : List ℕ) (n : ℕ) (link : Link) → reads link (formula link (joined j a b)) p n ≡ reads link (formula link (joined j c d)) p n
+both_same Join.And a c b d h g p n link = ap₂ both (h.same p n link) (g.same p n link)
+both_same Join.Or a c b d h g p n link = ap₂ either (h.same p n link) (g.same p n link)
+
+truth_folded : (a : TruthTree) → Stands (folded_truth a) a
+truth_folded (compared c a b) =
+    let h = number_folded a in
+    let g = number_folded b in
+    record {
+      size = omega (arith, h.size, g.size);
+      words = omega (arith, h.words, g.words);
+      tests = omega (arith, h.tests, g.tests);
+      filled = refl;
+      same = λ p n link.
+          ap (λ ps. reads link (checked_formula link ps (Compare c (folded_number a) (folded_number b))) p n)
+          (h.accessors_are (accessors (folded_number b) []) ∙ ap (accessors a) (g.accessors_are []))
+          ∙ checked_same link p n (accessors a (accessors b [])) (Compare c (folded_number a) (folded_number b)) (Compare c a b)
+          (ap₂ (λ o q. reading_of (with o (λ x. with q (λ y. Some (compares c x y))))) (h.same p n link) (g.same p n link));
+    }
+truth_folded (denied a) =
+    let h = truth_folded a in
+    record { size = h.size; words = h.words; tests = h.tests; filled = h.filled; same = λ p n link. ap negation (h.same p n link) }
+truth_folded (joined j a b) =
+    let h = truth_folded a in
+    let g = truth_folded b in
+    let k = joined_stands j (folded_truth a) (folded_truth b) in
+    record {
+      size = omega (arith, h.size, g.size, k.size);
+      words = omega (arith, h.words, g.words, k.words);
+      tests = omega (arith, h.tests, g.tests, k.tests);
+      filled = k.filled ∙ ap₂ (λ x y. x || y) h.filled g.filled;
+      same = λ p n link. k.same p n link ∙ both_same j (folded_truth a) a (folded_truth b) b h g p n link;
+    }
+truth_folded a = itself a
+
+pub words_no_more : (e : Expression) → words_of (folded_expression e) ≤ words_of e
+words_no_more empty = omega arith
+words_no_more (truth a) = (truth_folded a).words
+
+pub bound_no_more : (e : Expression) → bound_of (folded_expression e) ≤ bound_of e
+bound_no_more empty = omega arith
+bound_no_more (truth a) = let h = truth_folded a in let s = h.size in let t = h.tests in omega arith
+
+pub short_no_more : (e : Expression) → short_bound_of (folded_expression e) ≤ short_bound_of e
+short_no_more empty = omega arith
+short_no_more (truth a) = let h = truth_folded a in let s = h.size in let t = h.tests in omega arith
+
+pub filled_folded : (e : Expression) → some_primitive is_unfilled e ≡ false → some_primitive is_unfilled (folded_expression e) ≡ false
+filled_folded empty h = h
+filled_folded (truth a) h = (truth_folded a).filled ∙ h
+
+pub holds_folded : (p : List ℕ) (n : ℕ) (link : Link) (e : Expression) → holds (folded_expression e) link p n ≡ holds e link p n
+holds_folded p n link empty = refl
+holds_folded p n link (truth a) = (truth_folded a).same p n link
 
 -- ---- the nodes of the folded tree
 
@@ -223,7 +205,7 @@ number_put _ d rest = refl
 join_put : (j : Join) (b a : TruthTree) (d : List Node) → with_folded (truth_onto b (truth_onto a d)) (node.Join j) ≡ truth_onto (joined_truth j a b) d
 join_put Join.Or b a d = refl
 join_put Join.And (denied b) a d =
-    ap (λ (h : Held). with_held h.held h.rest) (held_truth b 0 [] (truth_onto a d) ∙ none_held (truth_nodes b []) (truth_onto a d)) ∙ after b a d
+    ap (λ (h : Held). with_held h.held h.rest) (held_truth b 0 [] (truth_onto a d) ∙ none_held 0 (truth_nodes b []) (truth_onto a d) refl) ∙ after b a d
   where
     after : (b a : TruthTree) (d : List Node) → with_held (truth_nodes b []) (truth_onto a d) ≡ truth_onto (joined_truth Join.And a (denied b)) d
     after b (denied a) d = ap (λ ns. node.Not ∷ node.Join Join.Or ∷ ns) (back_truth b [] (truth_onto a d))

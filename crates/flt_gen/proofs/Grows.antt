@@ -2,8 +2,9 @@
 -- counted.
 use Rattle.flt_gen.proofs.Ascending.{if_case, Searchable, Reached, Ready, Searches, length_without, ends_few as first_few}
 use Rattle.flt_gen.proofs.Codes.{code_is}
-use Rattle.flt_gen.proofs.Common.{and_parts, accessor_offset, alu_operation, ◌≡◌, ℕ, zero, suc, ◌+◌, ◌-◌, ◌*◌, ◌/◌, ◌<◌, ◌≤◌, List, [], ◌∷◌, length, take, drop, Bool, true, false, cond, Option, Some, None, refl, sym, ap, ◌∙◌, arith, length-drop, length-take, ◌≢◌, nat_lt, nat_le, ◌==◌, not, ◌&&◌, if◌then◌else◌, count_by, nat_tests, sum_by-cons, All-cons, Insn, Operand, Constant, IndexRegister, Operation, LoadAbsolute, LoadIndirect, Load, LoadHeaderLength, Store, Compute, Negate, Jump, JumpIf, CopyToIndex, Word, Accumulator, Index, Immediate, Memory, Length, Test, Width, fault_if_known, operation_fault, unless, ends_in_return, IsValidUnlessLong, code_of, is_branch, JUMP, HasNoJump, Comparison, Equal, NotEqual, Less, AtMost, Greater, AtLeast, Operator, Protocol, Tcp, Udp, Icmp, number_words, number_size, NumberTree, literal, len, named, load, negated, applied, Link, network_offset, Interval, Elementary, Outcome, Field, Offset, Fixed, AfterHeader, width_of, Formula, Single, Compare, Both, Either, Except, Split, Sought, Numbers, Sides, Direction, Source, Destination, And, Or, max, subst, plain, computation, takes_constant, constant, constant_operand, branch_insn, emit_branch, emit_comparison, emit_field, emit_mask, emit_accessor, emit_number, Block, at_top, emit_interval, emit_chain, are_few, low_of, MOST_HALVINGS, emit_elementary, emit_formula, emit_masked, emit_side, emit_others, emit_few, emit_index, emit_at_index, emit_many, fewest_at_index, are_at_index, emit_among, words, nodes, first_ends, sought_tests, tests}
-use Rattle.flt_gen.proofs.{Numbers.operand_is, Tails.by_right, Tails.by_index}
+use Rattle.flt_gen.proofs.Common.{and_parts, accessor_offset, alu_operation, ◌≡◌, ℕ, zero, suc, ◌+◌, ◌-◌, ◌*◌, ◌/◌, ◌<◌, ◌≤◌, List, [], ◌∷◌, length, take, drop, Bool, true, false, cond, Option, Some, None, refl, sym, ap, ◌∙◌, arith, length-drop, length-take, ◌≢◌, nat_lt, nat_le, ◌==◌, not, ◌&&◌, if◌then◌else◌, count_by, nat_tests, sum_by-cons, All-cons, Insn, Operand, Constant, IndexRegister, Operation, LoadAbsolute, LoadIndirect, Load, LoadHeaderLength, Store, Compute, Negate, Jump, JumpIf, CopyToIndex, Word, Accumulator, Index, Immediate, Memory, Length, Test, Width, fault_if_known, operation_fault, unless, ends_in_return, IsValidUnlessLong, code_of, is_branch, JUMP, HasNoJump, Comparison, Equal, NotEqual, Less, AtMost, Greater, AtLeast, Operator, Protocol, Tcp, Udp, Icmp, number_words, number_size, NumberTree, literal, len, named, load, negated, applied, Link, network_offset, Interval, Elementary, Outcome, Field, Offset, Fixed, AfterHeader, width_of, Formula, Single, Compare, Both, Either, Except, Split, Sought, Numbers, Sides, Direction, Source, Destination, And, Or, max, subst, plain, computation, takes_constant, constant, constant_operand, branch_insn, emit_branch, emit_comparison, emit_field, emit_mask, emit_accessor, emit_base, emit_number, Block, at_top, emit_interval, emit_chain, are_few, low_of, MOST_HALVINGS, emit_elementary, emit_formula, emit_masked, emit_side, emit_others, emit_few, emit_index, emit_at_index, emit_many, fewest_at_index, are_at_index, emit_among, words, nodes, first_ends, sought_tests, tests}
+use Rattle.flt_gen.proofs.Numbers.{operand_is}
+use Rattle.flt_gen.proofs.Tails.{Extends, extends_none, extends_put, extends_on, by_right, by_index}
 use Rattle.flt_ast.specs.declared.qualifiers.Direction.TheVariants as direction
 use Rattle.flt_bpf.specs.{Check.constant_fault, Check.fault_of, Instructions.operation_of}
 use Rattle.flt_bpf.specs.declared.fault.CheckFault.{CheckFault, TheVariants.JumpOut, TheVariants.NoSuchWord}
@@ -19,20 +20,6 @@ branches c = count_by (λ i. is_branch (operation_of i.code)) c
 pub record Sound (c : List Insn) : Type 0 where
   pub valid : IsValidUnlessLong c
   pub no_jump : HasNoJump c
-
--- such code that was put in front of code c: at most m instructions, which are w with each branch
--- counted three times
-pub record Grows (c d : List Insn) (m w : ℕ) : Type 0 where
-  pub sound : Sound d
-  pub longer : length c ≤ length d
-  pub shorter : length d ≤ length c + m
-  pub lighter : length d + 2 * branches d ≤ length c + 2 * branches c + w
-
-pub grows_none : {c : List Insn} → Sound c → Grows c c 0 0
-grows_none s = record { sound = s; longer = omega arith; shorter = omega arith; lighter = omega arith }
-
-grows_more : {c d : List Insn} {m w : ℕ} (m' w' : ℕ) → m ≤ m' → w ≤ w' → Grows c d m w → Grows c d m' w'
-grows_more m' w' lm lw g = record { sound = g.sound; longer = g.longer; shorter = omega (arith, g.shorter); lighter = omega (arith, g.lighter) }
 
 -- an operation that goes on with the next instruction
 abbrev is_plain : Operation → Bool
@@ -77,23 +64,27 @@ plain_no_branch : (o : Operation) → is_plain o ≡ true → is_branch (Some o)
 plain_no_branch (JumpIf t p) e = cc
 plain_no_branch _ e = refl
 
-grows_put : {c d : List Insn} {m w : ℕ} (o : Operation) (k : ℕ) → is_plain o ≡ true → operation_fault o (plain o k) (length d) ≡ None → Grows c d m w → Grows c (plain o k ∷ d) (m + 1) (w + 1)
-grows_put {d = d} o k p f g =
-    let b : branches (plain o k ∷ d) ≡ 0 + branches d = branch_count o (plain o k) d refl ∙ ap (λ x. cond x 1 0 + branches d) (plain_no_branch o p) in
-    record {
-      sound = sound_put o (plain o k) d refl (plain_no_jump o p) f g.sound;
-      longer = omega (arith, g.longer);
-      shorter = omega (arith, g.shorter);
-      lighter = omega (arith, g.lighter);
-    }
+-- what is known if it is asked for
+abbrev pub Asked : Bool → Type 0 → Type 0
+Asked true X = X
+Asked false X = Unit {0}
+
+asked : (b : Bool) {X Y : Type 0} → (X → Y) → Asked b X → Asked b Y
+asked true f x = f x
+asked false f x = tt
+
+-- code d that was put in front of code c: at most m instructions, which are w with each branch
+-- counted three times. It is sound, if that is asked for
+pub record GrowsBy (b : Bool) (c d : List Insn) (m w : ℕ) : Type 0 where
+  pub sound : Asked b (Sound d)
+  pub tail : Extends c d
+  pub shorter : length d ≤ length c + m
+  pub lighter : length d + 2 * branches d ≤ length c + 2 * branches c + w
 
 -- a place that a test may go on at
 pub record Inside (c : List Insn) (place : ℕ) : Type 0 where
   pub low : 0 < place
   pub upper_bound : place ≤ length c
-
-inside_on : {c d : List Insn} {m w place : ℕ} → Grows c d m w → Inside c place → Inside d place
-inside_on g h = record { low = h.low; upper_bound = omega (arith, g.longer, h.upper_bound) }
 
 passes_both : (j k m : ℕ) (f : CheckFault) → j < m → k < m → unless (nat_lt j m && nat_lt k m) f ≡ None
 passes_both j k m f a b =
@@ -101,49 +92,23 @@ passes_both j k m f a b =
     let t : nat_lt k m ≡ true = grind (arith, nat_tests) in
     ap (λ x. unless (x && nat_lt k m) f) s ∙ ap (λ x. unless (true && x) f) t
 
-branch_grows : (t : Test) (operand : Operand) (k hit miss : ℕ) (c : List Insn) → Sound c → Inside c hit → Inside c miss → Grows c (emit_branch t operand k hit miss c) 1 3
-branch_grows t operand k hit miss c s h m =
-    let i = branch_insn t operand k (length c - hit) (length c - miss) in
-    let b : branches (i ∷ c) ≡ 1 + branches c = branch_count (JumpIf t operand) i c refl in
+ends_some : (c : List Insn) → ends_in_return c ≡ true → 0 < length c
+ends_some [] e = cc
+ends_some (i ∷ c) e = omega arith
+
+top_inside : (c : List Insn) → Sound c → Inside c (length c)
+top_inside c s = record { low = ends_some c s.valid.ends; upper_bound = omega arith }
+
+branch_sound : (t : Test) (operand : Operand) (k hit miss : ℕ) (c : List Insn) (b : Bool) → Asked b (Sound c) → Asked b (Inside c hit) → Asked b (Inside c miss) → Asked b (Sound (emit_branch t operand k hit miss c))
+branch_sound t operand k hit miss c false s h m = tt
+branch_sound t operand k hit miss c true s h m =
     let f = passes_both (length c - hit) (length c - miss) (length c) JumpOut (omega (arith, h.low, h.upper_bound)) (omega (arith, m.low, m.upper_bound)) in
-    record {
-      sound = sound_put (JumpIf t operand) i c refl refl f s;
-      longer = omega arith;
-      shorter = omega arith;
-      lighter = omega arith;
-    }
+    sound_put (JumpIf t operand) (branch_insn t operand k (length c - hit) (length c - miss)) c refl refl f s
 
-comparison_grows : (comparison : Comparison) (operand : Operand) (k hit miss : ℕ) (c : List Insn) → Sound c → Inside c hit → Inside c miss → Grows c (emit_comparison comparison operand k hit miss c) 1 3
-comparison_grows Equal operand k hit miss c s h m = branch_grows test.Equal operand k hit miss c s h m
-comparison_grows NotEqual operand k hit miss c s h m = branch_grows test.Equal operand k miss hit c s m h
-comparison_grows Less operand k hit miss c s h m = branch_grows test.AtLeast operand k miss hit c s m h
-comparison_grows AtMost operand k hit miss c s h m = branch_grows test.Greater operand k miss hit c s m h
-comparison_grows Greater operand k hit miss c s h m = branch_grows test.Greater operand k hit miss c s h m
-comparison_grows AtLeast operand k hit miss c s h m = branch_grows test.AtLeast operand k hit miss c s h m
-
-field_grows : (place : Offset) (width : Width) {c d : List Insn} {m w : ℕ} → Grows c d m w → Grows c (emit_field place width d) (m + 2) (w + 2)
-field_grows (Fixed k) width g = grows_more _ _ (omega arith) (omega arith) (grows_put (LoadAbsolute width) k refl refl g)
-field_grows (AfterHeader header k) width g =
-    grows_more _ _ (omega arith) (omega arith) (grows_put LoadHeaderLength header refl refl (grows_put (LoadIndirect width) k refl refl g))
-
-mask_grows : (mask : Option ℕ) {c d : List Insn} {m w : ℕ} → Grows c d m w → Grows c (emit_mask mask d) (m + 1) (w + 1)
-mask_grows None g = grows_more _ _ (omega arith) (omega arith) g
-mask_grows (Some mask) g = grows_put (Compute AluOperation.And Constant) mask refl refl g
-
-transport_grows : (at : ℕ) (width : Width) {c d : List Insn} {m w : ℕ} → Grows c d m w → Grows c (plain LoadHeaderLength at ∷ plain (Compute AluOperation.Add IndexRegister) 0 ∷ plain CopyToIndex 0 ∷ plain (LoadIndirect width) at ∷ d) (m + 4) (w + 4)
-transport_grows at width g =
-    grows_more _ _ (omega arith) (omega arith)
-    (grows_put LoadHeaderLength at refl refl (grows_put (Compute AluOperation.Add IndexRegister) 0 refl refl (grows_put CopyToIndex 0 refl refl (grows_put (LoadIndirect width) at refl refl g))))
-
-base_grows : (at : ℕ) (width : Width) {c d : List Insn} {m w : ℕ} → Grows c d m w → Grows c (plain CopyToIndex 0 ∷ plain (LoadIndirect width) at ∷ d) (m + 4) (w + 4)
-base_grows at width g =
-    grows_more _ _ (omega arith) (omega arith) (grows_put CopyToIndex 0 refl refl (grows_put (LoadIndirect width) at refl refl g))
-
-accessor_grows : (link : Link) (protocol : Protocol) (width : Width) {c d : List Insn} {m w : ℕ} → Grows c d m w → Grows c (emit_accessor link protocol width d) (m + 4) (w + 4)
-accessor_grows link Tcp width g = transport_grows (network_offset link) width g
-accessor_grows link Udp width g = transport_grows (network_offset link) width g
-accessor_grows link Icmp width g = transport_grows (network_offset link) width g
-accessor_grows link _ width g = base_grows _ width g
+-- a block in front of code, with its entry inside
+pub record FitsBy (b : Bool) (c : List Insn) (e : Block) (m w : ℕ) : Type 0 where
+  pub grows : GrowsBy b c e.code m w
+  pub entry : Asked b (Inside e.code e.entry)
 
 -- a word of memory, and arithmetic with a constant, without a fault
 word_fine : (k : ℕ) → k < 16 → unless (nat_lt k 16) NoSuchWord ≡ None
@@ -156,65 +121,9 @@ constant_fine operator k m t = none_is (constant_fault (alu_operation operator) 
     none_is None e = refl
     none_is (Some fault) e = cc
 
--- the two operands are in A and X
-operands_grow : {c d : List Insn} {m w : ℕ} (slot : ℕ) → slot < 16 → Grows c d m w → Grows c (plain CopyToIndex 0 ∷ plain (Load Accumulator Memory) slot ∷ d) (m + 1 + 1) (w + 1 + 1)
-operands_grow slot l g = grows_put CopyToIndex 0 refl refl (grows_put (Load Accumulator Memory) slot refl (word_fine slot l) g)
-
-number_grows : (link : Link) (e : NumberTree) (slot : ℕ) {c d : List Insn} {m w : ℕ} → slot + number_words e ≤ 16 → Grows c d m w → Grows c (emit_number link e slot d) (m + 6 * number_size e) (w + 6 * number_size e)
-number_grows link (literal k) slot few g = grows_more _ _ (omega arith) (omega arith) (grows_put (Load Accumulator Immediate) k refl refl g)
-number_grows link (named k) slot few g = grows_more _ _ (omega arith) (omega arith) (grows_put (Load Accumulator Immediate) k refl refl g)
-number_grows link len slot few g = grows_more _ _ (omega arith) (omega arith) (grows_put (Load Accumulator Length) 0 refl refl g)
-number_grows link (negated a) slot few g =
-    grows_more _ _ (omega arith) (omega arith) (number_grows link a slot few (grows_put Negate 0 refl refl g))
-number_grows link (load protocol size i) slot {c = c} {d = d} {m = m} {w = w} few g =
-    by_index (λ b. Grows c b (m + 6 * number_size (load protocol size i)) (w + 6 * number_size (load protocol size i))) (constant i) _ _
-    (λ k is. grows_more _ _ (omega arith) (omega arith) (field_grows (accessor_offset link protocol k) (width_of size) g))
-    (grows_more _ _ (omega arith) (omega arith) (number_grows link i slot few (accessor_grows link protocol (width_of size) g)))
-number_grows link (applied operator l r) slot {c = c} {d = d} {m = m} {w = w} few g =
-    grows_more _ _ (omega arith) (omega arith)
-    (number_grows link l slot (omega arith)
-    (by_right (λ b. Grows c b (m + 4 + 6 * number_size r) (w + 4 + 6 * number_size r)) (constant_operand operator r) slot _ _
-    (λ k is. grows_more _ _ (omega arith) (omega arith) (grows_put (computation operator Constant) k refl (constant_fine operator k (length d) (operand_is operator r k is).taken) g))
-    (grows_more _ _ (omega arith) (omega arith)
-    (grows_put (Store Accumulator) slot refl (word_fine slot (omega arith))
-    (number_grows link r (slot + 1) (omega arith)
-    (operands_grow slot (omega arith) (grows_put (computation operator IndexRegister) 0 refl refl g)))))))
-
--- a block in front of code, with its entry inside
-pub record Fits (c : List Insn) (e : Block) (m w : ℕ) : Type 0 where
-  pub grows : Grows c e.code m w
-  pub entry : Inside e.code e.entry
-
-ends_some : (c : List Insn) → ends_in_return c ≡ true → 0 < length c
-ends_some [] e = cc
-ends_some (i ∷ c) e = omega arith
-
-fits_top : {c d : List Insn} {m w : ℕ} → Grows c d m w → Fits c (at_top d) m w
-fits_top {d = d} g = record { grows = g; entry = record { low = ends_some d g.sound.valid.ends; upper_bound = omega arith } }
-
-pub fits_more : {c : List Insn} {e : Block} {m w : ℕ} (m' w' : ℕ) → m ≤ m' → w ≤ w' → Fits c e m w → Fits c e m' w'
-fits_more m' w' lm lw f = record { grows = grows_more m' w' lm lw f.grows; entry = f.entry }
-
--- one part of the code in front of another
-fits_on : {c d : List Insn} {e : Block} {m w m' w' : ℕ} → Grows c d m w → Fits d e m' w' → Fits c e (m + m') (w + w')
-fits_on a b = record {
-  grows = record {
-    sound = b.grows.sound;
-    longer = omega (arith, a.longer, b.grows.longer);
-    shorter = omega (arith, a.shorter, b.grows.shorter);
-    lighter = omega (arith, a.lighter, b.grows.lighter);
-  };
-  entry = b.entry;
-}
-
-elementary_fits : (t : Elementary) (hit miss : ℕ) (c : List Insn) → Sound c → Inside c hit → Inside c miss → Fits c (emit_elementary t hit miss c) 4 6
-elementary_fits (Outcome true) hit miss c s h m = record { grows = grows_more _ _ (omega arith) (omega arith) (grows_none s); entry = h }
-elementary_fits (Outcome false) hit miss c s h m = record { grows = grows_more _ _ (omega arith) (omega arith) (grows_none s); entry = m }
-elementary_fits (Field t) hit miss c s h m =
-    fits_top (field_grows t.offset t.width (mask_grows t.mask (comparison_grows t.comparison Constant t.value hit miss c s h m)))
-
-branch_fits : {c : List Insn} {m w : ℕ} (t : Test) (k hit miss : ℕ) (d : List Insn) → Grows c d m w → Inside d hit → Inside d miss → Fits c (at_top (emit_branch t Constant k hit miss d)) (m + 1) (w + 3)
-branch_fits t k hit miss d g h m = fits_on g (fits_top (branch_grows t Constant k hit miss d g.sound h m))
+pub are_many : (is : List Interval) → are_few is ≡ false → 2 ≤ length is
+are_many (i ∷ j ∷ is) e = omega arith
+are_many _ e = cc
 
 -- an interval has one test, and each further one a test whether it may be that; the first one has
 -- one more where it isn't known to be no lower, and more than one number
@@ -222,141 +131,37 @@ abbrev first_more : Bool → List Interval → ℕ
 first_more true is = 0
 first_more false is = first_ends is
 
-abbrev Searched : List Insn → Block → ℕ → Type 0
-Searched c e n = Fits c e n (3 * n)
-
-ends_few : (from : Bool) (is : List Interval) → first_more from is ≤ 1
-ends_few true is = omega arith
-ends_few false [] = omega arith
-ends_few false (i ∷ is) = if_case (λ n. n ≤ 1) (i.low == i.high) 0 1 (λ e. omega arith) (λ e. omega arith)
-
-rest_few : (is : List Interval) → 2 * length is - 1 + first_more false is ≤ 2 * length is
-rest_few [] = omega arith
-rest_few (i ∷ is) = let l = ends_few false (i ∷ is) in omega arith
-
-interval_fits : (from : Bool) (i : Interval) (is : List Interval) (hit miss : ℕ) (c : List Insn) → Sound c → Inside c hit → Inside c miss → Searched c (emit_interval from i hit miss c) (1 + first_more from (i ∷ is))
-interval_fits from i is hit miss c s h m = by (i.low == i.high) refl
-  where
-    above : Fits c (at_top (emit_branch test.Greater Constant i.high miss hit c)) 1 3
-    above = branch_fits test.Greater i.high miss hit c (grows_none s) m h
-
-    range : (from : Bool) → (i.low == i.high) ≡ false → Searched c (let e = at_top (emit_branch test.Greater Constant i.high miss hit c) in if from then e else at_top (emit_branch test.AtLeast Constant i.low e.entry miss e.code)) (1 + first_more from (i ∷ is))
-    range true e = fits_more _ _ (omega arith) (omega arith) above
-    range false e =
-        let two : first_more false (i ∷ is) ≡ 1 = ap (λ b. if b then 0 else 1) e in
-        fits_more _ _ (omega arith) (omega arith) (branch_fits test.AtLeast i.low _ miss _ above.grows above.entry (inside_on above.grows m))
-
-    by : (b : Bool) → (i.low == i.high) ≡ b → Searched c (if b then at_top (emit_branch test.Equal Constant i.low hit miss c) else (let e = at_top (emit_branch test.Greater Constant i.high miss hit c) in if from then e else at_top (emit_branch test.AtLeast Constant i.low e.entry miss e.code))) (1 + first_more from (i ∷ is))
-    by true e = fits_more _ _ (omega arith) (omega arith) (branch_fits test.Equal i.low hit miss c (grows_none s) h m)
-    by false e = range from e
-
-chain_fits : (from : Bool) (is : List Interval) (hit miss : ℕ) (c : List Insn) → Sound c → Inside c hit → Inside c miss → Searched c (emit_chain from is hit miss c) (2 * length is - 1 + first_more from is)
-chain_fits from [] hit miss c s h m = fits_more _ _ (omega arith) (omega arith) (record { grows = grows_none s; entry = m })
-chain_fits from (i ∷ is) hit miss c s h m =
-    let e = emit_chain false is hit miss c in
-    let f = chain_fits false is hit miss c s h m in
-    let few = rest_few is in
-    fits_more _ _ (omega arith) (omega arith) (fits_on f.grows (interval_fits from i is hit e.entry e.code f.grows.sound (inside_on f.grows h) f.entry))
-
-pub are_many : (is : List Interval) → are_few is ≡ false → 2 ≤ length is
-are_many (i ∷ j ∷ is) e = omega arith
-are_many _ e = cc
-
 first_of_half : (from : Bool) (h : ℕ) (is : List Interval) → 0 < h → first_more from (take h is) ≡ first_more from is
 first_of_half false zero is l = absurd (omega arith)
 first_of_half false (suc h) [] l = refl
 first_of_half _ _ _ l = refl
 
-search_fits : (k : ℕ) (from : Bool) (is : List Interval) (hit miss : ℕ) (c : List Insn) → Sound c → Inside c hit → Inside c miss → Searched c (emit_search k from is hit miss c) (2 * length is - 1 + first_more from is)
-unfolding emit_search
-search_fits zero from is hit miss c s h m = chain_fits from is hit miss c s h m
-search_fits (suc k) from is hit miss c s h m =
-    let half = length is / 2 in
-    let a = length-drop half is in
-    let b = length-take half is in
-    let upper = emit_search k true (drop half is) hit miss c in
-    let lower = emit_search k from (take half is) hit miss upper.code in
-    let fu = search_fits k true (drop half is) hit miss c s h m in
-    let fl = search_fits k from (take half is) hit miss upper.code fu.grows.sound (inside_on fu.grows h) (inside_on fu.grows m) in
-    let both = fits_on fu.grows fl in
-    if_case (λ (e : Block). Searched c e (2 * length is - 1 + first_more from is)) (are_few is) _ _
-    (λ few. chain_fits from is hit miss c s h m)
-    (λ many. let two = are_many is many in
-    let first = first_of_half from half is (omega arith) in
-    fits_more _ _ (omega arith) (omega arith) (branch_fits test.AtLeast (low_of (drop half is)) upper.entry lower.entry lower.code both.grows (inside_on fl.grows fu.entry) fl.entry))
+ends_few : (from : Bool) (is : List Interval) → first_more from is ≤ 1
+ends_few true is = omega arith
+ends_few false is = first_few is
+
+rest_few : (is : List Interval) → 2 * length is - 1 + first_more false is ≤ 2 * length is
+rest_few [] = omega arith
+rest_few (i ∷ is) = let l = ends_few false (i ∷ is) in omega arith
 
 -- the loads of a side: of a mask and the length of a header there is only one
 abbrev Lean : Option ℕ → Offset → Type 0
 Lean mask (Fixed k) = Unit {0}
 Lean mask (AfterHeader header k) = mask ≡ None
 
-source_lean : (index : ℕ) (mask : Option ℕ) (a b : Offset) → Reached index mask a b → Lean mask a × Lean mask b
+pub source_lean : (index : ℕ) (mask : Option ℕ) (a b : Offset) → Reached index mask a b → Lean mask a × Lean mask b
 source_lean index mask (Fixed a) (Fixed b) h = (tt, tt)
 source_lean index mask (AfterHeader k a) (AfterHeader g b) h = (h.0, h.0)
 source_lean index mask (Fixed a) (AfterHeader g b) h = absurd h
 source_lean index mask (AfterHeader k a) (Fixed b) h = absurd h
 
-load_grows : (place : Offset) (width : Width) (mask : Option ℕ) → Lean mask place → {c d : List Insn} {m w : ℕ} → Grows c d m w → Grows c (emit_field place width (emit_mask mask d)) (m + 2) (w + 2)
-load_grows (Fixed k) width mask h g = grows_more _ _ (omega arith) (omega arith) (grows_put (LoadAbsolute width) k refl refl (mask_grows mask g))
-load_grows (AfterHeader header k) width mask h {c = c} {d = d} {m = m} {w = w} g =
-    subst (λ o. Grows c (emit_field (AfterHeader header k) width (emit_mask o d)) (m + 2) (w + 2)) (sym h) (field_grows (AfterHeader header k) width g)
-
 -- the branches of a search
 abbrev searched : List Interval → ℕ
 searched is = 2 * length is - 1 + first_ends is
 
-side_fits : (place : Offset) (width : Width) (mask : Option ℕ) (is : List Interval) (hit miss : ℕ) (c : List Insn) → Lean mask place → Sound c → Inside c hit → Inside c miss → Fits c (emit_side place width mask is hit miss c) (searched is + 2) (3 * searched is + 2)
-side_fits place width mask is hit miss c l s h m = fits_top (load_grows place width mask l (search_fits MOST_HALVINGS false is hit miss c s h m).grows)
-
-others_fits : (at : Sides) (numbers : Numbers) (is : List Interval) (hit miss : ℕ) (c : List Insn) → Lean numbers.mask at.source → Sound c → Inside c hit → Inside c miss → Fits c (emit_others at numbers is hit miss c) (2 * length is + 2) (6 * length is + 2)
-others_fits at numbers [] hit miss c l s h m = fits_more _ _ (omega arith) (omega arith) (record { grows = grows_none s; entry = m })
-others_fits at numbers (i ∷ is) hit miss c l s h m =
-    let few = first_few (i ∷ is) in
-    fits_more _ _ (omega arith) (omega arith) (side_fits at.source at.width numbers.mask (i ∷ is) hit miss c l s h m)
-
-some_searched : (is : List Interval) → Searchable is → 1 ≤ length is
+pub some_searched : (is : List Interval) → Searchable is → 1 ≤ length is
 some_searched [] h = absurd h
 some_searched (i ∷ is) h = omega arith
-
-few_fits : (at : Sides) (numbers : Numbers) (hit miss : ℕ) (c : List Insn) → Ready at numbers → Sound c → Inside c hit → Inside c miss → let t = 2 * max 1 (length numbers.all) + max (first_ends numbers.all) (first_ends (numbers.first ∷ [])) + 1 in Fits c (emit_few at numbers hit miss c) (4 * t) (6 * t)
-few_fits at numbers hit miss c r s h m =
-    let lean = source_lean at.index numbers.mask at.source at.destination r.reached in
-    let others = emit_others at numbers numbers.others hit miss c in
-    let all = emit_side at.destination at.width numbers.mask numbers.all hit others.entry others.code in
-    let fo = others_fits at numbers numbers.others hit miss c lean.0 s h m in
-    let fa = side_fits at.destination at.width numbers.mask numbers.all hit others.entry others.code lean.1 fo.grows.sound (inside_on fo.grows h) fo.entry in
-    let ff = side_fits at.source at.width numbers.mask (numbers.first ∷ []) hit all.entry all.code lean.0 fa.grows.sound (inside_on fa.grows (inside_on fo.grows h)) fa.entry in
-    let some = some_searched numbers.all r.all in
-    let fewer : length numbers.others ≤ length numbers.all = subst (λ (is : List Interval). length is ≤ length numbers.all) (sym r.others_are) (length_without numbers.first numbers.all) in
-    let one = first_few (numbers.first ∷ []) in
-    let two = first_few numbers.all in
-    fits_more _ _ (omega arith) (omega arith) (fits_on (fits_on fo.grows fa).grows ff)
-
-at_index_grows : (place : Offset) (width : Width) (index : ℕ) {c d : List Insn} {m w : ℕ} → Grows c d m w → Grows c (emit_at_index place width index d) (m + 1) (w + 1)
-at_index_grows (Fixed k) width index g = grows_put (LoadIndirect width) (k - index) refl refl g
-at_index_grows (AfterHeader header k) width index g = grows_put (LoadIndirect width) k refl refl g
-
-index_grows : (place : Offset) (index : ℕ) {c d : List Insn} {m w : ℕ} → Grows c d m w → Grows c (emit_index place index d) (m + 1) (w + 1)
-index_grows (Fixed k) index g = grows_put (Load Index Immediate) index refl refl g
-index_grows (AfterHeader header k) index g = grows_put LoadHeaderLength header refl refl g
-
-masked_grows : (mask : Option ℕ) (is : List Interval) (hit miss : ℕ) (c : List Insn) → Sound c → Inside c hit → Inside c miss → Grows c (emit_masked mask is hit miss c) (searched is + 1) (3 * searched is + 1)
-masked_grows mask is hit miss c s h m = mask_grows mask (search_fits MOST_HALVINGS false is hit miss c s h m).grows
-
-many_fits : (at : Sides) (numbers : Numbers) (hit miss : ℕ) (c : List Insn) → Ready at numbers → Sound c → Inside c hit → Inside c miss → let t = 2 * max 1 (length numbers.all) + max (first_ends numbers.all) (first_ends (numbers.first ∷ [])) + 2 in Fits c (emit_many at numbers hit miss c) (4 * t) (6 * t)
-many_fits at numbers hit miss c r s h m =
-    let none = emit_at_index at.destination at.width at.index (emit_masked numbers.mask numbers.all hit miss c) in
-    let later = emit_at_index at.destination at.width at.index (emit_branch test.AtLeast Constant 0 hit miss none) in
-    let one = emit_interval false numbers.first hit (length later) later in
-    let fn = fits_top (at_index_grows at.destination at.width at.index (masked_grows numbers.mask numbers.all hit miss c s h m)) in
-    let hn = inside_on fn.grows h in
-    let fl = fits_top (at_index_grows at.destination at.width at.index (branch_grows test.AtLeast Constant 0 hit miss none fn.grows.sound hn (inside_on fn.grows m))) in
-    let fi = interval_fits false numbers.first [] hit (length later) later fl.grows.sound (inside_on fl.grows hn) fl.entry in
-    let fs = fits_top (index_grows at.source at.index (at_index_grows at.source at.width at.index (masked_grows numbers.mask numbers.all one.entry (length none) one.code fi.grows.sound fi.entry (inside_on fi.grows (inside_on fl.grows fn.entry))))) in
-    let some = some_searched numbers.all r.all in
-    let one_more = first_few (numbers.first ∷ []) in
-    let two = first_few numbers.all in
-    fits_more _ _ (omega arith) (omega arith) (fits_on (fits_on (fits_on fn.grows fl).grows fi).grows fs)
 
 at_index_many : (w : Width) (b : Bool) (n : ℕ) → nat_le (fewest_at_index w b) n ≡ true → nat_le 5 n ≡ true
 at_index_many w false n e = e
@@ -367,54 +172,281 @@ one_or_two : (b : Bool) → 1 ≤ (if b then 2 else 1)
 one_or_two true = omega arith
 one_or_two false = omega arith
 
-among_fits : (d : Direction) (at : Sides) (numbers : Numbers) (hit miss : ℕ) (c : List Insn) → Ready at numbers → Sound c → Inside c hit → Inside c miss → Fits c (emit_among d at numbers hit miss c) (4 * sought_tests d numbers) (6 * sought_tests d numbers)
-among_fits (direction.One Source) at numbers hit miss c r s h m =
-    let some = some_searched numbers.all r.all in
-    fits_more _ _ (omega arith) (omega arith) (side_fits at.source at.width numbers.mask numbers.all hit miss c (source_lean at.index numbers.mask at.source at.destination r.reached).0 s h m)
-among_fits (direction.One Destination) at numbers hit miss c r s h m =
-    let some = some_searched numbers.all r.all in
-    fits_more _ _ (omega arith) (omega arith) (side_fits at.destination at.width numbers.mask numbers.all hit miss c (source_lean at.index numbers.mask at.source at.destination r.reached).1 s h m)
-among_fits (direction.Both And) at numbers hit miss c r s h m = fits_more _ _ (omega arith) (omega arith) (record { grows = grows_none s; entry = m })
-among_fits (direction.Both Or) at numbers hit miss c r s h m = by (are_at_index at numbers) refl
-  where
-    more : ℕ
-    more = if nat_le 5 (length numbers.all) then 2 else 1
+module _ (b : Bool) where
+  none_by : {c : List Insn} → Asked b (Sound c) → GrowsBy b c c 0 0
+  none_by {c = c} s = record { sound = s; tail = extends_none c; shorter = omega arith; lighter = omega arith }
 
-    t : ℕ
-    t = 2 * max 1 (length numbers.all) + max (first_ends numbers.all) (first_ends (numbers.first ∷ []))
+  grows_more : {c d : List Insn} {m w : ℕ} (m' w' : ℕ) → m ≤ m' → w ≤ w' → GrowsBy b c d m w → GrowsBy b c d m' w'
+  grows_more m' w' lm lw g = record { sound = g.sound; tail = g.tail; shorter = omega (arith, g.shorter); lighter = omega (arith, g.lighter) }
 
-    by : (b : Bool) → are_at_index at numbers ≡ b → Fits c (if b then emit_many at numbers hit miss c else emit_few at numbers hit miss c) (4 * (t + more)) (6 * (t + more))
-    by true e = subst (λ b. let k = t + (if b then 2 else 1) in Fits c (emit_many at numbers hit miss c) (4 * k) (6 * k)) (sym (at_index_many at.width (numbers.first.low == numbers.first.high) (length numbers.all) (and_parts (not at.is_alone) _ e).1)) (many_fits at numbers hit miss c r s h m)
-    by false e = let one = one_or_two (nat_le 5 (length numbers.all)) in fits_more _ _ (omega arith) (omega arith) (few_fits at numbers hit miss c r s h m)
+  grows_put : {c d : List Insn} {m w : ℕ} (o : Operation) (k : ℕ) → is_plain o ≡ true → operation_fault o (plain o k) (length d) ≡ None → GrowsBy b c d m w → GrowsBy b c (plain o k ∷ d) (m + 1) (w + 1)
+  grows_put {d = d} o k p f g =
+      let n : branches (plain o k ∷ d) ≡ 0 + branches d = branch_count o (plain o k) d refl ∙ ap (λ x. cond x 1 0 + branches d) (plain_no_branch o p) in
+      record {
+        sound = asked b (sound_put o (plain o k) d refl (plain_no_jump o p) f) g.sound;
+        tail = extends_put (plain o k) g.tail;
+        shorter = omega (arith, g.shorter);
+        lighter = omega (arith, g.lighter);
+      }
+
+  inside_on : {c d : List Insn} {m w : ℕ} (place : ℕ) → GrowsBy b c d m w → Asked b (Inside c place) → Asked b (Inside d place)
+  inside_on {c = c} place g =
+      asked b (λ (h : Inside c place). record { low = h.low; upper_bound = omega (arith, g.tail.longer, h.upper_bound) })
+
+  pub branch_grows : (t : Test) (operand : Operand) (k hit miss : ℕ) (c : List Insn) → Asked b (Sound c) → Asked b (Inside c hit) → Asked b (Inside c miss) → GrowsBy b c (emit_branch t operand k hit miss c) 1 3
+  branch_grows t operand k hit miss c s h m =
+      let i = branch_insn t operand k (length c - hit) (length c - miss) in
+      let n : branches (i ∷ c) ≡ 1 + branches c = branch_count (JumpIf t operand) i c refl in
+      record {
+        sound = branch_sound t operand k hit miss c b s h m;
+        tail = extends_put i (extends_none c);
+        shorter = omega arith;
+        lighter = omega arith;
+      }
+
+  comparison_grows : (comparison : Comparison) (operand : Operand) (k hit miss : ℕ) (c : List Insn) → Asked b (Sound c) → Asked b (Inside c hit) → Asked b (Inside c miss) → GrowsBy b c (emit_comparison comparison operand k hit miss c) 1 3
+  comparison_grows Equal operand k hit miss c s h m = branch_grows test.Equal operand k hit miss c s h m
+  comparison_grows NotEqual operand k hit miss c s h m = branch_grows test.Equal operand k miss hit c s m h
+  comparison_grows Less operand k hit miss c s h m = branch_grows test.AtLeast operand k miss hit c s m h
+  comparison_grows AtMost operand k hit miss c s h m = branch_grows test.Greater operand k miss hit c s m h
+  comparison_grows Greater operand k hit miss c s h m = branch_grows test.Greater operand k hit miss c s h m
+  comparison_grows AtLeast operand k hit miss c s h m = branch_grows test.AtLeast operand k hit miss c s h m
+
+  field_grows : (place : Offset) (width : Width) {c d : List Insn} {m w : ℕ} → GrowsBy b c d m w → GrowsBy b c (emit_field place width d) (m + 2) (w + 2)
+  field_grows (Fixed k) width g = grows_more _ _ (omega arith) (omega arith) (grows_put (LoadAbsolute width) k refl refl g)
+  field_grows (AfterHeader header k) width g =
+      grows_more _ _ (omega arith) (omega arith) (grows_put LoadHeaderLength header refl refl (grows_put (LoadIndirect width) k refl refl g))
+
+  mask_grows : (mask : Option ℕ) {c d : List Insn} {m w : ℕ} → GrowsBy b c d m w → GrowsBy b c (emit_mask mask d) (m + 1) (w + 1)
+  mask_grows None g = grows_more _ _ (omega arith) (omega arith) g
+  mask_grows (Some mask) g = grows_put (Compute AluOperation.And Constant) mask refl refl g
+
+  base_grows : (at : ℕ) (width : Width) {c d : List Insn} {m w : ℕ} → GrowsBy b c d m w → GrowsBy b c (emit_base at width d) (m + 2) (w + 2)
+  base_grows at width g =
+      grows_more _ _ (omega arith) (omega arith) (grows_put CopyToIndex 0 refl refl (grows_put (LoadIndirect width) at refl refl g))
+
+  transport_grows : (at : ℕ) (width : Width) {c d : List Insn} {m w : ℕ} → GrowsBy b c d m w → GrowsBy b c (plain LoadHeaderLength at ∷ plain (Compute AluOperation.Add IndexRegister) 0 ∷ emit_base at width d) (m + 4) (w + 4)
+  transport_grows at width g =
+      grows_more _ _ (omega arith) (omega arith)
+      (grows_put LoadHeaderLength at refl refl (grows_put (Compute AluOperation.Add IndexRegister) 0 refl refl (base_grows at width g)))
+
+  accessor_grows : (link : Link) (protocol : Protocol) (width : Width) {c d : List Insn} {m w : ℕ} → GrowsBy b c d m w → GrowsBy b c (emit_accessor link protocol width d) (m + 4) (w + 4)
+  accessor_grows link Tcp width g = transport_grows (network_offset link) width g
+  accessor_grows link Udp width g = transport_grows (network_offset link) width g
+  accessor_grows link Icmp width g = transport_grows (network_offset link) width g
+  accessor_grows link _ width g = grows_more _ _ (omega arith) (omega arith) (base_grows _ width g)
+
+  -- the two operands are in A and X
+  operands_grow : {c d : List Insn} {m w : ℕ} (slot : ℕ) → slot < 16 → GrowsBy b c d m w → GrowsBy b c (plain CopyToIndex 0 ∷ plain (Load Accumulator Memory) slot ∷ d) (m + 1 + 1) (w + 1 + 1)
+  operands_grow slot l g = grows_put CopyToIndex 0 refl refl (grows_put (Load Accumulator Memory) slot refl (word_fine slot l) g)
+
+  number_grows : (link : Link) (e : NumberTree) (slot : ℕ) {c d : List Insn} {m w : ℕ} → slot + number_words e ≤ 16 → GrowsBy b c d m w → GrowsBy b c (emit_number link e slot d) (m + 6 * number_size e) (w + 6 * number_size e)
+  number_grows link (literal k) slot few g = grows_more _ _ (omega arith) (omega arith) (grows_put (Load Accumulator Immediate) k refl refl g)
+  number_grows link (named k) slot few g = grows_more _ _ (omega arith) (omega arith) (grows_put (Load Accumulator Immediate) k refl refl g)
+  number_grows link len slot few g = grows_more _ _ (omega arith) (omega arith) (grows_put (Load Accumulator Length) 0 refl refl g)
+  number_grows link (negated a) slot few g =
+      grows_more _ _ (omega arith) (omega arith) (number_grows link a slot few (grows_put Negate 0 refl refl g))
+  number_grows link (load protocol size i) slot {c = c} {d = d} {m = m} {w = w} few g =
+      by_index (λ code. GrowsBy b c code (m + 6 * number_size (load protocol size i)) (w + 6 * number_size (load protocol size i))) (constant i) _ _
+      (λ k is. grows_more _ _ (omega arith) (omega arith) (field_grows (accessor_offset link protocol k) (width_of size) g))
+      (grows_more _ _ (omega arith) (omega arith) (number_grows link i slot few (accessor_grows link protocol (width_of size) g)))
+  number_grows link (applied operator l r) slot {c = c} {d = d} {m = m} {w = w} few g =
+      grows_more _ _ (omega arith) (omega arith)
+      (number_grows link l slot (omega arith)
+      (by_right (λ code. GrowsBy b c code (m + 4 + 6 * number_size r) (w + 4 + 6 * number_size r)) (constant_operand operator r) slot _ _
+      (λ k is. grows_more _ _ (omega arith) (omega arith) (grows_put (computation operator Constant) k refl (constant_fine operator k (length d) (operand_is operator r k is).taken) g))
+      (grows_more _ _ (omega arith) (omega arith)
+      (grows_put (Store Accumulator) slot refl (word_fine slot (omega arith))
+      (number_grows link r (slot + 1) (omega arith)
+      (operands_grow slot (omega arith) (grows_put (computation operator IndexRegister) 0 refl refl g)))))))
+
+  fits_top : {c d : List Insn} {m w : ℕ} → GrowsBy b c d m w → FitsBy b c (at_top d) m w
+  fits_top {d = d} g = record { grows = g; entry = asked b (top_inside d) g.sound }
+
+  more_by : {c : List Insn} {e : Block} {m w : ℕ} (m' w' : ℕ) → m ≤ m' → w ≤ w' → FitsBy b c e m w → FitsBy b c e m' w'
+  more_by m' w' lm lw f = record { grows = grows_more m' w' lm lw f.grows; entry = f.entry }
+
+  -- one part of the code in front of another
+  fits_on : {c d : List Insn} {e : Block} {m w m' w' : ℕ} → GrowsBy b c d m w → FitsBy b d e m' w' → FitsBy b c e (m + m') (w + w')
+  fits_on a f = record {
+    grows = record {
+      sound = f.grows.sound;
+      tail = extends_on a.tail f.grows.tail;
+      shorter = omega (arith, a.shorter, f.grows.shorter);
+      lighter = omega (arith, a.lighter, f.grows.lighter);
+    };
+    entry = f.entry;
+  }
+
+  elementary_fits : (t : Elementary) (hit miss : ℕ) (c : List Insn) → Asked b (Sound c) → Asked b (Inside c hit) → Asked b (Inside c miss) → FitsBy b c (emit_elementary t hit miss c) 4 6
+  elementary_fits (Outcome true) hit miss c s h m = record { grows = grows_more _ _ (omega arith) (omega arith) (none_by s); entry = h }
+  elementary_fits (Outcome false) hit miss c s h m = record { grows = grows_more _ _ (omega arith) (omega arith) (none_by s); entry = m }
+  elementary_fits (Field t) hit miss c s h m =
+      fits_top (field_grows t.offset t.width (mask_grows t.mask (comparison_grows t.comparison Constant t.value hit miss c s h m)))
+
+  branch_fits : {c : List Insn} {m w : ℕ} (t : Test) (k hit miss : ℕ) (d : List Insn) → GrowsBy b c d m w → Asked b (Inside d hit) → Asked b (Inside d miss) → FitsBy b c (at_top (emit_branch t Constant k hit miss d)) (m + 1) (w + 3)
+  branch_fits t k hit miss d g h m = fits_on g (fits_top (branch_grows t Constant k hit miss d g.sound h m))
+
+  abbrev Searched : List Insn → Block → ℕ → Type 0
+  Searched c e n = FitsBy b c e n (3 * n)
+
+  pub interval_fits : (from : Bool) (i : Interval) (is : List Interval) (hit miss : ℕ) (c : List Insn) → Asked b (Sound c) → Asked b (Inside c hit) → Asked b (Inside c miss) → Searched c (emit_interval from i hit miss c) (1 + first_more from (i ∷ is))
+  interval_fits from i is hit miss c s h m = by (i.low == i.high) refl
+    where
+      above : FitsBy b c (at_top (emit_branch test.Greater Constant i.high miss hit c)) 1 3
+      above = branch_fits test.Greater i.high miss hit c (none_by s) m h
+
+      range : (from : Bool) → (i.low == i.high) ≡ false → Searched c (let e = at_top (emit_branch test.Greater Constant i.high miss hit c) in if from then e else at_top (emit_branch test.AtLeast Constant i.low e.entry miss e.code)) (1 + first_more from (i ∷ is))
+      range true e = more_by _ _ (omega arith) (omega arith) above
+      range false e =
+          let two : first_more false (i ∷ is) ≡ 1 = ap (λ b. if b then 0 else 1) e in
+          more_by _ _ (omega arith) (omega arith) (branch_fits test.AtLeast i.low _ miss _ above.grows above.entry (inside_on _ above.grows m))
+
+      by : (equal : Bool) → (i.low == i.high) ≡ equal → Searched c (if equal then at_top (emit_branch test.Equal Constant i.low hit miss c) else (let e = at_top (emit_branch test.Greater Constant i.high miss hit c) in if from then e else at_top (emit_branch test.AtLeast Constant i.low e.entry miss e.code))) (1 + first_more from (i ∷ is))
+      by true e = more_by _ _ (omega arith) (omega arith) (branch_fits test.Equal i.low hit miss c (none_by s) h m)
+      by false e = range from e
+
+  pub chain_fits : (from : Bool) (is : List Interval) (hit miss : ℕ) (c : List Insn) → Asked b (Sound c) → Asked b (Inside c hit) → Asked b (Inside c miss) → Searched c (emit_chain from is hit miss c) (2 * length is - 1 + first_more from is)
+  chain_fits from [] hit miss c s h m = more_by _ _ (omega arith) (omega arith) (record { grows = none_by s; entry = m })
+  chain_fits from (i ∷ is) hit miss c s h m =
+      let e = emit_chain false is hit miss c in
+      let f = chain_fits false is hit miss c s h m in
+      let few = rest_few is in
+      more_by _ _ (omega arith) (omega arith) (fits_on f.grows (interval_fits from i is hit e.entry e.code f.grows.sound (inside_on _ f.grows h) f.entry))
+
+  pub search_fits : (k : ℕ) (from : Bool) (is : List Interval) (hit miss : ℕ) (c : List Insn) → Asked b (Sound c) → Asked b (Inside c hit) → Asked b (Inside c miss) → Searched c (emit_search k from is hit miss c) (2 * length is - 1 + first_more from is)
+  unfolding emit_search
+  search_fits zero from is hit miss c s h m = chain_fits from is hit miss c s h m
+  search_fits (suc k) from is hit miss c s h m =
+      let half = length is / 2 in
+      let a = length-drop half is in
+      let t = length-take half is in
+      let upper = emit_search k true (drop half is) hit miss c in
+      let lower = emit_search k from (take half is) hit miss upper.code in
+      let fu = search_fits k true (drop half is) hit miss c s h m in
+      let fl = search_fits k from (take half is) hit miss upper.code fu.grows.sound (inside_on _ fu.grows h) (inside_on _ fu.grows m) in
+      let both = fits_on fu.grows fl in
+      if_case (λ (e : Block). Searched c e (2 * length is - 1 + first_more from is)) (are_few is) _ _
+      (λ few. chain_fits from is hit miss c s h m)
+      (λ many. let two = are_many is many in
+      let first = first_of_half from half is (omega arith) in
+      more_by _ _ (omega arith) (omega arith) (branch_fits test.AtLeast (low_of (drop half is)) upper.entry lower.entry lower.code both.grows (inside_on _ fl.grows fu.entry) fl.entry))
+
+  load_grows : (place : Offset) (width : Width) (mask : Option ℕ) → Lean mask place → {c d : List Insn} {m w : ℕ} → GrowsBy b c d m w → GrowsBy b c (emit_field place width (emit_mask mask d)) (m + 2) (w + 2)
+  load_grows (Fixed k) width mask h g = grows_more _ _ (omega arith) (omega arith) (grows_put (LoadAbsolute width) k refl refl (mask_grows mask g))
+  load_grows (AfterHeader header k) width mask h {c = c} {d = d} {m = m} {w = w} g =
+      subst (λ o. GrowsBy b c (emit_field (AfterHeader header k) width (emit_mask o d)) (m + 2) (w + 2)) (sym h) (field_grows (AfterHeader header k) width g)
+
+  pub side_fits : (place : Offset) (width : Width) (mask : Option ℕ) (is : List Interval) (hit miss : ℕ) (c : List Insn) → Lean mask place → Asked b (Sound c) → Asked b (Inside c hit) → Asked b (Inside c miss) → FitsBy b c (emit_side place width mask is hit miss c) (searched is + 2) (3 * searched is + 2)
+  side_fits place width mask is hit miss c l s h m = fits_top (load_grows place width mask l (search_fits MOST_HALVINGS false is hit miss c s h m).grows)
+
+  pub others_fits : (at : Sides) (numbers : Numbers) (is : List Interval) (hit miss : ℕ) (c : List Insn) → Lean numbers.mask at.source → Asked b (Sound c) → Asked b (Inside c hit) → Asked b (Inside c miss) → FitsBy b c (emit_others at numbers is hit miss c) (2 * length is + 2) (6 * length is + 2)
+  others_fits at numbers [] hit miss c l s h m = more_by _ _ (omega arith) (omega arith) (record { grows = none_by s; entry = m })
+  others_fits at numbers (i ∷ is) hit miss c l s h m =
+      let few = first_few (i ∷ is) in
+      more_by _ _ (omega arith) (omega arith) (side_fits at.source at.width numbers.mask (i ∷ is) hit miss c l s h m)
+
+  few_fits : (at : Sides) (numbers : Numbers) (hit miss : ℕ) (c : List Insn) → Ready at numbers → Asked b (Sound c) → Asked b (Inside c hit) → Asked b (Inside c miss) → let t = 2 * max 1 (length numbers.all) + max (first_ends numbers.all) (first_ends (numbers.first ∷ [])) + 1 in FitsBy b c (emit_few at numbers hit miss c) (4 * t) (6 * t)
+  few_fits at numbers hit miss c r s h m =
+      let lean = source_lean at.index numbers.mask at.source at.destination r.reached in
+      let others = emit_others at numbers numbers.others hit miss c in
+      let all = emit_side at.destination at.width numbers.mask numbers.all hit others.entry others.code in
+      let fo = others_fits at numbers numbers.others hit miss c lean.0 s h m in
+      let fa = side_fits at.destination at.width numbers.mask numbers.all hit others.entry others.code lean.1 fo.grows.sound (inside_on _ fo.grows h) fo.entry in
+      let ff = side_fits at.source at.width numbers.mask (numbers.first ∷ []) hit all.entry all.code lean.0 fa.grows.sound (inside_on _ fa.grows (inside_on _ fo.grows h)) fa.entry in
+      let some = some_searched numbers.all r.all in
+      let fewer : length numbers.others ≤ length numbers.all = subst (λ (is : List Interval). length is ≤ length numbers.all) (sym r.others_are) (length_without numbers.first numbers.all) in
+      let one = first_few (numbers.first ∷ []) in
+      let two = first_few numbers.all in
+      more_by _ _ (omega arith) (omega arith) (fits_on (fits_on fo.grows fa).grows ff)
+
+  pub at_index_grows : (place : Offset) (width : Width) (index : ℕ) {c d : List Insn} {m w : ℕ} → GrowsBy b c d m w → GrowsBy b c (emit_at_index place width index d) (m + 1) (w + 1)
+  at_index_grows (Fixed k) width index g = grows_put (LoadIndirect width) (k - index) refl refl g
+  at_index_grows (AfterHeader header k) width index g = grows_put (LoadIndirect width) k refl refl g
+
+  index_grows : (place : Offset) (index : ℕ) {c d : List Insn} {m w : ℕ} → GrowsBy b c d m w → GrowsBy b c (emit_index place index d) (m + 1) (w + 1)
+  index_grows (Fixed k) index g = grows_put (Load Index Immediate) index refl refl g
+  index_grows (AfterHeader header k) index g = grows_put LoadHeaderLength header refl refl g
+
+  pub masked_grows : (mask : Option ℕ) (is : List Interval) (hit miss : ℕ) (c : List Insn) → Asked b (Sound c) → Asked b (Inside c hit) → Asked b (Inside c miss) → GrowsBy b c (emit_masked mask is hit miss c) (searched is + 1) (3 * searched is + 1)
+  masked_grows mask is hit miss c s h m = mask_grows mask (search_fits MOST_HALVINGS false is hit miss c s h m).grows
+
+  many_fits : (at : Sides) (numbers : Numbers) (hit miss : ℕ) (c : List Insn) → Ready at numbers → Asked b (Sound c) → Asked b (Inside c hit) → Asked b (Inside c miss) → let t = 2 * max 1 (length numbers.all) + max (first_ends numbers.all) (first_ends (numbers.first ∷ [])) + 2 in FitsBy b c (emit_many at numbers hit miss c) (4 * t) (6 * t)
+  many_fits at numbers hit miss c r s h m =
+      let none = emit_at_index at.destination at.width at.index (emit_masked numbers.mask numbers.all hit miss c) in
+      let later = emit_at_index at.destination at.width at.index (emit_branch test.AtLeast Constant 0 hit miss none) in
+      let one = emit_interval false numbers.first hit (length later) later in
+      let fn = fits_top (at_index_grows at.destination at.width at.index (masked_grows numbers.mask numbers.all hit miss c s h m)) in
+      let hn = inside_on _ fn.grows h in
+      let fl = fits_top (at_index_grows at.destination at.width at.index (branch_grows test.AtLeast Constant 0 hit miss none fn.grows.sound hn (inside_on _ fn.grows m))) in
+      let fi = interval_fits false numbers.first [] hit (length later) later fl.grows.sound (inside_on _ fl.grows hn) fl.entry in
+      let fs = fits_top (index_grows at.source at.index (at_index_grows at.source at.width at.index (masked_grows numbers.mask numbers.all one.entry (length none) one.code fi.grows.sound fi.entry (inside_on _ fi.grows (inside_on _ fl.grows fn.entry))))) in
+      let some = some_searched numbers.all r.all in
+      let one_more = first_few (numbers.first ∷ []) in
+      let two = first_few numbers.all in
+      more_by _ _ (omega arith) (omega arith) (fits_on (fits_on (fits_on fn.grows fl).grows fi).grows fs)
+
+  among_fits : (d : Direction) (at : Sides) (numbers : Numbers) (hit miss : ℕ) (c : List Insn) → Ready at numbers → Asked b (Sound c) → Asked b (Inside c hit) → Asked b (Inside c miss) → FitsBy b c (emit_among d at numbers hit miss c) (4 * sought_tests d numbers) (6 * sought_tests d numbers)
+  among_fits (direction.One Source) at numbers hit miss c r s h m =
+      let some = some_searched numbers.all r.all in
+      more_by _ _ (omega arith) (omega arith) (side_fits at.source at.width numbers.mask numbers.all hit miss c (source_lean at.index numbers.mask at.source at.destination r.reached).0 s h m)
+  among_fits (direction.One Destination) at numbers hit miss c r s h m =
+      let some = some_searched numbers.all r.all in
+      more_by _ _ (omega arith) (omega arith) (side_fits at.destination at.width numbers.mask numbers.all hit miss c (source_lean at.index numbers.mask at.source at.destination r.reached).1 s h m)
+  among_fits (direction.Both And) at numbers hit miss c r s h m = more_by _ _ (omega arith) (omega arith) (record { grows = none_by s; entry = m })
+  among_fits (direction.Both Or) at numbers hit miss c r s h m = by (are_at_index at numbers) refl
+    where
+      more : ℕ
+      more = if nat_le 5 (length numbers.all) then 2 else 1
+
+      t : ℕ
+      t = 2 * max 1 (length numbers.all) + max (first_ends numbers.all) (first_ends (numbers.first ∷ []))
+
+      by : (many : Bool) → are_at_index at numbers ≡ many → FitsBy b c (if many then emit_many at numbers hit miss c else emit_few at numbers hit miss c) (4 * (t + more)) (6 * (t + more))
+      by true e = subst (λ five. let k = t + (if five then 2 else 1) in FitsBy b c (emit_many at numbers hit miss c) (4 * k) (6 * k)) (sym (at_index_many at.width (numbers.first.low == numbers.first.high) (length numbers.all) (and_parts (not at.is_alone) _ e).1)) (many_fits at numbers hit miss c r s h m)
+      by false e = let one = one_or_two (nat_le 5 (length numbers.all)) in more_by _ _ (omega arith) (omega arith) (few_fits at numbers hit miss c r s h m)
+
+  pub emitted_by : (link : Link) (f : Formula) (hit miss : ℕ) (c : List Insn) → words f ≤ 16 → Searches f → Asked b (Sound c) → Asked b (Inside c hit) → Asked b (Inside c miss) → FitsBy b c (emit_formula link f hit miss c) (4 * tests f + 6 * nodes f) (6 * (tests f + nodes f))
+  emitted_by link (Single t) hit miss c few up s h m = more_by _ _ (omega arith) (omega arith) (elementary_fits t hit miss c s h m)
+  emitted_by link (Compare comparison l r) hit miss c few up s h m =
+      more_by _ _ (omega arith) (omega arith)
+      (fits_top
+      (number_grows link l 0 (omega arith)
+      (by_right (λ code. GrowsBy b c code (4 + 6 * number_size r) (6 + 6 * number_size r)) (constant r) 0 _ _
+      (λ k is. grows_more _ _ (omega arith) (omega arith) (comparison_grows comparison Constant k hit miss c s h m))
+      (grows_more _ _ (omega arith) (omega arith)
+      (grows_put (Store Accumulator) 0 refl refl
+      (number_grows link r 1 (omega arith)
+      (operands_grow 0 (omega arith) (comparison_grows comparison IndexRegister 0 hit miss c s h m))))))))
+  emitted_by link (Both x y) hit miss c few up s h m =
+      let e = emit_formula link y hit miss c in
+      let f = emitted_by link y hit miss c (omega arith) up.1 s h m in
+      more_by _ _ (omega arith) (omega arith)
+      (fits_on f.grows (emitted_by link x e.entry miss e.code (omega arith) up.0 f.grows.sound f.entry (inside_on _ f.grows m)))
+  emitted_by link (Either x y) hit miss c few up s h m =
+      let e = emit_formula link y hit miss c in
+      let f = emitted_by link y hit miss c (omega arith) up.1 s h m in
+      more_by _ _ (omega arith) (omega arith)
+      (fits_on f.grows (emitted_by link x hit e.entry e.code (omega arith) up.0 f.grows.sound (inside_on _ f.grows h) f.entry))
+  emitted_by link (Except a) hit miss c few up s h m = emitted_by link a miss hit c few up s m h
+  emitted_by link (Split t x y) hit miss c few up s h m =
+      let no = emit_formula link y hit miss c in
+      let yes = emit_formula link x hit miss no.code in
+      let f = emitted_by link y hit miss c (omega arith) up.1 s h m in
+      let g = emitted_by link x hit miss no.code (omega arith) up.0 f.grows.sound (inside_on _ f.grows h) (inside_on _ f.grows m) in
+      more_by _ _ (omega arith) (omega arith) (fits_on (fits_on f.grows g).grows (elementary_fits t yes.entry no.entry yes.code g.grows.sound g.entry (inside_on _ g.grows f.entry)))
+  emitted_by link (Sought d at numbers) hit miss c few r s h m =
+      more_by _ _ (omega arith) (omega arith) (among_fits d at numbers hit miss c r s h m)
+
+-- where soundness is asked for
+abbrev pub Fits : List Insn → Block → ℕ → ℕ → Type 0
+Fits c e m w = FitsBy true c e m w
+
+pub grows_none : {c : List Insn} → Sound c → GrowsBy true c c 0 0
+grows_none s = none_by true s
+
+pub fits_more : {c : List Insn} {e : Block} {m w : ℕ} (m' w' : ℕ) → m ≤ m' → w ≤ w' → Fits c e m w → Fits c e m' w'
+fits_more m' w' lm lw f = more_by true m' w' lm lw f
 
 pub emitted_fits : (link : Link) (f : Formula) (hit miss : ℕ) (c : List Insn) → words f ≤ 16 → Searches f → Sound c → Inside c hit → Inside c miss → Fits c (emit_formula link f hit miss c) (4 * tests f + 6 * nodes f) (6 * (tests f + nodes f))
-emitted_fits link (Single t) hit miss c few up s h m = fits_more _ _ (omega arith) (omega arith) (elementary_fits t hit miss c s h m)
-emitted_fits link (Compare comparison l r) hit miss c few up s h m =
-    fits_more _ _ (omega arith) (omega arith)
-    (fits_top
-    (number_grows link l 0 (omega arith)
-    (by_right (λ b. Grows c b (4 + 6 * number_size r) (6 + 6 * number_size r)) (constant r) 0 _ _
-    (λ k is. grows_more _ _ (omega arith) (omega arith) (comparison_grows comparison Constant k hit miss c s h m))
-    (grows_more _ _ (omega arith) (omega arith)
-    (grows_put (Store Accumulator) 0 refl refl
-    (number_grows link r 1 (omega arith)
-    (operands_grow 0 (omega arith) (comparison_grows comparison IndexRegister 0 hit miss c s h m))))))))
-emitted_fits link (Both a b) hit miss c few up s h m =
-    let e = emit_formula link b hit miss c in
-    let f = emitted_fits link b hit miss c (omega arith) up.1 s h m in
-    fits_more _ _ (omega arith) (omega arith)
-    (fits_on f.grows (emitted_fits link a e.entry miss e.code (omega arith) up.0 f.grows.sound f.entry (inside_on f.grows m)))
-emitted_fits link (Either a b) hit miss c few up s h m =
-    let e = emit_formula link b hit miss c in
-    let f = emitted_fits link b hit miss c (omega arith) up.1 s h m in
-    fits_more _ _ (omega arith) (omega arith)
-    (fits_on f.grows (emitted_fits link a hit e.entry e.code (omega arith) up.0 f.grows.sound (inside_on f.grows h) f.entry))
-emitted_fits link (Except a) hit miss c few up s h m = emitted_fits link a miss hit c few up s m h
-emitted_fits link (Split t a b) hit miss c few up s h m =
-    let no = emit_formula link b hit miss c in
-    let yes = emit_formula link a hit miss no.code in
-    let f = emitted_fits link b hit miss c (omega arith) up.1 s h m in
-    let g = emitted_fits link a hit miss no.code (omega arith) up.0 f.grows.sound (inside_on f.grows h) (inside_on f.grows m) in
-    fits_more _ _ (omega arith) (omega arith) (fits_on (fits_on f.grows g).grows (elementary_fits t yes.entry no.entry yes.code g.grows.sound g.entry (inside_on g.grows f.entry)))
-emitted_fits link (Sought d at numbers) hit miss c few r s h m =
-    fits_more _ _ (omega arith) (omega arith) (among_fits d at numbers hit miss c r s h m)
+emitted_fits link f hit miss c few up s h m = emitted_by true link f hit miss c few up s h m

@@ -1,5 +1,5 @@
 -- The nodes of a tree that are held, and put back.
-use Rattle.flt_gen.proofs.Common.{◌≡◌, ℕ, suc, ◌+◌, List, [], ◌∷◌, refl, ◌∙◌, arith, Node, NumberTree, load, negated, applied, TruthTree, compared, denied, joined, number_nodes, truth_nodes, number_onto, truth_onto, hold, put_back}
+use Rattle.flt_gen.proofs.Common.{◌≡◌, ℕ, suc, ◌+◌, List, [], ◌∷◌, refl, ap, ◌∙◌, arith, Node, NumberTree, load, negated, applied, TruthTree, compared, denied, joined, number_nodes, truth_nodes, number_onto, truth_onto, hold, put_back}
 use Rattle.flt_ast.specs.declared.node.Node.TheVariants as node
 
 pub one_more : (need : ℕ) → need + 1 ≡ suc need
@@ -8,9 +8,9 @@ one_more need = omega arith
 pub two_more : (need : ℕ) → need + 2 ≡ suc (suc need)
 two_more need = omega arith
 
-pub none_held : (held ns : List Node) → hold 0 held ns ≡ record { held = held; rest = ns }
-none_held held [] = refl
-none_held held (n ∷ ns) = refl
+pub none_held : (need : ℕ) (held ns : List Node) → need ≡ 0 → hold need held ns ≡ record { held = held; rest = ns }
+none_held need held [] e = refl
+none_held need held (n ∷ ns) e = ap (λ k. hold k held (n ∷ ns)) e
 
 held_number : (a : NumberTree) (need : ℕ) (held d : List Node) → hold (suc need) held (number_onto a d) ≡ hold need (number_nodes a held) d
 held_number (load p s a) need held d = held_number a need (node.Load p s ∷ held) d

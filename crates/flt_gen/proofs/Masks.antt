@@ -1,6 +1,6 @@
 -- A mask of 128 bits, by the four words in which it stands.
 use Rattle.flt_gen.proofs.Ascending.{if_case}
-use Rattle.flt_gen.proofs.Common.{◌≡◌, ℕ, ◌+◌, ◌-◌, ◌*◌, ◌^◌, ◌≤◌, [], ◌∷◌, map, refl, ap, ◌∙◌, arith, Option, None, Some, ⊎_elim, cases_lt, pow-add, first_bits, ip6_mask, word_mask, ◌==◌, unwrap_or, nat_tests, partial_mask, ip6_tests}
+use Rattle.flt_gen.proofs.Common.{◌≡◌, ℕ, ◌+◌, ◌-◌, ◌*◌, ◌^◌, ◌<◌, ◌≤◌, [], ◌∷◌, map, refl, ap, ◌∙◌, arith, Option, None, Some, ⊎_elim, cases_lt, pow-add, first_bits, ip6_mask, word_mask, ◌==◌, unwrap_or, nat_tests, partial_mask, ip6_tests}
 use Rattle.std.proofs.Math.Pow.{pow_mono}
 use Rattle.std.specs.Int.Digits.{number_from_digits}
 
@@ -35,6 +35,10 @@ masks_join bits =
 
     by : 2 ^ (128 - bits) + 2 ^ 96 + 2 ^ 64 + 2 ^ 32 ≡ 2 ^ lack bits 0 * 2 ^ 96 + 2 ^ lack bits 1 * 2 ^ 64 + 2 ^ lack bits 2 * 2 ^ 32 + 2 ^ lack bits 3 → number_from_digits (2 ^ 32) (first_bits 32 (bits - 32 * 0) ∷ first_bits 32 (bits - 32 * 1) ∷ first_bits 32 (bits - 32 * 2) ∷ first_bits 32 (bits - 32 * 3) ∷ []) ≡ first_bits 128 bits
     by e = joins _ _ _ _ _ (few 0) (few 1) (few 2) (few 3) e
+
+-- what is below a word of an address
+pub word_power : (word : ℕ) → 2 ^ (96 - 32 * word) < 2 ^ 128
+word_power word = let low : 2 ^ (96 - 32 * word) ≤ 2 ^ 96 = pow_mono {i = 96 - 32 * word} {j = 96} (omega arith) in omega arith
 
 -- a mask of all bits, left out, is still that
 partial_is : (m : ℕ) → unwrap_or (partial_mask m) (2 ^ 32 - 1) ≡ m

@@ -1,6 +1,6 @@
 -- What the code of arithmetic does.
 use Rattle.flt_gen.proofs.Codes.{run_plain}
-use Rattle.flt_gen.proofs.Common.{LoadAbsolute, accessor_offset, emit_field, ◌≡◌, ℕ, ◌+◌, ◌-◌, ◌%◌, ◌^◌, ◌<◌, ◌≤◌, List, ◌∷◌, length, Bool, true, false, Option, Some, None, refl, sym, ap, ap₂, ◌∙◌, subst, arith, slice_get, slice_set, nat_lt, if◌then◌else◌, option_map, mod-add-mod, nat_tests, get_or-set_same, get_or-set_other, Insn, State, Accumulator, Index, Width, Byte, Operand, Constant, IndexRegister, Goes, Lost, field, compute, operand_value, into, word_into, header_length, Operator, Protocol, Ether, Tcp, Udp, Icmp, NumberTree, literal, len, named, load, negated, applied, Link, with, network_offset, width_of, base, result_of, number, number_words, plain, alu_operation, computation, takes_constant, constant, constant_operand, emit_base, emit_transport, emit_accessor, emit_operands, emit_number, answer_of, answer_after, LoadIndirect, Load, LoadHeaderLength, Store, Negate, CopyToIndex, Immediate, Memory, Length}
+use Rattle.flt_gen.proofs.Common.{LoadAbsolute, accessor_offset, emit_field, ◌≡◌, ℕ, ◌+◌, ◌-◌, ◌%◌, ◌^◌, ◌<◌, ◌≤◌, List, ◌∷◌, length, Bool, true, false, Option, Some, None, refl, sym, ap, ap₂, ◌∙◌, subst, arith, slice_get, slice_set, nat_lt, if◌then◌else◌, option_map, mod-add-mod, nat_tests, get_or-set_same, get_or-set_other, Insn, State, Accumulator, Index, Width, Byte, Operand, Constant, IndexRegister, Goes, Lost, field, compute, operand_value, into, word_into, header_length, Operator, Protocol, Ether, Tcp, Udp, Icmp, NumberTree, literal, len, named, load, negated, applied, Link, Offset, Fixed, AfterHeader, with, field_at, network_offset, width_of, base, result_of, number, number_words, plain, alu_operation, computation, takes_constant, constant, constant_operand, emit_base, emit_transport, emit_accessor, emit_operands, emit_number, answer_of, answer_after, LoadIndirect, Load, LoadHeaderLength, Store, Negate, CopyToIndex, Immediate, Memory, Length}
 use Rattle.flt_gen.proofs.Tails.{by_right, by_index}
 use Rattle.std.proofs.{Math.ListN.length-set, lemmas.Option.slice_get-get_or}
 use Rattle.flt_words.specs.declared.token.Operator.TheVariants.{Add}
@@ -74,37 +74,26 @@ module _ (p : List ℕ) (n : ℕ) where
   GoesOn c slot s f = (v : ℕ) (t : State) → Keeps slot s t → t.accumulator ≡ v → answer_of c p n 0 t ≡ Some (f v)
 
   -- the last instruction puts a number into A, or ends the run with 0
+  pub into_any : (o : Option ℕ) (c : List Insn) (u : State) (f : ℕ → ℕ) → ((v : ℕ) → answer_of c p n 0 (record u { accumulator = v }) ≡ Some (f v)) → answer_after (answer_of c p n) (into Accumulator o u) ≡ Some (answer_for o f)
+  into_any None c u f h = refl
+  into_any (Some v) c u f h = h v
+
   into_runs : (o : Option ℕ) (c : List Insn) (slot : ℕ) (s u : State) (f : ℕ → ℕ) → Keeps slot s u → GoesOn c slot s f → answer_after (answer_of c p n) (into Accumulator o u) ≡ Some (answer_for o f)
-  into_runs None c slot s u f k h = refl
-  into_runs (Some v) c slot s u f k h = h v (record u { accumulator = v }) (record { long = k.long; kept = k.kept }) refl
+  into_runs o c slot s u f k h = into_any o c u f (λ v. h v (record u { accumulator = v }) (record { long = k.long; kept = k.kept }) refl)
 
-  -- an accessor's field at a number in A
-  transport_runs : (link : Link) (w : Width) (c : List Insn) (slot v : ℕ) (s t : State) (f : ℕ → ℕ) → Keeps slot s t → t.accumulator ≡ v → GoesOn c slot s f → (o : Option ℕ) → field p (network_offset link) Byte ≡ o → answer_of (emit_transport link w c) p n 0 t ≡ Some (answer_for (with (with (with o (λ b. Some (header_length b))) (λ x. Some (x + network_offset link))) (λ at. field p ((at + v) % 2 ^ 32) w)) f)
-  transport_runs link w c slot v s t f k e h o is =
-      run_plain p n LoadHeaderLength (network_offset link) added t ∙ ap (λ q. answer_after (answer_of added p n) (into Index (option_map header_length q) t)) is ∙ by_header o
+  -- a field goes into A, whatever that leaves in X
+  pub field_runs : (place : Offset) (width : Width) (c : List Insn) (s : State) (f : ℕ → ℕ) → ((v i : ℕ) → answer_of c p n 0 (record s { accumulator = v; index = i }) ≡ Some (f v)) → answer_of (emit_field place width c) p n 0 s ≡ Some (answer_for (field_at place width p) f)
+  field_runs (Fixed at) width c s f h = run_plain p n (LoadAbsolute width) at c s ∙ into_any (field p at width) c s f (λ v. h v s.index)
+  field_runs (AfterHeader header at) width c s f h = run_plain p n LoadHeaderLength header (plain (LoadIndirect width) at ∷ c) s ∙ by_header (field p header Byte)
     where
-      l : ℕ
-      l = network_offset link
-
-      loaded : List Insn
-      loaded = plain (LoadIndirect w) l ∷ c
-
-      added : List Insn
-      added = plain (computation Add IndexRegister) 0 ∷ plain CopyToIndex 0 ∷ loaded
-
-      by_header : (q : Option ℕ) → answer_after (answer_of added p n) (into Index (option_map header_length q) t) ≡ Some (answer_for (with (with (with q (λ b. Some (header_length b))) (λ x. Some (x + l))) (λ at. field p ((at + v) % 2 ^ 32) w)) f)
+      by_header : (o : Option ℕ) → answer_after (answer_of (plain (LoadIndirect width) at ∷ c) p n) (into Index (option_map header_length o) s) ≡ Some (answer_for (with (with o (λ b. Some (header_length b))) (λ x. field p ((x + at) % 2 ^ 32) width)) f)
       by_header None = refl
       by_header (Some b) =
           let x = header_length b in
-          let u : State = record { accumulator = (t.accumulator + x) % 2 ^ 32; index = (t.accumulator + x) % 2 ^ 32; memory = t.memory } in
-          let sum : t.accumulator + x + l ≡ x + l + v = omega (arith, e) in
-          let place : ((t.accumulator + x) % 2 ^ 32 + l) % 2 ^ 32 ≡ (x + l + v) % 2 ^ 32 = mod-add-mod (t.accumulator + x) (2 ^ 32) l ∙ ap (λ m. m % 2 ^ 32) sum in
-          run_operator Add IndexRegister 0 (plain CopyToIndex 0 ∷ loaded) (record t { index = x })
-          ∙ run_plain p n CopyToIndex 0 loaded (record { accumulator = (t.accumulator + x) % 2 ^ 32; index = x; memory = t.memory })
-          ∙ run_plain p n (LoadIndirect w) l c u
-          ∙ ap (λ at. answer_after (answer_of c p n) (into Accumulator (field p at w) u)) place
-          ∙ into_runs (field p ((x + l + v) % 2 ^ 32) w) c slot s u f (record { long = k.long; kept = k.kept }) h
+          let u : State = record s { index = x } in
+          run_plain p n (LoadIndirect width) at c u ∙ into_any (field p ((x + at) % 2 ^ 32) width) c u f (λ v. h v x)
 
+  -- an accessor's field at a number in A
   base_runs : (at : ℕ) (w : Width) (c : List Insn) (slot v : ℕ) (s t : State) (f : ℕ → ℕ) → Keeps slot s t → t.accumulator ≡ v → GoesOn c slot s f → answer_of (emit_base at w c) p n 0 t ≡ Some (answer_for (field p ((at + v) % 2 ^ 32) w) f)
   base_runs at w c slot v s t f k e h =
       let u : State = record t { index = t.accumulator } in
@@ -114,6 +103,26 @@ module _ (p : List ℕ) (n : ℕ) where
       ∙ ap (λ b. answer_after (answer_of c p n) (into Accumulator (field p (b % 2 ^ 32) w) u)) place
       ∙ into_runs (field p ((at + v) % 2 ^ 32) w) c slot s u f (record { long = k.long; kept = k.kept }) h
 
+  transport_runs : (link : Link) (w : Width) (c : List Insn) (slot v : ℕ) (s t : State) (f : ℕ → ℕ) → Keeps slot s t → t.accumulator ≡ v → GoesOn c slot s f → (o : Option ℕ) → field p (network_offset link) Byte ≡ o → answer_of (emit_transport link w c) p n 0 t ≡ Some (answer_for (with (with (with o (λ b. Some (header_length b))) (λ x. Some (x + network_offset link))) (λ at. field p ((at + v) % 2 ^ 32) w)) f)
+  transport_runs link w c slot v s t f k e h o is =
+      run_plain p n LoadHeaderLength l added t ∙ ap (λ q. answer_after (answer_of added p n) (into Index (option_map header_length q) t)) is ∙ by_header o
+    where
+      l : ℕ
+      l = network_offset link
+
+      added : List Insn
+      added = plain (computation Add IndexRegister) 0 ∷ emit_base l w c
+
+      by_header : (q : Option ℕ) → answer_after (answer_of added p n) (into Index (option_map header_length q) t) ≡ Some (answer_for (with (with (with q (λ b. Some (header_length b))) (λ x. Some (x + l))) (λ at. field p ((at + v) % 2 ^ 32) w)) f)
+      by_header None = refl
+      by_header (Some b) =
+          let x = header_length b in
+          let sum : (t.accumulator + x) % 2 ^ 32 ≡ (v + x) % 2 ^ 32 = ap (λ m. (m + x) % 2 ^ 32) e in
+          let place : (l + (v + x) % 2 ^ 32) % 2 ^ 32 ≡ (x + l + v) % 2 ^ 32 = omega arith in
+          run_operator Add IndexRegister 0 (emit_base l w c) (record t { index = x })
+          ∙ base_runs l w c slot ((v + x) % 2 ^ 32) s (record t { accumulator = (t.accumulator + x) % 2 ^ 32; index = x }) f (record { long = k.long; kept = k.kept }) sum h
+          ∙ ap (λ at. Some (answer_for (field p at w) f)) place
+
   accessor_runs : (link : Link) (protocol : Protocol) (w : Width) (c : List Insn) (slot v : ℕ) (s t : State) (f : ℕ → ℕ) → Keeps slot s t → t.accumulator ≡ v → GoesOn c slot s f → answer_of (emit_accessor link protocol w c) p n 0 t ≡ Some (answer_for (with (base link protocol p) (λ at. field p ((at + v) % 2 ^ 32) w)) f)
   accessor_runs link Ether w c slot v s t f k e h = base_runs 0 w c slot v s t f k e h
   accessor_runs link Tcp w c slot v s t f k e h = transport_runs link w c slot v s t f k e h _ refl
@@ -122,31 +131,22 @@ module _ (p : List ℕ) (n : ℕ) where
   accessor_runs link _ w c slot v s t f k e h = base_runs (network_offset link) w c slot v s t f k e h
 
   -- the field of an accessor with a constant index
-  header_runs : (at j : ℕ) (w : Width) (c : List Insn) (slot v : ℕ) (s : State) (f : ℕ → ℕ) → Keeps slot s s → GoesOn c slot s f → (o : Option ℕ) → field p at Byte ≡ o → answer_of (plain LoadHeaderLength at ∷ plain (LoadIndirect w) ((at + v) % 2 ^ 32) ∷ c) p n 0 s ≡ Some (answer_for (with (with (with o (λ b. Some (header_length b))) (λ x. Some (x + at))) (λ k. field p ((k + v) % 2 ^ 32) w)) f)
-  header_runs at j w c slot v s f k h o is =
-      run_plain p n LoadHeaderLength at (plain (LoadIndirect w) ((at + v) % 2 ^ 32) ∷ c) s
-      ∙ ap (λ q. answer_after (answer_of (plain (LoadIndirect w) ((at + v) % 2 ^ 32) ∷ c) p n) (into Index (option_map header_length q) s)) is
-      ∙ by_header o
-    where
-      by_header : (q : Option ℕ) → answer_after (answer_of (plain (LoadIndirect w) ((at + v) % 2 ^ 32) ∷ c) p n) (into Index (option_map header_length q) s) ≡ Some (answer_for (with (with (with q (λ b. Some (header_length b))) (λ x. Some (x + at))) (λ k. field p ((k + v) % 2 ^ 32) w)) f)
-      by_header None = refl
-      by_header (Some b) =
-          let x = header_length b in
-          let u : State = record s { index = x } in
-          let place : (x + (at + v) % 2 ^ 32) % 2 ^ 32 ≡ (x + at + v) % 2 ^ 32 = omega arith in
-          run_plain p n (LoadIndirect w) ((at + v) % 2 ^ 32) c u
-          ∙ ap (λ k. answer_after (answer_of c p n) (into Accumulator (field p k w) u)) place
-          ∙ into_runs (field p ((x + at + v) % 2 ^ 32) w) c slot s u f (record { long = k.long; kept = k.kept }) h
+  header_same : (o : Option ℕ) (l v : ℕ) (w : Width) → with (with o (λ b. Some (header_length b))) (λ x. field p ((x + (l + v) % 2 ^ 32) % 2 ^ 32) w) ≡ with (with (with o (λ b. Some (header_length b))) (λ x. Some (x + l))) (λ at. field p ((at + v) % 2 ^ 32) w)
+  header_same None l v w = refl
+  header_same (Some b) l v w =
+      let x = header_length b in
+      let place : (x + (l + v) % 2 ^ 32) % 2 ^ 32 ≡ (x + l + v) % 2 ^ 32 = omega arith in ap (λ at. field p at w) place
 
-  fixed_runs : (at : ℕ) (w : Width) (c : List Insn) (slot : ℕ) (s : State) (f : ℕ → ℕ) → Keeps slot s s → GoesOn c slot s f → answer_of (plain (LoadAbsolute w) at ∷ c) p n 0 s ≡ Some (answer_for (field p at w) f)
-  fixed_runs at w c slot s f k h = run_plain p n (LoadAbsolute w) at c s ∙ into_runs (field p at w) c slot s s f k h
+  indexed_same : (link : Link) (protocol : Protocol) (w : Width) (v : ℕ) → field_at (accessor_offset link protocol v) w p ≡ with (base link protocol p) (λ at. field p ((at + v) % 2 ^ 32) w)
+  indexed_same link Tcp w v = header_same _ (network_offset link) v w
+  indexed_same link Udp w v = header_same _ (network_offset link) v w
+  indexed_same link Icmp w v = header_same _ (network_offset link) v w
+  indexed_same link _ w v = refl
 
   indexed_runs : (link : Link) (protocol : Protocol) (w : Width) (c : List Insn) (slot v : ℕ) (s : State) (f : ℕ → ℕ) → Keeps slot s s → GoesOn c slot s f → answer_of (emit_field (accessor_offset link protocol v) w c) p n 0 s ≡ Some (answer_for (with (base link protocol p) (λ at. field p ((at + v) % 2 ^ 32) w)) f)
-  indexed_runs link Ether w c slot v s f k h = fixed_runs _ w c slot s f k h
-  indexed_runs link Tcp w c slot v s f k h = header_runs (network_offset link) 0 w c slot v s f k h _ refl
-  indexed_runs link Udp w c slot v s f k h = header_runs (network_offset link) 0 w c slot v s f k h _ refl
-  indexed_runs link Icmp w c slot v s f k h = header_runs (network_offset link) 0 w c slot v s f k h _ refl
-  indexed_runs link _ w c slot v s f k h = fixed_runs _ w c slot s f k h
+  indexed_runs link protocol w c slot v s f k h =
+      field_runs (accessor_offset link protocol v) w c s f (λ x i. h x (record s { accumulator = x; index = i }) (record { long = k.long; kept = k.kept }) refl)
+      ∙ ap (λ o. Some (answer_for o f)) (indexed_same link protocol w v)
 
   -- the code of arithmetic has the answer for its value
   abbrev pub Runs : Link → NumberTree → ℕ → List Insn → Type 0

@@ -79,6 +79,10 @@ module _ (link : Link) (p : List ℕ) (n : ℕ) where
   one_read : (q : Protocol) (qs : List Protocol) (f : Formula) → following (q ∷ qs) f ≡ both (told q) (following qs f)
   one_read q qs f = guarded_read (accessor_tests link q) (checked_formula link qs f)
 
+  pub checked_same : (qs : List Protocol) (f g : Formula) → reads link f p n ≡ reads link g p n → following qs f ≡ following qs g
+  checked_same [] f g h = h
+  checked_same (q ∷ qs) f g h = one_read q qs f ∙ ap (λ r. both (told q) r) (checked_same qs f g h) ∙ sym (one_read q qs g)
+
   without_read : (q : Protocol) (qs : List Protocol) (f : Formula) → told q ≡ Yes → following (without_protocol q qs) f ≡ following qs f
   without_read q [] f sure = refl
   without_read q (r ∷ qs) f sure =

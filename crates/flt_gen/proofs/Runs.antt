@@ -4,10 +4,10 @@ use Rattle.flt_gen.specs.inside.Code.{emit_search}
 use Rattle.flt_gen.proofs.Ascending.{if_case, Apart, Searchable, Reached, Ready, Searches, apart_without, within_without, searchable_apart, apart_take, apart_drop, lower_half, first_taken, upper_half}
 use Rattle.flt_gen.proofs.Codes.{run, run_plain}
 use Rattle.flt_gen.proofs.Common.{◌≡◌, ℕ, zero, suc, ◌+◌, ◌-◌, ◌/◌, ◌%◌, ◌^◌, ◌<◌, ◌≤◌, List, [], ◌∷◌, length, take, drop, Bool, true, false, Option, Some, None, refl, sym, ap, ◌∙◌, subst, arith, nat_le, nat_lt, ◌==◌, not, ◌&&◌, ◌||◌, if◌then◌else◌, bit_and, option_map, nat_tests, Insn, State, Width, Byte, Test, Operand, Constant, IndexRegister, LoadAbsolute, LoadIndirect, Load, Immediate, LoadHeaderLength, Compute, JumpIf, Accumulator, Index, answer_of, answer_after, field, test_holds, operand_value, into, header_length, Comparison, Equal, NotEqual, Less, AtMost, Greater, AtLeast, number_words, NumberTree, Link, Offset, Fixed, AfterHeader, Interval, Sides, Direction, Source, Destination, And, Or, without, ap₂, Elementary, Outcome, Field, MatchResult, Yes, No, Rejected, reading_of, with, compares, field_at, under_mask, field_reads, elementary_reads, number, plain, constant, branch_insn, emit_elementary, emit_branch, emit_comparison, emit_field, emit_mask, emit_test, emit_relation, Block, at_top, emit_interval, emit_chain, are_few, low_of, MOST_HALVINGS, emit_masked, emit_side, emit_others, emit_few, emit_second, emit_at_sides, emit_many, are_at_index, emit_among, emit_formula, words}
-use Rattle.flt_gen.proofs.Grows.{are_many}
+use Rattle.flt_gen.proofs.Grows.{are_many, some_searched, source_lean, branch_grows, interval_fits, chain_fits, search_fits, side_fits, others_fits, masked_grows, at_index_grows, emitted_by}
 use Rattle.flt_gen.proofs.Leads.{HasWords, Tops, Leads, leads_top, leads_on, leads_in, leads_to}
-use Rattle.flt_gen.proofs.Numbers.{answer_for, constant_is, operands_run, number_runs}
-use Rattle.flt_gen.proofs.Tails.{Extends, by_right, branch_extends, interval_extends, chain_extends, search_extends, masked_extends, side_extends, others_extends, at_index_extends, emitted_extends}
+use Rattle.flt_gen.proofs.Numbers.{answer_for, into_any, field_runs, constant_is, operands_run, number_runs}
+use Rattle.flt_gen.proofs.Tails.{Extends, by_right}
 use Rattle.std.proofs.Math.Nat.{mod-eq_of_lt}
 use Rattle.flt_ast.specs.declared.qualifiers.Direction.TheVariants as direction
 use Rattle.flt_bpf.specs.declared.operation.Test.TheVariants as test
@@ -38,6 +38,10 @@ pick_negated _ v w = refl
 picked : (b : Bool) (v w : ℕ) → (if b then v else w) ≡ pick (reading_of (Some b)) v w
 picked true v w = refl
 picked false v w = refl
+
+for_test : (o : Option ℕ) (b : ℕ → Bool) (v w : ℕ) → answer_for o (λ y. if b y then v else w) ≡ pick (reading_of (with o (λ y. Some (b y)))) v w
+for_test None b v w = refl
+for_test (Some y) b v w = picked (b y) v w
 
 or_else : (a b : Bool) (v w : ℕ) → (if a then v else (if b then v else w)) ≡ (if (a || b) then v else w)
 or_else a b v w = grind (arith, nat_tests)
@@ -109,21 +113,10 @@ module _ (p : List ℕ) (n : ℕ) where
   masked_tops Q keep (Some m) c x v h =
       λ s q. run_plain p n (Compute AluOperation.And Constant) m c s ∙ h (record s { accumulator = bit_and s.accumulator m }) (keep s (bit_and s.accumulator m) q.0, ap (λ y. bit_and y m) q.1)
 
-  loaded : (o : Option ℕ) (b : ℕ → Bool) (c : List Insn) (v w : ℕ) (s : State) → HasWords s → ((x : ℕ) → Tops p n (Has x) c (if b x then v else w)) → answer_after (answer_of c p n) (into Accumulator o s) ≡ Some (pick (reading_of (with o (λ x. Some (b x)))) v w)
-  loaded None b c v w s long h = refl
-  loaded (Some x) b c v w s long h = h x (record s { accumulator = x }) (long, refl) ∙ ap Some (picked (b x) v w)
-
-  after_header : (o : Option ℕ) (at : ℕ) (width : Width) (b : ℕ → Bool) (c : List Insn) (v w : ℕ) (s : State) → HasWords s → ((x : ℕ) → Tops p n (Has x) c (if b x then v else w)) → answer_after (answer_of (plain (LoadIndirect width) at ∷ c) p n) (into Index (option_map header_length o) s) ≡ Some (pick (reading_of (with (with (with o (λ y. Some (header_length y))) (λ x. field p ((x + at) % 2 ^ 32) width)) (λ x. Some (b x)))) v w)
-  after_header None at width b c v w s long h = refl
-  after_header (Some y) at width b c v w s long h =
-      run_plain p n (LoadIndirect width) at c (record s { index = header_length y })
-      ∙ loaded (field p ((header_length y + at) % 2 ^ 32) width) b c v w (record s { index = header_length y }) long h
-
   field_tops : (place : Offset) (width : Width) (b : ℕ → Bool) (c : List Insn) (v w : ℕ) → ((x : ℕ) → Tops p n (Has x) c (if b x then v else w)) → Tops p n HasWords (emit_field place width c) (pick (reading_of (with (field_at place width p) (λ x. Some (b x)))) v w)
-  field_tops (Fixed at) width b c v w h =
-      λ s long. run_plain p n (LoadAbsolute width) at c s ∙ loaded (field p at width) b c v w s long h
-  field_tops (AfterHeader header at) width b c v w h =
-      λ s long. run_plain p n LoadHeaderLength header (plain (LoadIndirect width) at ∷ c) s ∙ after_header (field p header Byte) at width b c v w s long h
+  field_tops place width b c v w h =
+      λ s long. field_runs p n place width c s (λ x. if b x then v else w) (λ x i. h x (record s { accumulator = x; index = i }) (long, refl))
+      ∙ ap Some (for_test (field_at place width p) b v w)
 
   elementary_leads : (t : Elementary) (hit miss v w : ℕ) (c : List Insn) → Leads p n HasWords c hit v → Leads p n HasWords c miss w → Leads p n HasWords (emit_elementary t hit miss c).code (emit_elementary t hit miss c).entry (pick (elementary_reads t p) v w)
   elementary_leads (Outcome true) hit miss v w c h m = h
@@ -135,14 +128,15 @@ module _ (p : List ℕ) (n : ℕ) where
       (comparison_tops t.comparison Constant t.value (under_mask t.mask x) t.value hit miss v w c (λ s q. q.1) (λ s q. refl) (leads_in p n (λ s q. q.0) h) (leads_in p n (λ s q. q.0) m))))
 
   module _ (Q : State → Type 0) where
-    -- in some intervals, where it may be known that A is no lower than the first; else it leads
-    -- anywhere
-    record Found (a : ℕ) (from : Bool) (low : ℕ) (inside : Bool) (e : Block) (v w : ℕ) : Type 0 where
+    -- in so many intervals, where it may be known that A is no lower than the first; else it leads
+    -- anywhere. If there is one, the code is entered at its top
+    record Found (a : ℕ) (from : Bool) (low some : ℕ) (inside : Bool) (e : Block) (v w : ℕ) : Type 0 where
       value : ℕ
+      top : 0 < some → 0 ≡ length e.code - e.entry
       leads : Leads p n (With Q a) e.code e.entry value
       right : (from ≡ true → low ≤ a) → value ≡ (if inside then v else w)
 
-    interval_found : (a : ℕ) (from : Bool) (i : Interval) (hit miss v w : ℕ) (c : List Insn) → i.low ≤ i.high → Leads p n (With Q a) c hit v → Leads p n (With Q a) c miss w → Found a from i.low (is_in a i) (emit_interval from i hit miss c) v w
+    interval_found : (a : ℕ) (from : Bool) (i : Interval) (hit miss v w : ℕ) (c : List Insn) → i.low ≤ i.high → Leads p n (With Q a) c hit v → Leads p n (With Q a) c miss w → Found a from i.low 1 (is_in a i) (emit_interval from i hit miss c) v w
     interval_found a from i hit miss v w c order h m = by (i.low == i.high) refl
       where
         d : List Insn
@@ -154,35 +148,39 @@ module _ (p : List ℕ) (n : ℕ) where
         inside_is : (b : Bool) → (b && not (nat_lt i.high a)) ≡ (b && nat_le a i.high)
         inside_is b = ap (λ x. b && x) (at_most_is a i.high)
 
-        range : (from : Bool) → Found a from i.low (is_in a i) (if from then at_top d else at_top (emit_branch test.AtLeast Constant i.low (length d) miss d)) v w
+        range : (from : Bool) → Found a from i.low 1 (is_in a i) (if from then at_top d else at_top (emit_branch test.AtLeast Constant i.low (length d) miss d)) v w
         range true = record {
           value = if nat_lt i.high a then w else v;
+          top = λ _. omega arith;
           leads = at_most;
           right = λ t. let low = t refl in let above : nat_le i.low a ≡ true = grind (arith, nat_tests) in
               in_range (nat_le i.low a) (nat_lt i.high a) v w above ∙ ap (λ b. if b then v else w) (inside_is (nat_le i.low a));
         }
         range false = record {
           value = if nat_le i.low a then (if nat_lt i.high a then w else v) else w;
-          leads = leads_top p n (emit_branch test.AtLeast Constant i.low (length d) miss d) _ (branch_tops test.AtLeast Constant i.low a i.low (length d) miss _ w d (λ s q. q.1) (λ s q. refl) at_most (leads_on p n (branch_extends test.Greater Constant i.high miss hit c) m));
+          top = λ _. omega arith;
+          leads = leads_top p n (emit_branch test.AtLeast Constant i.low (length d) miss d) _ (branch_tops test.AtLeast Constant i.low a i.low (length d) miss _ w d (λ s q. q.1) (λ s q. refl) at_most (leads_on p n (branch_grows false test.Greater Constant i.high miss hit c tt tt tt).tail m));
           right = λ _. range_is (nat_le i.low a) (nat_lt i.high a) v w ∙ ap (λ b. if b then v else w) (inside_is (nat_le i.low a));
         }
 
-        by : (b : Bool) → (i.low == i.high) ≡ b → Found a from i.low (is_in a i) (if b then at_top (emit_branch test.Equal Constant i.low hit miss c) else (if from then at_top d else at_top (emit_branch test.AtLeast Constant i.low (length d) miss d))) v w
+        by : (b : Bool) → (i.low == i.high) ≡ b → Found a from i.low 1 (is_in a i) (if b then at_top (emit_branch test.Equal Constant i.low hit miss c) else (if from then at_top d else at_top (emit_branch test.AtLeast Constant i.low (length d) miss d))) v w
         by true e = record {
           value = if a == i.low then v else w;
+          top = λ _. omega arith;
           leads = leads_top p n (emit_branch test.Equal Constant i.low hit miss c) _ (branch_tops test.Equal Constant i.low a i.low hit miss v w c (λ s q. q.1) (λ s q. refl) h m);
           right = λ _. let same : i.low ≡ i.high = grind (arith, nat_tests) in ap (λ b. if b then v else w) (one_number a i.low i.high same);
         }
         by false e = range from
 
-    chain_found : (a : ℕ) (from : Bool) (f : ℕ) (is : List Interval) (hit miss v w : ℕ) (c : List Insn) → Apart f is → Leads p n (With Q a) c hit v → Leads p n (With Q a) c miss w → Found a from (low_of is) (is_within a is) (emit_chain from is hit miss c) v w
-    chain_found a from f [] hit miss v w c up h m = record { value = w; leads = m; right = λ _. refl }
+    chain_found : (a : ℕ) (from : Bool) (f : ℕ) (is : List Interval) (hit miss v w : ℕ) (c : List Insn) → Apart f is → Leads p n (With Q a) c hit v → Leads p n (With Q a) c miss w → Found a from (low_of is) (length is) (is_within a is) (emit_chain from is hit miss c) v w
+    chain_found a from f [] hit miss v w c up h m = record { value = w; top = λ some. absurd (omega arith); leads = m; right = λ _. refl }
     chain_found a from f (i ∷ is) hit miss v w c up h m =
         let e = emit_chain false is hit miss c in
         let rest = chain_found a false (i.high + 1) is hit miss v w c up.2 h m in
-        let first = interval_found a from i hit e.entry v rest.value e.code up.1 (leads_on p n (chain_extends false is hit miss c) h) rest.leads in
+        let first = interval_found a from i hit e.entry v rest.value e.code up.1 (leads_on p n (chain_fits false false is hit miss c tt tt tt).grows.tail h) rest.leads in
         record {
           value = first.value;
+          top = λ _. first.top (omega arith);
           leads = first.leads;
           right = λ t. first.right t ∙ ap (λ y. if is_in a i then v else y) (rest.right (λ z. cc)) ∙ or_else (is_in a i) (is_within a is) v w;
         }
@@ -195,52 +193,37 @@ module _ (p : List ℕ) (n : ℕ) where
         let m : a < low_of (drop h is) = grind (arith, nat_tests) in
         low ∙ ap (λ b. if b then v else w) (sym (lower_half a f h is up l m))
 
-    search_found : (k a : ℕ) (from : Bool) (f : ℕ) (is : List Interval) (hit miss v w : ℕ) (c : List Insn) → Apart f is → Leads p n (With Q a) c hit v → Leads p n (With Q a) c miss w → Found a from (low_of is) (is_within a is) (emit_search k from is hit miss c) v w
+    search_found : (k a : ℕ) (from : Bool) (f : ℕ) (is : List Interval) (hit miss v w : ℕ) (c : List Insn) → Apart f is → Leads p n (With Q a) c hit v → Leads p n (With Q a) c miss w → Found a from (low_of is) (length is) (is_within a is) (emit_search k from is hit miss c) v w
     unfolding emit_search
     search_found zero a from f is hit miss v w c up h m = chain_found a from f is hit miss v w c up h m
     search_found (suc k) a from f is hit miss v w c up h m =
         let half = length is / 2 in
         let upper = emit_search k true (drop half is) hit miss c in
         let lower = emit_search k from (take half is) hit miss upper.code in
-        let xu = search_extends k true (drop half is) hit miss c in
+        let xu = (search_fits false k true (drop half is) hit miss c tt tt tt).grows.tail in
         let fu = search_found k a true f (drop half is) hit miss v w c (apart_drop f half is up) h m in
         let fl = search_found k a from f (take half is) hit miss v w upper.code (apart_take f half is up) (leads_on p n xu h) (leads_on p n xu m) in
-        if_case (λ (e : Block). Found a from (low_of is) (is_within a is) e v w) (are_few is) _ _
+        if_case (λ (e : Block). Found a from (low_of is) (length is) (is_within a is) e v w) (are_few is) _ _
         (λ few. chain_found a from f is hit miss v w c up h m)
         (λ many. let two = are_many is many in
         let pivot = low_of (drop half is) in
         let some : 0 < half = omega arith in
         record {
           value = if nat_le pivot a then fu.value else fl.value;
+          top = λ _. omega arith;
           leads = leads_top p n (emit_branch test.AtLeast Constant pivot upper.entry lower.entry lower.code) _
-              (branch_tops test.AtLeast Constant pivot a pivot upper.entry lower.entry fu.value fl.value lower.code (λ s q. q.1) (λ s q. refl) (leads_on p n (search_extends k from (take half is) hit miss upper.code) fu.leads) fl.leads);
+              (branch_tops test.AtLeast Constant pivot a pivot upper.entry lower.entry fu.value fl.value lower.code (λ s q. q.1) (λ s q. refl) (leads_on p n (search_fits false k from (take half is) hit miss upper.code tt tt tt).grows.tail fu.leads) fl.leads);
           right = λ t. halves_found a f half from is v w fu.value fl.value up (omega arith)
               (λ m. fu.right (λ _. m))
               (fl.right (λ e. subst (λ z. z ≤ a) (sym (first_taken half is some)) (t e)))
               (nat_le pivot a) refl;
         })
 
-  -- several numbers' code is entered at its top
-  interval_top : (from : Bool) (i : Interval) (hit miss : ℕ) (c : List Insn) → 0 ≡ length (emit_interval from i hit miss c).code - (emit_interval from i hit miss c).entry
-  interval_top from i hit miss c =
-      if_case (λ (e : Block). 0 ≡ length e.code - e.entry) (i.low == i.high) _ _ (λ one. omega arith)
-      (λ many. if_case (λ (e : Block). 0 ≡ length e.code - e.entry) from _ _ (λ above. omega arith) (λ any. omega arith))
-
-  search_top : (k : ℕ) (from : Bool) (is : List Interval) (hit miss : ℕ) (c : List Insn) → Searchable is → 0 ≡ length (emit_search k from is hit miss c).code - (emit_search k from is hit miss c).entry
-  unfolding emit_search
-  search_top k from [] hit miss c h = absurd h
-  search_top zero from (i ∷ is) hit miss c h = let e = emit_chain false is hit miss c in interval_top from i hit e.entry e.code
-  search_top (suc k) from (i ∷ is) hit miss c h =
-      let r = emit_chain false is hit miss c in
-      if_case (λ (e : Block). 0 ≡ length e.code - e.entry) (are_few (i ∷ is)) _ _
-      (λ few. interval_top from i hit r.entry r.code)
-      (λ many. omega arith)
-
   search_tops : (Q : State → Type 0) (a : ℕ) (is : List Interval) (hit miss v w : ℕ) (c : List Insn) → Searchable is → Leads p n (With Q a) c hit v → Leads p n (With Q a) c miss w → Tops p n (With Q a) (emit_search MOST_HALVINGS false is hit miss c).code (if is_within a is then v else w)
   search_tops Q a is hit miss v w c up h m =
       let e = emit_search MOST_HALVINGS false is hit miss c in
       let f = search_found Q MOST_HALVINGS a false 0 is hit miss v w c (searchable_apart is up) h m in
-      λ s q. ap (λ k. answer_of e.code p n k s) (search_top MOST_HALVINGS false is hit miss c up) ∙ f.leads.by s q ∙ ap Some (f.right (λ z. cc))
+      λ s q. ap (λ k. answer_of e.code p n k s) (f.top (some_searched is up)) ∙ f.leads.by s q ∙ ap Some (f.right (λ z. cc))
 
   looked_for : (Q : State → Type 0) → Keeps Q → (mask : Option ℕ) (is : List Interval) (hit miss v w : ℕ) (c : List Insn) (x : ℕ) → Searchable is → Leads p n (With Q (under_mask mask x)) c hit v → Leads p n (With Q (under_mask mask x)) c miss w → Tops p n (With Q x) (emit_masked mask is hit miss c) (if is_within (under_mask mask x) is then v else w)
   looked_for Q keep mask is hit miss v w c x up h m =
@@ -298,8 +281,9 @@ module _ (p : List ℕ) (n : ℕ) where
       let others = emit_others at numbers numbers.others hit miss c in
       let all = emit_side at.destination at.width numbers.mask numbers.all hit others.entry others.code in
       let up = subst (Apart 0) (sym r.others_are) (apart_without 0 numbers.first numbers.all (searchable_apart numbers.all r.all)) in
-      let xo = others_extends at numbers numbers.others hit miss c in
-      let xa = side_extends at.destination at.width numbers.mask numbers.all hit others.entry others.code in
+      let lean = source_lean at.index numbers.mask at.source at.destination r.reached in
+      let xo = (others_fits false at numbers numbers.others hit miss c lean.0 tt tt tt).grows.tail in
+      let xa = (side_fits false at.destination at.width numbers.mask numbers.all hit others.entry others.code lean.1 tt tt tt).grows.tail in
       let lo = others_leads at numbers numbers.others hit miss v w c up h m in
       let la = side_leads at.destination at.width numbers.mask numbers.all hit others.entry v _ others.code r.all (leads_on p n xo h) lo in
       leads_to p n (few_picks numbers (field_at at.source at.width p) (field_at at.destination at.width p) v w (r.first_in p) r.others_are)
@@ -310,11 +294,7 @@ module _ (p : List ℕ) (n : ℕ) where
   index_loaded i k width c f h =
       λ s q. run_plain p n (LoadIndirect width) k c s
       ∙ ap (λ j. answer_after (answer_of c p n) (into Accumulator (field p ((j + k) % 2 ^ 32) width) s)) q.1
-      ∙ by (field p ((i + k) % 2 ^ 32) width) s q
-    where
-      by : (o : Option ℕ) (s : State) → AtIndex i s → answer_after (answer_of c p n) (into Accumulator o s) ≡ Some (answer_for o f)
-      by None s q = refl
-      by (Some x) s q = h x (record s { accumulator = x }) (q, refl)
+      ∙ into_any p n (field p ((i + k) % 2 ^ 32) width) c s f (λ x. h x (record s { accumulator = x }) (q, refl))
 
   many_picks : (numbers : Numbers) (s d : Option ℕ) (v w : ℕ) → ((x : ℕ) → s ≡ Some x → is_in (under_mask numbers.mask x) numbers.first ≡ true → is_within (under_mask numbers.mask x) numbers.all ≡ true) → answer_for s (λ x. if is_within (under_mask numbers.mask x) numbers.all then (if is_in (under_mask numbers.mask x) numbers.first then v else answer_for d (λ y. v)) else answer_for d (λ y. if is_within (under_mask numbers.mask y) numbers.all then v else w)) ≡ pick (either_reads numbers s d) v w
   many_picks numbers None d v w sub = refl
@@ -357,10 +337,10 @@ module _ (p : List ℕ) (n : ℕ) where
       one = emit_interval false numbers.first hit (length later) later
 
       none_longer : Extends c none
-      none_longer = at_index_extends sides.destination at.width at.index c _ (masked_extends numbers.mask numbers.all hit miss c)
+      none_longer = (at_index_grows false sides.destination at.width at.index (masked_grows false numbers.mask numbers.all hit miss c tt tt tt)).tail
 
       later_longer : Extends none later
-      later_longer = at_index_extends sides.destination at.width at.index none _ (branch_extends test.AtLeast Constant 0 hit miss none)
+      later_longer = (at_index_grows false sides.destination at.width at.index (branch_grows false test.AtLeast Constant 0 hit miss none tt tt tt)).tail
 
       here : (x : ℕ) → Leads p n (With (AtIndex i) x) none hit v
       here x = leads_on p n none_longer (leads_in p n (λ s q. q.0.0) h)
@@ -380,7 +360,7 @@ module _ (p : List ℕ) (n : ℕ) where
       found x =
           let u = under_mask numbers.mask x in
           let f = interval_found (AtIndex i) u false numbers.first hit (length later) v _ later order (leads_on p n later_longer (here u)) (leads_in p n (λ s q. q.0) later_leads) in
-          λ s q. looked_for (AtIndex i) (λ t a r. r) numbers.mask numbers.all one.entry (length none) f.value _ one.code x up f.leads (leads_in p n (λ t r. r.0) (leads_on p n (interval_extends false numbers.first hit (length later) later) (leads_on p n later_longer none_leads))) s q
+          λ s q. looked_for (AtIndex i) (λ t a r. r) numbers.mask numbers.all one.entry (length none) f.value _ one.code x up f.leads (leads_in p n (λ t r. r.0) (leads_on p n (interval_fits false false numbers.first [] hit (length later) later tt tt tt).grows.tail (leads_on p n later_longer none_leads))) s q
           ∙ ap (λ z. Some (if is_within u numbers.all then z else answer_for destination all_value)) (f.right (λ z. cc))
 
   -- the number in X and that in the instruction are the place
@@ -435,12 +415,8 @@ module _ (p : List ℕ) (n : ℕ) where
       ∙ ap (λ o. Some (pick (reading_of (with o (λ y. Some (compares comparison x y)))) v w)) (sym (constant_is p n link r j is)))
       (operands_run p n link r 0 x (emit_comparison comparison IndexRegister 0 hit miss c) s t (λ y. if compares comparison x y then v else w) (omega arith) k e (number_runs p n link r 1 _ few_r)
       (λ y u j g i. comparison_tops {P = HasBoth x y} comparison IndexRegister 0 x y hit miss v w c (λ z q. q.1) (λ z q. q.2) (leads_in p n (λ z q. q.0) h) (leads_in p n (λ z q. q.0) m) u (j.long, g, i))
-      ∙ ap Some (right_picks (number link r p n) (compares comparison x) v w)))
+      ∙ ap Some (for_test (number link r p n) (compares comparison x) v w)))
       ∙ ap Some (relation_picks (number link l p n) (compares comparison) (number link r p n) v w)
-    where
-      right_picks : (o : Option ℕ) (b : ℕ → Bool) (v w : ℕ) → answer_for o (λ y. if b y then v else w) ≡ pick (reading_of (with o (λ y. Some (b y)))) v w
-      right_picks None b v w = refl
-      right_picks (Some y) b v w = picked (b y) v w
 
   pub emitted_leads : (link : Link) (f : Formula) (hit miss v w : ℕ) (c : List Insn) → words f ≤ 16 → Searches f → Leads p n HasWords c hit v → Leads p n HasWords c miss w → Leads p n HasWords (emit_formula link f hit miss c).code (emit_formula link f hit miss c).entry (pick (reads link f p n) v w)
   emitted_leads link (Single t) hit miss v w c few up h m = elementary_leads t hit miss v w c h m
@@ -451,12 +427,12 @@ module _ (p : List ℕ) (n : ℕ) where
       leads_to p n (pick_both (reads link a p n) (reads link b p n) v w)
       (emitted_leads link a e.entry miss (pick (reads link b p n) v w) w e.code (omega arith) up.0
       (emitted_leads link b hit miss v w c (omega arith) up.1 h m)
-      (leads_on p n (emitted_extends link b hit miss c) m))
+      (leads_on p n (emitted_by false link b hit miss c (omega arith) up.1 tt tt tt).grows.tail m))
   emitted_leads link (Either a b) hit miss v w c few up h m =
       let e = emit_formula link b hit miss c in
       leads_to p n (pick_either (reads link a p n) (reads link b p n) v w)
       (emitted_leads link a hit e.entry v (pick (reads link b p n) v w) e.code (omega arith) up.0
-      (leads_on p n (emitted_extends link b hit miss c) h)
+      (leads_on p n (emitted_by false link b hit miss c (omega arith) up.1 tt tt tt).grows.tail h)
       (emitted_leads link b hit miss v w c (omega arith) up.1 h m))
   emitted_leads link (Except a) hit miss v w c few up h m =
       leads_to p n (pick_negated (reads link a p n) v w) (emitted_leads link a miss hit w v c few up m h)
@@ -465,6 +441,6 @@ module _ (p : List ℕ) (n : ℕ) where
       let yes = emit_formula link a hit miss no.code in
       leads_to p n (pick_chosen (elementary_reads t p) (reads link a p n) (reads link b p n) v w)
       (elementary_leads t yes.entry no.entry (pick (reads link a p n) v w) (pick (reads link b p n) v w) yes.code
-      (emitted_leads link a hit miss v w no.code (omega arith) up.0 (leads_on p n (emitted_extends link b hit miss c) h) (leads_on p n (emitted_extends link b hit miss c) m))
-      (leads_on p n (emitted_extends link a hit miss no.code) (emitted_leads link b hit miss v w c (omega arith) up.1 h m)))
+      (emitted_leads link a hit miss v w no.code (omega arith) up.0 (leads_on p n (emitted_by false link b hit miss c (omega arith) up.1 tt tt tt).grows.tail h) (leads_on p n (emitted_by false link b hit miss c (omega arith) up.1 tt tt tt).grows.tail m))
+      (leads_on p n (emitted_by false link a hit miss no.code (omega arith) up.0 tt tt tt).grows.tail (emitted_leads link b hit miss v w c (omega arith) up.1 h m)))
   emitted_leads link (Sought d at numbers) hit miss v w c few up h m = among_leads d at numbers hit miss v w c up h m

@@ -1,5 +1,6 @@
 -- The code of a search by halves, unfolded once.
-use Rattle.std.proofs.Common.{◌≡◌, ℕ, zero, suc, ◌-◌, ◌/◌, ◌<◌, List, length, take, drop, Bool, true, false, refl, ap, ◌∙◌, arith, ◌⊎◌, inl, inr}
+use Rattle.std.proofs.Common.{◌≡◌, ℕ, zero, suc, ◌-◌, ◌/◌, ◌<◌, List, length, take, drop, Bool, true, false, refl, ap, sym, ◌∙◌, arith}
+use Rattle.std.proofs.lemmas.List.{take_rest}
 use Rattle.std.specs.Prelude.{if◌then◌else◌}
 use Rattle.flt_bpf.specs.declared.insn.Insn.{Insn}
 use Rattle.flt_gen.specs.declared.elementary.Interval.{Interval}
@@ -8,18 +9,15 @@ use Rattle.flt_gen.specs.inside.Code.{Block, emit_chain, emit_halves, are_few, l
 if_is : {A : Type 0} (b c : Bool) (x y : A) → b ≡ c → (if b then x else y) ≡ (if c then x else y)
 if_is b c x y e = ap (λ d. if d then x else y) e
 
-pub search_none : (from : Bool) (is : List Interval) (hit miss : ℕ) (c : List Insn) → emit_search 0 from is hit miss c ≡ emit_chain from is hit miss c
+pub search_none : (k : ℕ) (from : Bool) (is : List Interval) (hit miss : ℕ) (c : List Insn) → k ≡ 0 → emit_search k from is hit miss c ≡ emit_chain from is hit miss c
 unfolding emit_search
-search_none from is hit miss c = refl
+search_none zero from is hit miss c e = refl
+search_none (suc k) from is hit miss c e = absurd (omega arith)
 
 pub search_few : (k : ℕ) (from : Bool) (is : List Interval) (hit miss : ℕ) (c : List Insn) → are_few is ≡ true → emit_search k from is hit miss c ≡ emit_chain from is hit miss c
 unfolding emit_search
 search_few zero from is hit miss c e = refl
 search_few (suc k) from is hit miss c e = if_is _ true _ _ e
-
-pub search_chain : (k : ℕ) (from : Bool) (is : List Interval) (hit miss : ℕ) (c : List Insn) → (k ≡ 0) ⊎ (are_few is ≡ true) → emit_search k from is hit miss c ≡ emit_chain from is hit miss c
-search_chain k from is hit miss c (inl e) = ap (λ j. emit_search j from is hit miss c) e ∙ search_none from is hit miss c
-search_chain k from is hit miss c (inr e) = search_few k from is hit miss c e
 
 -- by both parts
 abbrev pub halved : ℕ → Bool → List Interval → List Interval → ℕ → ℕ → List Insn → Block
@@ -27,9 +25,10 @@ halved k from low high hit miss c =
     let upper = emit_search k true high hit miss c in
     emit_halves (low_of high) (emit_search k from low hit miss upper.code) upper.entry
 
-pub search_put : (halvings : ℕ) (from : Bool) (is : List Interval) (hit miss : ℕ) (c : List Insn) → 0 < halvings → are_few is ≡ false → emit_search halvings from is hit miss c ≡ halved (halvings - 1) from (take (length is / 2) is) (drop (length is / 2) is) hit miss c
+pub search_put : (halvings : ℕ) (from : Bool) (is : List Interval) (hit miss : ℕ) (c : List Insn) → 0 < halvings → are_few is ≡ false → emit_search halvings from is hit miss c ≡ halved (halvings - 1) from (take (length is / 2) is) (take (length is - length is / 2) (drop (length is / 2) is)) hit miss c
 unfolding emit_search
 search_put zero from is hit miss c some many = absurd (omega arith)
 search_put (suc k) from is hit miss c some many =
     let same : k ≡ suc k - 1 = omega arith in
     if_is _ false _ _ many ∙ ap (λ j. halved j from (take (length is / 2) is) (drop (length is / 2) is) hit miss c) same
+    ∙ ap (λ (zs : List Interval). halved (suc k - 1) from (take (length is / 2) is) zs hit miss c) (sym (take_rest is (length is / 2)))

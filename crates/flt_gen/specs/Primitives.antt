@@ -39,10 +39,6 @@ ip6_proto link n = after (kind_test link Ip6) (Single (has_ip6_proto link n))
 abbrev pub any_proto : Link → ℕ → Formula
 any_proto link n = Either (ip_proto link n) (ip6_proto link n)
 
--- this EtherType
-abbrev pub ether_proto : Link → ℕ → Formula
-ether_proto link n = Single (has_type link n)
-
 -- only a protocol's keyword
 abbrev pub check_formula : Link → Protocol → Formula
 check_formula link Protocol.Ether = Single (kind_test link Ethernet)
@@ -59,7 +55,7 @@ check_formula link Protocol.Icmp6 = ip6_proto link IPPROTO_ICMPV6
 abbrev pub proto_formula : Link → Option Protocol → ℕ → Formula
 proto_formula link (Some Protocol.Ip) n = ip_proto link n
 proto_formula link (Some Protocol.Ip6) n = ip6_proto link n
-proto_formula link (Some Protocol.Ether) n = ether_proto link n
+proto_formula link (Some Protocol.Ether) n = Single (has_type link n)
 proto_formula link None n = any_proto link n
 proto_formula link (Some _) n = Single (Outcome false)
 
@@ -128,16 +124,13 @@ address_places link kind = record {
   destination = Fixed (network_offset link + destination_offset kind);
 }
 
--- the addresses at these places are of a network, as the direction that is with it asks for them
-abbrev pub net_tests : Sides → NetTest → Formula
-net_tests at net =
-    sides net.direction (address_test net.mask net.address at.source ∷ [])
-    (address_test net.mask net.address at.destination ∷ [])
-
 -- the addresses of a header of a kind, as a direction asks for them, are those of hosts: all in a
 -- network, or several, which are these numbers
 abbrev pub hosts_sides : Link → FrameKind → Hosts → Numbers → Formula
-hosts_sides link kind (Hosts.Net net) numbers = net_tests (address_places link kind) net
+hosts_sides link kind (Hosts.Net net) numbers =
+    let at = address_places link kind in
+    sides net.direction (address_test net.mask net.address at.source ∷ [])
+    (address_test net.mask net.address at.destination ∷ [])
 hosts_sides link kind (Hosts.Several direction) numbers =
     Sought direction (address_places link kind) numbers
 
@@ -146,18 +139,14 @@ abbrev pub hosts_of_kind : Link → FrameKind → Hosts → Numbers → Formula
 hosts_of_kind link kind wanted numbers =
     after (kind_test link kind) (hosts_sides link kind wanted numbers)
 
--- hosts in a header of IPv4, ARP or RARP
-abbrev pub any_hosts : Link → Hosts → Numbers → Formula
-any_hosts link wanted numbers =
-    Either (hosts_of_kind link Ip wanted numbers)
-    (Either (hosts_of_kind link Arp wanted numbers) (hosts_of_kind link Rarp wanted numbers))
-
 -- hosts of IPv4 in the headers that a protocol, or none, allows
 abbrev pub hosts_formula : Link → Option Protocol → Hosts → Numbers → Formula
 hosts_formula link (Some Protocol.Ip) wanted numbers = hosts_of_kind link Ip wanted numbers
 hosts_formula link (Some Protocol.Arp) wanted numbers = hosts_of_kind link Arp wanted numbers
 hosts_formula link (Some Protocol.Rarp) wanted numbers = hosts_of_kind link Rarp wanted numbers
-hosts_formula link None wanted numbers = any_hosts link wanted numbers
+hosts_formula link None wanted numbers =
+    Either (hosts_of_kind link Ip wanted numbers)
+    (Either (hosts_of_kind link Arp wanted numbers) (hosts_of_kind link Rarp wanted numbers))
 hosts_formula link (Some _) wanted numbers = Single (Outcome false)
 
 -- the hosts of a network, in the headers that a protocol, or none, allows
@@ -232,15 +221,11 @@ abbrev pub following : Option Elementary → Formula → Formula
 following None f = f
 following (Some t) f = after t f
 
--- the ports after a header, which isn't a later fragment's
-abbrev pub ports_after : Transport → PortTest → Numbers → Formula
-ports_after header wanted numbers =
-    following header.no_later_fragment (port_sides wanted.ports wanted.direction header numbers)
-
--- the ports after a header that names the protocol that is asked for
+-- the ports after a header that names the protocol that is asked for, and isn't a later fragment's
 abbrev pub transport_ports : Transport → PortTest → Numbers → Formula
 transport_ports header wanted numbers =
-    transport wanted.protocol header.tcp header.udp (ports_after header wanted numbers)
+    transport wanted.protocol header.tcp header.udp
+    (following header.no_later_fragment (port_sides wanted.ports wanted.direction header numbers))
 
 -- what follows an IPv4 header, which has no fixed length; no later fragment has ports
 abbrev pub ip_transport : Link → Transport
@@ -278,15 +263,6 @@ port_test protocol direction ports =
 -- Values with their qualifiers. What doesn't fit was refused before: most of that isn't one here
 -- and above, and of the rest nothing depends on what it is (a host of fewer parts, a port's mask).
 
--- `host` with an address of any kind
-abbrev pub host_formula : Link → Option Protocol → Direction → Value → Formula
-host_formula link protocol direction (Value.Dotted dotted mask) =
-    net_formula link protocol (net_test direction None dotted.address)
-host_formula link protocol direction (Value.Ip6 address prefix) =
-    ip6_formula link direction None address
-host_formula link protocol direction (Value.Mac address) = ether_host link direction address
-host_formula link protocol direction _ = Single (Outcome false)
-
 -- the hosts of the network of IPv4 that a value means; no, if it means none
 abbrev pub ip4_formula : Link → Option Protocol → Direction → Option Ip4Net → Formula
 ip4_formula link protocol direction (Some net) =
@@ -299,30 +275,20 @@ net_value_formula link protocol direction (Value.Ip6 address prefix) =
     ip6_formula link direction prefix address
 net_value_formula link protocol direction v = ip4_formula link protocol direction (ip4_net v)
 
--- `port` with a number
-abbrev pub port_value_formula : Link → Option Protocol → Direction → Value → Formula
-port_value_formula link protocol direction (Value.Number n mask) =
-    port_formula link (port_test protocol direction (One n)) no_numbers
-port_value_formula link protocol direction _ = Single (Outcome false)
-
--- `portrange` with a range, whose ends may stand in either order
-abbrev pub range_value_formula : Link → Option Protocol → Direction → Value → Formula
-range_value_formula link protocol direction (Value.Range a b) =
-    port_formula link (port_test protocol direction (Between (min a b) (max a b))) no_numbers
-range_value_formula link protocol direction _ = Single (Outcome false)
-
--- `proto` with a number
-abbrev pub proto_value_formula : Link → Option Protocol → Value → Formula
-proto_value_formula link protocol (Value.Number n mask) = proto_formula link protocol n
-proto_value_formula link protocol _ = Single (Outcome false)
-
--- a value with these qualifiers
+-- a value with these qualifiers: the ends of a range may stand in either order
 abbrev pub value_formula : Link → ValueType → Option Protocol → Direction → Value → Formula
-value_formula link Host protocol direction v = host_formula link protocol direction v
+value_formula link Host protocol direction (Value.Dotted dotted mask) =
+    net_formula link protocol (net_test direction None dotted.address)
+value_formula link Host protocol direction (Value.Ip6 address prefix) =
+    ip6_formula link direction None address
+value_formula link Host protocol direction (Value.Mac address) = ether_host link direction address
 value_formula link Net protocol direction v = net_value_formula link protocol direction v
-value_formula link Port protocol direction v = port_value_formula link protocol direction v
-value_formula link PortRange protocol direction v = range_value_formula link protocol direction v
-value_formula link Proto protocol direction v = proto_value_formula link protocol v
+value_formula link Port protocol direction (Value.Number n mask) =
+    port_formula link (port_test protocol direction (One n)) no_numbers
+value_formula link PortRange protocol direction (Value.Range a b) =
+    port_formula link (port_test protocol direction (Between (min a b) (max a b))) no_numbers
+value_formula link Proto protocol direction (Value.Number n mask) = proto_formula link protocol n
+value_formula link _ protocol direction _ = Single (Outcome false)
 
 -- a value with all its qualifiers
 abbrev pub qualified_formula : Link → CompleteQualifiers → Value → Formula

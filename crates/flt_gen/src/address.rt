@@ -3,22 +3,21 @@
 //! `.._needed` is the row without the other tests of such words.
 
 ghost use Rattle.std.specs.Prelude.{◌≡◌, ◌+◌, ◌≤◌};
-ghost use Rattle.cap_octet.specs.{Link.longest_header, declared.link.Link.Link};
-ghost use Rattle.flt_gen.specs.Primitives.{partial_mask, net_test, address_test, address_places};
-ghost use Rattle.flt_gen.specs.inside.Emitted.{is_idle, last_test, needed_tests, needed_sides};
-ghost use Rattle.flt_gen.specs.inside.{Code.emit_all, Emitted.ip6_needed};
-ghost use Rattle.flt_gen.specs.inside.Emits.{Emits, EmitsFormula};
+ghost use Rattle.cap_octet.specs.Link.{longest_header};
+ghost use Rattle.flt_gen.specs.Primitives.{partial_mask, address_test, address_places};
+ghost use Rattle.flt_gen.specs.inside.Emitted.{is_idle, last_test, ip6_needed};
+ghost use Rattle.flt_gen.specs.{inside.Emits.EmitsFormula};
 ghost use Rattle.flt_gen.specs.Primitives.{hosts_of_kind, hosts_formula, ip6_test, ip6_tests};
 
 use crate::code::{Code, Targets};
 use crate::elementary::{
-    Elementary, FieldTest, FrameKind, Offset, Sides, kind_test, network_offset,
+    Elementary, FieldTest, FrameKind, Offset, Sides, compares_under, kind_test, network_offset,
 };
 use crate::intervals::Numbers;
 use cap_octet::Link;
 use flt_ast::{Direction, ip4_prefix_mask};
 use flt_bpf::operation::Width;
-use flt_words::{Comparison, Join, Protocol, Side};
+use flt_words::{Comparison, Protocol};
 use std::alloc::{AllocError, Allocator};
 
 /// A test of IPv4 addresses: the sides, the mask where not the whole address counts, and the
@@ -28,19 +27,6 @@ pub struct NetTest {
     pub direction: Direction,
     pub mask: Option<u32>,
     pub address: u32,
-}
-
-impl NetTest {
-    /// A test of this address, as far as the mask goes.
-    pub fn new(direction: Direction, mask: Option<u32>, address: u32) -> Self
-        ensures { result ≡ net_test direction mask address }
-    {
-        NetTest {
-            direction,
-            mask,
-            address,
-        }
-    }
 }
 
 /// The hosts of IPv4 that are looked for.
@@ -63,13 +49,7 @@ pub fn partial_mask(mask: u32) -> Option<u32>
 fn address_test(mask: Option<u32>, address: u32, offset: Offset) -> Elementary
     ensures { result ≡ address_test mask address offset }
 {
-    Elementary::Field(FieldTest {
-        offset,
-        width: Width::Word,
-        mask,
-        comparison: Comparison::Equal,
-        value: address,
-    })
+    compares_under(mask, offset, Width::Word, Comparison::Equal, address)
 }
 
 /// Where both addresses of a header of a kind stand: IPv4 (RFC 791), at bytes 12 and 16, or ARP and
@@ -93,6 +73,7 @@ fn address_places(link: Link, kind: FrameKind) -> Sides
 
 /// The test that one of the four words (0 to 3) of the IPv6 address that begins at a place is that
 /// of `address`, as far as the prefix goes; without a prefix all bits count.
+#[tactic(auto, using(crate::proofs::Masks::word_power))]
 pub fn ip6_test(prefix: Option<u32>, address: u128, at: u32, word: u32) -> Elementary
     requires { (at ≤ longest_header + 24) × (word ≤ 3) }
     ensures { result ≡ ip6_test prefix address at word }
@@ -122,7 +103,7 @@ pub fn ip6_tests(prefix: Option<u32>, address: u128, at: u32) -> [Elementary; 4]
 
 /// Whether a test that `ip6_test` makes is of a word of which no bit counts, and compares it with
 /// 0, so that it is yes wherever the word is captured.
-fn is_idle(test: Elementary) -> bool
+pub fn is_idle(test: Elementary) -> bool
     ensures { result ≡ is_idle test }
 {
     match test {
@@ -133,7 +114,7 @@ fn is_idle(test: Elementary) -> bool
 
 /// The test of the last of some words. If no bit of it counts, it only asks whether the word is
 /// captured: every number is 0 at least.
-fn last_test(test: Elementary) -> Elementary
+pub fn last_test(test: Elementary) -> Elementary
     ensures { result ≡ last_test test }
 {
     match test {
@@ -165,7 +146,7 @@ impl<A: Allocator> Code<A> {
             Hosts::Net(net) => {
                 let source = address_test(net.mask, net.address, at.source);
                 let destination = address_test(net.mask, net.address, at.destination);
-                self.emit_sides(net.direction, &[source], &[destination], to)?
+                self.emit_sides(net.direction, false, &[source], &[destination], to)?
             }
             Hosts::Several(direction) => self.emit_among(direction, at, numbers, to)?,
         };
@@ -202,50 +183,6 @@ impl<A: Allocator> Code<A> {
         self.emit_hosts_of_kind(link, kind, wanted, numbers, to)
     }
 
-    /// Emits the tests of words that all have to hold, each after the one before. One of which no
-    /// bit counts is left out in front of another: if its word isn't captured, no later one is.
-    fn emit_words(&mut self, tests: &[Elementary], to: Targets) -> Result<usize, AllocError>
-        ensures { Emits result (emit_all (needed_tests tests.now) to.yes to.no self.old) self.new }
-    {
-        match tests {
-            [] => Ok(to.yes),
-            [only] => self.emit_elementary(last_test(*only), to),
-            [first, others @ ..] => {
-                let yes = self.emit_words(others, to)?;
-                if is_idle(*first) {
-                    return Ok(yes);
-                }
-                self.emit_elementary(*first, Targets { yes, no: to.no })
-            }
-        }
-    }
-
-    /// Emits the tests of words of the source and of the destination, as a direction asks for them.
-    #[tactic(auto, using(crate::proofs::Decision::all_emitted))]
-    fn emit_word_sides(
-        &mut self,
-        direction: Direction,
-        source: &[Elementary],
-        destination: &[Elementary],
-        to: Targets,
-    ) -> Result<usize, AllocError>
-        ensures { (link : Link) → EmitsFormula link
-            (needed_sides direction source.now destination.now) to self.old result self.new }
-    {
-        match direction {
-            Direction::One(Side::Source) => self.emit_words(source, to),
-            Direction::One(Side::Destination) => self.emit_words(destination, to),
-            Direction::Both(Join::And) => {
-                let yes = self.emit_words(destination, to)?;
-                self.emit_words(source, Targets { yes, no: to.no })
-            }
-            Direction::Both(Join::Or) => {
-                let no = self.emit_words(destination, to)?;
-                self.emit_words(source, Targets { yes: to.yes, no })
-            }
-        }
-    }
-
     /// Emits `host` and `net` of IPv6, with the length of the prefix where not the whole address
     /// counts.
     pub fn emit_ip6(
@@ -263,7 +200,7 @@ impl<A: Allocator> Code<A> {
         // The addresses stand at bytes 8 and 24 of the header (RFC 8200, section 3).
         let source = ip6_tests(prefix, address, start + 8);
         let destination = ip6_tests(prefix, address, start + 24);
-        let yes = self.emit_word_sides(direction, &source, &destination, to)?;
+        let yes = self.emit_sides(direction, true, &source, &destination, to)?;
         self.emit_elementary(kind_test(link, FrameKind::Ip6), Targets { yes, no: to.no })
     }
 }

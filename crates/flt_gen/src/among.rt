@@ -80,12 +80,12 @@ impl<A: Allocator> Code<A> {
         if is_above {
             return Ok(self.top());
         }
-        let yes = self.top();
+        let (yes, no) = (self.top(), to.no);
         self.emit_branch(
             Test::AtLeast,
             Operand::Constant,
             item.low,
-            Targets { yes, no: to.no },
+            Targets { yes, no },
         )?;
         Ok(self.top())
     }
@@ -112,6 +112,7 @@ impl<A: Allocator> Code<A> {
 
     /// As `emit_chain`, of intervals that ascend, by a binary search: they are halved at most
     /// `halvings` times, by a test whether A is in the upper half.
+    #[tactic(auto, using(crate::proofs::Search::search_none, crate::proofs::Search::search_few, crate::proofs::Search::search_put))]
     fn emit_search(
         &mut self,
         halvings: usize,
@@ -183,20 +184,10 @@ impl<A: Allocator> Code<A> {
         if !numbers.others.is_empty() {
             no = self.emit_side(at.source, width, mask, numbers.others, to)?;
         }
-        let no = self.emit_side(
-            at.destination,
-            width,
-            mask,
-            numbers.all,
-            Targets { yes, no },
-        )?;
-        self.emit_side(
-            at.source,
-            width,
-            mask,
-            &[numbers.first],
-            Targets { yes, no },
-        )
+        let to = Targets { yes, no };
+        let no = self.emit_side(at.destination, width, mask, numbers.all, to)?;
+        let to = Targets { yes, no };
+        self.emit_side(at.source, width, mask, &[numbers.first], to)
     }
 
     /// Emits the load into X of the number from which both sides are counted.

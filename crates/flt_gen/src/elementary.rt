@@ -4,9 +4,9 @@
 
 ghost use Rattle.std.specs.Prelude.{◌≡◌, ◌≤◌, IfSome, Some, None};
 ghost use Rattle.cap_octet.specs.Link.{longest_header, network_offset};
-ghost use Rattle.flt_gen.specs.Elementary.{is_at, is_masked, compares_at, kind_test, type_test};
-ghost use Rattle.flt_gen.specs.Elementary.{has_type, has_type_at, first_fragment, has_ip_proto};
-ghost use Rattle.flt_gen.specs.Elementary.{has_ip6_proto};
+ghost use Rattle.flt_gen.specs.Elementary.{is_at, is_masked, compares_at, compares_under};
+ghost use Rattle.flt_gen.specs.Elementary.{kind_test, type_test, has_type, has_type_at};
+ghost use Rattle.flt_gen.specs.Elementary.{first_fragment, has_ip_proto, has_ip6_proto};
 
 use cap_octet::Link;
 use cap_octet::assigned::{ETHERTYPE_ARP, ETHERTYPE_IPV4, ETHERTYPE_IPV6, ETHERTYPE_RARP};
@@ -91,23 +91,36 @@ pub fn is_at(at: u32, width: Width, value: u32) -> Elementary
 fn is_masked(at: u32, width: Width, mask: u32, value: u32) -> Elementary
     ensures { result ≡ is_masked at width mask value }
 {
-    Elementary::Field(FieldTest {
-        offset: Offset::Fixed(at),
+    compares_under(
+        Some(mask),
+        Offset::Fixed(at),
         width,
-        mask: Some(mask),
-        comparison: Comparison::Equal,
+        Comparison::Equal,
         value,
-    })
+    )
 }
 
 /// The field at `offset` compares with a number as `comparison` says.
 pub fn compares_at(offset: Offset, width: Width, comparison: Comparison, value: u32) -> Elementary
     ensures { result ≡ compares_at offset width comparison value }
 {
+    compares_under(None, offset, width, comparison, value)
+}
+
+/// The field at `offset`, or its bits under a mask, compares with a number.
+pub fn compares_under(
+    mask: Option<u32>,
+    offset: Offset,
+    width: Width,
+    comparison: Comparison,
+    value: u32,
+) -> Elementary
+    ensures { result ≡ compares_under mask offset width comparison value }
+{
     Elementary::Field(FieldTest {
         offset,
         width,
-        mask: None,
+        mask,
         comparison,
         value,
     })

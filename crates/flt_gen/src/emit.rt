@@ -1,11 +1,13 @@
 //! Emits the code of elementary tests.
 
-ghost use Rattle.std.specs.Prelude.{◌≡◌, length, OnOk};
+ghost use Rattle.std.specs.Prelude.{◌≡◌, length, OnOk, if◌then◌else◌};
 ghost use Rattle.flt_gen.specs.inside.{Emits.Emits, Emits.EmitsFormula, Code.emit_field};
 ghost use Rattle.flt_gen.specs.inside.Code.{emit_mask, emit_comparison, emit_elementary, emit_all};
 ghost use Rattle.flt_gen.specs.{Formula.sides, Primitives.sized_formula};
+ghost use Rattle.flt_gen.specs.inside.Emitted.{needed_tests};
 ghost use Rattle.cap_octet.specs.declared.link.Link.{Link};
 
+use crate::address::{is_idle, last_test};
 use crate::code::{Code, Targets};
 use crate::elementary::{Elementary, Offset};
 use flt_ast::Direction;
@@ -80,42 +82,59 @@ impl<A: Allocator> Code<A> {
         }
     }
 
-    /// Emits some tests that all have to hold. Returns the place where they begin; for no test that
-    /// is `to.yes`. It calls itself for each: they are few.
-    pub fn emit_all(&mut self, tests: &[Elementary], to: Targets) -> Result<usize, AllocError>
-        ensures { Emits result (emit_all tests.now to.yes to.no self.old) self.new }
+    /// Emits some tests that all have to hold, each after the one before. Returns the place where
+    /// they begin; for no test that is `to.yes`. It calls itself for each: they are few.
+    ///
+    /// Of words of an address (`are_words`) one of which no bit counts is left out in front of
+    /// another: if its word isn't captured, no later one is.
+    pub fn emit_tests(
+        &mut self,
+        are_words: bool,
+        tests: &[Elementary],
+        to: Targets,
+    ) -> Result<usize, AllocError>
+        ensures { Emits result (emit_all (if are_words then needed_tests tests.now else tests.now)
+            to.yes to.no self.old) self.new }
     {
         match tests {
             [] => Ok(to.yes),
+            [only] if are_words => self.emit_elementary(last_test(*only), to),
             [first, others @ ..] => {
-                let yes = self.emit_all(others, to)?;
+                let yes = self.emit_tests(are_words, others, to)?;
+                if are_words && is_idle(*first) {
+                    return Ok(yes);
+                }
                 self.emit_elementary(*first, Targets { yes, no: to.no })
             }
         }
     }
 
-    /// Emits the tests of the source and of the destination, as a direction asks for them.
+    /// Emits the tests of the source and of the destination, as a direction asks for them. Of words
+    /// of addresses (`are_words`) only those that decide come.
     #[tactic(auto, using(crate::proofs::Decision::all_emitted))]
     pub fn emit_sides(
         &mut self,
         direction: Direction,
+        are_words: bool,
         source: &[Elementary],
         destination: &[Elementary],
         to: Targets,
     ) -> Result<usize, AllocError>
-        ensures { (link : Link) → EmitsFormula link (sides direction source.now destination.now) to
-            self.old result self.new }
+        ensures { (link : Link) → EmitsFormula link
+            (sides direction (if are_words then needed_tests source.now else source.now)
+            (if are_words then needed_tests destination.now else destination.now)) to self.old
+            result self.new }
     {
         match direction {
-            Direction::One(Side::Source) => self.emit_all(source, to),
-            Direction::One(Side::Destination) => self.emit_all(destination, to),
+            Direction::One(Side::Source) => self.emit_tests(are_words, source, to),
+            Direction::One(Side::Destination) => self.emit_tests(are_words, destination, to),
             Direction::Both(Join::And) => {
-                let yes = self.emit_all(destination, to)?;
-                self.emit_all(source, Targets { yes, no: to.no })
+                let yes = self.emit_tests(are_words, destination, to)?;
+                self.emit_tests(are_words, source, Targets { yes, no: to.no })
             }
             Direction::Both(Join::Or) => {
-                let no = self.emit_all(destination, to)?;
-                self.emit_all(source, Targets { yes: to.yes, no })
+                let no = self.emit_tests(are_words, destination, to)?;
+                self.emit_tests(are_words, source, Targets { yes: to.yes, no })
             }
         }
     }

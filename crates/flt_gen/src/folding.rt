@@ -94,6 +94,7 @@ fn and_operands(node: Node, need: usize) -> Option<usize>
 
 /// Moves the latest tree out of the nodes; what was held before goes. An error is a failed
 /// allocation, or that too many operands are looked for.
+#[tactic(auto, using(crate::proofs::Held::none_held))]
 fn hold_latest<A: Allocator>(
     nodes: &mut Stack<Node, A>,
     held: &mut Stack<Node, A>,
@@ -140,29 +141,28 @@ fn push_after_negation<A: Allocator>(
     ensures { OnOk result (nodes.new ≡ with_held held.old nodes.old) }
 {
     let latest = nodes.pop();
-    if let Some(Node::Not) = latest {
-        put_back(nodes, held)?;
-        nodes.push(Node::Join(Join::Or))?;
-        return nodes.push(Node::Not);
-    }
-    if let Some(Node::Join(Join::And)) = latest {
-        let before = nodes.pop();
-        if let Some(Node::Not) = before {
-            put_back(nodes, held)?;
-            nodes.push(Node::Join(Join::Or))?;
-            nodes.push(Node::Not)?;
-            return nodes.push(Node::Join(Join::And));
-        }
+    let (is_joined, before) = match latest {
+        Some(Node::Join(Join::And)) => (true, nodes.pop()),
+        _ => (false, latest),
+    };
+    let is_denied = matches!(before, Some(Node::Not));
+    if !is_denied {
         if let Some(before) = before {
             nodes.push(before)?;
         }
-    }
-    if let Some(latest) = latest {
-        nodes.push(latest)?;
+        if is_joined {
+            nodes.push(Node::Join(Join::And))?;
+        }
     }
     put_back(nodes, held)?;
+    if is_denied {
+        nodes.push(Node::Join(Join::Or))?;
+    }
     nodes.push(Node::Not)?;
-    nodes.push(Node::Join(Join::And))
+    if is_joined || !is_denied {
+        nodes.push(Node::Join(Join::And))?;
+    }
+    Ok(())
 }
 
 /// Pushes `and`; if the latest node, which then is its right operand's, is a negation, it may

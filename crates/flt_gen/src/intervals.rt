@@ -3,7 +3,7 @@
 
 ghost use Rattle.std.specs.List.{list_all};
 ghost use Rattle.std.specs.Prelude.{◌≡◌, ◌≤◌, map, OnOk, IfOk};
-ghost use Rattle.flt_gen.specs.inside.Intervals.{is_gap, joined_all, sought, is_aligned, idle_bits};
+ghost use Rattle.flt_gen.specs.inside.Intervals.{joined_all, sought, is_aligned, idle_bits};
 ghost use Rattle.flt_gen.specs.Formula.{no_numbers};
 ghost use Rattle.flt_gen.specs.inside.Intervals.{is_block, left_out, high_mask, cut, without};
 
@@ -48,13 +48,6 @@ impl<'a> Numbers<'a> {
     }
 }
 
-/// Whether there is a number between two intervals, the second of which doesn't begin first.
-fn is_gap(lower: Interval, upper: Interval) -> bool
-    ensures { result ≡ is_gap lower upper }
-{
-    upper.low.saturating_sub(lower.high) > 1
-}
-
 /// Puts intervals, which ascend by their beginnings, into a list, in which none touches the next
 /// one. What was in the list goes.
 fn join_touching<A: Allocator>(
@@ -72,7 +65,8 @@ fn join_touching<A: Allocator>(
     // The label names the loop in its proof.
     'touching: while at < others.len() {
         let next = others[at];
-        if is_gap(last, next) {
+        // Whether there is a number between them.
+        if next.low.saturating_sub(last.high) > 1 {
             joined.push(last)?;
             last = next;
         } else {
@@ -156,37 +150,26 @@ fn cut(last: u32, item: Interval) -> Interval
     }
 }
 
-/// Puts intervals, each cut to the numbers of its blocks, into a list. What was in the list goes.
+/// Puts intervals, each cut to the numbers of its blocks, into a list, and those of them that aren't
+/// the first member's into another one. What was in the lists goes.
 fn put_cut<A: Allocator>(
     last: u32,
-    items: &[Interval],
-    all: &mut Vec<Interval, A>,
-) -> Result<(), AllocError>
-    ensures { OnOk result (all.new.items ≡ map (cut last) items.now) }
-{
-    all.clear();
-    let mut at = 0;
-    // The label names the loop in its proof.
-    'cut: while at < items.len() {
-        all.push(cut(last, items[at]))?;
-        at += 1;
-    }
-    Ok(())
-}
-
-/// Puts intervals into a list, without the first member's. What was in the list goes.
-fn put_others<A: Allocator>(
     first: Interval,
     items: &[Interval],
+    all: &mut Vec<Interval, A>,
     others: &mut Vec<Interval, A>,
 ) -> Result<(), AllocError>
-    ensures { OnOk result (others.new.items ≡ without first items.now) }
+    ensures all { OnOk result (all.new.items ≡ map (cut last) items.now) }
+    ensures others { OnOk result
+        (others.new.items ≡ without first (map (cut last) items.now)) }
 {
+    all.clear();
     others.clear();
     let mut at = 0;
     // The label names the loop in its proof.
-    'others: while at < items.len() {
-        let item = items[at];
+    'cut: while at < items.len() {
+        let item = cut(last, items[at]);
+        all.push(item)?;
         if !(first.low == item.low && first.high == item.high) {
             others.push(item)?;
         }
@@ -218,8 +201,7 @@ impl<A: Allocator> Room<A> {
         join_touching(all, &mut self.joined)?;
         let last = left_out(is_masked, first, &self.joined);
         let first = cut(last, first);
-        put_cut(last, &self.joined, &mut self.all)?;
-        put_others(first, &self.all, &mut self.others)?;
+        put_cut(last, first, &self.joined, &mut self.all, &mut self.others)?;
         Ok(Numbers {
             mask: high_mask(last),
             first,

@@ -13,6 +13,7 @@ pub fn masks_join()
 /// `network_header`. Each of the four matches exactly the packets of its kind. It rejects exactly
 /// the packets of which too few bytes are captured to show a kind; but `arp` and `rarp` reject none
 /// on raw IP, which can't carry them.
+#[tactic(auto, using(crate::proofs::NetworkKinds::agrees))]
 pub fn kinds_agree()
     ensures kind { MatchesKind }
     ensures short { RejectsShort }

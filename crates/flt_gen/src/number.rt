@@ -87,8 +87,8 @@ fn emit_base<A: Allocator>(code: &mut Code<A>, at: u32, width: Width) -> Result<
     code.emit_plain(Operation::CopyToIndex, 0)
 }
 
-/// Emits A = the field A bytes past the IPv4 header: X = the header's length, A = A + X, X = A,
-/// then a load at X + the header's place.
+/// Emits A = the field A bytes past the IPv4 header: X = the header's length, A = A + X, then the
+/// field A bytes past the header's place.
 fn emit_transport<A: Allocator>(
     code: &mut Code<A>,
     link: Link,
@@ -97,8 +97,7 @@ fn emit_transport<A: Allocator>(
     ensures { OnOk result (code.new ≡ emit_transport link width code.old) }
 {
     let start = network_offset(link);
-    code.emit_plain(Operation::LoadIndirect(width), start)?;
-    code.emit_plain(Operation::CopyToIndex, 0)?;
+    emit_base(code, start, width)?;
     code.emit_plain(computation(Operator::Add, Operand::IndexRegister), 0)?;
     code.emit_plain(Operation::LoadHeaderLength, start)
 }
@@ -144,25 +143,29 @@ fn emit_protocol_tests<A: Allocator>(
     ensures { Emits result (emit_all (accessor_tests link protocol) to.yes to.no code.old)
         code.new }
 {
-    let (ip, first) = (kind_test(link, FrameKind::Ip), first_fragment(link));
-    match protocol {
-        Protocol::Ether => code.emit_all(&[kind_test(link, FrameKind::Ethernet)], to),
-        Protocol::Ip => code.emit_all(&[ip], to),
+    let (kind, number) = match protocol {
+        Protocol::Ether => (FrameKind::Ethernet, None),
+        Protocol::Ip => (FrameKind::Ip, None),
         // There is no `icmp6[..]` in the grammar.
-        Protocol::Ip6 | Protocol::Icmp6 => code.emit_all(&[kind_test(link, FrameKind::Ip6)], to),
-        Protocol::Arp => code.emit_all(&[kind_test(link, FrameKind::Arp)], to),
-        Protocol::Rarp => code.emit_all(&[kind_test(link, FrameKind::Rarp)], to),
-        Protocol::Tcp => { code.emit_all(&[ip, has_ip_proto(link, IPPROTO_TCP.into()), first], to) }
-        Protocol::Udp => { code.emit_all(&[ip, has_ip_proto(link, IPPROTO_UDP.into()), first], to) }
-        Protocol::Icmp => {
-            code.emit_all(&[ip, has_ip_proto(link, IPPROTO_ICMP.into()), first], to)
-        }
+        Protocol::Ip6 | Protocol::Icmp6 => (FrameKind::Ip6, None),
+        Protocol::Arp => (FrameKind::Arp, None),
+        Protocol::Rarp => (FrameKind::Rarp, None),
+        Protocol::Tcp => (FrameKind::Ip, Some(IPPROTO_TCP)),
+        Protocol::Udp => (FrameKind::Ip, Some(IPPROTO_UDP)),
+        Protocol::Icmp => (FrameKind::Ip, Some(IPPROTO_ICMP)),
+    };
+    let mut yes = to.yes;
+    if let Some(number) = number {
+        let number = has_ip_proto(link, number.into());
+        yes = code.emit_tests(false, &[number, first_fragment(link)], to)?;
     }
+    code.emit_elementary(kind_test(link, kind), Targets { yes, no: to.no })
 }
 
 /// Emits the tests of accessors' protocols. The first of `protocols` is that of the rightmost
 /// accessor, whose tests are the last of the code. Returns the place where they begin; for no
 /// protocol that is `to.yes`.
+#[tactic(auto, using(crate::proofs::Accessors::one_more))]
 pub fn emit_accessor_tests<A: Allocator>(
     code: &mut Code<A>,
     link: Link,

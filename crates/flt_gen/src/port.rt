@@ -1,12 +1,12 @@
 //! Ports, as a row of the table of primitives. They are tested layer by layer: the network header
-//! (`emit_ports`), TCP or UDP (`emit_transport_ports`), that the packet isn't a later fragment
-//! (`emit_ports_after`), the ports (`emit_port_sides`).
+//! (`emit_ports`), TCP or UDP, and that the packet isn't a later fragment (`emit_transport_ports`),
+//! the ports (`emit_port_sides`).
 
 ghost use Rattle.std.specs.Prelude.{◌≡◌};
 ghost use Rattle.flt_gen.specs.Primitives.{port_test, port_is, port_between, port_sides};
-ghost use Rattle.flt_gen.specs.Primitives.{ports_after, transport_ports, ip_transport};
+ghost use Rattle.flt_gen.specs.Primitives.{transport_ports, ip_transport, ip6_transport};
 ghost use Rattle.flt_gen.specs.{Elementary.kind_test, inside.Emits.EmitsFormula};
-ghost use Rattle.flt_gen.specs.Primitives.{ip6_transport, port_formula, after};
+ghost use Rattle.flt_gen.specs.Primitives.{port_formula, after};
 ghost use Rattle.cap_octet.specs.declared.link.Link.{Link};
 
 use crate::code::{Code, Targets};
@@ -135,17 +135,13 @@ impl<A: Allocator> Code<A> {
         );
         match wanted.ports {
             Ports::One(port) => {
-                let source = port_is(port, source);
-                self.emit_sides(direction, &source, &port_is(port, destination), to)
+                let (source, destination) = (port_is(port, source), port_is(port, destination));
+                self.emit_sides(direction, false, &source, &destination, to)
             }
             Ports::Between(first, last) => {
                 let source = port_between(first, last, source);
-                self.emit_sides(
-                    direction,
-                    &source,
-                    &port_between(first, last, destination),
-                    to,
-                )
+                let destination = port_between(first, last, destination);
+                self.emit_sides(direction, false, &source, &destination, to)
             }
             Ports::Several => {
                 let at = Sides {
@@ -160,27 +156,9 @@ impl<A: Allocator> Code<A> {
         }
     }
 
-    /// Emits the ports after a header, and before them the test that the packet isn't a later
-    /// fragment, if there is one.
-    fn emit_ports_after(
-        &mut self,
-        header: Transport,
-        wanted: PortTest,
-        numbers: &Numbers<'_>,
-        to: Targets,
-    ) -> Result<usize, AllocError>
-        ensures { (link : Link) → EmitsFormula link (ports_after header wanted numbers.now) to
-            self.old result self.new }
-    {
-        let yes = self.emit_port_sides(header, wanted, numbers, to)?;
-        match header.no_later_fragment {
-            None => Ok(yes),
-            Some(test) => self.emit_elementary(test, Targets { yes, no: to.no }),
-        }
-    }
-
     /// Emits the ports after a header that names the protocol that is asked for, or, if none is,
-    /// TCP or UDP. With another protocol than these two it is no.
+    /// TCP or UDP. With another protocol than these two it is no. Before the ports comes the test
+    /// that the packet isn't a later fragment, if there is one.
     fn emit_transport_ports(
         &mut self,
         header: Transport,
@@ -197,7 +175,17 @@ impl<A: Allocator> Code<A> {
             None => (Some(header.tcp), header.udp),
             Some(_) => return Ok(to.no),
         };
-        let yes = self.emit_ports_after(header, wanted, numbers, to)?;
+        let ports = self.emit_port_sides(header, wanted, numbers, to)?;
+        let yes = match header.no_later_fragment {
+            None => ports,
+            Some(test) => self.emit_elementary(
+                test,
+                Targets {
+                    yes: ports,
+                    no: to.no,
+                },
+            )?,
+        };
         let no = self.emit_elementary(last, Targets { yes, no: to.no })?;
         match first {
             None => Ok(no),

@@ -1,14 +1,14 @@
 //! Protocols, Ethernet addresses, `broadcast` and `multicast`, as rows of the table of primitives.
 
 ghost use Rattle.std.specs.Prelude.{◌≡◌, ◌≤◌};
-ghost use Rattle.flt_gen.specs.Primitives.{ip_proto, ip6_proto, any_proto, check_formula};
-ghost use Rattle.flt_gen.specs.Primitives.{proto_formula, ether_host, mac_tests, is_group_address};
-ghost use Rattle.flt_gen.specs.{Primitives.cast_formula, inside.Emits.EmitsFormula};
+ghost use Rattle.flt_gen.specs.Primitives.{after, check_formula, proto_formula, ether_host};
+ghost use Rattle.flt_gen.specs.Primitives.{mac_tests, cast_formula};
+ghost use Rattle.flt_gen.specs.{Formula.Single, Elementary.kind_test, inside.Emits.EmitsFormula};
 
 use crate::code::{Code, Targets};
 use crate::elementary::{
-    Elementary, FieldTest, FrameKind, Offset, compares_at, has_ip_proto, has_ip6_proto, has_type,
-    is_at, kind_test, network_offset,
+    Elementary, FrameKind, Offset, compares_at, compares_under, has_ip_proto, has_ip6_proto,
+    has_type, is_at, kind_test, network_offset,
 };
 use cap_octet::Link;
 use cap_octet::assigned::{IPPROTO_ICMP, IPPROTO_ICMPV6, IPPROTO_TCP, IPPROTO_UDP};
@@ -31,60 +31,20 @@ pub fn mac_tests(at: u32, address: u64) -> [Elementary; 2]
     ]
 }
 
-/// The test for a group address as destination: the lowest bit of the first byte of an Ethernet
-/// frame is set.
-fn is_group_address() -> Elementary
-    ensures { result ≡ is_group_address }
-{
-    Elementary::Field(FieldTest {
-        offset: Offset::Fixed(0),
-        width: Width::Byte,
-        mask: Some(1),
-        comparison: Comparison::NotEqual,
-        value: 0,
-    })
-}
-
 impl<A: Allocator> Code<A> {
-    /// Emits IPv4 with this protocol.
-    fn emit_ip_proto(&mut self, link: Link, protocol: u32, to: Targets) -> Result<usize, AllocError>
-        ensures { EmitsFormula link (ip_proto link protocol) to self.old result self.new }
-    {
-        self.emit_all(
-            &[kind_test(link, FrameKind::Ip), has_ip_proto(link, protocol)],
-            to,
-        )
-    }
-
-    /// Emits IPv6 with this next header. Extension headers aren't skipped.
-    fn emit_ip6_proto(
+    /// Emits a test in frames of a kind.
+    fn emit_of_kind(
         &mut self,
         link: Link,
-        protocol: u32,
+        kind: FrameKind,
+        test: Elementary,
         to: Targets,
     ) -> Result<usize, AllocError>
-        ensures { EmitsFormula link (ip6_proto link protocol) to self.old result self.new }
+        ensures { EmitsFormula link (after (kind_test link kind) (Single test)) to self.old result
+            self.new }
     {
-        self.emit_all(
-            &[
-                kind_test(link, FrameKind::Ip6),
-                has_ip6_proto(link, protocol),
-            ],
-            to,
-        )
-    }
-
-    /// Emits IPv4 with this protocol, or else IPv6 with this next header.
-    fn emit_any_proto(
-        &mut self,
-        link: Link,
-        protocol: u32,
-        to: Targets,
-    ) -> Result<usize, AllocError>
-        ensures { EmitsFormula link (any_proto link protocol) to self.old result self.new }
-    {
-        let no = self.emit_ip6_proto(link, protocol, to)?;
-        self.emit_ip_proto(link, protocol, Targets { yes: to.yes, no })
+        let yes = self.emit_elementary(test, to)?;
+        self.emit_elementary(kind_test(link, kind), Targets { yes, no: to.no })
     }
 
     /// Emits a protocol's keyword by itself, such as `tcp` or `arp`.
@@ -102,10 +62,12 @@ impl<A: Allocator> Code<A> {
             Protocol::Ip6 => self.emit_elementary(kind_test(link, FrameKind::Ip6), to),
             Protocol::Arp => self.emit_elementary(kind_test(link, FrameKind::Arp), to),
             Protocol::Rarp => self.emit_elementary(kind_test(link, FrameKind::Rarp), to),
-            Protocol::Tcp => self.emit_any_proto(link, IPPROTO_TCP.into(), to),
-            Protocol::Udp => self.emit_any_proto(link, IPPROTO_UDP.into(), to),
-            Protocol::Icmp => self.emit_ip_proto(link, IPPROTO_ICMP.into(), to),
-            Protocol::Icmp6 => self.emit_ip6_proto(link, IPPROTO_ICMPV6.into(), to),
+            Protocol::Tcp => self.emit_proto(link, None, IPPROTO_TCP.into(), to),
+            Protocol::Udp => self.emit_proto(link, None, IPPROTO_UDP.into(), to),
+            Protocol::Icmp => { self.emit_proto(link, Some(Protocol::Ip), IPPROTO_ICMP.into(), to) }
+            Protocol::Icmp6 => {
+                self.emit_proto(link, Some(Protocol::Ip6), IPPROTO_ICMPV6.into(), to)
+            }
         }
     }
 
@@ -121,11 +83,15 @@ impl<A: Allocator> Code<A> {
         ensures { EmitsFormula link (proto_formula link below protocol) to self.old result
             self.new }
     {
+        let (ip, ip6) = (has_ip_proto(link, protocol), has_ip6_proto(link, protocol));
         match below {
-            Some(Protocol::Ip) => self.emit_ip_proto(link, protocol, to),
-            Some(Protocol::Ip6) => self.emit_ip6_proto(link, protocol, to),
+            Some(Protocol::Ip) => self.emit_of_kind(link, FrameKind::Ip, ip, to),
+            Some(Protocol::Ip6) => self.emit_of_kind(link, FrameKind::Ip6, ip6, to),
             Some(Protocol::Ether) => self.emit_elementary(has_type(link, protocol), to),
-            None => self.emit_any_proto(link, protocol, to),
+            None => {
+                let no = self.emit_of_kind(link, FrameKind::Ip6, ip6, to)?;
+                self.emit_of_kind(link, FrameKind::Ip, ip, Targets { yes: to.yes, no })
+            }
             Some(_) => Ok(to.no),
         }
     }
@@ -143,11 +109,9 @@ impl<A: Allocator> Code<A> {
     {
         // The source is at byte 6 of a frame, the destination at byte 0.
         let (source, destination) = (mac_tests(6, address), mac_tests(0, address));
-        let yes = self.emit_sides(direction, &source, &destination, to)?;
-        self.emit_elementary(
-            kind_test(link, FrameKind::Ethernet),
-            Targets { yes, no: to.no },
-        )
+        let yes = self.emit_sides(direction, false, &source, &destination, to)?;
+        let to = Targets { yes, no: to.no };
+        self.emit_elementary(kind_test(link, FrameKind::Ethernet), to)
     }
 
     /// Emits `broadcast` or `multicast`, with the protocol before it, or none. With a protocol that
@@ -168,21 +132,21 @@ impl<A: Allocator> Code<A> {
                 self.emit_ether_host(link, destination, 0xffff_ffff_ffff, to)
             }
             (Cast::Multicast, None | Some(Protocol::Ether)) => {
-                self.emit_all(
-                    &[kind_test(link, FrameKind::Ethernet), is_group_address()],
-                    to,
-                )
+                // The lowest bit of the first byte of the destination, at byte 0, is set.
+                let (first, bit) = (Offset::Fixed(0), Some(1));
+                let is_group = compares_under(bit, first, Width::Byte, Comparison::NotEqual, 0);
+                self.emit_of_kind(link, FrameKind::Ethernet, is_group, to)
             }
             (Cast::Multicast, Some(Protocol::Ip)) => {
                 // The first byte of the destination address: groups begin at 224.0.0.0.
                 let first = Offset::Fixed(network_offset(link) + 16);
                 let is_group = compares_at(first, Width::Byte, Comparison::AtLeast, 224);
-                self.emit_all(&[kind_test(link, FrameKind::Ip), is_group], to)
+                self.emit_of_kind(link, FrameKind::Ip, is_group, to)
             }
             (Cast::Multicast, Some(Protocol::Ip6)) => {
                 // The first byte of an IPv6 destination address: groups are ff00::/8.
                 let is_group = is_at(network_offset(link) + 24, Width::Byte, 255);
-                self.emit_all(&[kind_test(link, FrameKind::Ip6), is_group], to)
+                self.emit_of_kind(link, FrameKind::Ip6, is_group, to)
             }
             (_, Some(_)) => Ok(to.no),
         }

@@ -5,7 +5,6 @@
 //!
 //! The rows themselves are emitted by address.rt, port.rt and protocol.rt (`proto`, MAC addresses).
 
-ghost use Rattle.flt_gen.specs.Primitives.{net_formula};
 ghost use Rattle.flt_gen.specs.inside.{Emits.EmitsFormula, Emitted.qualified_needed};
 
 use crate::address::{Hosts, NetTest, partial_mask};
@@ -18,19 +17,6 @@ use flt_words::{Protocol, ValueType};
 use std::alloc::{AllocError, Allocator};
 
 impl<A: Allocator> Code<A> {
-    /// Emits a network of IPv4, or a host, without a mask.
-    fn emit_net(
-        &mut self,
-        link: Link,
-        protocol: Option<Protocol>,
-        net: NetTest,
-        to: Targets,
-    ) -> Result<usize, AllocError>
-        ensures { EmitsFormula link (net_formula link protocol net) to self.old result self.new }
-    {
-        self.emit_hosts(link, protocol, Hosts::Net(net), &Numbers::none(), to)
-    }
-
     /// Emits a value with its qualifiers. What doesn't fit them was refused before, and isn't one
     /// here if the table has no row for it.
     pub fn emit_value(
@@ -48,10 +34,16 @@ impl<A: Allocator> Code<A> {
             direction,
             value_type,
         } = qualifiers;
+        let none = Numbers::none();
         match (value_type, value) {
             (ValueType::Host, Value::Dotted(host, _)) => {
-                let net = NetTest::new(direction, None, host.address);
-                self.emit_net(link, protocol, net, to)
+                let (mask, address) = (None, host.address);
+                let net = NetTest {
+                    direction,
+                    mask,
+                    address,
+                };
+                self.emit_hosts(link, protocol, Hosts::Net(net), &none, to)
             }
             (ValueType::Host, Value::Ip6(address, _)) => {
                 self.emit_ip6(link, direction, None, address, to)
@@ -65,18 +57,23 @@ impl<A: Allocator> Code<A> {
             (ValueType::Net, value) => match value.ip4_net() {
                 None => Ok(to.no),
                 Some(net) => {
-                    let net = NetTest::new(direction, partial_mask(net.mask), net.address);
-                    self.emit_net(link, protocol, net, to)
+                    let (mask, address) = (partial_mask(net.mask), net.address);
+                    let net = NetTest {
+                        direction,
+                        mask,
+                        address,
+                    };
+                    self.emit_hosts(link, protocol, Hosts::Net(net), &none, to)
                 }
             },
             (ValueType::Port, Value::Number(port, _)) => {
                 let wanted = PortTest::new(protocol, direction, Ports::One(port));
-                self.emit_ports(link, wanted, &Numbers::none(), to)
+                self.emit_ports(link, wanted, &none, to)
             }
             (ValueType::PortRange, Value::Range { first, last }) => {
                 let ports = Ports::Between(first.min(last), first.max(last));
                 let wanted = PortTest::new(protocol, direction, ports);
-                self.emit_ports(link, wanted, &Numbers::none(), to)
+                self.emit_ports(link, wanted, &none, to)
             }
             (ValueType::Proto, Value::Number(number, _)) => {
                 self.emit_proto(link, protocol, number, to)

@@ -104,15 +104,15 @@ emit_test t hit miss c =
     emit_field t.offset t.width (emit_mask t.mask
     (emit_comparison t.comparison Constant t.value hit miss c))
 
+-- the field as far past a fixed place as the number in A goes into A
+abbrev pub emit_base : ℕ → Width → List Insn → List Insn
+emit_base at width c = plain CopyToIndex 0 ∷ plain (LoadIndirect width) at ∷ c
+
 -- the field as far past the IPv4 header as the number in A goes into A
 abbrev pub emit_transport : Link → Width → List Insn → List Insn
 emit_transport link width c =
     plain LoadHeaderLength (network_offset link) ∷ plain (Compute AluOperation.Add IndexRegister) 0
-    ∷ plain CopyToIndex 0 ∷ plain (LoadIndirect width) (network_offset link) ∷ c
-
--- the field as far past a fixed place as the number in A goes into A
-abbrev pub emit_base : ℕ → Width → List Insn → List Insn
-emit_base at width c = plain CopyToIndex 0 ∷ plain (LoadIndirect width) at ∷ c
+    ∷ emit_base (network_offset link) width c
 
 -- an accessor's field goes into A, its index being there
 abbrev pub emit_accessor : Link → Protocol → Width → List Insn → List Insn

@@ -1,12 +1,13 @@
--- What is cut so far, and the rest after it.
+-- What is cut and put so far, and the rest after it.
 use Rattle.std.proofs.Common.{◌≡◌, ◌-◌, ◌≤◌, ◌++◌, length, drop, map}
-use Rattle.flt_gen.specs.inside.Intervals.{cut}
+use Rattle.flt_gen.specs.inside.Intervals.{cut, without}
 use Rattle.flt_gen.proofs.intervals.put_cut.Given as goal
 
 abbrev pub invariant-cut : goal.invariant-cut
 invariant-cut g l = record {
   within : l.at ≤ length l.items;
-  parts : l.all.items ++ map (cut l.last) (drop l.at l.items) ≡ map (cut l.last) l.items;
+  all : l.all.items ++ map (cut l.last) (drop l.at l.items) ≡ map (cut l.last) l.items;
+  others : l.others.items ++ without l.first (map (cut l.last) (drop l.at l.items)) ≡ without l.first (map (cut l.last) l.items);
 }
 
 abbrev pub decreases-cut : goal.decreases-cut
