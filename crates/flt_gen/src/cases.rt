@@ -351,16 +351,17 @@ impl<A: Allocator> Code<A> {
         let (yes, no) = (to.yes, to.no);
         let side = Direction::One(Side::Destination);
         let found = self.emit_decision(MOST_DECISIONS, link, side, 3, cases, to)?;
-        let other = self.emit_all(&destination[..3], Targets { yes: found, no })?;
-        let asked = self.emit_all(&destination, Targets { yes, no: yes })?;
-        let first = self.emit_all(&source[3..], Targets { yes, no: asked })?;
+        let other = self.emit_tests(false, &destination[..3], Targets { yes: found, no })?;
+        let asked = self.emit_tests(false, &destination, Targets { yes, no: yes })?;
+        let first = self.emit_tests(false, &source[3..], Targets { yes, no: asked })?;
         let to = Targets {
             yes: first,
             no: other,
         };
         let side = Direction::One(Side::Source);
         let found = self.emit_decision(MOST_DECISIONS, link, side, 3, cases, to)?;
-        self.emit_all(
+        self.emit_tests(
+            false,
             &source[..3],
             Targets {
                 yes: found,

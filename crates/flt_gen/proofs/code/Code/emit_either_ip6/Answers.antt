@@ -7,14 +7,14 @@ use Rattle.flt_gen.proofs.code.Code.emit_either_ip6.Goals as goal
 pub returns : goal.returns
 returns g c =
     let a = c.args in
-    let r = c.emit_all-4 in
+    let r = c.emit_tests-4 in
     let s : c.ip6_tests-source.result ≡ ip6_tests None a.address (network_offset a.link + 8) = c.ip6_tests-source.ensures ∙ ap (λ n. ip6_tests None a.address (n + 8)) c.network_offset-start.ensures.place in
     let d : c.ip6_tests-destination.result ≡ ip6_tests None a.address (network_offset a.link + 24) = c.ip6_tests-destination.ensures ∙ ap (λ n. ip6_tests None a.address (n + 24)) c.network_offset-start.ensures.place in
     subst (λ (e : Block). Emits r.result e r.new.self)
     (sym (either_emitted a.link a.address a.cases.now a.to.yes a.to.no a.self.now _ _ _ _ _ c.in_ok-found.ensures
     (ap (λ ts. emit_all (take 3 ts) c.in_ok-found.found a.to.no c.emit_decision.new.self) (sym d) ∙ c.in_ok-other.ensures)
-    (ap (λ ts. emit_all ts a.to.yes a.to.yes c.emit_all.new.self) (sym d) ∙ c.in_ok-asked.ensures)
-    (ap (λ ts. emit_all (take 1 (drop 3 ts)) a.to.yes c.in_ok-asked.asked c.emit_all-2.new.self) (sym s) ∙ c.in_ok-first.ensures)
+    (ap (λ ts. emit_all ts a.to.yes a.to.yes c.emit_tests.new.self) (sym d) ∙ c.in_ok-asked.ensures)
+    (ap (λ ts. emit_all (take 1 (drop 3 ts)) a.to.yes c.in_ok-asked.asked c.emit_tests-2.new.self) (sym s) ∙ c.in_ok-first.ensures)
     c.in_ok-found-2.ensures
     ∙ ap (λ ts. emit_all (take 3 ts) c.in_ok-found-2.found c.in_ok-other.other c.emit_decision-2.new.self) (sym s)))
     r.ensures
