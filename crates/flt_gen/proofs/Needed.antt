@@ -1,7 +1,7 @@
 -- Words of IPv6 addresses of which no bit counts: the formula reads the same, and has no more
 -- tests.
 use Rattle.flt_gen.proofs.Ascending.{if_case}
-use Rattle.flt_gen.proofs.Common.{◌≡◌, ℕ, suc, ◌+◌, ◌-◌, ◌*◌, ◌/◌, ◌%◌, ◌^◌, ◌≤◌, List, [], ◌∷◌, length, Bool, true, false, Option, Some, None, refl, sym, ap, ap₂, ◌∙◌, arith, ◌==◌, ◌&&◌, nat_le, if◌then◌else◌, bit_and, nat_tests, and_parts, Source, Destination, And, Or, Protocol, ValueType, Net, Direction, Value, first_bits, Word, big_endian_at, field, Link, Fixed, Elementary, MatchResult, reading_of, with, under_mask, kind_test, elementary_reads, network_offset, both, either, all_of, sides, reads, partial_mask, address_test, ip6_tests, ip6_formula, value_formula, is_empty, is_idle, capture_test, last_test, needed_tests, ip6_needed, value_needed}
+use Rattle.flt_gen.proofs.Common.{◌≡◌, ℕ, suc, ◌+◌, ◌-◌, ◌*◌, ◌/◌, ◌%◌, ◌^◌, ◌≤◌, List, [], ◌∷◌, length, true, false, Option, Some, None, refl, sym, ap, ap₂, ◌∙◌, arith, ◌==◌, ◌&&◌, nat_le, if◌then◌else◌, bit_and, nat_tests, Source, Destination, And, Or, Protocol, ValueType, Net, Direction, Value, first_bits, Word, big_endian_at, field, Link, Fixed, Elementary, MatchResult, reading_of, with, under_mask, kind_test, elementary_reads, network_offset, both, either, all_of, sides, reads, partial_mask, address_test, ip6_tests, ip6_formula, value_formula, is_empty, is_idle, capture_test, last_test, needed_tests, ip6_needed, value_needed}
 use Rattle.flt_gen.proofs.{Counted.Bare, Counted.bare_after, Counted.bare_sides, Counted.bare_value, Exclusive.and_yes}
 use Rattle.std.specs.Int.Bits.{and_zero_r}
 use Rattle.flt_ast.specs.declared.qualifiers.Direction.TheVariants as direction

@@ -85,8 +85,8 @@ impl<A: Allocator> Code<A> {
     /// Emits some tests that all have to hold, each after the one before. Returns the place where
     /// they begin; for no test that is `to.yes`. It calls itself for each: they are few.
     ///
-    /// Of words of an address (`are_words`) one of which no bit counts is left out in front of
-    /// another: if its word isn't captured, no later one is.
+    /// If they are tests of an address's words (`are_words`), one of a word of which no bit counts
+    /// is left out in front of another: if its word isn't captured, no later one is.
     pub fn emit_tests(
         &mut self,
         are_words: bool,
@@ -109,8 +109,8 @@ impl<A: Allocator> Code<A> {
         }
     }
 
-    /// Emits the tests of the source and of the destination, as a direction asks for them. Of words
-    /// of addresses (`are_words`) only those that decide come.
+    /// Emits the tests of the source and of the destination, as a direction asks for them. If they
+    /// are tests of words of addresses (`are_words`), only those that decide come.
     #[tactic(auto, using(crate::proofs::Decision::all_emitted))]
     pub fn emit_sides(
         &mut self,

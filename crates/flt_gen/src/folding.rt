@@ -141,6 +141,7 @@ fn push_after_negation<A: Allocator>(
     ensures { OnOk result (nodes.new ≡ with_held held.old nodes.old) }
 {
     let latest = nodes.pop();
+    // If `and` joins the left operand, what stands in front of that `and`.
     let (is_joined, before) = match latest {
         Some(Node::Join(Join::And)) => (true, nodes.pop()),
         _ => (false, latest),

@@ -56,19 +56,22 @@ impl<A: Allocator> Code<A> {
     ) -> Result<usize, AllocError>
         ensures { EmitsFormula link (check_formula link protocol) to self.old result self.new }
     {
-        match protocol {
-            Protocol::Ether => self.emit_elementary(kind_test(link, FrameKind::Ethernet), to),
-            Protocol::Ip => self.emit_elementary(kind_test(link, FrameKind::Ip), to),
-            Protocol::Ip6 => self.emit_elementary(kind_test(link, FrameKind::Ip6), to),
-            Protocol::Arp => self.emit_elementary(kind_test(link, FrameKind::Arp), to),
-            Protocol::Rarp => self.emit_elementary(kind_test(link, FrameKind::Rarp), to),
-            Protocol::Tcp => self.emit_proto(link, None, IPPROTO_TCP.into(), to),
-            Protocol::Udp => self.emit_proto(link, None, IPPROTO_UDP.into(), to),
-            Protocol::Icmp => { self.emit_proto(link, Some(Protocol::Ip), IPPROTO_ICMP.into(), to) }
-            Protocol::Icmp6 => {
-                self.emit_proto(link, Some(Protocol::Ip6), IPPROTO_ICMPV6.into(), to)
+        let kind = match protocol {
+            Protocol::Ether => FrameKind::Ethernet,
+            Protocol::Ip => FrameKind::Ip,
+            Protocol::Ip6 => FrameKind::Ip6,
+            Protocol::Arp => FrameKind::Arp,
+            Protocol::Rarp => FrameKind::Rarp,
+            Protocol::Tcp => return self.emit_proto(link, None, IPPROTO_TCP.into(), to),
+            Protocol::Udp => return self.emit_proto(link, None, IPPROTO_UDP.into(), to),
+            Protocol::Icmp => {
+                return self.emit_proto(link, Some(Protocol::Ip), IPPROTO_ICMP.into(), to);
             }
-        }
+            Protocol::Icmp6 => {
+                return self.emit_proto(link, Some(Protocol::Ip6), IPPROTO_ICMPV6.into(), to);
+            }
+        };
+        self.emit_elementary(kind_test(link, kind), to)
     }
 
     /// Emits `proto N`, where N is a field of the protocol `below`: `ip`, `ip6` or `ether`; `None`
@@ -125,30 +128,35 @@ impl<A: Allocator> Code<A> {
     ) -> Result<usize, AllocError>
         ensures { EmitsFormula link (cast_formula link protocol cast) to self.old result self.new }
     {
-        match (cast, protocol) {
+        let (kind, is_group) = match (cast, protocol) {
             (Cast::Broadcast, None | Some(Protocol::Ether)) => {
                 // All 48 bits of the address are set.
                 let destination = Direction::One(Side::Destination);
-                self.emit_ether_host(link, destination, 0xffff_ffff_ffff, to)
+                return self.emit_ether_host(link, destination, 0xffff_ffff_ffff, to);
             }
             (Cast::Multicast, None | Some(Protocol::Ether)) => {
                 // The lowest bit of the first byte of the destination, at byte 0, is set.
                 let (first, bit) = (Offset::Fixed(0), Some(1));
                 let is_group = compares_under(bit, first, Width::Byte, Comparison::NotEqual, 0);
-                self.emit_of_kind(link, FrameKind::Ethernet, is_group, to)
+                (FrameKind::Ethernet, is_group)
             }
             (Cast::Multicast, Some(Protocol::Ip)) => {
                 // The first byte of the destination address: groups begin at 224.0.0.0.
                 let first = Offset::Fixed(network_offset(link) + 16);
-                let is_group = compares_at(first, Width::Byte, Comparison::AtLeast, 224);
-                self.emit_of_kind(link, FrameKind::Ip, is_group, to)
+                (
+                    FrameKind::Ip,
+                    compares_at(first, Width::Byte, Comparison::AtLeast, 224),
+                )
             }
             (Cast::Multicast, Some(Protocol::Ip6)) => {
                 // The first byte of an IPv6 destination address: groups are ff00::/8.
-                let is_group = is_at(network_offset(link) + 24, Width::Byte, 255);
-                self.emit_of_kind(link, FrameKind::Ip6, is_group, to)
+                (
+                    FrameKind::Ip6,
+                    is_at(network_offset(link) + 24, Width::Byte, 255),
+                )
             }
-            (_, Some(_)) => Ok(to.no),
-        }
+            (_, Some(_)) => return Ok(to.no),
+        };
+        self.emit_of_kind(link, kind, is_group, to)
     }
 }

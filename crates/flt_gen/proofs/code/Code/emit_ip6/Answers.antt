@@ -1,6 +1,6 @@
 -- The frames' test in front of the words of both sides.
-use Rattle.flt_gen.proofs.Common.{ℕ, ◌+◌, ◌∙◌, sym, ap, ap₂, subst, List, Elementary, Block, kind_test}
-use Rattle.flt_gen.specs.{Primitives.ip6_tests, declared.elementary.FrameKind.FrameKind}
+use Rattle.flt_gen.proofs.Common.{ℕ, ◌+◌, ◌∙◌, sym, ap, ap₂, subst, List, Elementary, Block}
+use Rattle.flt_gen.specs.{Primitives.ip6_tests}
 use Rattle.flt_gen.specs.inside.{Code.emit_formula, Code.emit_elementary, Emits.Emits, Emitted.needed_sides}
 use Rattle.flt_gen.proofs.code.Code.emit_ip6.Goals as goal
 

@@ -1,5 +1,5 @@
 -- The intervals are joined, cut and put.
-use Rattle.flt_gen.proofs.Common.{◌≡◌, ◌∙◌, refl, ap, left_out, map, cut, without}
+use Rattle.flt_gen.proofs.Common.{◌∙◌, refl, ap, left_out, map, cut, without}
 use Rattle.flt_gen.proofs.intervals.Room.numbers.Goals as goal
 
 pub returns : goal.returns
