@@ -1,10 +1,10 @@
 //! Lists of MAC addresses, of addresses and networks of IPv6, and of protocol numbers, each on one
-//! side, as decision trees: the first words of the values are compared by halves, and then the next
-//! words of those that are left. Each test loads its word; `flt_short` leaves out the loads of what
-//! is in A.
+//! side, and of relations of one accessor, as decision trees: the first words of the values are
+//! compared by halves, and then the next words of those that are left. Each test loads its word;
+//! `flt_short` leaves out the loads of what is in A.
 
 ghost use Rattle.std.specs.Prelude.{◌≡◌, drop, OnOk};
-ghost use Rattle.flt_gen.specs.inside.Cases.{case_of, same_words, key_of, insert_case, case_frame};
+ghost use Rattle.flt_gen.specs.inside.Cases.{case_of, same_words, key_of, insert_case, case_front};
 ghost use Rattle.flt_gen.specs.inside.Cases.{case_tests, lowest, reach, word_test, keeps, all_keep};
 ghost use Rattle.flt_gen.specs.inside.Cases.{test_at, from_test, middle, is_parted, chain};
 ghost use Rattle.flt_gen.specs.inside.{Emits.Emits, Code.emit_all, Code.emit_formula};
@@ -15,7 +15,9 @@ use crate::code::{Code, Targets};
 use crate::elementary::{
     Elementary, FieldTest, FrameKind, has_ip_proto, has_ip6_proto, kind_test, network_offset,
 };
+use crate::number::emit_protocol_tests;
 use crate::protocol::mac_tests;
+use crate::relation::{Relation, relation_test};
 use cap_octet::Link;
 use flt_ast::{CompleteQualifiers, Direction, Value};
 use flt_words::{Comparison, Protocol, Side, ValueType};
@@ -35,6 +37,7 @@ pub enum Case {
     Ip6(Option<u32>, u128),
     IpProto(u32),
     Ip6Proto(u32),
+    Relation(Relation),
 }
 
 /// A bound of the numbers that a word may be.
@@ -77,6 +80,9 @@ pub fn same_words(one: Case, other: Case) -> bool
         | (Case::Ip6(_, _), Case::Ip6(_, _))
         | (Case::IpProto(_), Case::IpProto(_))
         | (Case::Ip6Proto(_), Case::Ip6Proto(_)) => true,
+        (Case::Relation(one), Case::Relation(other)) => {
+            one.protocol == other.protocol && one.size == other.size && one.index == other.index
+        }
         _ => false,
     }
 }
@@ -89,6 +95,7 @@ fn key_of(case: Case) -> u128
         Case::Mac(address) => address.into(),
         Case::Ip6(_, address) => address,
         Case::IpProto(number) | Case::Ip6Proto(number) => number.into(),
+        Case::Relation(relation) => relation.number.into(),
     }
 }
 
@@ -100,17 +107,6 @@ pub fn put_case<A: Allocator>(cases: &mut Vec<Case, A>, new: Case) -> Result<(),
     let at = cases.iter().filter(|case| key_of(**case) < key).count();
     cases.insert(at, new)?;
     Ok(())
-}
-
-/// The frames in which a case may be.
-fn case_frame(case: Case) -> FrameKind
-    ensures { result ≡ case_frame case }
-{
-    match case {
-        Case::Mac(_) => FrameKind::Ethernet,
-        Case::Ip6(_, _) | Case::Ip6Proto(_) => FrameKind::Ip6,
-        Case::IpProto(_) => FrameKind::Ip,
-    }
 }
 
 /// The test of a word of a case; `None` past its last one.
@@ -131,6 +127,7 @@ fn word_test(link: Link, direction: Direction, case: Case, word: usize) -> Optio
         }
         (Case::IpProto(number), 0) => Some(has_ip_proto(link, number)),
         (Case::Ip6Proto(number), 0) => Some(has_ip6_proto(link, number)),
+        (Case::Relation(relation), 0) => Some(relation_test(link, relation)),
         _ => None,
     }
 }
@@ -316,8 +313,24 @@ impl<A: Allocator> Code<A> {
         self.emit_elementary(from_test(test, number), Targets { yes, no })
     }
 
-    /// Emits cases that look for a value, in the frames in which they may be. Returns the place
-    /// where the code begins.
+    /// Emits the tests in front of cases with the words of this one: the frames in which they may be,
+    /// or the tests that an accessor needs.
+    fn emit_front(&mut self, link: Link, case: Case, to: Targets) -> Result<usize, AllocError>
+        ensures { Emits result (emit_all (case_front link case) to.yes to.no self.old) self.new }
+    {
+        let kind = match case {
+            Case::Mac(_) => FrameKind::Ethernet,
+            Case::Ip6(_, _) | Case::Ip6Proto(_) => FrameKind::Ip6,
+            Case::IpProto(_) => FrameKind::Ip,
+            Case::Relation(relation) => {
+                return emit_protocol_tests(self, link, relation.protocol, to);
+            }
+        };
+        self.emit_elementary(kind_test(link, kind), to)
+    }
+
+    /// Emits cases that look for a value, after the tests in front of them. Returns the place where
+    /// the code begins.
     pub fn emit_cases(
         &mut self,
         link: Link,
@@ -332,9 +345,6 @@ impl<A: Allocator> Code<A> {
             return Ok(to.no);
         };
         let yes = self.emit_decision(MOST_DECISIONS, link, direction, 0, cases, to)?;
-        self.emit_elementary(
-            kind_test(link, case_frame(*first)),
-            Targets { yes, no: to.no },
-        )
+        self.emit_front(link, *first, Targets { yes, no: to.no })
     }
 }

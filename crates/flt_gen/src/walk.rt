@@ -23,19 +23,20 @@ ghost use Rattle.std.specs.Prelude.{◌≡◌, true, Some, None, if◌then◌els
 ghost use Rattle.flt_gen.specs.inside.Walk.{start_walk, insns_of, emit_nodes, emit_both_nodes};
 ghost use Rattle.flt_gen.specs.inside.Walk.{emit_load_at, emit_operator_with, emit_comparison_with};
 ghost use Rattle.flt_gen.specs.inside.Walk.{emit_node, emit_join, emit_value, emit_truth_node};
-ghost use Rattle.flt_gen.specs.inside.Walk.{is_truth_node, begin_right, flush_group};
+ghost use Rattle.flt_gen.specs.inside.Walk.{emit_entry, is_truth_node, begin_right, flush_group};
 ghost use Rattle.flt_gen.specs.inside.Walk.{finish_formula, finish_truth, is_number_node};
 ghost use Rattle.flt_gen.specs.inside.Walk.{emit_leaf, begin_operands, finish_number};
-ghost use Rattle.flt_gen.specs.inside.{Code.block, Walk.finish_relation};
+ghost use Rattle.flt_gen.specs.inside.{Code.block, Walk.finish_relation, Walk.flush_members};
 ghost use Rattle.flt_gen.specs.inside.Group.{no_group, larger_group, group_formula};
 ghost use Rattle.cap_octet.specs.declared.link.Link.{Link};
 
 use crate::code::{Code, Targets};
-use crate::group::Group;
+use crate::group::{Entry, Group};
 use crate::number::{
     accessor_offset, computation, emit_accessor, emit_accessor_tests, emit_operands,
     takes_constant, width_of,
 };
+use crate::relation::last_relation;
 use crate::stack::Stack;
 use crate::waiting::{LeftTruth, Pending, Waiting, add_accessor};
 use cap_octet::Link;
@@ -66,7 +67,7 @@ pub struct Walk<A: Allocator> {
     /// The protocols of the relation's accessors, each once; that of the leftmost one is the
     /// latest.
     accessors: Stack<Protocol, A>,
-    /// Hosts or ports that are tested in front of the code, and whose code isn't there yet.
+    /// Members of a list that are tested in front of the code, and whose code isn't there yet.
     group: Group<A>,
     /// Whether the last node was an `or`, whose right operand is next.
     pending: Pending,
@@ -117,6 +118,11 @@ impl<A: Allocator + Clone> Walk<A> {
         let mut left = nodes.len();
         // The label names the loop in its proof.
         'nodes: while left > 0 {
+            if let Some(relation) = last_relation(&nodes[..left]) {
+                self.emit_entry(link, Entry::Relation(relation))?;
+                left -= 4;
+                continue;
+            }
             left -= 1;
             if left == 0 {
                 self.emit_node(link, &nodes[left])?;
@@ -238,19 +244,30 @@ impl<A: Allocator + Clone> Walk<A> {
         }
     }
 
-    /// Emits a value with all its qualifiers. A host or port that goes with the group of those
-    /// after it joins it: as the right operand of an `or` it waits there for one more; else the
-    /// group is emitted. Any other value is emitted by itself, after the group that waits.
+    /// Emits a value with all its qualifiers. It goes with no relations: those that wait are emitted
+    /// first, so that it may begin a group of its own.
     fn emit_value(
         &mut self,
         link: Link,
         qualifiers: CompleteQualifiers,
         value: Value,
     ) -> Result<(), AllocError>
-        ensures { OnOk result (self.new ≡ emit_value link qualifiers value self.old
-            (larger_group qualifiers value self.old.group)) }
+        ensures { OnOk result (self.new ≡ emit_value link qualifiers value self.old) }
     {
-        if self.group.add(qualifiers, value)? {
+        if self.group.has_relations() {
+            self.flush_members(link)?;
+        }
+        self.emit_entry(link, Entry::Value(qualifiers, value))
+    }
+
+    /// Emits a value or a relation. One that goes with the group of those after it joins it: as the
+    /// right operand of an `or` it waits there for one more; else the group is emitted. Any other
+    /// is emitted by itself, after the group that waits.
+    fn emit_entry(&mut self, link: Link, entry: Entry) -> Result<(), AllocError>
+        ensures { OnOk result (self.new ≡ emit_entry link entry self.old
+            (larger_group entry self.old.group)) }
+    {
+        if self.group.add(entry)? {
             if let Pending::Or = self.pending {
                 self.pending = Pending::Nothing;
                 return Ok(());
@@ -258,8 +275,8 @@ impl<A: Allocator + Clone> Walk<A> {
             return self.emit_group(link);
         }
         self.flush_group(link)?;
-        let entry = self.code.emit_value(link, qualifiers, value, self.to)?;
-        self.finish_truth(entry);
+        let place = self.code.emit_entry(link, entry, self.to)?;
+        self.finish_truth(place);
         Ok(())
     }
 
@@ -304,14 +321,21 @@ impl<A: Allocator + Clone> Walk<A> {
         }
     }
 
-    /// Emits the code of the group that waits, if it has members: another operand of an `or` stands
-    /// in front of it. That operand is next, and goes on at the group's code if it doesn't
-    /// match. Before that, if the last node was an `or`, its left operand begins to wait
-    /// (`begin_right`).
+    /// Emits the code of the group that waits. Before that, if the last node was an `or`, its left
+    /// operand begins to wait (`begin_right`).
     fn flush_group(&mut self, link: Link) -> Result<(), AllocError>
         ensures { OnOk result (self.new ≡ flush_group link self.old) }
     {
         self.begin_right()?;
+        self.flush_members(link)
+    }
+
+    /// Emits the code of the group that waits, if it has members: another operand of an `or` stands
+    /// in front of it. That operand is next, and goes on at the group's code if it doesn't match.
+    fn flush_members(&mut self, link: Link) -> Result<(), AllocError>
+        ensures { OnOk result
+            (self.new ≡ flush_members link self.old self.old.group.entries) }
+    {
         if self.group.is_empty() {
             self.group.clear();
             return Ok(());

@@ -1,5 +1,5 @@
--- Lists of MAC addresses, of addresses and networks of IPv6, and of protocol numbers, as decision
--- trees: the first words are compared by halves, and then the next words of those that are left.
+-- Lists of MAC addresses, of addresses and networks of IPv6, of protocol numbers, and of relations
+-- of one accessor, as decision trees: the first words are compared by halves, and then the next words of those that are left.
 use Rattle.std.specs.List.{list_all, insert}
 use Rattle.std.specs.Prelude.{ℕ, zero, suc, ◌+◌, ◌-◌, ◌/◌, ◌^◌, ◌==◌, ◌&&◌, nat_lt, nat_le, Bool, true, false, if◌then◌else◌, List, [], ◌∷◌, length, take, drop, slice_get, count_by, Option, Some, None}
 use Rattle.flt_words.specs.declared.token.{Comparison.TheVariants.AtLeast, Protocol.Protocol}
@@ -8,8 +8,9 @@ use Rattle.flt_words.specs.declared.token.ValueType.TheVariants.{Host, Net, Prot
 use Rattle.flt_ast.specs.declared.{qualifiers.Direction.Direction, value.Value.Value}
 use Rattle.cap_octet.specs.{Link.network_offset, declared.link.Link.Link}
 use Rattle.flt_gen.specs.Elementary.{with, kind_test, has_ip_proto, has_ip6_proto}
-use Rattle.flt_gen.specs.Formula.{Formula, Single, Both, Either, Split, all_of}
-use Rattle.flt_gen.specs.Primitives.{mac_tests, ip6_tests, after}
+use Rattle.flt_gen.specs.Formula.{Formula, Single, Both, Either, Split, all_of, guarded_formula}
+use Rattle.flt_gen.specs.{Numbers.accessor_tests, Primitives.mac_tests, Primitives.ip6_tests}
+use Rattle.flt_gen.specs.inside.{Emitted.equals, Relations.relation_test}
 use Rattle.flt_gen.specs.declared.cases.Bound.{Bound}
 use Rattle.flt_gen.specs.declared.cases.Bound.TheVariants.{Below, From, Exactly}
 use Rattle.flt_gen.specs.declared.cases.Case.{Case}
@@ -33,6 +34,8 @@ same_words (Mac a) (Mac b) = true
 same_words (Ip6 m a) (Ip6 n b) = true
 same_words (IpProto a) (IpProto b) = true
 same_words (Ip6Proto a) (Ip6Proto b) = true
+same_words (Case.Relation a) (Case.Relation b) =
+    equals a.protocol b.protocol && (a.size == b.size && a.index == b.index)
 same_words _ _ = false
 
 -- the number by which cases ascend
@@ -41,17 +44,19 @@ key_of (Mac a) = a
 key_of (Ip6 n a) = a
 key_of (IpProto n) = n
 key_of (Ip6Proto n) = n
+key_of (Case.Relation r) = r.number
 
 -- a case is put among others that ascend
 abbrev pub insert_case : Case → List Case → List Case
 insert_case c cs = insert cs (count_by (λ d. nat_lt (key_of d) (key_of c)) cs) c
 
--- the frames in which a case may be
-abbrev pub case_frame : Case → FrameKind
-case_frame (Mac a) = FrameKind.Ethernet
-case_frame (Ip6 n a) = FrameKind.Ip6
-case_frame (IpProto n) = FrameKind.Ip
-case_frame (Ip6Proto n) = FrameKind.Ip6
+-- the tests in front of a case: the frames in which it may be, or what an accessor needs
+abbrev pub case_front : Link → Case → List Elementary
+case_front link (Mac a) = kind_test link FrameKind.Ethernet ∷ []
+case_front link (Ip6 n a) = kind_test link FrameKind.Ip6 ∷ []
+case_front link (IpProto n) = kind_test link FrameKind.Ip ∷ []
+case_front link (Ip6Proto n) = kind_test link FrameKind.Ip6 ∷ []
+case_front link (Case.Relation r) = accessor_tests link r.protocol
 
 -- the place of a side's address in an Ethernet frame
 abbrev pub mac_place : Direction → ℕ
@@ -69,6 +74,7 @@ case_tests link d (Mac a) = mac_tests (mac_place d) a
 case_tests link d (Ip6 n a) = ip6_tests n a (network_offset link + ip6_place d)
 case_tests link d (IpProto n) = has_ip_proto link n ∷ []
 case_tests link d (Ip6Proto n) = has_ip6_proto link n ∷ []
+case_tests link d (Case.Relation r) = relation_test link r ∷ []
 
 -- ---- cases by the tests of their words, from a word on
 
@@ -164,8 +170,8 @@ decision (suc k) tests word cs = decided (decision k tests) tests word cs
 abbrev pub MOST_DECISIONS : ℕ
 MOST_DECISIONS = 64
 
--- cases with the same words, in the frames in which they may be
+-- cases with the same words, after the tests in front of them
 abbrev pub cases_formula : Link → Direction → List Case → Formula
 cases_formula link d [] = Single (Outcome false)
 cases_formula link d (c ∷ cs) =
-    after (kind_test link (case_frame c)) (decision MOST_DECISIONS (case_tests link d) 0 (c ∷ cs))
+    guarded_formula (case_front link c) (decision MOST_DECISIONS (case_tests link d) 0 (c ∷ cs))

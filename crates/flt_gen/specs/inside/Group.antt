@@ -1,5 +1,5 @@
--- Addresses, ports or protocols that are looked for together, since they stand one after the other
--- with `or` between them.
+-- Addresses, ports, protocols or relations that are looked for together, since they stand one after
+-- the other with `or` between them.
 use Rattle.std.specs.Prelude.{ℕ, ◌+◌, ◌-◌, ◌^◌, ◌==◌, nat_lt, nat_le, min, max, bit_and, not, Bool, true, false, ◌&&◌, if◌then◌else◌, List, [], ◌∷◌, length, Option, Some, None}
 use Rattle.flt_words.specs.declared.token.Join.TheVariants.{And, Or}
 use Rattle.flt_words.specs.declared.token.Protocol.{Protocol}
@@ -18,10 +18,11 @@ use Rattle.flt_gen.specs.Formula.{Formula, Single, Both, Either, Except, Numbers
 use Rattle.flt_gen.specs.Primitives.{hosts_formula, port_test, port_formula}
 use Rattle.flt_gen.specs.{Reading.formula, declared.address.Hosts.Hosts, declared.cases.Case.Case}
 use Rattle.flt_gen.specs.declared.elementary.{Elementary.TheVariants.Outcome, Interval.Interval}
-use Rattle.flt_gen.specs.declared.{group.Entry.Entry, port.Ports.TheVariants.Several}
+use Rattle.flt_gen.specs.declared.{group.Entry.Entry, port.Ports.TheVariants.Several, relation.Relation.Relation}
 use Rattle.flt_gen.specs.inside.Cases.{case_of, same_words, insert_case, cases_formula}
 use Rattle.flt_gen.specs.inside.Emitted.{relation_formula, qualified_needed}
 use Rattle.flt_gen.specs.inside.Intervals.{insert_ascending, sought}
+use Rattle.flt_gen.specs.inside.Relations.{relation_of, relation_row}
 
 -- the qualifiers of the member that stands first, whether each member is one number, the numbers of
 -- the first and of all, which ascend, or the members as cases, and the members, in the order of the
@@ -34,10 +35,14 @@ pub record Group : Type 0 where
   pub cases : List Case
   pub entries : List Entry
 
--- a group without members; its qualifiers decide nothing
+-- the qualifiers of a group without members or of relations, which decide nothing
+abbrev pub no_qualifiers : CompleteQualifiers
+no_qualifiers = record { protocol = None; direction = Direction.Both Or; value_type = Host }
+
+-- a group without members
 abbrev pub no_group : Group
 no_group = record {
-  qualifiers = record { protocol = None; direction = Direction.Both Or; value_type = Host };
+  qualifiers = no_qualifiers;
   is_plain = true;
   first = no_interval;
   all = [];
@@ -51,7 +56,7 @@ interval low high = record { low = low; high = high }
 
 -- a value as a member, with its qualifiers
 abbrev pub entry : CompleteQualifiers → Value → Entry
-entry q v = record { qualifiers = q; value = v }
+entry q v = Entry.Value q v
 
 -- no members
 abbrev pub is_empty : List Entry → Bool
@@ -70,11 +75,11 @@ with_member q v i group = record {
 }
 
 -- a group with one more member in front, which is compared word by word
-abbrev pub with_case : CompleteQualifiers → Value → Case → Group → Group
-with_case q v c group = record group {
+abbrev pub with_case : CompleteQualifiers → Entry → Case → Group → Group
+with_case q e c group = record group {
   qualifiers = q;
   cases = insert_case c group.cases;
-  entries = entry q v ∷ group.entries;
+  entries = e ∷ group.entries;
 }
 
 -- both are addresses or networks of IPv4, or both are ports or ranges of them
@@ -123,6 +128,11 @@ goes_with q group (e ∷ es) =
     && (same_direction q.direction group.qualifiers.direction
     && nat_lt (length (e ∷ es)) MOST_TOGETHER)))
 
+-- the members are relations
+abbrev pub has_relations : List Case → Bool
+has_relations (Case.Relation r ∷ cs) = true
+has_relations _ = false
+
 -- a case has the words of others
 abbrev pub shares_words : Case → List Case → Bool
 shares_words c [] = false
@@ -168,15 +178,22 @@ group_and q v group None = None
 group_and q v group (Some i) =
     if goes_with q group group.entries then Some (with_member q v i group) else None
 
--- a group with one more member, by the value as a case, or else by its numbers
-abbrev pub larger_by : CompleteQualifiers → Value → Group → Option Case → Option Group
-larger_by q v group None = group_and q v group (member_of q.value_type v)
-larger_by q v group (Some c) =
-    if case_goes_with c q.direction group group.entries then Some (with_case q v c group) else None
+-- a group with one more case, if it goes with the others, or none
+abbrev pub larger_by : CompleteQualifiers → Entry → Case → Group → Option Group
+larger_by q e c group =
+    if case_goes_with c q.direction group group.entries then Some (with_case q e c group) else None
 
--- the group with one more in front, or none if the value does not go with it
-abbrev pub larger_group : CompleteQualifiers → Value → Group → Option Group
-larger_group q v group = larger_by q v group (case_of q.value_type q.protocol q.direction v)
+-- a group with one more value, as a case, or else by its numbers
+abbrev pub larger_with : CompleteQualifiers → Value → Group → Option Case → Option Group
+larger_with q v group None = group_and q v group (member_of q.value_type v)
+larger_with q v group (Some c) = larger_by q (entry q v) c group
+
+-- the group with one more in front, or none if the entry does not go with it
+abbrev pub larger_group : Entry → Group → Option Group
+larger_group (Entry.Value q v) group =
+    larger_with q v group (case_of q.value_type q.protocol q.direction v)
+larger_group (Entry.Relation r) group =
+    larger_by no_qualifiers (Entry.Relation r) (Case.Relation r) group
 
 -- how many are looked for together at least where not each is one number
 abbrev pub FEWEST_RANGES : ℕ
@@ -222,12 +239,16 @@ several_formula link q PortRange numbers =
     port_formula link (port_test q.protocol q.direction Several) numbers
 several_formula link q _ numbers = Single (Outcome false)
 
+-- a member by itself
+abbrev pub entry_formula : Link → Entry → Formula
+entry_formula link (Entry.Value q v) = qualified_needed link q v
+entry_formula link (Entry.Relation r) = relation_row link r
+
 -- one of the members, by one after the other
 abbrev pub rows_formula : Link → List Entry → Formula
 rows_formula link [] = Single (Outcome false)
-rows_formula link (e ∷ []) = qualified_needed link e.qualifiers e.value
-rows_formula link (e ∷ f ∷ es) =
-    Either (qualified_needed link e.qualifiers e.value) (rows_formula link (f ∷ es))
+rows_formula link (e ∷ []) = entry_formula link e
+rows_formula link (e ∷ f ∷ es) = Either (entry_formula link e) (rows_formula link (f ∷ es))
 
 -- one of the members, by their numbers or as cases
 abbrev pub together_formula : Link → Group → List Case → Formula
@@ -250,28 +271,61 @@ or_any f g (e ∷ es) = Either f g
 abbrev pub or_group : Link → Formula → Group → Formula
 or_group link f group = or_any f (group_formula link group) group.entries
 
--- the group with a truth as one more member, or none if it can be none
+-- a relation as an entry, if there is one
+abbrev pub relation_entry : Option Relation → Option Entry
+relation_entry r = with r (λ s. Some (Entry.Relation s))
+
+-- a truth as an entry, or none if it can be none
+abbrev pub entry_of : TruthTree → Option Entry
+entry_of (qualified q v) = Some (entry q v)
+entry_of (compared c l r) = relation_entry (relation_of c l r)
+entry_of _ = None
+
+-- the group with a truth as one more member, or none
 abbrev pub truth_member : TruthTree → Group → Option Group
-truth_member (qualified q v) group = larger_group q v group
-truth_member _ group = None
+truth_member a group = with (entry_of a) (λ e. larger_group e group)
 
 -- the formula by a group, if there is one, or else another
 abbrev pub choice : Option Group → (Group → Formula) → Formula → Formula
 choice None f g = g
 choice (Some group) f g = f group
 
--- the formula of a truth, or else one of the group after it: the hosts or ports at its end are
--- looked for together with it
+-- an entry, or else one of the group after it
+abbrev pub member_formula : Link → Entry → Group → Formula
+member_formula link e group =
+    choice (larger_group e group) (group_formula link) (or_group link (entry_formula link e) group)
+
+-- a comparison, or else one of the group after it
+abbrev pub compared_formula : Link → Option Entry → Formula → Group → Formula
+compared_formula link None f group = or_group link f group
+compared_formula link (Some e) f group = member_formula link e group
+
+-- a truth in front of relations that it can't join, if it may begin a group of its own
+abbrev pub leaves : TruthTree → Group → Bool
+leaves (qualified q v) group = has_relations group.cases
+leaves _ group = false
+
+-- a formula by the group after it, or in front of relations by an empty one
+abbrev pub apart : Link → Bool → Group → (Group → Formula) → Formula
+apart link false group f = f group
+apart link true group f = or_group link (f no_group) group
+
+-- either of two truths by the group after them, which the second one may join
+abbrev pub either_formula : TruthTree → (Group → Formula) → (Group → Formula) → Group → Formula
+either_formula b f g group = choice (truth_member b group) f (Either (f no_group) (g group))
+
+-- the formula of a truth, or else one of the group after it: the members at its end are looked for
+-- together with it
 abbrev pub grouped_formula : Link → Group → TruthTree → Formula
 grouped_formula link group (joined Or a b) =
-    choice (truth_member b group) (λ more. grouped_formula link more a)
-    (Either (grouped_formula link no_group a) (grouped_formula link group b))
+    apart link (leaves b group) group (either_formula b (λ more. grouped_formula link more a)
+    (λ more. grouped_formula link more b))
 grouped_formula link group (joined And a b) =
     or_group link (Both (grouped_formula link no_group a) (grouped_formula link no_group b)) group
 grouped_formula link group (denied a) =
     or_group link (Except (grouped_formula link no_group a)) group
 grouped_formula link group (qualified q v) =
-    choice (larger_group q v group) (λ more. group_formula link more)
-    (or_group link (qualified_needed link q v) group)
-grouped_formula link group (compared c l r) = or_group link (relation_formula link c l r) group
+    apart link (leaves (qualified q v) group) group (member_formula link (entry q v))
+grouped_formula link group (compared c l r) =
+    compared_formula link (entry_of (compared c l r)) (relation_formula link c l r) group
 grouped_formula link group a = or_group link (formula link a) group

@@ -5,7 +5,7 @@ use Rattle.flt_bpf.specs.declared.operation.Operand.TheVariants.{Constant, Index
 use Rattle.flt_bpf.specs.declared.operation.Operation.TheVariants.{Load, Store, Negate}
 use Rattle.flt_bpf.specs.declared.operation.{Register.TheVariants.Accumulator, Source.Source}
 use Rattle.flt_bpf.specs.declared.operation.Source.TheVariants.{Immediate, Length}
-use Rattle.flt_words.specs.declared.token.{Comparison.Comparison, Join.Join, Join.TheVariants.And, Join.TheVariants.Or}
+use Rattle.flt_words.specs.declared.token.{Comparison.Comparison, Comparison.TheVariants.Equal, Join.Join, Join.TheVariants.And, Join.TheVariants.Or}
 use Rattle.flt_words.specs.declared.token.{Operator.Operator, Protocol.Protocol}
 use Rattle.flt_ast.specs.declared.{node.Node.Node, qualifiers.CompleteQualifiers.CompleteQualifiers, value.Value.Value}
 use Rattle.cap_octet.specs.declared.link.Link.{Link}
@@ -15,9 +15,10 @@ use Rattle.flt_gen.specs.declared.{code.Targets.Targets, group.Entry.Entry}
 use Rattle.flt_gen.specs.declared.waiting.{LeftTruth.LeftTruth, Pending.Pending, Waiting.Waiting}
 use Rattle.flt_gen.specs.declared.waiting.Waiting.TheVariants.{Index, Left}
 use Rattle.flt_gen.specs.inside.Code.{plain, emit_comparison, emit_field, accessor_offset, emit_accessor, computation, takes_constant, emit_operands, Block, block, emit_formula}
-use Rattle.flt_gen.specs.inside.Emitted.{with_accessor, qualified_needed}
-use Rattle.flt_gen.specs.inside.Group.{Group, no_group, larger_group, group_formula}
+use Rattle.flt_gen.specs.inside.Emitted.{with_accessor}
+use Rattle.flt_gen.specs.inside.Group.{Group, no_group, entry, entry_formula, larger_group, group_formula, has_relations}
 use Rattle.flt_gen.specs.inside.ProgramCode.{emit_accessor_tests, returns_code}
+use Rattle.flt_gen.specs.inside.Relations.{relation}
 
 -- how far the walk has come: the code so far, the targets of the next truth, the word for the next
 -- left operand; what waits, latest first; and the protocols of the relation's accessors, each once,
@@ -29,8 +30,8 @@ pub record Walk : Type 0 where
   pub truths : List LeftTruth
   pub numbers : List Waiting
   pub accessors : List Protocol
-  -- hosts or ports that are tested in front of the code, and whose code isn't there yet; and what
-  -- the last node hands on to the next one
+  -- members that are tested in front of the code, and whose code isn't there yet; and what the last
+  -- node hands on to the next one
   pub group : Group
   pub pending : Pending
 
@@ -114,18 +115,32 @@ flush_members link w (m ∷ ms) =
 -- the code of the group that waits is emitted, if it has members, and the group is empty then; if
 -- an or was the last node, its left operand waits
 abbrev pub flush_group : Link → Walk → Walk
-flush_group link w = flush_members link (begin_right w.pending w) w.group.entries
+flush_group link w = let v = begin_right w.pending w in flush_members link v v.group.entries
 
--- a host or port and those after it: they wait for one more if it is the right operand of an or
+-- a member and those after it: they wait for one more if it is the right operand of an or
 abbrev pub finish_group : Link → Walk → Group → Pending → Walk
 finish_group link w group Pending.Or = record w { group = group; pending = Pending.Nothing }
 finish_group link w group Pending.Nothing =
     finish_formula link (group_formula link group) (record w { group = no_group })
 
--- a value with its qualifiers: a member of the group, if there is such a group, or else on its own
-abbrev pub emit_value : Link → CompleteQualifiers → Value → Walk → Option Group → Walk
-emit_value link q v w None = finish_formula link (qualified_needed link q v) (flush_group link w)
-emit_value link q v w (Some group) = finish_group link w group w.pending
+-- a value or a relation: a member of the group, if there is such a group, or else on its own
+abbrev pub emit_entry : Link → Entry → Walk → Option Group → Walk
+emit_entry link e w None = finish_formula link (entry_formula link e) (flush_group link w)
+emit_entry link e w (Some group) = finish_group link w group w.pending
+
+-- a member of the group that is left then, or else on its own
+abbrev pub emit_member : Link → Entry → Walk → Walk
+emit_member link e w = emit_entry link e w (larger_group e w.group)
+
+-- relations that wait are emitted, since a value goes with none
+abbrev pub flush_relations : Link → Walk → Bool → Walk
+flush_relations link w true = flush_members link w w.group.entries
+flush_relations link w false = w
+
+-- a value with its qualifiers
+abbrev pub emit_value : Link → CompleteQualifiers → Value → Walk → Walk
+emit_value link q v w =
+    emit_member link (entry q v) (flush_relations link w (has_relations w.group.cases))
 
 -- `and` or `or`: its right operand is next. The left one of `and` waits; of `or` it waits only once
 -- the right one is known to be no member of the group
@@ -152,7 +167,7 @@ emit_leaf link source n w =
 -- one more node, the one before those that were emitted
 abbrev pub emit_node : Link → Walk → Node → Walk
 emit_node link w (Node.Join join) = emit_join link join w
-emit_node link w (Node.Qualified q v) = emit_value link q v w (larger_group q v w.group)
+emit_node link w (Node.Qualified q v) = emit_value link q v w
 emit_node link w (Node.Literal n) = emit_leaf link Immediate n w
 emit_node link w (Node.Named n) = emit_leaf link Immediate n w
 emit_node link w Node.Len = emit_leaf link Length 0 w
@@ -239,6 +254,14 @@ emit_pair link w n right =
 -- the walk over nodes, the last first
 abbrev pub emit_nodes : Link → Walk → List Node → Walk
 emit_nodes link w [] = w
+emit_nodes link w (Node.Compare Equal ∷ Node.Literal k ∷ Node.Load p s ∷ Node.Literal i ∷ ns) =
+    emit_nodes link (emit_member link (Entry.Relation (relation p s i k)) w) ns
+emit_nodes link w (Node.Compare Equal ∷ Node.Literal k ∷ Node.Load p s ∷ Node.Named i ∷ ns) =
+    emit_nodes link (emit_member link (Entry.Relation (relation p s i k)) w) ns
+emit_nodes link w (Node.Compare Equal ∷ Node.Named k ∷ Node.Load p s ∷ Node.Literal i ∷ ns) =
+    emit_nodes link (emit_member link (Entry.Relation (relation p s i k)) w) ns
+emit_nodes link w (Node.Compare Equal ∷ Node.Named k ∷ Node.Load p s ∷ Node.Named i ∷ ns) =
+    emit_nodes link (emit_member link (Entry.Relation (relation p s i k)) w) ns
 emit_nodes link w (Node.Apply o ∷ Node.Literal k ∷ ns) =
     emit_nodes link (emit_pair link w (Node.Apply o) (Node.Literal k)) ns
 emit_nodes link w (Node.Apply o ∷ Node.Named k ∷ ns) =

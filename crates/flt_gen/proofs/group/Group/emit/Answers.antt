@@ -1,9 +1,9 @@
--- Members with numbers are looked for together.
+-- Members with numbers or cases are looked for together.
 use Rattle.std.specs.Prelude.{nat_eq}
 use Rattle.std.proofs.Common.{rules}
 use Rattle.flt_gen.specs.declared.cases.Case.{Case}
-use Rattle.flt_gen.specs.inside.{Emits.EmitsFormula, Group.has_networks, Group.together_formula}
-use Rattle.flt_gen.proofs.Common.{arith, eqb-true, ◌≡◌, List, length, ◌∷◌, [], ◌∙◌, true, refl, sym, ap, ap₂, subst, if◌then◌else◌, Link, Formula, Group, is_searched, numbers_of, several_formula, rows_formula, group_formula, sought}
+use Rattle.flt_gen.specs.inside.{Cases.cases_formula, Emits.EmitsFormula, Group.has_networks, Group.together_formula}
+use Rattle.flt_gen.proofs.Common.{arith, eqb-true, ◌≡◌, List, length, ◌∷◌, [], ◌∙◌, true, false, refl, sym, ap, ap₂, subst, if◌then◌else◌, Link, Formula, Group, is_searched, numbers_of, several_formula, rows_formula, group_formula, sought}
 use Rattle.flt_gen.proofs.group.Group.emit.Goals as goal
 
 several_is : (link : Link) (group : Group) → is_searched group ≡ true → group.cases ≡ [] → group_formula link group ≡ several_formula link group.qualifiers group.qualifiers.value_type (numbers_of group)
@@ -13,6 +13,26 @@ several_is link group searched none =
 no_cases : (cs : List Case) → nat_eq (length cs) 0 ≡ true → cs ≡ []
 no_cases [] e = refl
 no_cases (c ∷ cs) e = (let none : length (c ∷ cs) ≡ 0 = eqb-true _ _ e in absurd (omega (arith, none)))
+
+cases_are : (link : Link) (group : Group) → is_searched group ≡ true → nat_eq (length group.cases) 0 ≡ false → group_formula link group ≡ cases_formula link group.qualifiers.direction group.cases
+cases_are link group searched some = ap (λ b. if b then together_formula link group group.cases else rows_formula link group.entries) searched ∙ by group.cases some
+  where
+    by : (cs : List Case) → nat_eq (length cs) 0 ≡ false → together_formula link group cs ≡ cases_formula link group.qualifiers.direction cs
+    by [] e = cc
+    by (c ∷ cs) e = refl
+
+pub returns-then-not-is_empty : goal.returns-then-not-is_empty
+returns-then-not-is_empty g c =
+    let a = c.args in
+    let i = c.self.inside in
+    let r = c.emit_cases in
+    let group : Group = record { qualifiers = i.qualifiers; is_plain = i.is_plain; first = i.first; all = i.all.items; cases = i.cases.items; entries = i.entries } in
+    let is : group ≡ a.self.now = c.self.view_is in
+    let searched : is_searched a.self.now ≡ true = sym c.is_searched.ensures ∙ c.if-not-is_searched.false in
+    let some : nat_eq (length i.cases.items) 0 ≡ false = search rules in
+    subst (λ (f : Formula). EmitsFormula a.link f a.to a.code.now r.result r.new.self)
+    (ap (cases_formula a.link i.qualifiers.direction) c.deref.ensures.value ∙ sym (ap (group_formula a.link) (sym is) ∙ cases_are a.link group (ap is_searched is ∙ searched) some))
+    r.ensures
 
 pub returns : goal.returns
 returns g c =

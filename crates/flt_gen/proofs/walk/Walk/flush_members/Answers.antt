@@ -1,6 +1,6 @@
 -- The group that waits is emitted as the right operand of an or.
 use Rattle.flt_gen.proofs.{Common.◌∙◌, Common.sym, Common.Walk, Flushed.flushed}
-use Rattle.flt_gen.proofs.walk.Walk.flush_group.Goals as goal
+use Rattle.flt_gen.proofs.walk.Walk.flush_members.Goals as goal
 
 pub returns : goal.returns
 returns g c =
@@ -15,4 +15,4 @@ returns g c =
       group = i.group;
       pending = i.pending;
     } in
-    flushed c.emit_group.result c.args.link c.begin_right.new.self v c.args.self.now c.emit_group.new.self c.push.new.self c.self.view_is c.in_ok-begin_right.ensures (sym c.is_empty.ensures ∙ c.if-is_empty.false) c.in_ok-push.ensures c.emit_group.ensures
+    flushed c.emit_group.result c.args.link v c.args.self.now c.emit_group.new.self c.push.new.self c.self.view_is (sym c.is_empty.ensures ∙ c.if-is_empty.false) c.in_ok-push.ensures c.emit_group.ensures
