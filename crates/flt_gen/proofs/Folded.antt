@@ -20,7 +20,6 @@ applied_some o _ _ k e = cc
 -- a number alone has no accessors
 constant_alone : (a : NumberTree) (k : ℕ) (rest : List Protocol) → constant a ≡ Some k → accessors a rest ≡ rest
 constant_alone (literal j) k rest e = refl
-constant_alone (named j) k rest e = refl
 constant_alone _ k rest e = cc
 
 accessors_folded : (a : NumberTree) (rest : List Protocol) → accessors (folded_number a) rest ≡ accessors a rest
@@ -209,9 +208,6 @@ with_negated _ d = refl
 
 with_applied : (o : Operator) (b a : NumberTree) (d : List Node) → with_operator o (number_onto b (number_onto a d)) ≡ number_onto (applied_number o a b) d
 with_applied o (literal y) (literal x) d = one_or_both o (result_of o x y) (literal x) (literal y) d
-with_applied o (literal y) (named x) d = one_or_both o (result_of o x y) (named x) (literal y) d
-with_applied o (named y) (literal x) d = one_or_both o (result_of o x y) (literal x) (named y) d
-with_applied o (named y) (named x) d = one_or_both o (result_of o x y) (named x) (named y) d
 with_applied o _ _ d = refl
 
 number_put : (a : NumberTree) (d rest : List Node) → fold with_folded d (number_nodes a rest) ≡ fold with_folded (number_onto (folded_number a) d) rest

@@ -1,20 +1,19 @@
 -- The formula of a truth in which hosts or ports are looked for together reads as the truth's own,
 -- and has no more tests.
 use Rattle.flt_gen.proofs.Ascending.{if_case, Each, each_is, Searchable, Reached, Ready, Ordered, Points, ordered_inserted, points_inserted, length_inserted, within_inserted, within_joined, searchable_joined, ends_few, one_point, joined_few, joined_points}
-use Rattle.flt_gen.proofs.Common.{◌≡◌, ℕ, ◌+◌, ◌-◌, ◌*◌, ◌<◌, ◌≤◌, max, List, [], ◌∷◌, length, Bool, true, false, Option, Some, None, refl, sym, ap, ap₂, ◌∙◌, subst, arith, ◌==◌, ◌||◌, ◌&&◌, nat_lt, nat_le, if◌then◌else◌, suc-mul, nat_tests, and_parts, or_parts, Protocol, Ip, Tcp, Udp, Source, Destination, And, Or, ValueType, Host, Net, Port, PortRange, Direction, CompleteQualifiers, Value, Interval, Sides, FrameKind, network_offset, not, map, and-false, inl, inr, Sought, sought_tests, is_address, joined_all, left_out, high_mask, cut, address_places, port_places, ip_transport, ip6_transport, sought, Entry, TruthTree, check, cast, sized, bare, valued, qualified, compared, denied, joined, is_unfilled, any_primitive, Link, MatchResult, Several, Formula, Both, Either, Except, is_in, is_within, both, either, negation, Numbers, reads, check_formula, cast_formula, sized_formula, hosts_formula, port_test, port_formula, relation_formula, formula, first_ends, Group, no_group, entry, with_member, same_type, same_protocol, same_direction, goes_with, member_of, group_and, larger_group, is_searched, numbers_of, several_formula, all_of, accessor_tests, accessor_test_count, guarded_formula, Elementary, Comparison, NumberTree, with, Tcp, value_formula, Proto, rows_formula, group_formula, or_any, or_group, choice, grouped_formula, MOST_TOGETHER, FEWEST_RANGES}
+use Rattle.flt_gen.proofs.Common.{◌≡◌, ℕ, ◌+◌, ◌-◌, ◌*◌, ◌<◌, ◌≤◌, max, List, [], ◌∷◌, length, Bool, true, false, Option, Some, None, refl, sym, ap, ap₂, ◌∙◌, subst, arith, ◌==◌, ◌||◌, ◌&&◌, nat_lt, nat_le, if◌then◌else◌, suc-mul, nat_tests, and_parts, or_parts, Protocol, Ip, Tcp, Udp, Source, Destination, And, Or, ValueType, Host, Net, Port, PortRange, Direction, CompleteQualifiers, Value, Interval, Sides, FrameKind, network_offset, not, map, and-false, inl, inr, Sought, sought_tests, is_address, joined_all, left_out, high_mask, cut, address_places, port_places, ip_transport, ip6_transport, sought, Entry, TruthTree, check, cast, sized, bare, valued, qualified, compared, denied, joined, is_unfilled, any_primitive, Link, MatchResult, Several, Formula, Both, Either, Except, is_in, is_within, both, either, negation, Numbers, reads, check_formula, cast_formula, sized_formula, hosts_formula, port_test, port_formula, relation_formula, qualified_needed, formula, first_ends, Group, no_group, entry, with_member, same_type, same_protocol, same_direction, goes_with, member_of, group_and, larger_group, is_searched, numbers_of, several_formula, all_of, accessor_tests, accessor_test_count, guarded_formula, Elementary, Comparison, NumberTree, with, Tcp, value_formula, Proto, rows_formula, group_formula, or_any, or_group, choice, grouped_formula, MOST_TOGETHER, FEWEST_RANGES}
 use Rattle.flt_gen.proofs.Counted.{Sized, Bare, bare_within, bare_some, bare_both, bare_either, bare_else, bare_after, bare_sought, bare_check, bare_cast, of_kinds, bare_hosts, bare_ports}
 use Rattle.flt_gen.proofs.Deciding.{fields_of, some_fields, some_front, shapes_of, rows, read_all, sizes, decision_good, Likes, likes_put, sizes_put, length_put, read_put, alike, alike_alike, self_alike}
 use Rattle.flt_gen.proofs.{Exclusive.or_no, Exclusive.both_either, Exclusive.either_assoc, IdleBits.uncut}
 use Rattle.flt_gen.proofs.{Needed.bare_needed, Needed.value_same, Once.relation_sizes, Once.relation_same, Once.all_read, Once.guarded_read}
-use Rattle.flt_gen.proofs.Relations.{IsRow, row_bare, relation_is}
+use Rattle.flt_gen.proofs.Relations.{entry_tests, entry_bare, IsEntry, entry_is, entry_sizes}
 use Rattle.flt_gen.proofs.Prefixes.{Idle, idle_sought, cut_in, cut_within, cut_order, cut_apart}
 use Rattle.flt_gen.proofs.Together.{Fitting, fitting_small, unmasked_fitting, address_fitting, Merged, members_read, members_more, members_alone, member_reads, IsMember, member_tests, several_are, member_is}
 use Rattle.std.specs.Prelude.{◌⊎◌, count_by}
 use Rattle.flt_words.specs.declared.token.Protocol.TheVariants as protocol
 use Rattle.flt_gen.specs.declared.{address.Hosts.Hosts, cases.Case.Case}
 use Rattle.flt_gen.specs.inside.Cases.{case_of, same_words, key_of, case_front, case_tests, MOST_DECISIONS}
-use Rattle.flt_gen.specs.inside.Group.{no_qualifiers, with_case, has_none, shares_words, case_goes_with, larger_with, together_formula, entry_formula, relation_entry, entry_of, member_formula, compared_formula, leaves, apart, either_formula, FEWEST_CASES}
-use Rattle.flt_gen.specs.{declared.relation.Relation.Relation, inside.Relations.relation_of}
+use Rattle.flt_gen.specs.inside.Group.{no_qualifiers, with_case, has_none, shares_words, case_goes_with, larger_with, together_formula, entry_formula, entry_of, leaf_formula, leaves, apart, either_formula, FEWEST_CASES}
 use Rattle.std.proofs.lemmas.List.{length-map}
 use Rattle.cap_octet.specs.declared.link.Link.TheVariants as link
 use Rattle.cap_octet.specs.declared.link.Link.TheVariants.{Ether}
@@ -25,10 +24,6 @@ use Rattle.flt_ast.specs.declared.value.Value.TheVariants as value
 use Rattle.flt_ast.specs.Counts as count
 
 -- how many tests members have one by one
-abbrev entry_tests : Entry → ℕ
-entry_tests (Entry.Value q v) = count.value_tests q v
-entry_tests (Entry.Relation r) = accessor_test_count r.protocol + 1
-
 abbrev entries_tests : List Entry → ℕ
 entries_tests [] = 0
 entries_tests (e ∷ es) = entry_tests e + entries_tests es
@@ -191,10 +186,6 @@ group_bare_several link group ms h e = by group.is_plain refl e
         let few = joined_few group.all (omega arith) in
         let same = length_cut (is_address k && not group.is_plain) in
         with_numbers (inr (omega arith, three)) (omega arith)
-
-entry_bare : (link : Link) (e : Entry) → Bare (entry_formula link e) (entry_tests e)
-entry_bare link (Entry.Value q v) = bare_needed link q.value_type q.protocol q.direction v
-entry_bare link (Entry.Relation r) = row_bare link r
 
 rows_bare : (link : Link) (es : List Entry) → 0 < length es → Bare (rows_formula link es) (entries_tests es)
 rows_bare link [] l = absurd (omega arith)
@@ -486,31 +477,13 @@ sized_sizes : (s : Size) (n : ℕ) → Sized (sized_formula s n) 2 1 1
 sized_sizes Size.Less n = record { nodes_fit = omega arith; words_fit = omega arith; searches = tt; tests_fit = omega arith }
 sized_sizes _ n = record { nodes_fit = omega arith; words_fit = omega arith; searches = tt; tests_fit = omega arith }
 
--- an entry that a truth is
-record IsEntry (link : Link) (a : TruthTree) (e : Entry) : Type 0 where
-  sizes : Sized (entry_formula link e) (count.truth_size a) (count.truth_words a) (count.truth_tests a)
-  few : entry_tests e ≤ count.truth_tests a
-  same : (p : List ℕ) (n : ℕ) → reads link (entry_formula link e) p n ≡ reads link (formula link a) p n
-
-entry_is : (link : Link) (a : TruthTree) (e : Entry) → entry_of a ≡ Some e → IsEntry link a e
-entry_is link (qualified q v) e some =
-    each_is (Some (entry q v)) (IsEntry link (qualified q v)) e (record {
-      sizes = bare_needed link q.value_type q.protocol q.direction v;
-      few = omega arith;
-      same = λ p n. value_same link p n q.value_type q.protocol q.direction v;
-    }) some
-entry_is link (compared c l r) e some = by (relation_of c l r) (relation_is link c l r) some
-  where
-    by : (o : Option Relation) → Each o (IsRow link (compared c l r)) → relation_entry o ≡ Some e → IsEntry link (compared c l r) e
-    by None h some = cc
-    by (Some s) h some = each_is (Some (Entry.Relation s)) (IsEntry link (compared c l r)) e (record { sizes = h.sizes; few = h.few; same = h.same }) some
-entry_is link _ e some = cc
-
-member_stands : (link : Link) (a : TruthTree) (e : Entry) → IsEntry link a e → (group : Group) → Kept group → Stands link (member_formula link e group) a group
-member_stands link a e is group k = by (larger_group e group) refl
+-- an entry, or a truth that is none
+leaf_stands : (link : Link) (a : TruthTree) (f : Formula) (group : Group) → Kept group → Sized f (count.truth_size a) (count.truth_words a) (count.truth_tests a) → ((p : List ℕ) (n : ℕ) → reads link f p n ≡ reads link (formula link a) p n) → (o : Option Entry) → Each o (IsEntry link a) → Stands link (leaf_formula link o f group) a group
+leaf_stands link a f group k sizes same None is = or_stands link f a group k sizes same
+leaf_stands link a f group k sizes same (Some e) is = by (larger_group e group) refl
   where
     by : (o : Option Group) → larger_group e group ≡ o → Stands link (choice o (group_formula link) (or_group link (entry_formula link e) group)) a group
-    by None none = or_stands link (entry_formula link e) a group k is.sizes is.same
+    by None none = or_stands link (entry_formula link e) a group k (entry_sizes link a e is) is.same
     by (Some more) some =
         let t = taken link group more k e some in
         let b = group_bare link more t.kept t.some in
@@ -518,10 +491,6 @@ member_stands link a e is group k = by (larger_group e group) refl
           counts = record { nodes_fit = omega (arith, b.nodes_fit); words_fit = omega (arith, b.words_fit); searches = b.searches; tests_fit = omega (arith, b.tests_fit, t.tests_fit, is.few) };
           reads_are = λ p n. t.reads_are p n ∙ ap (λ r. either r (reads link (group_formula link group) p n)) (is.same p n);
         }
-
-compared_stands : (link : Link) (c : Comparison) (l r : NumberTree) (group : Group) → Kept group → (o : Option Entry) → entry_of (compared c l r) ≡ o → Stands link (compared_formula link o (relation_formula link c l r) group) (compared c l r) group
-compared_stands link c l r group k None e = or_stands link (relation_formula link c l r) (compared c l r) group k (relation_sizes link c l r) (λ p n. relation_same link p n c l r)
-compared_stands link c l r group k (Some e) some = member_stands link (compared c l r) e (entry_is link (compared c l r) e some) group k
 
 -- in front of relations
 apart_stands : (link : Link) (a : TruthTree) (b : Bool) (group : Group) → Kept group → (f : Group → Formula) → ((g : Group) → Kept g → Stands link (f g) a g) → Stands link (apart link b group f) a group
@@ -531,10 +500,10 @@ apart_stands link a true group k f h =
     or_stands link (f no_group) a group k (bare_within _ (omega arith) s.counts) (λ p n. s.reads_are p n ∙ or_no _)
 
 either_stands : (link : Link) (a b : TruthTree) (f g : Group → Formula) → ((more : Group) → Kept more → Stands link (f more) a more) → ((more : Group) → Kept more → Stands link (g more) b more) → (group : Group) → Kept group → Stands link (either_formula b f g group) (joined Or a b) group
-either_stands link a b f g h m group k = by (entry_of b) refl
+either_stands link a b f g h m group k = by (entry_of b) (entry_is link b)
   where
-    apart_from : Stands link (Either (f no_group) (g group)) (joined Or a b) group
-    apart_from =
+    parted : Stands link (Either (f no_group) (g group)) (joined Or a b) group
+    parted =
         let s = h no_group kept_none in
         let t = m group k in
         record {
@@ -542,19 +511,18 @@ either_stands link a b f g h m group k = by (entry_of b) refl
           reads_are = λ p n. ap₂ either (s.reads_are p n ∙ or_no (reads link (formula link a) p n)) (t.reads_are p n) ∙ sym (either_assoc (reads link (formula link a) p n) (reads link (formula link b) p n) (reads link (group_formula link group) p n));
         }
 
-    by_member : (e : Entry) → entry_of b ≡ Some e → (o : Option Group) → larger_group e group ≡ o → Stands link (choice o f (Either (f no_group) (g group))) (joined Or a b) group
-    by_member e is None none = apart_from
+    by_member : (e : Entry) → IsEntry link b e → (o : Option Group) → larger_group e group ≡ o → Stands link (choice o f (Either (f no_group) (g group))) (joined Or a b) group
+    by_member e is None none = parted
     by_member e is (Some more) some =
-        let i = entry_is link b e is in
         let t = taken link group more k e some in
         let s = h more t.kept in
         record {
-          counts = record { nodes_fit = omega (arith, s.nodes_fit); words_fit = omega (arith, s.words_fit); searches = s.searches; tests_fit = omega (arith, s.tests_fit, t.tests_fit, i.few) };
-          reads_are = λ p n. s.reads_are p n ∙ ap (either (reads link (formula link a) p n)) (t.reads_are p n ∙ ap (λ r. either r (reads link (group_formula link group) p n)) (i.same p n)) ∙ sym (either_assoc (reads link (formula link a) p n) (reads link (formula link b) p n) (reads link (group_formula link group) p n));
+          counts = record { nodes_fit = omega (arith, s.nodes_fit); words_fit = omega (arith, s.words_fit); searches = s.searches; tests_fit = omega (arith, s.tests_fit, t.tests_fit, is.few) };
+          reads_are = λ p n. s.reads_are p n ∙ ap (either (reads link (formula link a) p n)) (t.reads_are p n ∙ ap (λ r. either r (reads link (group_formula link group) p n)) (is.same p n)) ∙ sym (either_assoc (reads link (formula link a) p n) (reads link (formula link b) p n) (reads link (group_formula link group) p n));
         }
 
-    by : (o : Option Entry) → entry_of b ≡ o → Stands link (choice (with o (λ e. larger_group e group)) f (Either (f no_group) (g group))) (joined Or a b) group
-    by None e = apart_from
+    by : (o : Option Entry) → Each o (IsEntry link b) → Stands link (choice (with o (λ e. larger_group e group)) f (Either (f no_group) (g group))) (joined Or a b) group
+    by None is = parted
     by (Some e) is = by_member e is (larger_group e group) refl
 
 -- members that are looked for together change neither the reading nor what is counted
@@ -565,8 +533,9 @@ grouped_stands link (sized s n) group k u = or_stands link (sized_formula s n) (
 grouped_stands link (bare v) group k u = cc
 grouped_stands link (valued q v) group k u = cc
 grouped_stands link (qualified q v) group k u =
-    apart_stands link (qualified q v) (leaves (qualified q v) group) group k (member_formula link (entry q v)) (member_stands link (qualified q v) (entry q v) (entry_is link (qualified q v) (entry q v) refl))
-grouped_stands link (compared c l r) group k u = compared_stands link c l r group k (entry_of (compared c l r)) refl
+    apart_stands link (qualified q v) (leaves (qualified q v) group) group k _ (λ more j. leaf_stands link (qualified q v) (qualified_needed link q v) more j (bare_needed link q.value_type q.protocol q.direction v) (λ p n. value_same link p n q.value_type q.protocol q.direction v) (Some (entry q v)) (entry_is link (qualified q v)))
+grouped_stands link (compared c l r) group k u =
+    leaf_stands link (compared c l r) (relation_formula link c l r) group k (relation_sizes link c l r) (λ p n. relation_same link p n c l r) (entry_of (compared c l r)) (entry_is link (compared c l r))
 grouped_stands link (denied a) group k u =
     let h = grouped_stands link a no_group kept_none u in
     or_stands link (Except (grouped_formula link no_group a)) (denied a) group k (record { nodes_fit = h.nodes_fit; words_fit = h.words_fit; searches = h.searches; tests_fit = omega (arith, h.tests_fit) }) (λ p n. ap negation (h.reads_are p n ∙ or_no _))

@@ -1,8 +1,7 @@
 -- The walk over the nodes of an expression makes its program.
 use Rattle.flt_gen.proofs.Common.{◌≡◌, ℕ, ◌-◌, List, [], ◌∷◌, length, drop, take, get_or, zero, suc, ◌<◌, ◌≤◌, Option, Some, None, Entry, Equal, Ether, refl, sym, ap, ◌∙◌, arith, reverse, take-suc, reverse-append, Node, Expression, expr_onto, Link, expression_code, program_code, Walk, emit_node, emit_both_nodes, or_walk, emit_nodes, start_walk, insns_of}
 use Rattle.flt_gen.proofs.Walking.{expression_walked}
-use Rattle.flt_gen.specs.declared.relation.Relation.{Relation}
-use Rattle.flt_gen.specs.inside.{Relations.relation_at, Relations.relation_in, Walk.emit_member}
+use Rattle.flt_gen.specs.inside.{Relations.relation, Relations.relation_at, Relations.relation_in, Walk.emit_member}
 use Rattle.flt_ast.specs.declared.node.Node.TheVariants as node
 
 -- by the nodes of the tree turned round
@@ -22,9 +21,6 @@ program_is link e ns h =
 is_some : (u v : Walk) → Some u ≡ Some v → u ≡ v
 is_some u v e = cc
 
-is_relation : (q r : Relation) → Some q ≡ Some r → q ≡ r
-is_relation q r e = cc
-
 -- how a walk goes on: with two nodes at once, or with one
 or_walked : (link : Link) (w u v : Walk) (o : Option Walk) (ns : List Node) → o ≡ Some v → emit_nodes link (or_walk o u) ns ≡ emit_nodes link v ns
 or_walked link w u v o ns e = ap (λ x. emit_nodes link (or_walk x u) ns) e
@@ -33,33 +29,21 @@ none_walked : (link : Link) (u : Walk) (o : Option Walk) (ns : List Node) → o 
 none_walked link u o ns e = ap (λ x. emit_nodes link (or_walk x u) ns) e
 
 -- a relation is put at once
-relation_walked : (link : Link) (w : Walk) (a b c d : Node) (ns : List Node) (r : Relation) → relation_at a b c d ≡ Some r → emit_nodes link w (a ∷ b ∷ c ∷ d ∷ ns) ≡ emit_nodes link (emit_member link (Entry.Relation r) w) ns
-relation_walked link w (node.Compare Equal) (node.Literal k) (node.Load p s) (node.Literal i) ns r e = ap (λ x. emit_nodes link (emit_member link (Entry.Relation x) w) ns) (is_relation _ r e)
-relation_walked link w (node.Compare Equal) (node.Literal k) (node.Load p s) (node.Named i) ns r e = ap (λ x. emit_nodes link (emit_member link (Entry.Relation x) w) ns) (is_relation _ r e)
-relation_walked link w (node.Compare Equal) (node.Named k) (node.Load p s) (node.Literal i) ns r e = ap (λ x. emit_nodes link (emit_member link (Entry.Relation x) w) ns) (is_relation _ r e)
-relation_walked link w (node.Compare Equal) (node.Named k) (node.Load p s) (node.Named i) ns r e = ap (λ x. emit_nodes link (emit_member link (Entry.Relation x) w) ns) (is_relation _ r e)
-relation_walked link w _ _ _ _ ns r e = cc
+relation_walked : (link : Link) (w : Walk) (a b c d : Node) (ns : List Node) (e : Entry) → relation_at a b c d ≡ Some e → emit_nodes link w (a ∷ b ∷ c ∷ d ∷ ns) ≡ emit_nodes link (emit_member link e w) ns
+relation_walked link w (node.Compare Equal) (node.Literal k) (node.Load p s) (node.Literal i) ns e is = (let same : relation p s i k ≡ e = cc in ap (λ x. emit_nodes link (emit_member link x w) ns) same)
+relation_walked link w _ _ _ _ ns e is = cc
 
 both_walked : (link : Link) (w v : Walk) (n m : Node) (ns : List Node) → relation_in (n ∷ m ∷ ns) ≡ None → emit_both_nodes link w n m ≡ Some v → emit_nodes link w (n ∷ m ∷ ns) ≡ emit_nodes link v ns
 both_walked link w v (node.Compare Equal) (node.Literal k) (node.Load p s ∷ node.Literal i ∷ ns) none e = cc
-both_walked link w v (node.Compare Equal) (node.Literal k) (node.Load p s ∷ node.Named i ∷ ns) none e = cc
-both_walked link w v (node.Compare Equal) (node.Named k) (node.Load p s ∷ node.Literal i ∷ ns) none e = cc
-both_walked link w v (node.Compare Equal) (node.Named k) (node.Load p s ∷ node.Named i ∷ ns) none e = cc
 both_walked link w v (node.Apply o) (node.Literal k) ns none e = or_walked link w _ v _ ns e
-both_walked link w v (node.Apply o) (node.Named k) ns none e = or_walked link w _ v _ ns e
 both_walked link w v (node.Compare c) (node.Literal k) ns none e = ap (λ x. emit_nodes link x ns) (is_some _ v e)
-both_walked link w v (node.Compare c) (node.Named k) ns none e = ap (λ x. emit_nodes link x ns) (is_some _ v e)
 both_walked link w v (node.Load p s) (node.Literal k) ns none e = ap (λ x. emit_nodes link x ns) (is_some _ v e)
-both_walked link w v (node.Load p s) (node.Named k) ns none e = ap (λ x. emit_nodes link x ns) (is_some _ v e)
 both_walked link w v _ _ ns none e = cc
 
 one_walked : (link : Link) (w : Walk) (n m : Node) (ns : List Node) → emit_both_nodes link w n m ≡ None → emit_nodes link w (n ∷ m ∷ ns) ≡ emit_nodes link (emit_node link w n) (m ∷ ns)
 one_walked link w (node.Apply o) (node.Literal k) ns e = none_walked link _ _ ns e
-one_walked link w (node.Apply o) (node.Named k) ns e = none_walked link _ _ ns e
 one_walked link w (node.Compare c) (node.Literal k) ns e = cc
-one_walked link w (node.Compare c) (node.Named k) ns e = cc
 one_walked link w (node.Load p s) (node.Literal k) ns e = cc
-one_walked link w (node.Load p s) (node.Named k) ns e = cc
 one_walked link w (node.Compare Equal) _ ns e = refl
 one_walked link w _ _ ns e = refl
 
@@ -93,10 +77,10 @@ four_put ns j other some within =
     ∙ ap (λ xs. get_or ns (j - 2) other ∷ xs) (one_put ns (j - 2) (j - 3) other (omega arith) (omega arith)
     ∙ ap (λ xs. get_or ns (j - 3) other ∷ xs) (one_put ns (j - 3) (j - 4) other (omega arith) (omega arith))))
 
-pub relation_put : (link : Link) (ns : List Node) (j : ℕ) (w : Walk) (r : Relation) → 4 ≤ j → j ≤ length ns → relation_in (reverse (take j ns)) ≡ Some r → emit_nodes link (emit_member link (Entry.Relation r) w) (reverse (take (j - 4) ns)) ≡ emit_nodes link w (reverse (take j ns))
-relation_put link ns j w r some within is =
+pub relation_put : (link : Link) (ns : List Node) (j : ℕ) (w : Walk) (e : Entry) → 4 ≤ j → j ≤ length ns → relation_in (reverse (take j ns)) ≡ Some e → emit_nodes link (emit_member link e w) (reverse (take (j - 4) ns)) ≡ emit_nodes link w (reverse (take j ns))
+relation_put link ns j w e some within is =
     let four = four_put ns j (node.Check Ether) some within in
-    sym (ap (emit_nodes link w) four ∙ relation_walked link w _ _ _ _ (reverse (take (j - 4) ns)) r (ap relation_in (sym four) ∙ is))
+    sym (ap (emit_nodes link w) four ∙ relation_walked link w _ _ _ _ (reverse (take (j - 4) ns)) e (ap relation_in (sym four) ∙ is))
 
 pub last_both : (link : Link) (ns : List Node) (m : ℕ) (other : Node) (w v : Walk) → m < length ns → relation_in (reverse (take (suc m) ns)) ≡ None → both_last link ns m other w ≡ Some v → emit_nodes link w (reverse (take (suc m) ns)) ≡ emit_nodes link v (reverse (take (m - 1) ns))
 last_both link ns zero other w v within none e = cc

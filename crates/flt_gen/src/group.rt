@@ -271,31 +271,19 @@ impl<A: Allocator> Group<A> {
             ≡ (if taken then Some self.new else None)) }
         ensures same { IfOk result (λ taken. self.new ≡ (if taken then self.new else self.old)) }
     {
-        match entry {
-            Entry::Value(qualifiers, value) => self.add_value(qualifiers, value),
+        let (qualifiers, value) = match entry {
+            Entry::Value(qualifiers, value) => (qualifiers, value),
             Entry::Relation(relation) => {
-                self.add_case(NO_QUALIFIERS, entry, Case::Relation(relation))
+                return self.add_case(NO_QUALIFIERS, entry, Case::Relation(relation));
             }
-        }
-    }
-
-    /// Adds a value, as `add` does.
-    fn add_value(
-        &mut self,
-        qualifiers: CompleteQualifiers,
-        value: Value,
-    ) -> Result<bool, AllocError>
-        ensures taken { IfOk result (λ taken. larger_group (Entry.Value qualifiers value) self.old
-            ≡ (if taken then Some self.new else None)) }
-        ensures same { IfOk result (λ taken. self.new ≡ (if taken then self.new else self.old)) }
-    {
+        };
         if let Some(case) = case_of(qualifiers, value) {
-            return self.add_case(qualifiers, Entry::Value(qualifiers, value), case);
+            return self.add_case(qualifiers, entry, case);
         }
         match member_of(qualifiers.value_type, value) {
             Some(new) if self.goes_with(qualifiers) => {
                 put_among(&mut self.all, new)?;
-                self.entries.push(Entry::Value(qualifiers, value))?;
+                self.entries.push(entry)?;
                 self.qualifiers = qualifiers;
                 self.is_plain = new.low == new.high && self.is_plain;
                 self.first = new;

@@ -7,6 +7,7 @@ ghost use Rattle.flt_gen.specs.inside.{Relations.relation_row, Emits.EmitsFormul
 
 use crate::code::{Code, Targets};
 use crate::elementary::{Elementary, compares_at};
+use crate::group::Entry;
 use crate::number::{accessor_offset, emit_protocol_tests, width_of};
 use cap_octet::Link;
 use flt_ast::Node;
@@ -24,31 +25,31 @@ pub struct Relation {
 }
 
 /// The relation of which these are the nodes, the last one first; `None` for others.
-fn relation_at(last: &Node, number: &Node, load: &Node, index: &Node) -> Option<Relation>
+fn relation_at(last: &Node, number: &Node, load: &Node, index: &Node) -> Option<Entry>
     ensures { result ≡ relation_at last.now number.now load.now index.now }
 {
     let Node::Compare(Comparison::Equal) = last else {
         return None;
     };
-    let (Node::Literal(number) | Node::Named(number)) = number else {
+    let Node::Literal(number) = number else {
         return None;
     };
     let Node::Load(protocol, size) = load else {
         return None;
     };
-    let (Node::Literal(index) | Node::Named(index)) = index else {
+    let Node::Literal(index) = index else {
         return None;
     };
-    Some(Relation {
+    Some(Entry::Relation(Relation {
         protocol: *protocol,
         size: *size,
         index: *index,
         number: *number,
-    })
+    }))
 }
 
 /// The relation of which the last four nodes are, if there is one.
-pub fn last_relation(nodes: &[Node]) -> Option<Relation>
+pub fn last_relation(nodes: &[Node]) -> Option<Entry>
     ensures is { result ≡ relation_in (reverse nodes.now) }
     ensures four { IfSome result (λ r. 4 ≤ length nodes.now) }
 {

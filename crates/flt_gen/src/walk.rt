@@ -119,7 +119,7 @@ impl<A: Allocator + Clone> Walk<A> {
         // The label names the loop in its proof.
         'nodes: while left > 0 {
             if let Some(relation) = last_relation(&nodes[..left]) {
-                self.emit_entry(link, Entry::Relation(relation))?;
+                self.emit_entry(link, relation)?;
                 left -= 4;
                 continue;
             }
@@ -143,14 +143,12 @@ impl<A: Allocator + Clone> Walk<A> {
         ensures same { IfOk result (λ fits. self.new ≡ (if fits then self.new else self.old)) }
     {
         match (node, right) {
-            (Node::Apply(operator), Node::Literal(n) | Node::Named(n)) => {
-                self.emit_operator_with(*operator, *n)
-            }
-            (Node::Compare(comparison), Node::Literal(n) | Node::Named(n)) => {
+            (Node::Apply(operator), Node::Literal(n)) => { self.emit_operator_with(*operator, *n) }
+            (Node::Compare(comparison), Node::Literal(n)) => {
                 self.emit_comparison_with(link, *comparison, *n)?;
                 Ok(true)
             }
-            (Node::Load(protocol, size), Node::Literal(n) | Node::Named(n)) => {
+            (Node::Load(protocol, size), Node::Literal(n)) => {
                 self.emit_load_at(link, *protocol, *size, *n)?;
                 Ok(true)
             }

@@ -271,14 +271,10 @@ or_any f g (e ∷ es) = Either f g
 abbrev pub or_group : Link → Formula → Group → Formula
 or_group link f group = or_any f (group_formula link group) group.entries
 
--- a relation as an entry, if there is one
-abbrev pub relation_entry : Option Relation → Option Entry
-relation_entry r = with r (λ s. Some (Entry.Relation s))
-
 -- a truth as an entry, or none if it can be none
 abbrev pub entry_of : TruthTree → Option Entry
 entry_of (qualified q v) = Some (entry q v)
-entry_of (compared c l r) = relation_entry (relation_of c l r)
+entry_of (compared c l r) = relation_of c l r
 entry_of _ = None
 
 -- the group with a truth as one more member, or none
@@ -290,15 +286,11 @@ abbrev pub choice : Option Group → (Group → Formula) → Formula → Formula
 choice None f g = g
 choice (Some group) f g = f group
 
--- an entry, or else one of the group after it
-abbrev pub member_formula : Link → Entry → Group → Formula
-member_formula link e group =
+-- an entry, or else one of the group after it; the same of a formula, if there is no entry
+abbrev pub leaf_formula : Link → Option Entry → Formula → Group → Formula
+leaf_formula link None f group = or_group link f group
+leaf_formula link (Some e) f group =
     choice (larger_group e group) (group_formula link) (or_group link (entry_formula link e) group)
-
--- a comparison, or else one of the group after it
-abbrev pub compared_formula : Link → Option Entry → Formula → Group → Formula
-compared_formula link None f group = or_group link f group
-compared_formula link (Some e) f group = member_formula link e group
 
 -- a truth in front of relations that it can't join, if it may begin a group of its own
 abbrev pub leaves : TruthTree → Group → Bool
@@ -325,7 +317,8 @@ grouped_formula link group (joined And a b) =
 grouped_formula link group (denied a) =
     or_group link (Except (grouped_formula link no_group a)) group
 grouped_formula link group (qualified q v) =
-    apart link (leaves (qualified q v) group) group (member_formula link (entry q v))
+    apart link (leaves (qualified q v) group) group
+    (leaf_formula link (Some (entry q v)) (qualified_needed link q v))
 grouped_formula link group (compared c l r) =
-    compared_formula link (entry_of (compared c l r)) (relation_formula link c l r) group
+    leaf_formula link (relation_of c l r) (relation_formula link c l r) group
 grouped_formula link group a = or_group link (formula link a) group

@@ -1,37 +1,32 @@
 -- Comparisons of an accessor with a constant by `=`, which may be members of a list.
 use Rattle.std.specs.Prelude.{ℕ, List, ◌∷◌, Option, Some, None}
 use Rattle.flt_words.specs.declared.token.{Comparison.Comparison, Comparison.TheVariants.Equal, Protocol.Protocol}
-use Rattle.flt_ast.specs.Tree.{NumberTree, literal, named, load}
+use Rattle.flt_ast.specs.Tree.{NumberTree, literal, load}
 use Rattle.flt_ast.specs.declared.node.Node.{Node}
 use Rattle.cap_octet.specs.declared.link.Link.{Link}
 use Rattle.flt_gen.specs.Elementary.{compares_at}
 use Rattle.flt_gen.specs.Formula.{Formula, Single, guarded_formula}
 use Rattle.flt_gen.specs.Numbers.{accessor_tests, width_of}
-use Rattle.flt_gen.specs.declared.{elementary.Elementary.Elementary, relation.Relation.Relation}
+use Rattle.flt_gen.specs.declared.{elementary.Elementary.Elementary, group.Entry.Entry, relation.Relation.Relation}
 use Rattle.flt_gen.specs.inside.Code.{accessor_offset}
 
 -- the accessor with this protocol, size and index is a number
-abbrev pub relation : Protocol → ℕ → ℕ → ℕ → Relation
-relation p s i k = record { protocol = p; size = s; index = i; number = k }
+abbrev pub relation : Protocol → ℕ → ℕ → ℕ → Entry
+relation p s i k = Entry.Relation (record { protocol = p; size = s; index = i; number = k })
 
 -- the relation that a comparison of trees is, if it is one
-abbrev pub relation_of : Comparison → NumberTree → NumberTree → Option Relation
+abbrev pub relation_of : Comparison → NumberTree → NumberTree → Option Entry
 relation_of Equal (load p s (literal i)) (literal k) = Some (relation p s i k)
-relation_of Equal (load p s (literal i)) (named k) = Some (relation p s i k)
-relation_of Equal (load p s (named i)) (literal k) = Some (relation p s i k)
-relation_of Equal (load p s (named i)) (named k) = Some (relation p s i k)
 relation_of _ _ _ = None
 
 -- the same by its nodes, the last one first
-abbrev pub relation_at : Node → Node → Node → Node → Option Relation
-relation_at (Node.Compare Equal) (Node.Literal k) (Node.Load p s) (Node.Literal i) = Some (relation p s i k)
-relation_at (Node.Compare Equal) (Node.Literal k) (Node.Load p s) (Node.Named i) = Some (relation p s i k)
-relation_at (Node.Compare Equal) (Node.Named k) (Node.Load p s) (Node.Literal i) = Some (relation p s i k)
-relation_at (Node.Compare Equal) (Node.Named k) (Node.Load p s) (Node.Named i) = Some (relation p s i k)
+abbrev pub relation_at : Node → Node → Node → Node → Option Entry
+relation_at (Node.Compare Equal) (Node.Literal k) (Node.Load p s) (Node.Literal i) =
+    Some (relation p s i k)
 relation_at _ _ _ _ = None
 
 -- the relation of which the first four nodes are, if there is one
-abbrev pub relation_in : List Node → Option Relation
+abbrev pub relation_in : List Node → Option Entry
 relation_in (a ∷ b ∷ c ∷ d ∷ ns) = relation_at a b c d
 relation_in _ = None
 

@@ -203,13 +203,9 @@ emit_load_at link protocol size k w =
 -- none if the nodes are others, or the instruction may not have this constant
 abbrev pub emit_both_nodes : Link → Walk → Node → Node → Option Walk
 emit_both_nodes link w (Node.Apply operator) (Node.Literal k) = emit_operator_with operator k w
-emit_both_nodes link w (Node.Apply operator) (Node.Named k) = emit_operator_with operator k w
 emit_both_nodes link w (Node.Compare comparison) (Node.Literal k) =
     emit_comparison_with comparison k (flush_group link w)
-emit_both_nodes link w (Node.Compare comparison) (Node.Named k) =
-    emit_comparison_with comparison k (flush_group link w)
 emit_both_nodes link w (Node.Load p s) (Node.Literal k) = Some (emit_load_at link p s k w)
-emit_both_nodes link w (Node.Load p s) (Node.Named k) = Some (emit_load_at link p s k w)
 emit_both_nodes link w _ _ = None
 
 -- a node of arithmetic
@@ -255,25 +251,13 @@ emit_pair link w n right =
 abbrev pub emit_nodes : Link → Walk → List Node → Walk
 emit_nodes link w [] = w
 emit_nodes link w (Node.Compare Equal ∷ Node.Literal k ∷ Node.Load p s ∷ Node.Literal i ∷ ns) =
-    emit_nodes link (emit_member link (Entry.Relation (relation p s i k)) w) ns
-emit_nodes link w (Node.Compare Equal ∷ Node.Literal k ∷ Node.Load p s ∷ Node.Named i ∷ ns) =
-    emit_nodes link (emit_member link (Entry.Relation (relation p s i k)) w) ns
-emit_nodes link w (Node.Compare Equal ∷ Node.Named k ∷ Node.Load p s ∷ Node.Literal i ∷ ns) =
-    emit_nodes link (emit_member link (Entry.Relation (relation p s i k)) w) ns
-emit_nodes link w (Node.Compare Equal ∷ Node.Named k ∷ Node.Load p s ∷ Node.Named i ∷ ns) =
-    emit_nodes link (emit_member link (Entry.Relation (relation p s i k)) w) ns
+    emit_nodes link (emit_member link (relation p s i k) w) ns
 emit_nodes link w (Node.Apply o ∷ Node.Literal k ∷ ns) =
     emit_nodes link (emit_pair link w (Node.Apply o) (Node.Literal k)) ns
-emit_nodes link w (Node.Apply o ∷ Node.Named k ∷ ns) =
-    emit_nodes link (emit_pair link w (Node.Apply o) (Node.Named k)) ns
 emit_nodes link w (Node.Compare c ∷ Node.Literal k ∷ ns) =
     emit_nodes link (emit_pair link w (Node.Compare c) (Node.Literal k)) ns
-emit_nodes link w (Node.Compare c ∷ Node.Named k ∷ ns) =
-    emit_nodes link (emit_pair link w (Node.Compare c) (Node.Named k)) ns
 emit_nodes link w (Node.Load p s ∷ Node.Literal k ∷ ns) =
     emit_nodes link (emit_pair link w (Node.Load p s) (Node.Literal k)) ns
-emit_nodes link w (Node.Load p s ∷ Node.Named k ∷ ns) =
-    emit_nodes link (emit_pair link w (Node.Load p s) (Node.Named k)) ns
 emit_nodes link w (n ∷ ns) = emit_nodes link (emit_node link w n) ns
 
 -- the instructions from the beginning of the program
