@@ -6,14 +6,14 @@ use Rattle.flt_gen.proofs.Counted.{Sized, Bare, bare_within, bare_some, bare_bot
 use Rattle.flt_gen.proofs.Deciding.{fields_of, some_fields, some_front, shapes_of, rows, read_all, sizes, decision_good, Likes, likes_put, sizes_put, length_put, read_put, alike, alike_alike, self_alike}
 use Rattle.flt_gen.proofs.{Exclusive.or_no, Exclusive.both_either, Exclusive.either_assoc, IdleBits.uncut}
 use Rattle.flt_gen.proofs.{Needed.bare_needed, Needed.value_same, Once.relation_sizes, Once.relation_same, Once.all_read, Once.guarded_read}
-use Rattle.flt_gen.proofs.Relations.{entry_tests, entry_bare, IsEntry, entry_is, entry_sizes}
+use Rattle.flt_gen.proofs.Relations.{entry_tests, entry_bare, IsEntry, entry_is}
 use Rattle.flt_gen.proofs.Prefixes.{Idle, idle_sought, cut_in, cut_within, cut_order, cut_apart}
 use Rattle.flt_gen.proofs.Together.{Fitting, fitting_small, unmasked_fitting, address_fitting, Merged, members_read, members_more, members_alone, member_reads, IsMember, member_tests, several_are, member_is}
 use Rattle.std.specs.Prelude.{◌⊎◌, count_by}
 use Rattle.flt_words.specs.declared.token.Protocol.TheVariants as protocol
 use Rattle.flt_gen.specs.declared.{address.Hosts.Hosts, cases.Case.Case}
 use Rattle.flt_gen.specs.inside.Cases.{case_of, same_words, key_of, case_front, case_tests, MOST_DECISIONS}
-use Rattle.flt_gen.specs.inside.Group.{no_qualifiers, with_case, has_none, shares_words, case_goes_with, larger_with, together_formula, entry_formula, entry_of, leaf_formula, leaves, apart, either_formula, FEWEST_CASES}
+use Rattle.flt_gen.specs.inside.Group.{with_case, has_none, shares_words, case_goes_with, larger_with, together_formula, entry_formula, entry_of, leaf_formula, leaves, apart, either_formula, FEWEST_CASES}
 use Rattle.std.proofs.lemmas.List.{length-map}
 use Rattle.cap_octet.specs.declared.link.Link.TheVariants as link
 use Rattle.cap_octet.specs.declared.link.Link.TheVariants.{Ether}
@@ -470,8 +470,8 @@ module _ (link : Link) (group more : Group) (k : Kept group) where
   taken : (e : Entry) → larger_group e group ≡ Some more → Taken link e group more
   taken (Entry.Value q v) some = by_case q v (case_of q.value_type q.protocol q.direction v) refl some
   taken (Entry.Relation r) some =
-      by_test (Entry.Relation r) (with_case no_qualifiers (Entry.Relation r) (Case.Relation r) group) (case_goes_with (Case.Relation r) no_qualifiers.direction group group.entries)
-      (λ g. kept_with_case no_qualifiers (Entry.Relation r) (Case.Relation r) group k g (λ l. (fronts_few l r.protocol, λ p n. refl))) refl some
+      by_test (Entry.Relation r) (with_case no_group.qualifiers (Entry.Relation r) (Case.Relation r) group) (case_goes_with (Case.Relation r) no_group.qualifiers.direction group group.entries)
+      (λ g. kept_with_case no_group.qualifiers (Entry.Relation r) (Case.Relation r) group k g (λ l. (fronts_few l r.protocol, λ p n. refl))) refl some
 
 sized_sizes : (s : Size) (n : ℕ) → Sized (sized_formula s n) 2 1 1
 sized_sizes Size.Less n = record { nodes_fit = omega arith; words_fit = omega arith; searches = tt; tests_fit = omega arith }
@@ -483,7 +483,9 @@ leaf_stands link a f group k sizes same None is = or_stands link f a group k siz
 leaf_stands link a f group k sizes same (Some e) is = by (larger_group e group) refl
   where
     by : (o : Option Group) → larger_group e group ≡ o → Stands link (choice o (group_formula link) (or_group link (entry_formula link e) group)) a group
-    by None none = or_stands link (entry_formula link e) a group k (entry_sizes link a e is) is.same
+    by None none =
+        let b = entry_bare link e in
+        or_stands link (entry_formula link e) a group k (record { nodes_fit = omega (arith, b.nodes_fit); words_fit = omega (arith, b.words_fit); searches = b.searches; tests_fit = omega (arith, b.tests_fit, is.few) }) is.same
     by (Some more) some =
         let t = taken link group more k e some in
         let b = group_bare link more t.kept t.some in

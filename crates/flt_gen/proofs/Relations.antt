@@ -50,8 +50,3 @@ entry_is link (compared Equal (load q s (literal i)) (literal k)) =
     }
 entry_is link (compared _ _ _) = tt
 entry_is link _ = tt
-
-pub entry_sizes : (link : Link) (a : TruthTree) (e : Entry) → IsEntry link a e → Sized (entry_formula link e) (truth_size a) (truth_words a) (truth_tests a)
-entry_sizes link a e is =
-    let h = entry_bare link e in
-    record { nodes_fit = omega (arith, h.nodes_fit); words_fit = omega (arith, h.words_fit); searches = h.searches; tests_fit = omega (arith, h.tests_fit, is.few) }

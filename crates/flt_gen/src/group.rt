@@ -11,7 +11,7 @@ ghost use Rattle.flt_gen.specs.inside.Group.{rows_formula, several_formula, is_a
 ghost use Rattle.flt_gen.specs.inside.{Cases.case_of, Emits.EmitsFormula};
 ghost use Rattle.flt_gen.specs.inside.Intervals.{insert_ascending};
 ghost use Rattle.flt_gen.specs.inside.Group.{has_networks, case_goes_with, with_case};
-ghost use Rattle.flt_gen.specs.inside.Group.{larger_by, no_qualifiers, has_relations};
+ghost use Rattle.flt_gen.specs.inside.Group.{larger_by, has_relations};
 ghost use Rattle.flt_gen.specs.inside.Group.{entry_formula};
 
 use crate::address::Hosts;
@@ -19,8 +19,9 @@ use crate::cases::{Case, case_of, put_case, same_words};
 use crate::code::{Code, Targets};
 use crate::elementary::Interval;
 use crate::intervals::{Numbers, Room};
+use crate::number::emit_protocol_tests;
 use crate::port::{PortTest, Ports};
-use crate::relation::Relation;
+use crate::relation::{Relation, relation_test};
 use crate::stack::Stack;
 use cap_octet::Link;
 use flt_ast::{CompleteQualifiers, Direction, NetMask, Value};
@@ -376,7 +377,10 @@ impl<A: Allocator> Code<A> {
     {
         match entry {
             Entry::Value(qualifiers, value) => self.emit_value(link, qualifiers, value, to),
-            Entry::Relation(relation) => self.emit_relation(link, relation, to),
+            Entry::Relation(relation) => {
+                let yes = self.emit_elementary(relation_test(link, relation), to)?;
+                emit_protocol_tests(self, link, relation.protocol, Targets { yes, no: to.no })
+            }
         }
     }
 }

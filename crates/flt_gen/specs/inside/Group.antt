@@ -14,15 +14,15 @@ use Rattle.flt_ast.specs.declared.qualifiers.Direction.{Direction}
 use Rattle.flt_ast.specs.declared.value.{Ip4Net.Ip4Net, NetMask.NetMask, Value.Value}
 use Rattle.cap_octet.specs.declared.link.Link.{Link}
 use Rattle.flt_gen.specs.Elementary.{with}
-use Rattle.flt_gen.specs.Formula.{Formula, Single, Both, Either, Except, Numbers, no_interval}
+use Rattle.flt_gen.specs.Formula.{Formula, Single, Both, Either, Except, Numbers, no_interval, guarded_formula}
 use Rattle.flt_gen.specs.Primitives.{hosts_formula, port_test, port_formula}
-use Rattle.flt_gen.specs.{Reading.formula, declared.address.Hosts.Hosts, declared.cases.Case.Case}
+use Rattle.flt_gen.specs.{Numbers.accessor_tests, Reading.formula, declared.address.Hosts.Hosts, declared.cases.Case.Case}
 use Rattle.flt_gen.specs.declared.elementary.{Elementary.TheVariants.Outcome, Interval.Interval}
 use Rattle.flt_gen.specs.declared.{group.Entry.Entry, port.Ports.TheVariants.Several, relation.Relation.Relation}
 use Rattle.flt_gen.specs.inside.Cases.{case_of, same_words, insert_case, cases_formula}
 use Rattle.flt_gen.specs.inside.Emitted.{relation_formula, qualified_needed}
 use Rattle.flt_gen.specs.inside.Intervals.{insert_ascending, sought}
-use Rattle.flt_gen.specs.inside.Relations.{relation_of, relation_row}
+use Rattle.flt_gen.specs.inside.Relations.{relation_of, relation_test}
 
 -- the qualifiers of the member that stands first, whether each member is one number, the numbers of
 -- the first and of all, which ascend, or the members as cases, and the members, in the order of the
@@ -35,14 +35,10 @@ pub record Group : Type 0 where
   pub cases : List Case
   pub entries : List Entry
 
--- the qualifiers of a group without members or of relations, which decide nothing
-abbrev pub no_qualifiers : CompleteQualifiers
-no_qualifiers = record { protocol = None; direction = Direction.Both Or; value_type = Host }
-
--- a group without members
+-- a group without members; its qualifiers, which relations have too, decide nothing
 abbrev pub no_group : Group
 no_group = record {
-  qualifiers = no_qualifiers;
+  qualifiers = record { protocol = None; direction = Direction.Both Or; value_type = Host };
   is_plain = true;
   first = no_interval;
   all = [];
@@ -193,7 +189,7 @@ abbrev pub larger_group : Entry → Group → Option Group
 larger_group (Entry.Value q v) group =
     larger_with q v group (case_of q.value_type q.protocol q.direction v)
 larger_group (Entry.Relation r) group =
-    larger_by no_qualifiers (Entry.Relation r) (Case.Relation r) group
+    larger_by no_group.qualifiers (Entry.Relation r) (Case.Relation r) group
 
 -- how many are looked for together at least where not each is one number
 abbrev pub FEWEST_RANGES : ℕ
@@ -242,7 +238,8 @@ several_formula link q _ numbers = Single (Outcome false)
 -- a member by itself
 abbrev pub entry_formula : Link → Entry → Formula
 entry_formula link (Entry.Value q v) = qualified_needed link q v
-entry_formula link (Entry.Relation r) = relation_row link r
+entry_formula link (Entry.Relation r) =
+    guarded_formula (accessor_tests link r.protocol) (Single (relation_test link r))
 
 -- one of the members, by one after the other
 abbrev pub rows_formula : Link → List Entry → Formula

@@ -5,8 +5,7 @@ use Rattle.flt_ast.specs.Tree.{NumberTree, literal, load}
 use Rattle.flt_ast.specs.declared.node.Node.{Node}
 use Rattle.cap_octet.specs.declared.link.Link.{Link}
 use Rattle.flt_gen.specs.Elementary.{compares_at}
-use Rattle.flt_gen.specs.Formula.{Formula, Single, guarded_formula}
-use Rattle.flt_gen.specs.Numbers.{accessor_tests, width_of}
+use Rattle.flt_gen.specs.Numbers.{width_of}
 use Rattle.flt_gen.specs.declared.{elementary.Elementary.Elementary, group.Entry.Entry, relation.Relation.Relation}
 use Rattle.flt_gen.specs.inside.Code.{accessor_offset}
 
@@ -34,7 +33,3 @@ relation_in _ = None
 abbrev pub relation_test : Link → Relation → Elementary
 relation_test link r =
     compares_at (accessor_offset link r.protocol r.index) (width_of r.size) Equal r.number
-
--- a relation by itself, after the tests of its accessor
-abbrev pub relation_row : Link → Relation → Formula
-relation_row link r = guarded_formula (accessor_tests link r.protocol) (Single (relation_test link r))
