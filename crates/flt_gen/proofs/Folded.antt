@@ -1,5 +1,5 @@
 -- An expression with its arithmetic of numbers folded means the same, and counts no more.
-use Rattle.flt_gen.proofs.Common.{◌≡◌, ℕ, ◌+◌, ◌%◌, ◌^◌, ◌≤◌, List, [], ◌∷◌, false, Option, Some, None, refl, sym, ap, ◌∙◌, arith, fold, or_assoc, ◌||◌, Operator, Comparison, Protocol, field, Node, NumberTree, literal, named, load, negated, applied, TruthTree, compared, denied, joined, Expression, empty, truth, number_size, number_words, number_tests, truth_size, truth_words, truth_tests, bound_of, words_of, number_nodes, truth_nodes, expr_nodes, number_onto, truth_onto, expr_onto, is_unfilled, any_primitive, some_primitive, Link, MatchResult, Yes, with, reading_of, compares, elementary_reads, width_of, base, number, result_of, accessors, accessor_tests, Formula, Compare, both, either, negation, reads, relation_reads, guarded_formula, checked_formula, Elementary, constant, formula, holds, short_bound_of, negated_constant, applied_constant, number_or, negated_number, applied_number, folded_number, and_denied, joined_truth, folded_truth, folded_expression, node_or, with_negation, with_operator, Held, with_held, with_folded}
+use Rattle.flt_gen.proofs.Common.{◌≡◌, ℕ, ◌+◌, ◌%◌, ◌^◌, ◌≤◌, List, [], ◌∷◌, false, Option, Some, None, refl, sym, ap, ◌∙◌, arith, fold, or_assoc, ◌||◌, Operator, Comparison, Protocol, field, Node, NumberTree, literal, load, negated, applied, TruthTree, compared, denied, joined, Expression, empty, truth, number_size, number_words, number_tests, truth_size, truth_words, truth_tests, bound_of, words_of, number_nodes, truth_nodes, expr_nodes, number_onto, truth_onto, expr_onto, is_unfilled, any_primitive, some_primitive, Link, MatchResult, Yes, with, reading_of, compares, elementary_reads, width_of, base, number, result_of, accessors, accessor_tests, Formula, Compare, both, either, negation, reads, relation_reads, guarded_formula, checked_formula, Elementary, constant, formula, holds, short_bound_of, negated_constant, applied_constant, number_or, negated_number, applied_number, folded_number, and_denied, joined_truth, folded_truth, folded_expression, node_or, with_negation, with_operator, Held, with_held, with_folded}
 use Rattle.flt_gen.proofs.{Held.held_truth, Held.none_held, Held.back_truth, Numbers.constant_is, Once.both_again}
 use Rattle.flt_words.specs.declared.token.Join.{Join}
 use Rattle.flt_ast.specs.declared.node.Node.TheVariants as node

@@ -1,7 +1,7 @@
 -- An entry reads as the value or comparison that it is, and has no more tests.
 use Rattle.flt_gen.proofs.Ascending.{Each}
-use Rattle.flt_gen.proofs.Common.{◌≡◌, ℕ, ◌+◌, ◌%◌, ◌^◌, ◌≤◌, ◌==◌, List, Option, Some, None, refl, sym, ap, ◌∙◌, arith, Equal, Protocol, Tcp, Udp, Icmp, Ether, literal, load, TruthTree, qualified, compared, accessor_test_count, truth_size, truth_words, truth_tests, Link, network_offset, Width, field, field_at, base, accessor_offset, accessor_tests, width_of, reading_of, with, Single, Compare, both, reads, formula, Entry}
-use Rattle.flt_gen.proofs.Counted.{Sized, Bare, bare_within, bare_one}
+use Rattle.flt_gen.proofs.Common.{◌≡◌, ℕ, ◌+◌, ◌%◌, ◌^◌, ◌≤◌, ◌==◌, List, Option, Some, None, refl, sym, ap, ◌∙◌, arith, Equal, Protocol, Tcp, Udp, Icmp, Ether, literal, load, TruthTree, qualified, compared, accessor_test_count, truth_tests, Link, network_offset, Width, field, field_at, base, accessor_offset, accessor_tests, width_of, reading_of, with, Single, Compare, both, reads, formula, Entry}
+use Rattle.flt_gen.proofs.Counted.{Bare, bare_within, bare_one}
 use Rattle.flt_gen.proofs.Needed.{bare_needed, value_same}
 use Rattle.flt_gen.proofs.Once.{guarded_sizes, accessor_tests_are, all_read, guarded_read}
 use Rattle.flt_ast.specs.Counts.{value_tests}

@@ -1,7 +1,7 @@
 -- The walk over the nodes of an expression makes its program.
 use Rattle.flt_gen.proofs.Common.{◌≡◌, ℕ, ◌-◌, List, [], ◌∷◌, length, drop, take, get_or, zero, suc, ◌<◌, ◌≤◌, Option, Some, None, Entry, Equal, Ether, refl, sym, ap, ◌∙◌, arith, reverse, take-suc, reverse-append, Node, Expression, expr_onto, Link, expression_code, program_code, Walk, emit_node, emit_both_nodes, or_walk, emit_nodes, start_walk, insns_of}
 use Rattle.flt_gen.proofs.Walking.{expression_walked}
-use Rattle.flt_gen.specs.inside.{Relations.relation, Relations.relation_at, Relations.relation_in, Walk.emit_member}
+use Rattle.flt_gen.specs.inside.{Relations.relation, Relations.relation_in, Walk.emit_member}
 use Rattle.flt_ast.specs.declared.node.Node.TheVariants as node
 
 -- by the nodes of the tree turned round
@@ -29,7 +29,7 @@ none_walked : (link : Link) (u : Walk) (o : Option Walk) (ns : List Node) → o 
 none_walked link u o ns e = ap (λ x. emit_nodes link (or_walk x u) ns) e
 
 -- a relation is put at once
-relation_walked : (link : Link) (w : Walk) (a b c d : Node) (ns : List Node) (e : Entry) → relation_at a b c d ≡ Some e → emit_nodes link w (a ∷ b ∷ c ∷ d ∷ ns) ≡ emit_nodes link (emit_member link e w) ns
+relation_walked : (link : Link) (w : Walk) (a b c d : Node) (ns : List Node) (e : Entry) → relation_in (a ∷ b ∷ c ∷ d ∷ ns) ≡ Some e → emit_nodes link w (a ∷ b ∷ c ∷ d ∷ ns) ≡ emit_nodes link (emit_member link e w) ns
 relation_walked link w (node.Compare Equal) (node.Literal k) (node.Load p s) (node.Literal i) ns e is = (let same : relation p s i k ≡ e = cc in ap (λ x. emit_nodes link (emit_member link x w) ns) same)
 relation_walked link w _ _ _ _ ns e is = cc
 

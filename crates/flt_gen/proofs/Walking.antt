@@ -1,5 +1,5 @@
 -- The walk over the nodes of a tree, the last first, puts the code of the tree's formula in front.
-use Rattle.flt_gen.proofs.Common.{◌+◌, if◌then◌else◌, ◌≡◌, ℕ, List, [], ◌∷◌, Bool, true, false, Option, Some, None, with, Equal, refl, sym, ap, ◌∙◌, Insn, And, Or, Comparison, CompleteQualifiers, Value, Node, Apply, Literal, Not, Constant, IndexRegister, Operator, formula, Group, no_group, larger_group, entry, choice, or_any, or_group, group_formula, grouped_formula, NumberTree, literal, len, named, load, negated, applied, TruthTree, qualified, compared, denied, joined, Expression, empty, truth, number_onto, truth_onto, expr_onto, Link, Entry, protocols_of, relation_formula, qualified_needed, accessor_tests, Protocol, plain, computation, takes_constant, emit_comparison, emit_operands, emit_right, emit_number, Block, emit_formula, emit_all, emit_accessor_tests, expression_code, Walk, targets, finish_truth, finish_number, with_insns, finish_formula, flush_members, flush_group, emit_truth_node, emit_node, or_walk, start_walk, emit_nodes}
+use Rattle.flt_gen.proofs.Common.{◌+◌, if◌then◌else◌, ◌≡◌, ℕ, List, [], ◌∷◌, Bool, true, false, Option, Some, None, with, Equal, refl, sym, ap, ◌∙◌, Insn, And, Or, Comparison, Node, Apply, Literal, Not, Constant, IndexRegister, Operator, formula, Group, no_group, larger_group, entry, choice, or_any, or_group, group_formula, grouped_formula, NumberTree, literal, len, named, load, negated, applied, TruthTree, qualified, compared, denied, joined, Expression, empty, truth, number_onto, truth_onto, expr_onto, Link, Entry, protocols_of, relation_formula, qualified_needed, accessor_tests, Protocol, plain, computation, takes_constant, emit_comparison, emit_operands, emit_right, emit_number, Block, emit_formula, emit_all, emit_accessor_tests, expression_code, Walk, targets, finish_truth, finish_number, with_insns, finish_formula, flush_members, flush_group, emit_truth_node, emit_node, or_walk, start_walk, emit_nodes}
 use Rattle.flt_ast.specs.declared.node.Node.TheVariants.{Compare}
 use Rattle.flt_gen.specs.Formula.{Formula, Both, Either, Except, Compare as compare, checked_formula}
 use Rattle.flt_gen.proofs.Decision.{guarded_emitted}

@@ -2,7 +2,7 @@
 //! of a list. The walk emits all others itself.
 
 ghost use Rattle.std.specs.Prelude.{◌≡◌, ◌≤◌, length, reverse, IfSome};
-ghost use Rattle.flt_gen.specs.inside.Relations.{relation_at, relation_in, relation_test};
+ghost use Rattle.flt_gen.specs.inside.Relations.{relation_in, relation_test};
 
 use crate::elementary::{Elementary, compares_at};
 use crate::group::Entry;
@@ -21,11 +21,21 @@ pub struct Relation {
     pub number: u32,
 }
 
-/// The relation of which these are the nodes, the last one first; `None` for others.
-fn relation_at(last: Node, number: Node, load: Node, index: Node) -> Option<Entry>
-    ensures { result ≡ relation_at last number load index }
+/// The relation of which the last four nodes are, if there is one.
+pub fn last_relation(nodes: &[Node]) -> Option<Entry>
+    ensures is { result ≡ relation_in (reverse nodes.now) }
+    ensures four { IfSome result (λ r. 4 ≤ length nodes.now) }
 {
-    match (last, number, load, index) {
+    let end = nodes.len();
+    if end < 4 {
+        return None;
+    }
+    match (
+        nodes[end - 1],
+        nodes[end - 2],
+        nodes[end - 3],
+        nodes[end - 4],
+    ) {
         (
             Node::Compare(Comparison::Equal),
             Node::Literal(number),
@@ -39,23 +49,6 @@ fn relation_at(last: Node, number: Node, load: Node, index: Node) -> Option<Entr
         })),
         _ => None,
     }
-}
-
-/// The relation of which the last four nodes are, if there is one.
-pub fn last_relation(nodes: &[Node]) -> Option<Entry>
-    ensures is { result ≡ relation_in (reverse nodes.now) }
-    ensures four { IfSome result (λ r. 4 ≤ length nodes.now) }
-{
-    let end = nodes.len();
-    if end < 4 {
-        return None;
-    }
-    relation_at(
-        nodes[end - 1],
-        nodes[end - 2],
-        nodes[end - 3],
-        nodes[end - 4],
-    )
 }
 
 /// The test of a relation's field.

@@ -18,7 +18,7 @@ use Rattle.flt_gen.specs.Formula.{Formula, Single, Both, Either, Except, Numbers
 use Rattle.flt_gen.specs.Primitives.{hosts_formula, port_test, port_formula}
 use Rattle.flt_gen.specs.{Numbers.accessor_tests, Reading.formula, declared.address.Hosts.Hosts, declared.cases.Case.Case}
 use Rattle.flt_gen.specs.declared.elementary.{Elementary.TheVariants.Outcome, Interval.Interval}
-use Rattle.flt_gen.specs.declared.{group.Entry.Entry, port.Ports.TheVariants.Several, relation.Relation.Relation}
+use Rattle.flt_gen.specs.declared.{group.Entry.Entry, port.Ports.TheVariants.Several}
 use Rattle.flt_gen.specs.inside.Cases.{case_of, same_words, insert_case, cases_formula}
 use Rattle.flt_gen.specs.inside.Emitted.{relation_formula, qualified_needed}
 use Rattle.flt_gen.specs.inside.Intervals.{insert_ascending, sought}

@@ -18,15 +18,10 @@ abbrev pub relation_of : Comparison → NumberTree → NumberTree → Option Ent
 relation_of Equal (load p s (literal i)) (literal k) = Some (relation p s i k)
 relation_of _ _ _ = None
 
--- the same by its nodes, the last one first
-abbrev pub relation_at : Node → Node → Node → Node → Option Entry
-relation_at (Node.Compare Equal) (Node.Literal k) (Node.Load p s) (Node.Literal i) =
-    Some (relation p s i k)
-relation_at _ _ _ _ = None
-
--- the relation of which the first four nodes are, if there is one
+-- the relation of which the first four nodes are, the last one of a tree first, if there is one
 abbrev pub relation_in : List Node → Option Entry
-relation_in (a ∷ b ∷ c ∷ d ∷ ns) = relation_at a b c d
+relation_in (Node.Compare Equal ∷ Node.Literal k ∷ Node.Load p s ∷ Node.Literal i ∷ ns) =
+    Some (relation p s i k)
 relation_in _ = None
 
 -- the test of a relation's field

@@ -3,7 +3,7 @@ use Rattle.std.specs.Prelude.{nat_eq}
 use Rattle.std.proofs.Common.{rules}
 use Rattle.flt_gen.specs.declared.cases.Case.{Case}
 use Rattle.flt_gen.specs.inside.{Cases.cases_formula, Emits.EmitsFormula, Group.has_networks, Group.together_formula}
-use Rattle.flt_gen.proofs.Common.{arith, eqb-true, ◌≡◌, List, length, ◌∷◌, [], ◌∙◌, true, false, refl, sym, ap, ap₂, subst, if◌then◌else◌, Link, Formula, Group, is_searched, numbers_of, several_formula, rows_formula, group_formula, sought}
+use Rattle.flt_gen.proofs.Common.{arith, eqb-true, ◌≡◌, List, length, ◌∷◌, [], ◌∙◌, true, false, refl, sym, ap, ap₂, subst, if◌then◌else◌, Link, Formula, Group, is_searched, several_formula, rows_formula, group_formula, sought}
 use Rattle.flt_gen.proofs.group.Group.emit.Goals as goal
 
 together_is : (link : Link) (group : Group) (cs : List Case) → is_searched group ≡ true → group.cases ≡ cs → group_formula link group ≡ together_formula link group cs
