@@ -54,7 +54,7 @@ pub use Rattle.flt_gen.specs.inside.Folding.{negated_constant, applied_constant,
 pub use Rattle.flt_gen.specs.inside.Group.{Group, no_group, entry, interval, with_member, same_type, same_protocol, same_direction, goes_with, net_numbers, member_of, group_and, larger_group, is_searched, is_address, numbers_of, several_formula, rows_formula, group_formula, or_any, or_group, truth_member, choice, grouped_formula, MOST_TOGETHER, FEWEST_RANGES}
 pub use Rattle.flt_gen.specs.inside.Intervals.{insert_ascending, is_gap, extended, joined_from, joined_all, is_aligned, idle_bits, left_out, high_mask, cut, same_interval, without, numbers_by, sought}
 pub use Rattle.flt_gen.specs.inside.ProgramCode.{emit_accessor_tests, expression_code, program_code, returns_code}
-pub use Rattle.flt_gen.specs.inside.Walk.{Walk, finish_formula, emit_node, emit_both_nodes, or_walk, emit_nodes, start_walk, insns_of, targets, finish_truth, finish_number, with_insns, flush_members, flush_group, emit_value, emit_truth_node}
+pub use Rattle.flt_gen.specs.inside.Walk.{Walk, finish_formula, emit_node, emit_both_nodes, or_walk, emit_nodes, start_walk, insns_of, targets, finish_truth, finish_number, with_insns, flush_members, flush_group, emit_truth_node}
 pub use Rattle.flt_words.specs.declared.token.Comparison.{Comparison}
 pub use Rattle.flt_words.specs.declared.token.Comparison.TheVariants.{Equal, NotEqual, Less, AtMost, Greater, AtLeast}
 pub use Rattle.flt_words.specs.declared.token.Join.TheVariants.{And, Or}

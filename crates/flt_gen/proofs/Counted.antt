@@ -9,11 +9,11 @@ use Rattle.flt_ast.specs.Counts as count
 use Rattle.flt_gen.specs.declared.elementary.FrameKind.TheVariants as kind
 use Rattle.flt_gen.specs.declared.{address.Hosts.Hosts, address.NetTest.NetTest, port.PortTest.PortTest}
 
--- a formula with s nodes of arithmetic, w words of memory and at most n tests, in which all numbers
+-- a formula with at most s nodes of arithmetic, w words of memory and n tests, in which all numbers
 -- that are searched ascend
 pub record Sized (f : Formula) (s w n : ℕ) : Type 0 where
-  pub nodes_are : nodes f ≡ s
-  pub words_are : words f ≡ w
+  pub nodes_fit : nodes f ≤ s
+  pub words_fit : words f ≤ w
   pub searches : Searches f
   pub tests_fit : tests f ≤ n
 
@@ -22,30 +22,30 @@ abbrev pub Bare : Formula → ℕ → Type 0
 Bare f n = Sized f 0 0 n
 
 pub bare_within : {f : Formula} {s w m : ℕ} (n : ℕ) → m ≤ n → Sized f s w m → Sized f s w n
-bare_within n l h = record { nodes_are = h.nodes_are; words_are = h.words_are; searches = h.searches; tests_fit = omega arith }
+bare_within n l h = record { nodes_fit = h.nodes_fit; words_fit = h.words_fit; searches = h.searches; tests_fit = omega arith }
 
 pub bare_one : (t : Elementary) → Bare (Single t) 1
-bare_one t = record { nodes_are = refl; words_are = refl; searches = tt; tests_fit = omega arith }
+bare_one t = record { nodes_fit = omega arith; words_fit = omega arith; searches = tt; tests_fit = omega arith }
 
 -- a test of which there may be more
 pub bare_some : {t : Elementary} (n : ℕ) → 1 ≤ n → Bare (Single t) n
 bare_some {t = t} n l = bare_within n l (bare_one t)
 
 pub bare_both : {a b : Formula} {s w m r v n : ℕ} → Sized a s w m → Sized b r v n → Sized (Both a b) (s + r) (max w v) (m + n)
-bare_both h k = record { nodes_are = omega arith; words_are = omega arith; searches = (h.searches, k.searches); tests_fit = omega arith }
+bare_both h k = record { nodes_fit = omega arith; words_fit = omega arith; searches = (h.searches, k.searches); tests_fit = omega arith }
 
 pub bare_either : {a b : Formula} {s w m r v n : ℕ} → Sized a s w m → Sized b r v n → Sized (Either a b) (s + r) (max w v) (m + n)
-bare_either h k = let b = bare_both h k in record { nodes_are = b.nodes_are; words_are = b.words_are; searches = b.searches; tests_fit = b.tests_fit }
+bare_either h k = let b = bare_both h k in record { nodes_fit = b.nodes_fit; words_fit = b.words_fit; searches = b.searches; tests_fit = b.tests_fit }
 
 -- one without comparisons after another
 pub bare_else : {a b : Formula} {s w m n : ℕ} → Sized a s w m → Bare b n → Sized (Either a b) s w (m + n)
-bare_else h k = record { nodes_are = omega arith; words_are = omega arith; searches = (h.searches, k.searches); tests_fit = omega arith }
+bare_else h k = record { nodes_fit = omega arith; words_fit = omega arith; searches = (h.searches, k.searches); tests_fit = omega arith }
 
 pub bare_split : {t : Elementary} {a b : Formula} {m n : ℕ} → Bare a m → Bare b n → Bare (Split t a b) (1 + (m + n))
-bare_split h k = record { nodes_are = omega arith; words_are = omega arith; searches = (h.searches, k.searches); tests_fit = omega arith }
+bare_split h k = record { nodes_fit = omega arith; words_fit = omega arith; searches = (h.searches, k.searches); tests_fit = omega arith }
 
 pub bare_after : {t : Elementary} {a : Formula} {s w n : ℕ} → Sized a s w n → Sized (after t a) s w (1 + n)
-bare_after h = record { nodes_are = omega arith; words_are = omega arith; searches = (tt, h.searches); tests_fit = omega arith }
+bare_after h = record { nodes_fit = omega arith; words_fit = omega arith; searches = (tt, h.searches); tests_fit = omega arith }
 
 bare_pair : {t u : Elementary} → Bare (Both (Single t) (Single u)) 2
 bare_pair {t = t} {u = u} = bare_after (bare_one u)
@@ -63,7 +63,7 @@ bare_sides (direction.Both And) s t n l m some = bare_both (bare_all s n l some)
 
 -- numbers that are looked for
 pub bare_sought : (d : Direction) (at : Sides) (numbers : Numbers) → Ready at numbers → Bare (Sought d at numbers) (sought_tests d numbers)
-bare_sought d at numbers r = record { nodes_are = refl; words_are = refl; searches = r; tests_fit = omega arith }
+bare_sought d at numbers r = record { nodes_fit = omega arith; words_fit = omega arith; searches = r; tests_fit = omega arith }
 
 -- protocols and Ethernet addresses
 bare_proto : (link : Link) (n : ℕ) → Bare (any_proto link n) 4

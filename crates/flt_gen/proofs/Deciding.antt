@@ -1,17 +1,20 @@
 -- Decision trees of cases: they read as one case after the other, and have few tests.
 use Rattle.flt_gen.proofs.Ascending.{if_case, each_is}
-use Rattle.flt_gen.proofs.Common.{◌≡◌, ℕ, zero, suc, ◌+◌, ◌-◌, ◌*◌, ◌^◌, ◌<◌, ◌≤◌, List, [], ◌∷◌, ◌++◌, length, map, take, drop, Bool, true, false, Option, Some, None, refl, sym, ap, ap₂, ◌∙◌, subst, arith, add-one, ◌==◌, ◌&&◌, nat_lt, nat_le, bit_and, nat_tests, and_parts, pow_pos, and_le_r, Direction, Link, first_bits, Word, HalfWord, Byte, Width, Offset, Fixed, Equal, Elementary, Field, MatchResult, Yes, No, Rejected, reading_of, with, field_at, under_mask, compares, elementary_reads, network_offset, Formula, both, either, all_of, reads, partial_mask}
+use Rattle.flt_gen.proofs.Common.{◌≡◌, ℕ, zero, suc, ◌+◌, ◌-◌, ◌*◌, ◌^◌, ◌<◌, ◌≤◌, List, [], ◌∷◌, ◌++◌, length, map, take, drop, Bool, true, false, Option, Some, None, refl, sym, ap, ap₂, ◌∙◌, subst, arith, add-one, ◌==◌, ◌&&◌, nat_lt, nat_le, bit_and, nat_tests, and_parts, eqb-true, pow_pos, and_le_r, Tcp, Direction, Link, first_bits, Word, HalfWord, Byte, Width, Offset, Fixed, Equal, Elementary, Field, MatchResult, Yes, No, Rejected, reading_of, with, field_at, under_mask, compares, elementary_reads, network_offset, Formula, both, either, all_of, reads, partial_mask}
 use Rattle.flt_gen.proofs.Counted.{Bare, bare_within, bare_all, bare_one, bare_some, bare_both, bare_either, bare_split}
 use Rattle.flt_gen.proofs.Decision.{decision_none, decision_next}
 use Rattle.flt_gen.proofs.Exclusive.{both_either, or_no, either_assoc, and_yes}
-use Rattle.flt_gen.proofs.{Needed.all_put, Together.word_small}
+use Rattle.flt_gen.proofs.{Needed.all_put, Once.equal_are, Together.word_small}
 use Rattle.std.specs.{List.list_all, List.insert, Prelude.slice_get}
 use Rattle.flt_gen.specs.Formula.{choose, Split}
 use Rattle.flt_gen.specs.declared.cases.Bound.{Bound, TheVariants.Below, TheVariants.From, TheVariants.Exactly}
 use Rattle.flt_gen.specs.declared.cases.Case.{Case}
 use Rattle.flt_gen.specs.declared.cases.Case.TheVariants.{Mac, Ip6, EitherIp6, IpProto, Ip6Proto}
-use Rattle.flt_gen.specs.declared.elementary.FieldTest.{FieldTest}
-use Rattle.flt_gen.specs.inside.Cases.{same_words, case_frame, mac_place, ip6_place, case_tests, word_test, lowest, is_whole, keeps, all_keep, chain, test_at, from_test, middle, is_parted, same_word, decided, decision, FEW_CASES}
+use Rattle.flt_gen.specs.declared.{elementary.FieldTest.FieldTest, relation.Relation.Relation}
+use Rattle.flt_gen.specs.inside.{Emitted.equals, Code.accessor_offset}
+use Rattle.flt_gen.specs.Numbers.{accessor_tests, width_of}
+use Rattle.flt_words.specs.declared.token.Protocol.{Protocol}
+use Rattle.flt_gen.specs.inside.Cases.{same_words, case_front, mac_place, ip6_place, case_tests, word_test, lowest, is_whole, keeps, all_keep, chain, test_at, from_test, middle, is_parted, same_word, decided, decision, FEW_CASES}
 use Rattle.std.proofs.lemmas.{List.length-map, List.map-append, List.take-append-drop, List.length-drop, List.length-append, Nat.and-not, Nat.and_comm}
 
 -- ---- which words cases have
@@ -42,6 +45,7 @@ fields_of link d (EitherIp6 a) =
     (Fixed (at + 4 * 0), Word) ∷ (Fixed (at + 4 * 1), Word) ∷ (Fixed (at + 4 * 2), Word) ∷ (Fixed (at + 4 * 3), Word) ∷ []
 fields_of link d (IpProto n) = (Fixed (network_offset link + 9), Byte) ∷ []
 fields_of link d (Ip6Proto n) = (Fixed (network_offset link + 6), Byte) ∷ []
+fields_of link d (Case.Relation r) = (accessor_offset link r.protocol r.index, width_of r.size) ∷ []
 
 masked_part : (k : ℕ) (prefix : Option ℕ) (word : ℕ) → Masked (Fixed k, Word) (with prefix (λ bits. partial_mask (first_bits 32 (bits - 32 * word))))
 masked_part k None word = tt
@@ -68,7 +72,28 @@ some_fields link d (Ip6 n a) = omega arith
 some_fields link d (EitherIp6 a) = omega arith
 some_fields link d _ = omega arith
 
-pub alike : (link : Link) (d : Direction) (a b : Case) → same_words a b ≡ true → (fields_of link d b ≡ fields_of link d a) × (case_frame b ≡ case_frame a) × (both_tests b ≡ both_tests a)
+-- relations of one accessor
+relations_are : (a b : Relation) → same_words (Case.Relation a) (Case.Relation b) ≡ true → (a.protocol ≡ b.protocol) × (a.size ≡ b.size) × (a.index ≡ b.index)
+relations_are a b e =
+    let one = and_parts (equals a.protocol b.protocol) (a.size == b.size && a.index == b.index) e in
+    let two = and_parts (a.size == b.size) (a.index == b.index) one.1 in
+    (equal_are a.protocol b.protocol one.0, eqb-true a.size b.size two.0, eqb-true a.index b.index two.1)
+
+pub some_front : (link : Link) (c : Case) → 0 < length (case_front link c)
+some_front link (Case.Relation r) = by r.protocol
+  where
+    by : (p : Protocol) → 0 < length (accessor_tests link p)
+    by Tcp = omega arith
+    by _ = omega arith
+some_front link _ = omega arith
+
+pub alike : (link : Link) (d : Direction) (a b : Case) → same_words a b ≡ true → (fields_of link d b ≡ fields_of link d a) × (case_front link b ≡ case_front link a) × (both_tests b ≡ both_tests a)
+alike link d (Case.Relation a) (Case.Relation b) e =
+    let h = relations_are a b e in (
+      ap₂ (λ o w. (o, w) ∷ []) (ap₂ (accessor_offset link) (sym h.0) (sym h.2)) (ap width_of (sym h.1)),
+      ap (accessor_tests link) (sym h.0),
+      refl,
+    )
 alike link d (Mac a) (Mac b) e = (refl, refl, refl)
 alike link d (Ip6 m a) (Ip6 n b) e = (refl, refl, refl)
 alike link d (EitherIp6 a) (EitherIp6 b) e = (refl, refl, refl)
@@ -404,6 +429,10 @@ shapes_of link d k [] h = tt
 shapes_of link d k (c ∷ cs) h = (subst (λ fs. Shape fs (case_tests link d c)) (alike link d k c h.0).0 (shape_of link d c), shapes_of link d k cs h.1)
 
 pub alike_alike : (a b c : Case) → same_words a b ≡ true → same_words b c ≡ true → same_words a c ≡ true
+alike_alike (Case.Relation a) (Case.Relation b) (Case.Relation c) e f =
+    let h = relations_are a b e in
+    ap (λ p. equals p c.protocol && (a.size == c.size && a.index == c.index)) h.0
+    ∙ ap₂ (λ s i. equals b.protocol c.protocol && (s == c.size && i == c.index)) h.1 h.2 ∙ f
 alike_alike (Mac a) (Mac b) (Mac c) e f = refl
 alike_alike (Ip6 m a) (Ip6 n b) (Ip6 l c) e f = refl
 alike_alike (EitherIp6 a) (EitherIp6 b) (EitherIp6 c) e f = grind (arith, nat_tests)
@@ -413,6 +442,11 @@ alike_alike _ _ _ e f = cc
 
 pub self_alike : (a : Case) → same_words a a ≡ true
 self_alike (EitherIp6 a) = grind (arith, nat_tests)
+self_alike (Case.Relation r) = ap₂ (λ b c. b && c) (self_equal r.protocol) (let t : (r.size == r.size && r.index == r.index) ≡ true = grind (arith, nat_tests) in t)
+  where
+    self_equal : (p : Protocol) → equals p p ≡ true
+    self_equal Tcp = refl
+    self_equal _ = refl
 self_alike _ = refl
 
 pub likes_put : (k c : Case) (i : ℕ) (cs : List Case) → same_words k c ≡ true → Likes k cs → Likes k (insert cs i c)

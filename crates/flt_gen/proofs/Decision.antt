@@ -3,11 +3,10 @@ use Rattle.std.proofs.Common.{◌≡◌, ℕ, zero, suc, ◌+◌, ◌-◌, ◌<�
 use Rattle.std.proofs.lemmas.Bool.Decides.{nat_tests}
 use Rattle.std.specs.Prelude.{slice_get, is_none, if◌then◌else◌, Result}
 use Rattle.std.specs.declared.alloc.AllocError.{AllocError}
-use Rattle.flt_gen.specs.Elementary.{kind_test}
-use Rattle.flt_gen.specs.Formula.{Formula, Single, Both, Split, all_of}
-use Rattle.flt_gen.specs.{Primitives.after, Primitives.ip6_tests, declared.cases.Bound.TheVariants.Exactly, declared.cases.Case.Case}
+use Rattle.flt_gen.specs.Formula.{Formula, Single, Both, Split, all_of, guarded_formula}
+use Rattle.flt_gen.specs.{Primitives.ip6_tests, declared.cases.Bound.TheVariants.Exactly, declared.cases.Case.Case}
 use Rattle.flt_gen.specs.declared.elementary.Elementary.{Elementary, TheVariants.Outcome}
-use Rattle.flt_gen.specs.inside.Cases.{case_frame, case_tests, cases_formula, sides_decision, either_ip6, MOST_DECISIONS, chain, decided, decision, all_keep, is_parted, middle, test_at, lowest, from_test, same_word, FEW_CASES}
+use Rattle.flt_gen.specs.inside.Cases.{case_front, case_tests, cases_formula, sides_decision, either_ip6, MOST_DECISIONS, chain, decided, decision, all_keep, is_parted, middle, test_at, lowest, from_test, same_word, FEW_CASES}
 use Rattle.flt_gen.specs.inside.{Code.Block, Code.emit_all, Code.emit_elementary, Code.emit_formula, Emits.Emits}
 use Rattle.flt_gen.proofs.Ascending.{if_case}
 use Rattle.flt_bpf.specs.declared.insn.Insn.{Insn}
@@ -41,6 +40,11 @@ all_emitted link [] hit miss c = refl
 all_emitted link (t ∷ []) hit miss c = refl
 all_emitted link (t ∷ u ∷ ts) hit miss c = ap (λ (e : Block). emit_elementary t e.entry miss e.code) (all_emitted link (u ∷ ts) hit miss c)
 
+-- the code of tests and of a formula after them
+pub guarded_emitted : (link : Link) (ts : List Elementary) (f : Formula) (hit miss : ℕ) (c : List Insn) → emit_formula link (guarded_formula ts f) hit miss c ≡ (let e = emit_formula link f hit miss c in emit_all ts e.entry miss e.code)
+guarded_emitted link [] f hit miss c = refl
+guarded_emitted link (t ∷ ts) f hit miss c = ap (λ (e : Block). emit_elementary t e.entry miss e.code) (guarded_emitted link ts f hit miss c)
+
 -- a case in front of others, of all that are searched or of some
 chain_emitted : (link : Link) (tests : Case → List Elementary) (word : ℕ) (cs : List Case) (other : Case) (hit miss : ℕ) (c : List Insn) → 1 ≤ length cs → let e = emit_formula link (chain tests word (drop 1 cs)) hit miss c in emit_formula link (chain tests word cs) hit miss c ≡ emit_all (drop word (tests (get_or cs 0 other))) hit e.entry e.code
 chain_emitted link tests word [] other hit miss c l = absurd (omega arith)
@@ -53,7 +57,7 @@ turn_emitted r new link tests word cs other hit miss c e l is done =
     subst (λ (f : Block). Emits r f new)
     (sym (chain_emitted link tests word cs other hit miss c l ∙ ap (λ (f : Block). emit_all (drop word (tests (get_or cs 0 other))) hit f.entry f.code) is)) done
 
-pub cases_put : (link : Link) (d : Direction) (key : ℕ) (cs : List Case) (other : Case) → 1 ≤ length cs → cases_formula link d key cs ≡ after (kind_test link (case_frame (get_or cs 0 other))) (sides_decision link d key (get_or cs 0 other) cs)
+pub cases_put : (link : Link) (d : Direction) (key : ℕ) (cs : List Case) (other : Case) → 1 ≤ length cs → cases_formula link d key cs ≡ guarded_formula (case_front link (get_or cs 0 other)) (sides_decision link d key (get_or cs 0 other) cs)
 cases_put link d key [] other l = absurd (omega arith)
 cases_put link d key (c ∷ cs) other l = refl
 

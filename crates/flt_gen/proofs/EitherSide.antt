@@ -1,12 +1,12 @@
 -- Hosts of IPv6 on either side that differ only in the last word: a tree for each side reads as one
 -- host after the other, and has no more tests.
-use Rattle.flt_gen.proofs.Common.{◌≡◌, ℕ, ◌+◌, ◌-◌, ◌*◌, ◌/◌, ◌%◌, ◌^◌, ◌<◌, ◌≤◌, List, [], ◌∷◌, length, take, drop, Bool, true, false, Option, Some, None, refl, sym, ap, ap₂, ◌∙◌, arith, inl, inr, ◌==◌, ◌&&◌, nat_lt, nat_le, nat_tests, Direction, Link, Source, Destination, Word, Width, Offset, Fixed, field, field_at, big_endian_at, Elementary, MatchResult, Yes, No, Rejected, if◌then◌else◌, reading_of, with, elementary_reads, network_offset, both, either, all_of, reads, address_test, ip6_tests}
+use Rattle.flt_gen.proofs.Common.{◌≡◌, ℕ, ◌+◌, ◌-◌, ◌*◌, ◌/◌, ◌%◌, ◌^◌, ◌<◌, ◌≤◌, List, [], ◌∷◌, length, take, drop, Bool, true, false, Some, None, refl, sym, ap, ap₂, ◌∙◌, arith, inl, inr, ◌==◌, nat_lt, nat_le, nat_tests, Direction, Link, Source, Destination, Word, Width, Offset, Fixed, big_endian_at, Elementary, MatchResult, Yes, No, Rejected, if◌then◌else◌, reading_of, with, elementary_reads, network_offset, both, either, all_of, reads, address_test, ip6_tests}
 use Rattle.flt_gen.proofs.Counted.{Bare, bare_all, bare_one, bare_both, bare_either, bare_within}
 use Rattle.flt_gen.proofs.Deciding.{Known, known_both, Shapes, rows, rows_known, read_all, read_put, sizes, decision_good, Likes}
 use Rattle.flt_gen.proofs.{Exclusive.both_either, Exclusive.or_no}
 use Rattle.std.specs.Prelude.{◌⊎◌, count_by}
 use Rattle.flt_gen.specs.declared.cases.Case.{Case, TheVariants.EitherIp6}
-use Rattle.flt_gen.specs.inside.Cases.{same_words, key_of, ip6_place, case_tests, insert_case, decision, either_ip6, MOST_DECISIONS}
+use Rattle.flt_gen.specs.inside.Cases.{key_of, ip6_place, case_tests, insert_case, decision, either_ip6, MOST_DECISIONS}
 use Rattle.flt_gen.specs.Primitives.{ip6_test}
 use Rattle.flt_ast.specs.declared.qualifiers.Direction.TheVariants as direction
 use Rattle.std.proofs.{Math.Nat.div-div-eq-div-mul, lemmas.List.length-map}

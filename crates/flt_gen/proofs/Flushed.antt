@@ -1,5 +1,5 @@
 -- The group that waits is emitted as the right operand of an or.
-use Rattle.flt_gen.proofs.Common.{◌≡◌, Group, no_group, Entry, group_formula, flush_members, flush_group, List, [], ◌∷◌, Bool, false, Result, Ok, Err, refl, ap, ◌∙◌, OnOk, Or, Link, Walk, finish_formula}
+use Rattle.flt_gen.proofs.Common.{◌≡◌, Group, no_group, Entry, group_formula, flush_members, flush_group, List, [], ◌∷◌, false, Result, Ok, Err, refl, ap, ◌∙◌, OnOk, Or, Link, Walk, finish_formula}
 use Rattle.std.specs.declared.alloc.AllocError.{AllocError}
 use Rattle.flt_gen.specs.declared.waiting.{LeftTruth.LeftTruth, Pending.Pending}
 use Rattle.flt_gen.specs.inside.{Group.is_empty as has_none, Walk.begin_right}

@@ -1,5 +1,5 @@
 -- An expression with its arithmetic of numbers folded means the same, and counts no more.
-use Rattle.flt_gen.proofs.Common.{◌≡◌, ℕ, ◌+◌, ◌%◌, ◌^◌, ◌≤◌, List, [], ◌∷◌, false, Option, Some, None, refl, sym, ap, ap₂, ◌∙◌, arith, fold, or_assoc, ◌||◌, Operator, Protocol, field, Node, NumberTree, literal, named, load, negated, applied, TruthTree, compared, denied, joined, Expression, empty, truth, number_size, number_words, number_tests, truth_size, truth_words, truth_tests, bound_of, words_of, number_nodes, truth_nodes, expr_nodes, number_onto, truth_onto, expr_onto, is_unfilled, any_primitive, some_primitive, Link, MatchResult, Yes, with, reading_of, compares, width_of, base, number, result_of, accessors, Compare, both, either, negation, reads, checked_formula, constant, formula, holds, short_bound_of, negated_constant, applied_constant, number_or, negated_number, applied_number, folded_number, and_denied, joined_truth, folded_truth, folded_expression, node_or, with_negation, with_operator, Held, with_held, with_folded}
+use Rattle.flt_gen.proofs.Common.{◌≡◌, ℕ, ◌+◌, ◌%◌, ◌^◌, ◌≤◌, List, [], ◌∷◌, false, Option, Some, None, refl, sym, ap, ap₂, ◌∙◌, arith, fold, or_assoc, ◌||◌, Operator, Protocol, field, Node, NumberTree, literal, load, negated, applied, TruthTree, compared, denied, joined, Expression, empty, truth, number_size, number_words, number_tests, truth_size, truth_words, truth_tests, bound_of, words_of, number_nodes, truth_nodes, expr_nodes, number_onto, truth_onto, expr_onto, is_unfilled, any_primitive, some_primitive, Link, MatchResult, Yes, with, reading_of, compares, width_of, base, number, result_of, accessors, Compare, both, either, negation, reads, checked_formula, constant, formula, holds, short_bound_of, negated_constant, applied_constant, number_or, negated_number, applied_number, folded_number, and_denied, joined_truth, folded_truth, folded_expression, node_or, with_negation, with_operator, Held, with_held, with_folded}
 use Rattle.flt_gen.proofs.{Held.held_truth, Held.none_held, Held.back_truth, Numbers.constant_is, Once.both_again, Once.checked_same}
 use Rattle.flt_words.specs.declared.token.Join.{Join}
 use Rattle.flt_ast.specs.declared.node.Node.TheVariants as node
@@ -20,7 +20,6 @@ applied_some o _ _ k e = cc
 -- a number alone has no accessors
 constant_alone : (a : NumberTree) (k : ℕ) (rest : List Protocol) → constant a ≡ Some k → accessors a rest ≡ rest
 constant_alone (literal j) k rest e = refl
-constant_alone (named j) k rest e = refl
 constant_alone _ k rest e = cc
 
 denied_both : (r q : MatchResult) → negation (either r q) ≡ both (negation r) (negation q)
@@ -191,9 +190,6 @@ with_negated _ d = refl
 
 with_applied : (o : Operator) (b a : NumberTree) (d : List Node) → with_operator o (number_onto b (number_onto a d)) ≡ number_onto (applied_number o a b) d
 with_applied o (literal y) (literal x) d = one_or_both o (result_of o x y) (literal x) (literal y) d
-with_applied o (literal y) (named x) d = one_or_both o (result_of o x y) (named x) (literal y) d
-with_applied o (named y) (literal x) d = one_or_both o (result_of o x y) (literal x) (named y) d
-with_applied o (named y) (named x) d = one_or_both o (result_of o x y) (named x) (named y) d
 with_applied o _ _ d = refl
 
 number_put : (a : NumberTree) (d rest : List Node) → fold with_folded d (number_nodes a rest) ≡ fold with_folded (number_onto (folded_number a) d) rest

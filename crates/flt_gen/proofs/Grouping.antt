@@ -1,19 +1,20 @@
 -- The formula of a truth in which hosts or ports are looked for together reads as the truth's own,
 -- and has no more tests.
 use Rattle.flt_gen.proofs.Ascending.{if_case, Each, each_is, Searchable, Reached, Ready, Ordered, Points, ordered_inserted, points_inserted, length_inserted, within_inserted, within_joined, searchable_joined, ends_few, one_point, joined_few, joined_points}
-use Rattle.flt_gen.proofs.Common.{◌≡◌, ℕ, ◌+◌, ◌-◌, ◌*◌, ◌/◌, ◌^◌, ◌<◌, suc, ◌≤◌, max, List, [], ◌∷◌, length, Bool, true, false, Option, Some, None, refl, sym, ap, ap₂, ◌∙◌, subst, arith, ◌==◌, ◌||◌, ◌&&◌, nat_lt, nat_le, if◌then◌else◌, suc-mul, nat_tests, and_parts, or_parts, Protocol, Ip, Tcp, Udp, Source, Destination, And, Or, ValueType, Host, Net, Port, PortRange, Direction, CompleteQualifiers, Value, Interval, Sides, FrameKind, network_offset, not, map, and-false, inl, inr, Sought, sought_tests, is_address, joined_all, left_out, high_mask, cut, address_places, port_places, ip_transport, ip6_transport, sought, Entry, TruthTree, check, cast, sized, bare, valued, qualified, compared, denied, joined, is_unfilled, any_primitive, Link, MatchResult, Several, Formula, Both, Either, Except, is_in, is_within, both, either, negation, Numbers, reads, check_formula, cast_formula, sized_formula, hosts_formula, port_test, port_formula, qualified_formula, relation_formula, qualified_needed, formula, first_ends, Group, no_group, entry, with_member, same_type, same_protocol, same_direction, goes_with, member_of, group_and, larger_group, is_searched, numbers_of, several_formula, all_of, kind_test, elementary_reads, value_formula, Proto, rows_formula, group_formula, or_any, or_group, truth_member, choice, grouped_formula, MOST_TOGETHER, FEWEST_RANGES}
+use Rattle.flt_gen.proofs.Common.{◌≡◌, ℕ, ◌+◌, ◌-◌, ◌*◌, ◌<◌, ◌≤◌, max, List, [], ◌∷◌, length, Bool, true, false, Option, Some, None, refl, sym, ap, ap₂, ◌∙◌, subst, arith, ◌==◌, ◌||◌, ◌&&◌, nat_lt, nat_le, if◌then◌else◌, suc-mul, nat_tests, and_parts, or_parts, Protocol, Ip, Tcp, Udp, Source, Destination, And, Or, ValueType, Host, Net, Port, PortRange, Direction, CompleteQualifiers, Value, Interval, Sides, FrameKind, network_offset, not, map, and-false, inl, inr, Sought, sought_tests, is_address, joined_all, left_out, high_mask, cut, address_places, port_places, ip_transport, ip6_transport, sought, Entry, TruthTree, check, cast, sized, bare, valued, qualified, compared, denied, joined, is_unfilled, any_primitive, Link, MatchResult, Several, Formula, Both, Either, Except, is_in, is_within, both, either, negation, Numbers, reads, check_formula, cast_formula, sized_formula, hosts_formula, port_test, port_formula, relation_formula, qualified_needed, formula, first_ends, Group, no_group, entry, with_member, same_type, same_protocol, same_direction, goes_with, member_of, group_and, larger_group, is_searched, numbers_of, several_formula, all_of, accessor_tests, accessor_test_count, guarded_formula, Elementary, with, Tcp, value_formula, Proto, rows_formula, group_formula, or_any, or_group, choice, grouped_formula, MOST_TOGETHER, FEWEST_RANGES, ◌/◌, ◌^◌, suc}
 use Rattle.flt_gen.proofs.Counted.{Sized, Bare, bare_within, bare_some, bare_both, bare_either, bare_else, bare_after, bare_sought, bare_check, bare_cast, of_kinds, bare_hosts, bare_ports}
-use Rattle.flt_gen.proofs.Deciding.{Shapes, fields_of, some_fields, shapes_of, both_tests, rows, read_all, sizes, decision_good, Likes, likes_put, sizes_put, length_put, read_put, alike, alike_alike, self_alike}
-use Rattle.flt_gen.proofs.EitherSide.{host_read, either_alone, either_put, either_bare}
+use Rattle.flt_gen.proofs.Deciding.{fields_of, some_fields, some_front, shapes_of, both_tests, rows, read_all, sizes, decision_good, Likes, likes_put, sizes_put, length_put, read_put, alike, alike_alike, self_alike}
+use Rattle.flt_gen.proofs.EitherSide.{either_alone, either_put, either_bare}
 use Rattle.flt_gen.proofs.{Exclusive.or_no, Exclusive.both_either, Exclusive.either_assoc, IdleBits.uncut}
-use Rattle.flt_gen.proofs.{Needed.bare_needed, Needed.value_same, Once.relation_sizes, Once.relation_same}
+use Rattle.flt_gen.proofs.{Needed.bare_needed, Needed.value_same, Once.relation_sizes, Once.relation_same, Once.all_read, Once.guarded_read}
+use Rattle.flt_gen.proofs.Relations.{entry_tests, entry_bare, IsEntry, entry_is}
 use Rattle.flt_gen.proofs.Prefixes.{Idle, idle_sought, cut_in, cut_within, cut_order, cut_apart}
 use Rattle.flt_gen.proofs.Together.{Fitting, fitting_small, unmasked_fitting, address_fitting, Merged, members_read, members_more, members_alone, member_reads, IsMember, member_tests, several_are, member_is}
 use Rattle.std.specs.Prelude.{◌⊎◌, count_by}
 use Rattle.flt_words.specs.declared.token.Protocol.TheVariants as protocol
 use Rattle.flt_gen.specs.declared.{address.Hosts.Hosts, cases.Case.Case, cases.Case.TheVariants.EitherIp6}
-use Rattle.flt_gen.specs.inside.Cases.{case_of, same_words, key_of, insert_case, case_frame, case_tests, either_ip6, sides_decision, MOST_DECISIONS}
-use Rattle.flt_gen.specs.inside.Group.{with_case, has_none, shares_words, case_goes_with, larger_by, together_formula, FEWEST_CASES}
+use Rattle.flt_gen.specs.inside.Cases.{case_of, same_words, key_of, insert_case, case_front, case_tests, either_ip6, sides_decision, MOST_DECISIONS}
+use Rattle.flt_gen.specs.inside.Group.{with_case, has_none, shares_words, case_goes_with, larger_with, together_formula, entry_formula, entry_of, leaf_formula, FEWEST_CASES}
 use Rattle.std.proofs.lemmas.List.{length-map}
 use Rattle.cap_octet.specs.declared.link.Link.TheVariants as link
 use Rattle.cap_octet.specs.declared.link.Link.TheVariants.{Ether}
@@ -26,7 +27,7 @@ use Rattle.flt_ast.specs.Counts as count
 -- how many tests members have one by one
 abbrev entries_tests : List Entry → ℕ
 entries_tests [] = 0
-entries_tests (e ∷ es) = count.value_tests e.qualifiers e.value + entries_tests es
+entries_tests (e ∷ es) = entry_tests e + entries_tests es
 
 abbrev group_tests : Group → ℕ
 group_tests group = entries_tests group.entries
@@ -43,10 +44,14 @@ pub record Held (group : Group) (ms : List Interval) : Type 0 where
   pub counted : length group.entries * member_tests group.qualifiers.value_type group.qualifiers.protocol group.qualifiers.direction ≤ group_tests group
   pub rows : (link : Link) (p : List ℕ) (n : ℕ) → reads link (rows_formula link group.entries) p n ≡ members_read link p n group.qualifiers.value_type group.qualifiers.protocol group.qualifiers.direction group.first ms
 
--- how a case reads, in the frames in which it may be
+-- a case, after the tests in front of it, and how it reads
+abbrev case_formula : Link → Direction → Case → Formula
+case_formula link d (EitherIp6 a) =
+    Either (all_of (case_tests link (direction.One Source) (EitherIp6 a))) (all_of (case_tests link (direction.One Destination) (EitherIp6 a)))
+case_formula link d c = all_of (case_tests link d c)
+
 abbrev case_read : Link → List ℕ → ℕ → Direction → Case → MatchResult
-case_read link p n d (EitherIp6 a) = host_read link p n a
-case_read link p n d c = reads link (all_of (case_tests link d c)) p n
+case_read link p n d c = reads link (case_formula link d c) p n
 
 -- how cases with the words of one read, of which the first has this key
 abbrev cases_read : Link → List ℕ → ℕ → Direction → ℕ → Case → List Case → MatchResult
@@ -65,9 +70,9 @@ pub record Listed (d : Direction) (group : Group) : Type 0 where
   pub some : 0 < length group.cases
   pub all_count : length group.cases ≡ length group.entries
   pub key : IsKey group.first_key kind
-  pub counted : (link : Link) → sizes (rows (case_tests link d) 0 group.cases) + length group.cases ≤ group_tests group
-  pub counted_both : length group.cases * both_tests kind ≤ group_tests group
-  pub rows_are : (link : Link) (p : List ℕ) (n : ℕ) → reads link (rows_formula link group.entries) p n ≡ both (elementary_reads (kind_test link (case_frame kind)) p) (cases_read link p n d group.first_key kind group.cases)
+  pub counted : (link : Link) → length (case_front link kind) + sizes (rows (case_tests link d) 0 group.cases) + length group.cases ≤ 1 + group_tests group
+  pub counted_both : (link : Link) → length (case_front link kind) + length group.cases * both_tests kind ≤ 1 + group_tests group
+  pub rows_are : (link : Link) (p : List ℕ) (n : ℕ) → reads link (rows_formula link group.entries) p n ≡ both (all_read link p n (case_front link kind)) (cases_read link p n d group.first_key kind group.cases)
 
 -- a group that waits: it has no members, or numbers or cases
 pub data Kept (group : Group) : Type 0 where
@@ -207,9 +212,13 @@ group_bare_several link group ms h e = by group.is_plain refl e
 
 rows_bare : (link : Link) (es : List Entry) → 0 < length es → Bare (rows_formula link es) (entries_tests es)
 rows_bare link [] l = absurd (omega arith)
-rows_bare link (e ∷ []) l = bare_within _ (omega arith) (bare_needed link e.qualifiers.value_type e.qualifiers.protocol e.qualifiers.direction e.value)
-rows_bare link (e ∷ f ∷ es) l =
-    bare_either (bare_needed link e.qualifiers.value_type e.qualifiers.protocol e.qualifiers.direction e.value) (rows_bare link (f ∷ es) (omega arith))
+rows_bare link (e ∷ []) l = bare_within _ (omega arith) (entry_bare link e)
+rows_bare link (e ∷ f ∷ es) l = bare_either (entry_bare link e) (rows_bare link (f ∷ es) (omega arith))
+
+-- tests in front of a formula
+front_bare : {f : Formula} {n : ℕ} (ts : List Elementary) → Bare f n → Bare (guarded_formula ts f) (length ts + n)
+front_bare [] h = bare_within _ (omega arith) h
+front_bare (t ∷ ts) h = bare_within _ (omega arith) (bare_after (front_bare ts h))
 
 -- the tests of cases with the words of one: how they read, and how many they are
 sides_good : (link : Link) (d : Direction) (a m : ℕ) (kind c : Case) (cs : List Case) → Likes kind (c ∷ cs) → 3 ≤ length (c ∷ cs) → sizes (rows (case_tests link d) 0 (c ∷ cs)) + length (c ∷ cs) ≤ m → length (c ∷ cs) * both_tests kind ≤ m → ((p : List ℕ) (n : ℕ) → reads link (sides_decision link d a c (c ∷ cs)) p n ≡ cases_read link p n d a kind (c ∷ cs)) × Bare (sides_decision link d a c (c ∷ cs)) (m - 1)
@@ -235,13 +244,17 @@ listed_is link group h searched (c ∷ cs) e =
     let long = ap length e in
     let count = h.all_count in
     let lots = many group.cases group.is_plain (length group.entries) h.some searched in
-    let good = sides_good link d group.first_key (group_tests group) h.kind c cs like (omega arith)
-    (subst (λ ds. sizes (rows (case_tests link d) 0 ds) + length ds ≤ group_tests group) (sym e) (h.counted link))
-    (subst (λ ds. length ds * both_tests h.kind ≤ group_tests group) (sym e) h.counted_both) in
-    let few = h.counted link in (
-      bare_within _ (omega arith) (bare_after good.1),
-      λ p n. ap (both (elementary_reads (kind_test link (case_frame c)) p)) (good.0 p n)
-          ∙ ap₂ (λ k ds. both (elementary_reads (kind_test link k) p) (cases_read link p n d group.first_key h.kind ds)) (alike link d h.kind c like.0).1 e
+    let few = h.counted link in
+    let few_both = h.counted_both link in
+    let front : case_front link c ≡ case_front link h.kind = (alike link d h.kind c like.0).1 in
+    let fronts = ap (λ (ts : List Elementary). length ts) front in
+    let room = 1 + group_tests group - length (case_front link h.kind) in
+    let good = sides_good link d group.first_key room h.kind c cs like (omega arith)
+    (subst (λ ds. sizes (rows (case_tests link d) 0 ds) + length ds ≤ room) (sym e) (omega arith))
+    (subst (λ ds. length ds * both_tests h.kind ≤ room) (sym e) (omega arith)) in (
+      bare_within _ (omega arith) (front_bare (case_front link c) good.1),
+      λ p n. guarded_read link p n (case_front link c) _
+          ∙ ap₂ (λ ts r. both (all_read link p n ts) r) front (good.0 p n ∙ ap (cases_read link p n d group.first_key h.kind) e)
           ∙ sym (h.rows_are link p n),
     )
 
@@ -339,9 +352,9 @@ fits_in q group (e ∷ es) l g =
     }
 
 -- one more row in front of others
-rows_put : (link : Link) (p : List ℕ) (n : ℕ) (q : CompleteQualifiers) (v : Value) (es : List Entry) → reads link (rows_formula link (entry q v ∷ es)) p n ≡ either (reads link (qualified_formula link q v) p n) (reads link (rows_formula link es) p n)
-rows_put link p n q v [] = value_same link p n q.value_type q.protocol q.direction v ∙ sym (or_no _)
-rows_put link p n q v (e ∷ es) = ap (λ r. either r (reads link (rows_formula link (e ∷ es)) p n)) (value_same link p n q.value_type q.protocol q.direction v)
+rows_put : (link : Link) (p : List ℕ) (n : ℕ) (e : Entry) (es : List Entry) → reads link (rows_formula link (e ∷ es)) p n ≡ either (reads link (entry_formula link e) p n) (reads link (rows_formula link es) p n)
+rows_put link p n e [] = sym (or_no _)
+rows_put link p n e (f ∷ es) = refl
 
 -- one more number before those, ls, of a group without cases
 held_put : (q : CompleteQualifiers) (v : Value) (m : Interval) (group : Group) (ls : List Interval) → member_of q.value_type v ≡ Some m → Ordered 0 group.all → ((y : ℕ) → is_within y group.all ≡ is_within y ls) → length group.all ≡ length group.entries → (group.is_plain ≡ true → Points group.all)
@@ -359,7 +372,7 @@ held_put q v m group ls w up within many points few merged rows = record {
       let point : m.low ≡ m.high = (let u = t.0 in grind (arith, nat_tests)) in
       (point, points_inserted m group.all point (points t.1));
   counted = let one = suc-mul (length group.entries) (member_tests q.value_type q.protocol q.direction) in let more = (its Ether [] 0).1 in omega arith;
-  rows = λ link p n. rows_put link p n q v group.entries ∙ ap (λ r. either r (reads link (rows_formula link group.entries) p n)) (its link p n).2 ∙ rows link p n;
+  rows = λ link p n. rows_put link p n (entry q v) group.entries ∙ ap (λ r. either r (reads link (rows_formula link group.entries) p n)) (value_same link p n q.value_type q.protocol q.direction v ∙ (its link p n).2) ∙ rows link p n;
 }
   where
     its : (link : Link) (p : List ℕ) (n : ℕ) → IsMember link p n q.value_type q.protocol q.direction v m
@@ -388,9 +401,13 @@ kept_with q v m group (listed l h) g w = absurd (no_cases group.cases (fits_in q
     no_cases [] e l = omega arith
     no_cases (c ∷ cs) e l = cc
 
--- a value that is a case: its tests are fewer than those that are counted, and how it reads
+-- what has so many tests and this formula is a case
+abbrev Cased : Link → Direction → Case → ℕ → Formula → Type 0
+Cased link d c tests f = (length (case_front link c) + length (case_tests link d c) ≤ tests) × (length (case_front link c) + both_tests c ≤ 1 + tests) × ((p : List ℕ) (n : ℕ) → reads link f p n ≡ reads link (guarded_formula (case_front link c) (case_formula link d c)) p n)
+
+-- a value that is a case
 abbrev IsCase : Link → ValueType → Option Protocol → Direction → Value → Case → Type 0
-IsCase link k o d v c = (length (case_tests link d c) + 1 ≤ count.typed_tests k o d v) × (both_tests c ≤ count.typed_tests k o d v) × ((p : List ℕ) (n : ℕ) → reads link (value_formula link k o d v) p n ≡ both (elementary_reads (kind_test link (case_frame c)) p) (case_read link p n d c))
+IsCase link k o d v c = Cased link d c (count.typed_tests k o d v) (value_formula link k o d v)
 
 case_is : (link : Link) (k : ValueType) (o : Option Protocol) (d : Direction) (v : Value) → Each (case_of k o d v) (IsCase link k o d v)
 case_is link Host o (direction.One Source) (value.Mac a) = (omega arith, omega arith, λ p n. refl)
@@ -403,6 +420,10 @@ case_is link Net o (direction.One Destination) (value.Ip6 a m) = (omega arith, o
 case_is link Proto (Some Ip) d (value.Number x m) = (omega arith, omega arith, λ p n. refl)
 case_is link Proto (Some protocol.Ip6) d (value.Number x m) = (omega arith, omega arith, λ p n. refl)
 case_is link _ o d _ = tt
+
+fronts_few : (link : Link) (p : Protocol) → length (accessor_tests link p) + 1 ≤ accessor_test_count p + 1
+fronts_few link Tcp = omega arith
+fronts_few link _ = omega arith
 
 -- where a case is put among others
 abbrev place : Case → List Case → ℕ
@@ -427,10 +448,10 @@ read_more link p n d a kind c cs h e key =
     sym (read_put link p n 0 (case_tests link d) (fields_of link d kind) c (place c cs) cs (shapes_of link d kind (c ∷ []) (e, tt)).0 (shapes_of link d kind cs h))
 
 -- one more case before those of a group without numbers
-listed_put : (q : CompleteQualifiers) (v : Value) (c kind : Case) (group : Group) → case_of q.value_type q.protocol q.direction v ≡ Some c → Likes kind group.cases → same_words kind c ≡ true → length group.cases ≡ length group.entries → ((link : Link) → sizes (rows (case_tests link q.direction) 0 group.cases) + length group.cases ≤ group_tests group) → length group.cases * both_tests kind ≤ group_tests group
-    → ((link : Link) (p : List ℕ) (n : ℕ) → let frame = elementary_reads (kind_test link (case_frame kind)) p in either (both frame (case_read link p n q.direction c)) (reads link (rows_formula link group.entries) p n) ≡ both frame (cases_read link p n q.direction (key_of c) kind (insert_case c group.cases)))
-    → Listed q.direction (with_case q v c group)
-listed_put q v c kind group w likes like count few both_few rows_are = record {
+listed_put : (q : CompleteQualifiers) (e : Entry) (c kind : Case) (group : Group) → ((link : Link) → Cased link q.direction c (entry_tests e) (entry_formula link e)) → Likes kind group.cases → same_words kind c ≡ true → length group.cases ≡ length group.entries → ((link : Link) → sizes (rows (case_tests link q.direction) 0 group.cases) + length group.cases ≤ group_tests group) → length group.cases * both_tests kind ≤ group_tests group
+    → ((link : Link) (p : List ℕ) (n : ℕ) → let front = all_read link p n (case_front link kind) in either (both front (case_read link p n q.direction c)) (reads link (rows_formula link group.entries) p n) ≡ both front (cases_read link p n q.direction (key_of c) kind (insert_case c group.cases)))
+    → Listed q.direction (with_case q e c group)
+listed_put q e c kind group its likes like count few both_few rows_are = record {
   kind = kind;
   like = likes_put kind c (place c group.cases) group.cases like likes;
   some = let l = length_put c (place c group.cases) group.cases in omega arith;
@@ -441,22 +462,22 @@ listed_put q v c kind group w likes like count few both_few rows_are = record {
       let s = sizes_put (case_tests link q.direction) c (place c group.cases) group.cases in
       let one = (its link).0 in
       let old = few link in
+      let fronts = ap (λ (ts : List Elementary). length ts) (alike link q.direction kind c like).1 in
       omega arith;
-  counted_both =
+  counted_both = λ link.
       let l : length (insert_case c group.cases) ≡ suc (length group.cases) = length_put c (place c group.cases) group.cases ∙ omega arith in
       let all = ap (λ k. k * both_tests kind) l in
       let more = suc-mul (length group.cases) (both_tests kind) in
-      let one = (its Ether).1 in
-      let same = (alike Ether q.direction kind c like).2 in
+      let one = (its link).1 in
+      let same = alike link q.direction kind c like in
+      let fronts = ap (λ (ts : List Elementary). length ts) same.1 in
+      let tests = same.2 in
       omega arith;
   rows_are = λ link p n.
-      rows_put link p n q v group.entries
-      ∙ ap (λ r. either r (reads link (rows_formula link group.entries) p n)) ((its link).2 p n ∙ ap (λ k. both (elementary_reads (kind_test link k) p) (case_read link p n q.direction c)) (alike link q.direction kind c like).1)
+      rows_put link p n e group.entries
+      ∙ ap (λ r. either r (reads link (rows_formula link group.entries) p n)) ((its link).2 p n ∙ guarded_read link p n (case_front link c) (case_formula link q.direction c) ∙ ap (λ ts. both (all_read link p n ts) (case_read link p n q.direction c)) (alike link q.direction kind c like).1)
       ∙ rows_are link p n;
 }
-  where
-    its : (link : Link) → IsCase link q.value_type q.protocol q.direction v c
-    its link = each_is (case_of q.value_type q.protocol q.direction v) (IsCase link q.value_type q.protocol q.direction v) c (case_is link q.value_type q.protocol q.direction v) w
 
 -- what is known where a case goes with members
 case_fits : (c : Case) (d : Direction) (group : Group) (es : List Entry) → 0 < length es → case_goes_with c d group es ≡ true → (shares_words c group.cases ≡ true) × (group.qualifiers.direction ≡ d)
@@ -469,85 +490,116 @@ shared : (kind c : Case) (cs : List Case) → Likes kind cs → shares_words c c
 shared kind c [] h e = cc
 shared kind c (x ∷ xs) h e = alike_alike kind x c h.0 e
 
-kept_with_case : (q : CompleteQualifiers) (v : Value) (c : Case) (group : Group) → Kept group → case_goes_with c q.direction group group.entries ≡ true → case_of q.value_type q.protocol q.direction v ≡ Some c → Kept (with_case q v c group)
-kept_with_case q v c group (nothing none all empty) g w =
+kept_with_case : (q : CompleteQualifiers) (e : Entry) (c : Case) (group : Group) → Kept group → case_goes_with c q.direction group group.entries ≡ true → ((link : Link) → Cased link q.direction c (entry_tests e) (entry_formula link e)) → Kept (with_case q e c group)
+kept_with_case q e c group (nothing none all empty) g w =
     listed (omega arith)
-    (listed_put q v c c group w (subst (Likes c) (sym empty) tt) (self_alike c) (ap length empty ∙ sym (ap length none))
+    (listed_put q e c c group w (subst (Likes c) (sym empty) tt) (self_alike c) (ap length empty ∙ sym (ap length none))
     (λ link. subst (λ cs. sizes (rows (case_tests link q.direction) 0 cs) + length cs ≤ group_tests group) (sym empty) (omega arith))
     (subst (λ (cs : List Case). length cs * both_tests c ≤ group_tests group) (sym empty) (omega arith))
     (λ link p n.
-    let frame = elementary_reads (kind_test link (case_frame c)) p in
-    ap (λ es. either (both frame (case_read link p n q.direction c)) (reads link (rows_formula link es) p n)) none ∙ or_no _
-    ∙ ap (both frame) (read_alone link p n q.direction c ∙ ap (λ cs. cases_read link p n q.direction (key_of c) c (insert_case c cs)) (sym empty))))
-kept_with_case q v c group (numbered l empty ms h) g w = absurd (let no = ap (shares_words c) (sym empty) ∙ (case_fits c q.direction group group.entries l g).0 in cc)
-kept_with_case q v c group (listed l h) g w =
+    let front = all_read link p n (case_front link c) in
+    ap (λ es. either (both front (case_read link p n q.direction c)) (reads link (rows_formula link es) p n)) none ∙ or_no _
+    ∙ ap (both front) (read_alone link p n q.direction c ∙ ap (λ cs. cases_read link p n q.direction (key_of c) c (insert_case c cs)) (sym empty))))
+kept_with_case q e c group (numbered l empty ms h) g w = absurd (let no = ap (shares_words c) (sym empty) ∙ (case_fits c q.direction group group.entries l g).0 in cc)
+kept_with_case q e c group (listed l h) g w =
     let fit = case_fits c q.direction group group.entries l g in
     let j = subst (λ d. Listed d group) fit.1 h in
     let like = shared j.kind c group.cases j.like fit.0 in
+    let few : (link : Link) → sizes (rows (case_tests link q.direction) 0 group.cases) + length group.cases ≤ group_tests group = λ link. (let all = j.counted link in let some = some_front link j.kind in omega arith) in
+    let few_both : length group.cases * both_tests j.kind ≤ group_tests group = (let all = j.counted_both Ether in let some = some_front Ether j.kind in omega arith) in
     listed (omega arith)
-    (listed_put q v c j.kind group w j.like like j.all_count j.counted j.counted_both
+    (listed_put q e c j.kind group w j.like like j.all_count few few_both
     (λ link p n. ap (either (both _ (case_read link p n q.direction c))) (j.rows_are link p n) ∙ sym (both_either _ (case_read link p n q.direction c) _) ∙ ap (both _) (read_more link p n q.direction group.first_key j.kind c group.cases j.like like j.key)))
 
 -- what a member and those after it are, and how they read
-record Taken (link : Link) (q : CompleteQualifiers) (v : Value) (group more : Group) : Type 0 where
+record Taken (link : Link) (e : Entry) (group more : Group) : Type 0 where
   kept : Kept more
   some : 0 < length more.entries
-  tests_fit : group_tests more ≤ count.value_tests q v + group_tests group
-  reads_are : (p : List ℕ) (n : ℕ) → reads link (group_formula link more) p n ≡ either (reads link (qualified_formula link q v) p n) (reads link (group_formula link group) p n)
+  tests_fit : group_tests more ≤ entry_tests e + group_tests group
+  reads_are : (p : List ℕ) (n : ℕ) → reads link (group_formula link more) p n ≡ either (reads link (entry_formula link e) p n) (reads link (group_formula link group) p n)
 
-taken : (link : Link) (q : CompleteQualifiers) (v : Value) (group more : Group) → Kept group → larger_group q v group ≡ Some more → Taken link q v group more
-taken link q v group more k e = by_case (case_of q.value_type q.protocol q.direction v) refl e
-  where
-    by_test : (x : Group) (t : Bool) → (t ≡ true → Kept x) → x.entries ≡ entry q v ∷ group.entries → (if t then Some x else None) ≡ Some more → Taken link q v group more
-    by_test x false kept is e = cc
-    by_test x true kept is e =
-        let tests = ap entries_tests is in
-        let long = ap length is in
-        each_is (Some x) (Taken link q v group) more (record {
-          kept = kept refl;
-          some = omega arith;
-          tests_fit = omega arith;
-          reads_are = λ p n. group_rows link p n x (kept refl) ∙ ap (λ es. reads link (rows_formula link es) p n) is ∙ rows_put link p n q v group.entries ∙ ap (either _) (sym (group_rows link p n group k));
-        }) e
+module _ (link : Link) (group more : Group) (k : Kept group) where
+  by_test : (e : Entry) (x : Group) (t : Bool) → (t ≡ true → Kept x) → x.entries ≡ e ∷ group.entries → (if t then Some x else None) ≡ Some more → Taken link e group more
+  by_test e x false kept is some = cc
+  by_test e x true kept is some =
+      let tests = ap entries_tests is in
+      let long = ap length is in
+      each_is (Some x) (Taken link e group) more (record {
+        kept = kept refl;
+        some = omega arith;
+        tests_fit = omega arith;
+        reads_are = λ p n. group_rows link p n x (kept refl) ∙ ap (λ es. reads link (rows_formula link es) p n) is ∙ rows_put link p n e group.entries ∙ ap (either _) (sym (group_rows link p n group k));
+      }) some
 
-    by_member : (o : Option Interval) → member_of q.value_type v ≡ o → group_and q v group o ≡ Some more → Taken link q v group more
-    by_member None w e = cc
-    by_member (Some m) w e = by_test (with_member q v m group) (goes_with q group group.entries) (λ g. kept_with q v m group k g w) refl e
+  by_member : (q : CompleteQualifiers) (v : Value) (o : Option Interval) → member_of q.value_type v ≡ o → group_and q v group o ≡ Some more → Taken link (entry q v) group more
+  by_member q v None w e = cc
+  by_member q v (Some m) w e = by_test (entry q v) (with_member q v m group) (goes_with q group group.entries) (λ g. kept_with q v m group k g w) refl e
 
-    by_case : (o : Option Case) → case_of q.value_type q.protocol q.direction v ≡ o → larger_by q v group o ≡ Some more → Taken link q v group more
-    by_case None w e = by_member (member_of q.value_type v) refl e
-    by_case (Some c) w e = by_test (with_case q v c group) (case_goes_with c q.direction group group.entries) (λ g. kept_with_case q v c group k g w) refl e
+  by_case : (q : CompleteQualifiers) (v : Value) (o : Option Case) → case_of q.value_type q.protocol q.direction v ≡ o → larger_with q v group o ≡ Some more → Taken link (entry q v) group more
+  by_case q v None w e = by_member q v (member_of q.value_type v) refl e
+  by_case q v (Some c) w e =
+      by_test (entry q v) (with_case q (entry q v) c group) (case_goes_with c q.direction group group.entries)
+      (λ g. kept_with_case q (entry q v) c group k g (λ l.
+      let its = each_is (case_of q.value_type q.protocol q.direction v) (IsCase l q.value_type q.protocol q.direction v) c (case_is l q.value_type q.protocol q.direction v) w in
+      (its.0, its.1, λ p n. value_same l p n q.value_type q.protocol q.direction v ∙ its.2 p n))) refl e
+
+  taken : (e : Entry) → larger_group e group ≡ Some more → Taken link e group more
+  taken (Entry.Value q v) some = by_case q v (case_of q.value_type q.protocol q.direction v) refl some
+  taken (Entry.Relation r) some =
+      by_test (Entry.Relation r) (with_case no_group.qualifiers (Entry.Relation r) (Case.Relation r) group) (case_goes_with (Case.Relation r) no_group.qualifiers.direction group group.entries)
+      (λ g. kept_with_case no_group.qualifiers (Entry.Relation r) (Case.Relation r) group k g (λ l. (let few = fronts_few l r.protocol in (few, omega arith, λ p n. refl)))) refl some
 
 sized_sizes : (s : Size) (n : ℕ) → Sized (sized_formula s n) 2 1 1
-sized_sizes Size.Less n = record { nodes_are = refl; words_are = refl; searches = tt; tests_fit = omega arith }
-sized_sizes _ n = record { nodes_are = refl; words_are = refl; searches = tt; tests_fit = omega arith }
+sized_sizes Size.Less n = record { nodes_fit = omega arith; words_fit = omega arith; searches = tt; tests_fit = omega arith }
+sized_sizes _ n = record { nodes_fit = omega arith; words_fit = omega arith; searches = tt; tests_fit = omega arith }
 
-value_stands : (link : Link) (q : CompleteQualifiers) (v : Value) (group : Group) → Kept group → (o : Option Group) → larger_group q v group ≡ o → Stands link (choice o (λ more. group_formula link more) (or_group link (qualified_needed link q v) group)) (qualified q v) group
-value_stands link q v group k None e =
-    or_stands link (qualified_needed link q v) (qualified q v) group k (bare_needed link q.value_type q.protocol q.direction v) (λ p n. value_same link p n q.value_type q.protocol q.direction v)
-value_stands link q v group k (Some more) e =
-    let t = taken link q v group more k e in record { counts = bare_within _ t.tests_fit (group_bare link more t.kept t.some); reads_are = t.reads_are }
+-- an entry, or a truth that is none
+leaf_stands : (link : Link) (a : TruthTree) (f : Formula) (group : Group) → Kept group → Sized f (count.truth_size a) (count.truth_words a) (count.truth_tests a) → ((p : List ℕ) (n : ℕ) → reads link f p n ≡ reads link (formula link a) p n) → (o : Option Entry) → Each o (IsEntry link a) → Stands link (leaf_formula link o f group) a group
+leaf_stands link a f group k sizes same None is = or_stands link f a group k sizes same
+leaf_stands link a f group k sizes same (Some e) is = by (larger_group e group) refl
+  where
+    by : (o : Option Group) → larger_group e group ≡ o → Stands link (choice o (group_formula link) (or_group link (entry_formula link e) group)) a group
+    by None none =
+        let b = entry_bare link e in
+        or_stands link (entry_formula link e) a group k (record { nodes_fit = omega (arith, b.nodes_fit); words_fit = omega (arith, b.words_fit); searches = b.searches; tests_fit = omega (arith, b.tests_fit, is.few) }) is.same
+    by (Some more) some =
+        let t = taken link group more k e some in
+        let b = group_bare link more t.kept t.some in
+        record {
+          counts = record { nodes_fit = omega (arith, b.nodes_fit); words_fit = omega (arith, b.words_fit); searches = b.searches; tests_fit = omega (arith, b.tests_fit, t.tests_fit, is.few) };
+          reads_are = λ p n. t.reads_are p n ∙ ap (λ r. either r (reads link (group_formula link group) p n)) (is.same p n);
+        }
 
-either_stands : (link : Link) (a b : TruthTree) (group : Group) → Kept group → (o p : Option Group) → truth_member b group ≡ o → truth_member b no_group ≡ p → Stands link (grouped_formula link no_group a) a no_group → Stands link (grouped_formula link group b) b group → ((more : Group) → Kept more → Stands link (grouped_formula link more a) a more) → Stands link (choice o (λ more. grouped_formula link more a) (choice p (λ new. or_group link (grouped_formula link new a) group) (Either (grouped_formula link no_group a) (grouped_formula link group b)))) (joined Or a b) group
-either_stands link a b group k None None e i h g m = record {
-  counts = bare_within _ (omega arith) (bare_either h.counts g.counts);
-  reads_are = λ p n. ap₂ either (h.reads_are p n ∙ or_no _) (g.reads_are p n) ∙ sym (either_assoc (reads link (formula link a) p n) (reads link (formula link b) p n) _);
-}
-either_stands link a (qualified q v) group k None (Some new) e i h g m =
-    let t = taken link q v no_group new kept_none i in
-    let f = m new t.kept in
-    or_stands link (grouped_formula link new a) (joined Or a (qualified q v)) group k
-    (record { nodes_are = omega (arith, f.nodes_are); words_are = omega (arith, f.words_are); searches = f.searches; tests_fit = omega (arith, f.tests_fit, t.tests_fit) })
-    (λ p n. f.reads_are p n ∙ ap (either (reads link (formula link a) p n)) (t.reads_are p n ∙ or_no _))
-either_stands link a _ group k None (Some new) e i h g m = cc
-either_stands link a (qualified q v) group k (Some more) p e i h g m =
-    let t = taken link q v group more k e in
-    let f = m more t.kept in
-    record {
-      counts = record { nodes_are = omega (arith, f.nodes_are); words_are = omega (arith, f.words_are); searches = f.searches; tests_fit = omega (arith, f.tests_fit, t.tests_fit) };
-      reads_are = λ p n. f.reads_are p n ∙ ap (either (reads link (formula link a) p n)) (t.reads_are p n) ∙ sym (either_assoc (reads link (formula link a) p n) (reads link (qualified_formula link q v) p n) _);
-    }
-either_stands link a _ group k (Some more) p e i h g m = cc
+-- the second one of two truths may join the group after it, or begin another one
+module _ (link : Link) (a b : TruthTree) (group : Group) (k : Kept group) (f : Group → Formula) (g : Formula) (h : (more : Group) → Kept more → Stands link (f more) a more) (m : Stands link g b group) where
+  parted : Stands link (Either (f no_group) g) (joined Or a b) group
+  parted =
+      let s = h no_group kept_none in
+      record {
+        counts = bare_within _ (omega arith) (bare_either s.counts m.counts);
+        reads_are = λ p n. ap₂ either (s.reads_are p n ∙ or_no (reads link (formula link a) p n)) (m.reads_are p n) ∙ sym (either_assoc (reads link (formula link a) p n) (reads link (formula link b) p n) (reads link (group_formula link group) p n));
+      }
+
+  -- both with a group that the second one joins
+  joins : (e : Entry) → IsEntry link b e → (old more : Group) → Kept old → larger_group e old ≡ Some more → Stands link (f more) (joined Or a b) old
+  joins e is old more kept some =
+      let t = taken link old more kept e some in
+      let s = h more t.kept in
+      record {
+        counts = record { nodes_fit = omega (arith, s.nodes_fit); words_fit = omega (arith, s.words_fit); searches = s.searches; tests_fit = omega (arith, s.tests_fit, t.tests_fit, is.few) };
+        reads_are = λ p n. s.reads_are p n ∙ ap (either (reads link (formula link a) p n)) (t.reads_are p n ∙ ap (λ r. either r (reads link (group_formula link old) p n)) (is.same p n)) ∙ sym (either_assoc (reads link (formula link a) p n) (reads link (formula link b) p n) (reads link (group_formula link old) p n));
+      }
+
+  or_member : (e : Entry) → IsEntry link b e → (o p : Option Group) → larger_group e group ≡ o → larger_group e no_group ≡ p → Stands link (choice o f (choice p (λ new. or_group link (f new) group) (Either (f no_group) g))) (joined Or a b) group
+  or_member e is None None none alone = parted
+  or_member e is None (Some new) none begun =
+      let s = joins e is no_group new kept_none begun in
+      or_stands link (f new) (joined Or a b) group k (bare_within _ (omega arith) s.counts) (λ p n. s.reads_are p n ∙ or_no _)
+  or_member e is (Some more) p some q = joins e is group more k some
+
+  either_stands : (o : Option Entry) → Each o (IsEntry link b) → Stands link (choice (with o (λ e. larger_group e group)) f (choice (with o (λ e. larger_group e no_group)) (λ new. or_group link (f new) group) (Either (f no_group) g))) (joined Or a b) group
+  either_stands None is = parted
+  either_stands (Some e) is = or_member e is (larger_group e group) (larger_group e no_group) refl refl
 
 -- members that are looked for together change neither the reading nor what is counted
 pub grouped_stands : (link : Link) (a : TruthTree) (group : Group) → Kept group → any_primitive is_unfilled a ≡ false → Stands link (grouped_formula link group a) a group
@@ -556,15 +608,17 @@ grouped_stands link (cast p c) group k u = or_stands link (cast_formula link p c
 grouped_stands link (sized s n) group k u = or_stands link (sized_formula s n) (sized s n) group k (sized_sizes s n) (λ p m. refl)
 grouped_stands link (bare v) group k u = cc
 grouped_stands link (valued q v) group k u = cc
-grouped_stands link (qualified q v) group k u = value_stands link q v group k (larger_group q v group) refl
-grouped_stands link (compared c l r) group k u = or_stands link (relation_formula link c l r) (compared c l r) group k (relation_sizes link c l r) (λ p n. relation_same link p n c l r)
+grouped_stands link (qualified q v) group k u =
+    leaf_stands link (qualified q v) (qualified_needed link q v) group k (bare_needed link q.value_type q.protocol q.direction v) (λ p n. value_same link p n q.value_type q.protocol q.direction v) (Some (entry q v)) (entry_is link (qualified q v))
+grouped_stands link (compared c l r) group k u =
+    leaf_stands link (compared c l r) (relation_formula link c l r) group k (relation_sizes link c l r) (λ p n. relation_same link p n c l r) (entry_of (compared c l r)) (entry_is link (compared c l r))
 grouped_stands link (denied a) group k u =
     let h = grouped_stands link a no_group kept_none u in
-    or_stands link (Except (grouped_formula link no_group a)) (denied a) group k (record { nodes_are = h.nodes_are; words_are = h.words_are; searches = h.searches; tests_fit = omega (arith, h.tests_fit) }) (λ p n. ap negation (h.reads_are p n ∙ or_no _))
+    or_stands link (Except (grouped_formula link no_group a)) (denied a) group k (record { nodes_fit = h.nodes_fit; words_fit = h.words_fit; searches = h.searches; tests_fit = omega (arith, h.tests_fit) }) (λ p n. ap negation (h.reads_are p n ∙ or_no _))
 grouped_stands link (joined And a b) group k u =
     let parts = or_parts (any_primitive is_unfilled a) (any_primitive is_unfilled b) u in
     let h = grouped_stands link a no_group kept_none parts.0 in
     let g = grouped_stands link b no_group kept_none parts.1 in
     or_stands link (Both (grouped_formula link no_group a) (grouped_formula link no_group b)) (joined And a b) group k (bare_within _ (omega arith) (bare_both h.counts g.counts)) (λ p n. ap₂ both (h.reads_are p n ∙ or_no _) (g.reads_are p n ∙ or_no _))
 grouped_stands link (joined Or a b) group k u =
-    either_stands link a b group k (truth_member b group) (truth_member b no_group) refl refl (grouped_stands link a no_group kept_none (or_parts _ _ u).0) (grouped_stands link b group k (or_parts _ _ u).1) (λ more j. grouped_stands link a more j (or_parts _ _ u).0)
+    either_stands link a b group k (λ more. grouped_formula link more a) (grouped_formula link group b) (λ more j. grouped_stands link a more j (or_parts _ _ u).0) (grouped_stands link b group k (or_parts _ _ u).1) (entry_of b) (entry_is link b)

@@ -21,6 +21,7 @@ pub mod Together
 pub mod Once
 pub mod Needed
 pub mod Grouping
+pub mod Relations
 pub mod Turned
 pub mod Masks
 pub mod Flushed

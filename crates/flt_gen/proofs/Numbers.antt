@@ -48,7 +48,6 @@ for_with (Some v) g f = refl
 module _ (p : List ℕ) (n : ℕ) where
   pub constant_is : (link : Link) (r : NumberTree) (k : ℕ) → constant r ≡ Some k → number link r p n ≡ Some k
   constant_is link (literal j) k e = e
-  constant_is link (named j) k e = e
   constant_is link _ k e = cc
 
   run_operator : (operator : Operator) (operand : Operand) (k : ℕ) (c : List Insn) (s : State) → answer_of (plain (computation operator operand) k ∷ c) p n 0 s ≡ answer_after (answer_of c p n) (into Accumulator (result_of operator s.accumulator (operand_value operand k s.index)) s)

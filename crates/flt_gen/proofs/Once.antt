@@ -4,13 +4,13 @@ use Rattle.flt_gen.proofs.Ascending.{if_case}
 use Rattle.flt_gen.proofs.Common.{◌≡◌, ℕ, ◌+◌, ◌≤◌, List, [], ◌∷◌, true, refl, sym, ap, ◌∙◌, arith, Comparison, Protocol, Ether, Tcp, NumberTree, load, negated, applied, compared, accessor_test_count, number_tests, truth_tests, Link, Elementary, MatchResult, Yes, elementary_reads, accessors, accessor_tests, Formula, Compare, both, reads, guarded_formula, checked_formula, tests, nodes, words, equals, without_protocol, protocols_of, relation_formula, formula}
 use Rattle.flt_gen.proofs.Counted.{Sized, bare_within, bare_after}
 
-equal_are : (p q : Protocol) → equals p q ≡ true → p ≡ q
+pub equal_are : (p q : Protocol) → equals p q ≡ true → p ≡ q
 equal_are Ether Ether e = cc
 equal_are _ Ether e = cc
 equal_are _ _ e = cc
 
 -- the tests of accessors add neither nodes nor words, and search for nothing
-guarded_sizes : {s w : ℕ} (ts : List Elementary) (f : Formula) → Sized f s w (tests f) → Sized (guarded_formula ts f) s w (tests (guarded_formula ts f))
+pub guarded_sizes : {s w : ℕ} (ts : List Elementary) (f : Formula) → Sized f s w (tests f) → Sized (guarded_formula ts f) s w (tests (guarded_formula ts f))
 guarded_sizes [] f h = h
 guarded_sizes (t ∷ ts) f h = bare_after (guarded_sizes ts f h)
 
@@ -19,7 +19,7 @@ checked_sizes link [] f h = h
 checked_sizes link (p ∷ ps) f h = guarded_sizes (accessor_tests link p) (checked_formula link ps f) (checked_sizes link ps f h)
 
 -- no more tests
-accessor_tests_are : (link : Link) (p : Protocol) (f : Formula) → tests (guarded_formula (accessor_tests link p) f) ≡ accessor_test_count p + tests f
+pub accessor_tests_are : (link : Link) (p : Protocol) (f : Formula) → tests (guarded_formula (accessor_tests link p) f) ≡ accessor_test_count p + tests f
 accessor_tests_are link Tcp f = omega arith
 accessor_tests_are link _ f = omega arith
 
@@ -48,7 +48,7 @@ pub relation_sizes : (link : Link) (c : Comparison) (l r : NumberTree) → Sized
 relation_sizes link c l r =
     let h = protocols_tests link l (protocols_of r []) (Compare c l r) in
     let k = protocols_tests link r [] (Compare c l r) in
-    bare_within _ (omega arith) (checked_sizes link (protocols_of l (protocols_of r [])) (Compare c l r) (record { nodes_are = refl; words_are = refl; searches = tt; tests_fit = omega arith }))
+    bare_within _ (omega arith) (checked_sizes link (protocols_of l (protocols_of r [])) (Compare c l r) (record { nodes_fit = omega arith; words_fit = omega arith; searches = tt; tests_fit = omega arith }))
 
 -- the same reading
 pub both_again : (a b r : MatchResult) → both a (both b r) ≡ both (both a b) r
@@ -61,14 +61,14 @@ if_yes Yes r s h = h refl
 if_yes _ r s h = refl
 
 module _ (link : Link) (p : List ℕ) (n : ℕ) where
-  abbrev all_read : List Elementary → MatchResult
+  abbrev pub all_read : List Elementary → MatchResult
   all_read [] = Yes
   all_read (t ∷ ts) = both (elementary_reads t p) (all_read ts)
 
   abbrev told : Protocol → MatchResult
   told q = all_read (accessor_tests link q)
 
-  guarded_read : (ts : List Elementary) (f : Formula) → reads link (guarded_formula ts f) p n ≡ both (all_read ts) (reads link f p n)
+  pub guarded_read : (ts : List Elementary) (f : Formula) → reads link (guarded_formula ts f) p n ≡ both (all_read ts) (reads link f p n)
   guarded_read [] f = refl
   guarded_read (t ∷ ts) f = ap (λ r. both (elementary_reads t p) r) (guarded_read ts f) ∙ both_again (elementary_reads t p) (all_read ts) (reads link f p n)
 

@@ -1,5 +1,5 @@
 -- The wide code of an expression decides it, within its bounds; and so does what replaces it.
-use Rattle.flt_gen.proofs.Common.{◌≡◌, ℕ, ◌+◌, ◌-◌, ◌*◌, ◌≤◌, List, [], ◌∷◌, length, drop, take, false, cond, Some, None, refl, sym, ap, ◌∙◌, subst, arith, fold, length-drop, ◌≢◌, ◌↔◌, reverse, All-cons, All-drop, All-nil, sum_by-take-drop, Insn, ReturnConstant, answer_of, IsFaultless, IsValidUnlessLong, is_branch, JUMP, HasNoJump, IsShort, start, valid_if_short, faultless_drop, ends_drop, answer_drop, machine_answers, Node, tests_of, nodes_of, words_of, bound_of, expr_nodes, is_unfilled, some_primitive, Expression, empty, truth, Link, MatchResult, Yes, plain, IsProgramOf, short_bound_of, holds, with_folded, folded_expression, no_group, grouped_formula, returns_code, expression_code, program_code, emit_nodes, start_walk, insns_of}
+use Rattle.flt_gen.proofs.Common.{◌≡◌, ℕ, ◌+◌, ◌-◌, ◌*◌, ◌≤◌, List, [], ◌∷◌, length, drop, take, false, cond, Some, refl, sym, ap, ◌∙◌, subst, arith, fold, length-drop, ◌≢◌, ◌↔◌, reverse, All-cons, All-drop, All-nil, sum_by-take-drop, Insn, ReturnConstant, answer_of, IsValidUnlessLong, is_branch, JUMP, HasNoJump, IsShort, start, valid_if_short, faultless_drop, ends_drop, answer_drop, machine_answers, Node, tests_of, nodes_of, words_of, bound_of, expr_nodes, is_unfilled, some_primitive, Expression, empty, truth, Link, MatchResult, Yes, plain, IsProgramOf, short_bound_of, holds, with_folded, folded_expression, no_group, grouped_formula, returns_code, expression_code, program_code, emit_nodes, start_walk, insns_of}
 use Rattle.flt_gen.proofs.Folded.{words_no_more, bound_no_more, short_no_more, filled_folded, nodes_folded, holds_folded}
 use Rattle.flt_gen.proofs.Grouping.{kept_none, grouped_stands}
 use Rattle.flt_gen.proofs.Exclusive.{or_no}
@@ -54,15 +54,15 @@ fits : (link : Link) (e : Expression) → some_primitive is_unfilled e ≡ false
 fits link empty filled few = fits_more _ _ (omega arith) (omega arith) (record { grows = grows_none returns_sound; entry = record { low = omega arith; upper_bound = omega arith } })
 fits link (truth a) filled few =
     let s = grouped_stands link a no_group kept_none filled in
-    fits_more _ _ (omega (arith, s.tests_fit, s.nodes_are)) (omega (arith, s.tests_fit, s.nodes_are))
-    (emitted_fits link (grouped_formula link no_group a) 2 1 returns_code (omega (arith, s.words_are)) s.searches returns_sound (record { low = omega arith; upper_bound = omega arith }) (record { low = omega arith; upper_bound = omega arith }))
+    fits_more _ _ (omega (arith, s.tests_fit, s.nodes_fit)) (omega (arith, s.tests_fit, s.nodes_fit))
+    (emitted_fits link (grouped_formula link no_group a) 2 1 returns_code (omega (arith, s.words_fit)) s.searches returns_sound (record { low = omega arith; upper_bound = omega arith }) (record { low = omega arith; upper_bound = omega arith }))
 
 leads : (link : Link) (e : Expression) → some_primitive is_unfilled e ≡ false → words_of e ≤ 16 → (p : List ℕ) (n : ℕ) → Leads p n HasWords (expression_code link e).code (expression_code link e).entry (pick (holds e link p n) 262144 0)
 leads link empty filled few p n = hit_leads p n
 leads link (truth a) filled few p n =
     let s = grouped_stands link a no_group kept_none filled in
     leads_to p n (ap (λ r. pick r 262144 0) (s.reads_are p n ∙ or_no _))
-    (emitted_leads p n link (grouped_formula link no_group a) 2 1 262144 0 returns_code (omega (arith, s.words_are)) s.searches (hit_leads p n) (miss_leads p n))
+    (emitted_leads p n link (grouped_formula link no_group a) 2 1 262144 0 returns_code (omega (arith, s.words_fit)) s.searches (hit_leads p n) (miss_leads p n))
 
 -- what is left of code
 branches_drop : (c : List Insn) (k : ℕ) → branches (drop k c) ≤ branches c

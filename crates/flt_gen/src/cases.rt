@@ -1,11 +1,11 @@
 //! Lists of MAC addresses, of addresses and networks of IPv6, and of protocol numbers, each on one
-//! side, as decision trees: the first words of the values are compared by halves, and then the next
-//! words of those that are left. Each test loads its word; `flt_short` leaves out the loads of what
-//! is in A. Hosts of IPv6 on either side are a tree for each side, if they differ only in the last
-//! word.
+//! side, and of relations of one accessor, as decision trees: the first words of the values are
+//! compared by halves, and then the next words of those that are left. Each test loads its word;
+//! `flt_short` leaves out the loads of what is in A. Hosts of IPv6 on either side are a tree for
+//! each side, if they differ only in the last word.
 
 ghost use Rattle.std.specs.Prelude.{◌≡◌, drop, OnOk};
-ghost use Rattle.flt_gen.specs.inside.Cases.{case_of, same_words, key_of, insert_case, case_frame};
+ghost use Rattle.flt_gen.specs.inside.Cases.{case_of, same_words, key_of, insert_case, case_front};
 ghost use Rattle.flt_gen.specs.inside.Cases.{case_tests, lowest, reach, word_test, keeps, all_keep};
 ghost use Rattle.flt_gen.specs.inside.Cases.{test_at, from_test, middle, is_parted, chain};
 ghost use Rattle.flt_gen.specs.inside.{Emits.Emits, Code.emit_all, Code.emit_formula};
@@ -17,7 +17,9 @@ use crate::code::{Code, Targets};
 use crate::elementary::{
     Elementary, FieldTest, FrameKind, has_ip_proto, has_ip6_proto, kind_test, network_offset,
 };
+use crate::number::emit_protocol_tests;
 use crate::protocol::mac_tests;
+use crate::relation::{Relation, relation_test};
 use cap_octet::Link;
 use flt_ast::{CompleteQualifiers, Direction, Value};
 use flt_words::{Comparison, Join, Protocol, Side, ValueType};
@@ -42,6 +44,7 @@ pub enum Case {
     EitherIp6(u128),
     IpProto(u32),
     Ip6Proto(u32),
+    Relation(Relation),
 }
 
 /// A bound of the numbers that a word may be.
@@ -89,6 +92,9 @@ pub fn same_words(one: Case, other: Case) -> bool
         | (Case::IpProto(_), Case::IpProto(_))
         | (Case::Ip6Proto(_), Case::Ip6Proto(_)) => true,
         (Case::EitherIp6(one), Case::EitherIp6(other)) => one / LAST_WORD == other / LAST_WORD,
+        (Case::Relation(one), Case::Relation(other)) => {
+            one.protocol == other.protocol && one.size == other.size && one.index == other.index
+        }
         _ => false,
     }
 }
@@ -101,6 +107,7 @@ pub fn key_of(case: Case) -> u128
         Case::Mac(address) => address.into(),
         Case::Ip6(_, address) | Case::EitherIp6(address) => address,
         Case::IpProto(number) | Case::Ip6Proto(number) => number.into(),
+        Case::Relation(relation) => relation.number.into(),
     }
 }
 
@@ -112,17 +119,6 @@ pub fn put_case<A: Allocator>(cases: &mut Vec<Case, A>, new: Case) -> Result<(),
     let at = cases.iter().filter(|case| key_of(**case) < key).count();
     cases.insert(at, new)?;
     Ok(())
-}
-
-/// The frames in which a case may be.
-fn case_frame(case: Case) -> FrameKind
-    ensures { result ≡ case_frame case }
-{
-    match case {
-        Case::Mac(_) => FrameKind::Ethernet,
-        Case::Ip6(_, _) | Case::EitherIp6(_) | Case::Ip6Proto(_) => FrameKind::Ip6,
-        Case::IpProto(_) => FrameKind::Ip,
-    }
 }
 
 /// The test of a word of a case; `None` past its last one.
@@ -147,6 +143,7 @@ fn word_test(link: Link, direction: Direction, case: Case, word: usize) -> Optio
         }
         (Case::IpProto(number), 0) => Some(has_ip_proto(link, number)),
         (Case::Ip6Proto(number), 0) => Some(has_ip6_proto(link, number)),
+        (Case::Relation(relation), 0) => Some(relation_test(link, relation)),
         _ => None,
     }
 }
@@ -385,14 +382,34 @@ impl<A: Allocator> Code<A> {
     {
         match one {
             Case::EitherIp6(_) => self.emit_either_ip6(link, key, cases, to),
-            Case::Mac(_) | Case::Ip6(_, _) | Case::IpProto(_) | Case::Ip6Proto(_) => {
+            Case::Mac(_)
+            | Case::Ip6(_, _)
+            | Case::IpProto(_)
+            | Case::Ip6Proto(_)
+            | Case::Relation(_) => {
                 self.emit_decision(MOST_DECISIONS, link, direction, 0, cases, to)
             }
         }
     }
 
-    /// Emits cases that look for a value, in the frames in which they may be; `key` is that of the
-    /// first in the expression. Returns the place where the code begins.
+    /// Emits the tests in front of cases with the words of this one: the frames in which they may be,
+    /// or the tests that an accessor needs.
+    fn emit_front(&mut self, link: Link, case: Case, to: Targets) -> Result<usize, AllocError>
+        ensures { Emits result (emit_all (case_front link case) to.yes to.no self.old) self.new }
+    {
+        let kind = match case {
+            Case::Mac(_) => FrameKind::Ethernet,
+            Case::Ip6(_, _) | Case::EitherIp6(_) | Case::Ip6Proto(_) => FrameKind::Ip6,
+            Case::IpProto(_) => FrameKind::Ip,
+            Case::Relation(relation) => {
+                return emit_protocol_tests(self, link, relation.protocol, to);
+            }
+        };
+        self.emit_elementary(kind_test(link, kind), to)
+    }
+
+    /// Emits cases that look for a value, after the tests in front of them; `key` is that of the first
+    /// in the expression. Returns the place where the code begins.
     pub fn emit_cases(
         &mut self,
         link: Link,
@@ -408,9 +425,6 @@ impl<A: Allocator> Code<A> {
             return Ok(to.no);
         };
         let yes = self.emit_cases_like(link, direction, key, *first, cases, to)?;
-        self.emit_elementary(
-            kind_test(link, case_frame(*first)),
-            Targets { yes, no: to.no },
-        )
+        self.emit_front(link, *first, Targets { yes, no: to.no })
     }
 }

@@ -1,5 +1,5 @@
-//! Simplifies the nodes of an expression before code is emitted for them. Arithmetic on constants
-//! becomes one number, unless it divides by 0; and `not a and not b` becomes `not (a or b)`, so
+//! Simplifies the nodes of an expression before code is emitted for them. Names and arithmetic on
+//! constants become one number, unless it divides by 0; and `not a and not b` becomes `not (a or b)`, so
 //! that `a` and `b` can be looked for together.
 
 ghost use Rattle.std.specs.Option.{IfSome};
@@ -15,12 +15,12 @@ use flt_bpf::compute;
 use flt_words::{Join, Operator};
 use std::alloc::{AllocError, Allocator};
 
-/// The number that a node is, or `None` for other nodes.
+/// The number that a node is, or `None` for other nodes. No names are left of the nodes before.
 fn node_constant(node: Node) -> Option<u32>
     ensures { result ≡ node_constant node }
 {
     match node {
-        Node::Literal(number) | Node::Named(number) => Some(number),
+        Node::Literal(number) => Some(number),
         _ => None,
     }
 }
@@ -197,6 +197,7 @@ fn push_folded<A: Allocator>(
     ensures { OnOk result (nodes.new ≡ with_folded nodes.old node) }
 {
     match node {
+        Node::Named(number) => nodes.push(Node::Literal(number)),
         Node::Join(Join::And) => push_conjunction(nodes, held),
         Node::Negate => push_negation(nodes),
         Node::Apply(operator) => push_operator(nodes, operator),

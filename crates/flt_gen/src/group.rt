@@ -1,4 +1,5 @@
-//! Groups of addresses, ports or protocols, which one search or decision tree looks for together.
+//! Groups of addresses, ports, protocols or relations, which one search or decision tree looks for
+//! together.
 //! The walk adds the members from the last one in the expression to the first.
 
 ghost use Rattle.std.specs.Prelude.{◌≡◌, ◌≤◌, [], if◌then◌else◌, Some, None, length, IfOk, OnOk};
@@ -10,13 +11,16 @@ ghost use Rattle.flt_gen.specs.inside.Group.{rows_formula, several_formula, is_a
 ghost use Rattle.flt_gen.specs.inside.{Cases.case_of, Emits.EmitsFormula};
 ghost use Rattle.flt_gen.specs.inside.Intervals.{insert_ascending};
 ghost use Rattle.flt_gen.specs.inside.Group.{has_networks, case_goes_with, with_case};
+ghost use Rattle.flt_gen.specs.inside.Group.{larger_by, entry_formula};
 
 use crate::address::Hosts;
 use crate::cases::{Case, case_of, key_of, put_case, same_words};
 use crate::code::{Code, Targets};
 use crate::elementary::Interval;
 use crate::intervals::{Numbers, Room};
+use crate::number::emit_protocol_tests;
 use crate::port::{PortTest, Ports};
+use crate::relation::{Relation, relation_test};
 use crate::stack::Stack;
 use cap_octet::Link;
 use flt_ast::{CompleteQualifiers, Direction, NetMask, Value};
@@ -35,17 +39,18 @@ const FEWEST_RANGES: usize = 3;
 /// How many cases are decided together at least: fewer are shorter one after the other.
 const FEWEST_CASES: usize = 8;
 
-/// A member: a value with its qualifiers.
+/// A member: a value with its qualifiers, or a relation.
 #[derive(Clone, Copy)]
-pub struct Entry {
-    pub qualifiers: CompleteQualifiers,
-    pub value: Value,
+pub enum Entry {
+    Value(CompleteQualifiers, Value),
+    Relation(Relation),
 }
 
-/// Addresses, ports or protocols with the same qualifiers, as far as these count.
+/// Addresses, ports or protocols with the same qualifiers, as far as these count, or relations of
+/// one accessor.
 #[derive(Drop)]
 pub struct Group<A: Allocator> {
-    /// Those of the value that stands first in the expression.
+    /// Those of the value that stands first in the expression. With relations they decide nothing.
     qualifiers: CompleteQualifiers,
     /// Whether each member is one number.
     is_plain: bool,
@@ -240,12 +245,10 @@ impl<A: Allocator> Group<A> {
     fn add_case(
         &mut self,
         qualifiers: CompleteQualifiers,
-        value: Value,
+        entry: Entry,
         case: Case,
     ) -> Result<bool, AllocError>
-        ensures taken { IfOk result (λ taken.
-            (if case_goes_with case qualifiers.direction self.old self.old.entries
-            then Some (with_case qualifiers value case self.old) else None)
+        ensures taken { IfOk result (λ taken. larger_by qualifiers entry case self.old
             ≡ (if taken then Some self.new else None)) }
         ensures same { IfOk result (λ taken. self.new ≡ (if taken then self.new else self.old)) }
     {
@@ -253,26 +256,32 @@ impl<A: Allocator> Group<A> {
             return Ok(false);
         }
         put_case(&mut self.cases, case)?;
-        self.entries.push(Entry { qualifiers, value })?;
+        self.entries.push(entry)?;
         self.qualifiers = qualifiers;
         self.first_key = key_of(case);
         Ok(true)
     }
 
-    /// Adds a value, which comes before the members in the expression, if it can be a member and
+    /// Adds an entry, which comes before the members in the expression, if it can be a member and
     /// goes with them. Returns `false` if it isn't added.
-    pub fn add(&mut self, qualifiers: CompleteQualifiers, value: Value) -> Result<bool, AllocError>
-        ensures taken { IfOk result (λ taken. larger_group qualifiers value self.old
+    pub fn add(&mut self, entry: Entry) -> Result<bool, AllocError>
+        ensures taken { IfOk result (λ taken. larger_group entry self.old
             ≡ (if taken then Some self.new else None)) }
         ensures same { IfOk result (λ taken. self.new ≡ (if taken then self.new else self.old)) }
     {
+        let (qualifiers, value) = match entry {
+            Entry::Value(qualifiers, value) => (qualifiers, value),
+            Entry::Relation(relation) => {
+                return self.add_case(NO_QUALIFIERS, entry, Case::Relation(relation));
+            }
+        };
         if let Some(case) = case_of(qualifiers, value) {
-            return self.add_case(qualifiers, value, case);
+            return self.add_case(qualifiers, entry, case);
         }
         match member_of(qualifiers.value_type, value) {
             Some(new) if self.goes_with(qualifiers) => {
                 put_among(&mut self.all, new)?;
-                self.entries.push(Entry { qualifiers, value })?;
+                self.entries.push(entry)?;
                 self.qualifiers = qualifiers;
                 self.is_plain = new.low == new.high && self.is_plain;
                 self.first = new;
@@ -355,9 +364,22 @@ impl<A: Allocator> Code<A> {
         let mut no = to.no;
         for entry in entries {
             let to = Targets { yes: to.yes, no };
-            no = self.emit_value(link, entry.qualifiers, entry.value, to)?;
+            no = self.emit_entry(link, *entry, to)?;
         }
         Ok(no)
+    }
+
+    /// Emits a member by itself.
+    pub fn emit_entry(&mut self, link: Link, entry: Entry, to: Targets) -> Result<usize, AllocError>
+        ensures { EmitsFormula link (entry_formula link entry) to self.old result self.new }
+    {
+        match entry {
+            Entry::Value(qualifiers, value) => self.emit_value(link, qualifiers, value, to),
+            Entry::Relation(relation) => {
+                let yes = self.emit_elementary(relation_test(link, relation), to)?;
+                emit_protocol_tests(self, link, relation.protocol, Targets { yes, no: to.no })
+            }
+        }
     }
 }
 

@@ -9,8 +9,9 @@
 //!   code, which grows from its last instruction to its first; `emit` has the code of a test,
 //!   `among` that of a search, and `cases` that of a decision tree.
 //! - `protocol`, `address` and `port` emit the rows of the table of primitives
-//!   (`specs/Primitives.antt`); `group` emits hosts or ports that are looked for together, whose
-//!   numbers are `intervals`, and `value` any other value.
+//!   (`specs/Primitives.antt`); `group` emits members of a list, which are looked for together; the
+//!   numbers of hosts or ports are `intervals`. `value` emits any other value, and `relation` a
+//!   comparison that may be a member.
 //! - `stack` is the stack that these use, and `laws` has laws of the table of primitives.
 #![tactic(auto)]
 
@@ -28,6 +29,7 @@ mod number;
 mod port;
 mod program;
 mod protocol;
+mod relation;
 mod stack;
 mod value;
 mod waiting;

@@ -134,7 +134,7 @@ pub fn emit_accessor<A: Allocator>(
 
 /// Emits the tests of what must hold of a packet before a protocol's bytes are read. Returns the
 /// place where they begin.
-fn emit_protocol_tests<A: Allocator>(
+pub fn emit_protocol_tests<A: Allocator>(
     code: &mut Code<A>,
     link: Link,
     protocol: Protocol,

@@ -22,20 +22,21 @@
 ghost use Rattle.std.specs.Prelude.{◌≡◌, true, Some, None, if◌then◌else◌, OnOk, IfOk, reverse};
 ghost use Rattle.flt_gen.specs.inside.Walk.{start_walk, insns_of, emit_nodes, emit_both_nodes};
 ghost use Rattle.flt_gen.specs.inside.Walk.{emit_load_at, emit_operator_with, emit_comparison_with};
-ghost use Rattle.flt_gen.specs.inside.Walk.{emit_node, emit_join, emit_value, emit_truth_node};
+ghost use Rattle.flt_gen.specs.inside.Walk.{emit_node, emit_join, emit_entry, emit_truth_node};
 ghost use Rattle.flt_gen.specs.inside.Walk.{emit_apart, is_truth_node, begin_right, flush_group};
 ghost use Rattle.flt_gen.specs.inside.Walk.{finish_formula, finish_truth, is_number_node};
 ghost use Rattle.flt_gen.specs.inside.Walk.{emit_leaf, begin_operands, finish_number};
-ghost use Rattle.flt_gen.specs.inside.{Code.block, Walk.finish_relation, Emitted.qualified_needed};
+ghost use Rattle.flt_gen.specs.inside.{Code.block, Walk.finish_relation, Group.entry_formula};
 ghost use Rattle.flt_gen.specs.inside.Group.{no_group, larger_group, group_formula};
 ghost use Rattle.cap_octet.specs.declared.link.Link.{Link};
 
 use crate::code::{Code, Targets};
-use crate::group::Group;
+use crate::group::{Entry, Group};
 use crate::number::{
     accessor_offset, computation, emit_accessor, emit_accessor_tests, emit_operands,
     takes_constant, width_of,
 };
+use crate::relation::last_relation;
 use crate::stack::Stack;
 use crate::waiting::{LeftTruth, Pending, Waiting, add_accessor};
 use cap_octet::Link;
@@ -66,7 +67,7 @@ pub struct Walk<A: Allocator> {
     /// The protocols of the relation's accessors, each once; that of the leftmost one is the
     /// latest.
     accessors: Stack<Protocol, A>,
-    /// Hosts or ports that are tested in front of the code, and whose code isn't there yet.
+    /// Members of a list that are tested in front of the code, and whose code isn't there yet.
     group: Group<A>,
     /// Whether the last node was an `or`, whose right operand is next.
     pending: Pending,
@@ -117,6 +118,11 @@ impl<A: Allocator + Clone> Walk<A> {
         let mut left = nodes.len();
         // The label names the loop in its proof.
         'nodes: while left > 0 {
+            if let Some(relation) = last_relation(&nodes[..left]) {
+                self.emit_entry(link, relation)?;
+                left -= 4;
+                continue;
+            }
             left -= 1;
             if left == 0 {
                 self.emit_node(link, &nodes[left])?;
@@ -137,14 +143,12 @@ impl<A: Allocator + Clone> Walk<A> {
         ensures same { IfOk result (λ fits. self.new ≡ (if fits then self.new else self.old)) }
     {
         match (node, right) {
-            (Node::Apply(operator), Node::Literal(n) | Node::Named(n)) => {
-                self.emit_operator_with(*operator, *n)
-            }
-            (Node::Compare(comparison), Node::Literal(n) | Node::Named(n)) => {
+            (Node::Apply(operator), Node::Literal(n)) => { self.emit_operator_with(*operator, *n) }
+            (Node::Compare(comparison), Node::Literal(n)) => {
                 self.emit_comparison_with(link, *comparison, *n)?;
                 Ok(true)
             }
-            (Node::Load(protocol, size), Node::Literal(n) | Node::Named(n)) => {
+            (Node::Load(protocol, size), Node::Literal(n)) => {
                 self.emit_load_at(link, *protocol, *size, *n)?;
                 Ok(true)
             }
@@ -206,7 +210,10 @@ impl<A: Allocator + Clone> Walk<A> {
     {
         match node {
             Node::Join(join) => self.emit_join(link, *join),
-            Node::Qualified(qualifiers, value) => self.emit_value(link, *qualifiers, *value),
+            Node::Qualified(qualifiers, value) => self.emit_entry(
+                link,
+                Entry::Value(*qualifiers, *value),
+            ),
             Node::Literal(_)
             | Node::Named(_)
             | Node::Len
@@ -238,20 +245,15 @@ impl<A: Allocator + Clone> Walk<A> {
         }
     }
 
-    /// Emits a value with all its qualifiers. A host or port that goes with the group of those
-    /// after it joins it: as the right operand of an `or` it waits there for one more; else the
-    /// group is emitted. Any other value comes after the group that waits: as the right operand
-    /// of an `or` it begins a new group if it may be a member, and else it is emitted by itself.
-    fn emit_value(
-        &mut self,
-        link: Link,
-        qualifiers: CompleteQualifiers,
-        value: Value,
-    ) -> Result<(), AllocError>
-        ensures { OnOk result (self.new ≡ emit_value link qualifiers value self.old
-            (larger_group qualifiers value self.old.group)) }
+    /// Emits a value or a relation. One that goes with the group of those after it joins it: as the
+    /// right operand of an `or` it waits there for one more; else the group is emitted. Any other
+    /// comes after the group that waits: as the right operand of an `or` it begins a new group if it
+    /// may be a member, and else it is emitted by itself.
+    fn emit_entry(&mut self, link: Link, entry: Entry) -> Result<(), AllocError>
+        ensures { OnOk result (self.new ≡ emit_entry link entry self.old
+            (larger_group entry self.old.group)) }
     {
-        if self.group.add(qualifiers, value)? {
+        if self.group.add(entry)? {
             if let Pending::Or = self.pending {
                 self.pending = Pending::Nothing;
                 return Ok(());
@@ -260,25 +262,20 @@ impl<A: Allocator + Clone> Walk<A> {
         }
         let pending = self.pending;
         self.flush_group(link)?;
-        self.emit_apart(link, pending, qualifiers, value)
+        self.emit_apart(link, pending, entry)
     }
 
-    /// Emits a value that doesn't go with the group after it, whose code is emitted by now.
-    fn emit_apart(
-        &mut self,
-        link: Link,
-        pending: Pending,
-        qualifiers: CompleteQualifiers,
-        value: Value,
-    ) -> Result<(), AllocError>
-        ensures { OnOk result (self.new ≡ emit_apart link qualifiers value self.old pending
-            (larger_group qualifiers value self.old.group)) }
+    /// Emits a value or a relation that doesn't go with the group after it, whose code is emitted by
+    /// now.
+    fn emit_apart(&mut self, link: Link, pending: Pending, entry: Entry) -> Result<(), AllocError>
+        ensures { OnOk result (self.new ≡ emit_apart link entry self.old pending
+            (larger_group entry self.old.group)) }
     {
         match pending {
-            Pending::Nothing => self.emit_alone(link, qualifiers, value),
+            Pending::Nothing => self.emit_alone(link, entry),
             Pending::Or => {
-                if !self.group.add(qualifiers, value)? {
-                    return self.emit_alone(link, qualifiers, value);
+                if !self.group.add(entry)? {
+                    return self.emit_alone(link, entry);
                 }
                 // The left operand, which `flush_group` made wait, may be a member too.
                 self.truths.pop();
@@ -287,18 +284,12 @@ impl<A: Allocator + Clone> Walk<A> {
         }
     }
 
-    /// Emits a value by itself.
-    fn emit_alone(
-        &mut self,
-        link: Link,
-        qualifiers: CompleteQualifiers,
-        value: Value,
-    ) -> Result<(), AllocError>
-        ensures { OnOk result (self.new ≡ finish_formula link
-            (qualified_needed link qualifiers value) self.old) }
+    /// Emits a value or a relation by itself.
+    fn emit_alone(&mut self, link: Link, entry: Entry) -> Result<(), AllocError>
+        ensures { OnOk result (self.new ≡ finish_formula link (entry_formula link entry) self.old) }
     {
-        let entry = self.code.emit_value(link, qualifiers, value, self.to)?;
-        self.finish_truth(entry);
+        let place = self.code.emit_entry(link, entry, self.to)?;
+        self.finish_truth(place);
         Ok(())
     }
 

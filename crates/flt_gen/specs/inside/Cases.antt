@@ -1,6 +1,7 @@
--- Lists of MAC addresses, of addresses and networks of IPv6, and of protocol numbers, as decision
--- trees: the first words are compared by halves, and then the next words of those that are left.
--- Hosts of IPv6 on either side that differ only in the last word are a tree for each side.
+-- Lists of MAC addresses, of addresses and networks of IPv6, of protocol numbers, and of relations of
+-- one accessor, as decision trees: the first words are compared by halves, and then the next words
+-- of those that are left. Hosts of IPv6 on either side that differ only in the last word are a tree
+-- for each side.
 use Rattle.std.specs.List.{list_all, insert}
 use Rattle.std.specs.Prelude.{ℕ, zero, suc, ◌+◌, ◌-◌, ◌/◌, ◌^◌, ◌==◌, ◌&&◌, nat_lt, nat_le, Bool, true, false, if◌then◌else◌, List, [], ◌∷◌, length, take, drop, slice_get, count_by, Option, Some, None}
 use Rattle.flt_words.specs.declared.token.{Comparison.TheVariants.AtLeast, Protocol.Protocol}
@@ -10,8 +11,9 @@ use Rattle.flt_words.specs.declared.token.ValueType.TheVariants.{Host, Net, Prot
 use Rattle.flt_ast.specs.declared.{qualifiers.Direction.Direction, value.Value.Value}
 use Rattle.cap_octet.specs.{Link.network_offset, declared.link.Link.Link}
 use Rattle.flt_gen.specs.Elementary.{with, kind_test, has_ip_proto, has_ip6_proto}
-use Rattle.flt_gen.specs.Formula.{Formula, Single, Both, Either, Split, all_of}
-use Rattle.flt_gen.specs.Primitives.{mac_tests, ip6_tests, after}
+use Rattle.flt_gen.specs.Formula.{Formula, Single, Both, Either, Split, all_of, guarded_formula}
+use Rattle.flt_gen.specs.{Numbers.accessor_tests, Primitives.mac_tests, Primitives.ip6_tests}
+use Rattle.flt_gen.specs.inside.{Emitted.equals, Relations.relation_test}
 use Rattle.flt_gen.specs.declared.cases.Bound.{Bound}
 use Rattle.flt_gen.specs.declared.cases.Bound.TheVariants.{Below, From, Exactly}
 use Rattle.flt_gen.specs.declared.cases.Case.{Case}
@@ -38,6 +40,8 @@ same_words (Ip6 m a) (Ip6 n b) = true
 same_words (IpProto a) (IpProto b) = true
 same_words (Ip6Proto a) (Ip6Proto b) = true
 same_words (EitherIp6 a) (EitherIp6 b) = a / 2 ^ 32 == b / 2 ^ 32
+same_words (Case.Relation a) (Case.Relation b) =
+    equals a.protocol b.protocol && (a.size == b.size && a.index == b.index)
 same_words _ _ = false
 
 -- the number by which cases ascend
@@ -47,18 +51,20 @@ key_of (Ip6 n a) = a
 key_of (EitherIp6 a) = a
 key_of (IpProto n) = n
 key_of (Ip6Proto n) = n
+key_of (Case.Relation r) = r.number
 
 -- a case is put among others that ascend
 abbrev pub insert_case : Case → List Case → List Case
 insert_case c cs = insert cs (count_by (λ d. nat_lt (key_of d) (key_of c)) cs) c
 
--- the frames in which a case may be
-abbrev pub case_frame : Case → FrameKind
-case_frame (Mac a) = FrameKind.Ethernet
-case_frame (Ip6 n a) = FrameKind.Ip6
-case_frame (EitherIp6 a) = FrameKind.Ip6
-case_frame (IpProto n) = FrameKind.Ip
-case_frame (Ip6Proto n) = FrameKind.Ip6
+-- the tests in front of a case: the frames in which it may be, or what an accessor needs
+abbrev pub case_front : Link → Case → List Elementary
+case_front link (Mac a) = kind_test link FrameKind.Ethernet ∷ []
+case_front link (Ip6 n a) = kind_test link FrameKind.Ip6 ∷ []
+case_front link (EitherIp6 a) = kind_test link FrameKind.Ip6 ∷ []
+case_front link (IpProto n) = kind_test link FrameKind.Ip ∷ []
+case_front link (Ip6Proto n) = kind_test link FrameKind.Ip6 ∷ []
+case_front link (Case.Relation r) = accessor_tests link r.protocol
 
 -- the place of a side's address in an Ethernet frame
 abbrev pub mac_place : Direction → ℕ
@@ -77,6 +83,7 @@ case_tests link d (Ip6 n a) = ip6_tests n a (network_offset link + ip6_place d)
 case_tests link d (EitherIp6 a) = ip6_tests None a (network_offset link + ip6_place d)
 case_tests link d (IpProto n) = has_ip_proto link n ∷ []
 case_tests link d (Ip6Proto n) = has_ip6_proto link n ∷ []
+case_tests link d (Case.Relation r) = relation_test link r ∷ []
 
 -- ---- cases by the tests of their words, from a word on
 
@@ -192,8 +199,8 @@ abbrev pub sides_decision : Link → Direction → ℕ → Case → List Case �
 sides_decision link d a (EitherIp6 b) cs = either_ip6 link a cs
 sides_decision link d a c cs = decision MOST_DECISIONS (case_tests link d) 0 cs
 
--- cases with the same words, in the frames in which they may be
+-- cases with the same words, after the tests in front of them
 abbrev pub cases_formula : Link → Direction → ℕ → List Case → Formula
 cases_formula link d a [] = Single (Outcome false)
 cases_formula link d a (c ∷ cs) =
-    after (kind_test link (case_frame c)) (sides_decision link d a c (c ∷ cs))
+    guarded_formula (case_front link c) (sides_decision link d a c (c ∷ cs))

@@ -52,10 +52,9 @@ computation operator operand = Compute (alu_operation operator) operand
 abbrev pub takes_constant : Operator → ℕ → Bool
 takes_constant operator k = is_none (constant_fault (alu_operation operator) k)
 
--- the number that arithmetic is, or none if it is anything else
+-- the number that arithmetic is, or none if it is anything else; a name was folded to its number
 abbrev pub constant : NumberTree → Option ℕ
 constant (literal k) = Some k
-constant (named k) = Some k
 constant _ = None
 
 -- the right operand that goes into the operator's instruction, or none if it isn't a constant or

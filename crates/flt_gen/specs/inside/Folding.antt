@@ -1,7 +1,7 @@
 -- Arithmetic of only numbers is one number, if it has a value.
 use Rattle.std.specs.Prelude.{ℕ, zero, suc, ◌-◌, ◌%◌, ◌^◌, List, [], ◌∷◌, Option, Some, None}
 use Rattle.flt_words.specs.declared.token.{Join.Join, Join.TheVariants.And, Join.TheVariants.Or, Operator.Operator}
-use Rattle.flt_ast.specs.Tree.{NumberTree, literal, load, negated, applied, TruthTree, compared, denied, joined, Expression, empty, truth}
+use Rattle.flt_ast.specs.Tree.{NumberTree, literal, named, load, negated, applied, TruthTree, compared, denied, joined, Expression, empty, truth}
 use Rattle.flt_ast.specs.declared.node.Node.{Node}
 use Rattle.flt_gen.specs.{Elementary.with, Numbers.result_of, inside.Code.constant}
 
@@ -29,11 +29,12 @@ abbrev pub applied_number : Operator → NumberTree → NumberTree → NumberTre
 applied_number operator a b =
     number_or (applied_constant operator (constant a) (constant b)) (applied operator a b)
 
--- arithmetic in which each part of only numbers is one number, if it has a value
+-- arithmetic in which a name, and each part of only numbers that has a value, is one number
 abbrev pub folded_number : NumberTree → NumberTree
 folded_number (load protocol size a) = load protocol size (folded_number a)
 folded_number (negated a) = negated_number (folded_number a)
 folded_number (applied operator a b) = applied_number operator (folded_number a) (folded_number b)
+folded_number (named k) = literal k
 folded_number a = a
 
 -- `a and not b`: if a is a negation, or one follows in it after `and`, it is one of both by `or`
@@ -62,10 +63,9 @@ folded_expression (truth a) = truth (folded_truth a)
 
 -- ---- the same of nodes, of which the latest comes first
 
--- the number that a node is, or none for other nodes
+-- the number that a node is, or none for other nodes; no names are left of the nodes before
 abbrev pub node_constant : Node → Option ℕ
 node_constant (Node.Literal k) = Some k
-node_constant (Node.Named k) = Some k
 node_constant _ = None
 
 -- the number that the latest node is, or none if it isn't a number
@@ -131,9 +131,10 @@ abbrev pub with_conjunction : List Node → List Node
 with_conjunction (Node.Not ∷ ns) = let h = hold 1 [] ns in with_held h.held h.rest
 with_conjunction ns = Node.Join And ∷ ns
 
--- one more node, after its operands; arithmetic of only numbers becomes one number, if it has a
--- value
+-- one more node, after its operands; a name, and arithmetic of only numbers that has a value, become
+-- one number
 abbrev pub with_folded : List Node → Node → List Node
+with_folded ns (Node.Named k) = Node.Literal k ∷ ns
 with_folded ns Node.Negate = with_negation ns
 with_folded ns (Node.Apply operator) = with_operator operator ns
 with_folded ns (Node.Join And) = with_conjunction ns

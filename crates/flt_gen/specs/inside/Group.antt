@@ -1,5 +1,5 @@
--- Addresses, ports or protocols that are looked for together, since they stand one after the other
--- with `or` between them.
+-- Addresses, ports, protocols or relations that are looked for together, since they stand one after
+-- the other with `or` between them.
 use Rattle.std.specs.Prelude.{ℕ, ◌+◌, ◌-◌, ◌^◌, ◌==◌, nat_lt, nat_le, min, max, bit_and, not, Bool, true, false, ◌&&◌, if◌then◌else◌, List, [], ◌∷◌, length, Option, Some, None}
 use Rattle.flt_words.specs.declared.token.Join.TheVariants.{And, Or}
 use Rattle.flt_words.specs.declared.token.Protocol.{Protocol}
@@ -14,14 +14,15 @@ use Rattle.flt_ast.specs.declared.qualifiers.Direction.{Direction}
 use Rattle.flt_ast.specs.declared.value.{Ip4Net.Ip4Net, NetMask.NetMask, Value.Value}
 use Rattle.cap_octet.specs.declared.link.Link.{Link}
 use Rattle.flt_gen.specs.Elementary.{with}
-use Rattle.flt_gen.specs.Formula.{Formula, Single, Both, Either, Except, Numbers, no_interval}
+use Rattle.flt_gen.specs.Formula.{Formula, Single, Both, Either, Except, Numbers, no_interval, guarded_formula}
 use Rattle.flt_gen.specs.Primitives.{hosts_formula, port_test, port_formula}
-use Rattle.flt_gen.specs.{Reading.formula, declared.address.Hosts.Hosts, declared.cases.Case.Case}
+use Rattle.flt_gen.specs.{Numbers.accessor_tests, Reading.formula, declared.address.Hosts.Hosts, declared.cases.Case.Case}
 use Rattle.flt_gen.specs.declared.elementary.{Elementary.TheVariants.Outcome, Interval.Interval}
 use Rattle.flt_gen.specs.declared.{group.Entry.Entry, port.Ports.TheVariants.Several}
 use Rattle.flt_gen.specs.inside.Cases.{case_of, same_words, key_of, insert_case, cases_formula}
 use Rattle.flt_gen.specs.inside.Emitted.{relation_formula, qualified_needed}
 use Rattle.flt_gen.specs.inside.Intervals.{insert_ascending, sought}
+use Rattle.flt_gen.specs.inside.Relations.{relation_of, relation_test}
 
 -- the qualifiers of the member that stands first, whether each member is one number, the numbers of
 -- the first and of all, which ascend, or the members as cases and the number by which the first
@@ -35,7 +36,7 @@ pub record Group : Type 0 where
   pub first_key : ℕ
   pub entries : List Entry
 
--- a group without members; its qualifiers decide nothing
+-- a group without members; its qualifiers, which relations have too, decide nothing
 abbrev pub no_group : Group
 no_group = record {
   qualifiers = record { protocol = None; direction = Direction.Both Or; value_type = Host };
@@ -53,7 +54,7 @@ interval low high = record { low = low; high = high }
 
 -- a value as a member, with its qualifiers
 abbrev pub entry : CompleteQualifiers → Value → Entry
-entry q v = record { qualifiers = q; value = v }
+entry q v = Entry.Value q v
 
 -- no members
 abbrev pub is_empty : List Entry → Bool
@@ -73,12 +74,12 @@ with_member q v i group = record {
 }
 
 -- a group with one more member in front, which is compared word by word
-abbrev pub with_case : CompleteQualifiers → Value → Case → Group → Group
-with_case q v c group = record group {
+abbrev pub with_case : CompleteQualifiers → Entry → Case → Group → Group
+with_case q e c group = record group {
   qualifiers = q;
   cases = insert_case c group.cases;
   first_key = key_of c;
-  entries = entry q v ∷ group.entries;
+  entries = e ∷ group.entries;
 }
 
 -- both are addresses or networks of IPv4, or both are ports or ranges of them
@@ -172,15 +173,22 @@ group_and q v group None = None
 group_and q v group (Some i) =
     if goes_with q group group.entries then Some (with_member q v i group) else None
 
--- a group with one more member, by the value as a case, or else by its numbers
-abbrev pub larger_by : CompleteQualifiers → Value → Group → Option Case → Option Group
-larger_by q v group None = group_and q v group (member_of q.value_type v)
-larger_by q v group (Some c) =
-    if case_goes_with c q.direction group group.entries then Some (with_case q v c group) else None
+-- a group with one more case, if it goes with the others, or none
+abbrev pub larger_by : CompleteQualifiers → Entry → Case → Group → Option Group
+larger_by q e c group =
+    if case_goes_with c q.direction group group.entries then Some (with_case q e c group) else None
 
--- the group with one more in front, or none if the value does not go with it
-abbrev pub larger_group : CompleteQualifiers → Value → Group → Option Group
-larger_group q v group = larger_by q v group (case_of q.value_type q.protocol q.direction v)
+-- a group with one more value, as a case, or else by its numbers
+abbrev pub larger_with : CompleteQualifiers → Value → Group → Option Case → Option Group
+larger_with q v group None = group_and q v group (member_of q.value_type v)
+larger_with q v group (Some c) = larger_by q (entry q v) c group
+
+-- the group with one more in front, or none if the entry does not go with it
+abbrev pub larger_group : Entry → Group → Option Group
+larger_group (Entry.Value q v) group =
+    larger_with q v group (case_of q.value_type q.protocol q.direction v)
+larger_group (Entry.Relation r) group =
+    larger_by no_group.qualifiers (Entry.Relation r) (Case.Relation r) group
 
 -- how many are looked for together at least where not each is one number
 abbrev pub FEWEST_RANGES : ℕ
@@ -226,12 +234,17 @@ several_formula link q PortRange numbers =
     port_formula link (port_test q.protocol q.direction Several) numbers
 several_formula link q _ numbers = Single (Outcome false)
 
+-- a member by itself
+abbrev pub entry_formula : Link → Entry → Formula
+entry_formula link (Entry.Value q v) = qualified_needed link q v
+entry_formula link (Entry.Relation r) =
+    guarded_formula (accessor_tests link r.protocol) (Single (relation_test link r))
+
 -- one of the members, by one after the other
 abbrev pub rows_formula : Link → List Entry → Formula
 rows_formula link [] = Single (Outcome false)
-rows_formula link (e ∷ []) = qualified_needed link e.qualifiers e.value
-rows_formula link (e ∷ f ∷ es) =
-    Either (qualified_needed link e.qualifiers e.value) (rows_formula link (f ∷ es))
+rows_formula link (e ∷ []) = entry_formula link e
+rows_formula link (e ∷ f ∷ es) = Either (entry_formula link e) (rows_formula link (f ∷ es))
 
 -- one of the members, by their numbers or as cases
 abbrev pub together_formula : Link → Group → List Case → Formula
@@ -255,18 +268,29 @@ or_any f g (e ∷ es) = Either f g
 abbrev pub or_group : Link → Formula → Group → Formula
 or_group link f group = or_any f (group_formula link group) group.entries
 
--- the group with a truth as one more member, or none if it can be none
+-- a truth as an entry, or none if it can be none
+abbrev pub entry_of : TruthTree → Option Entry
+entry_of (qualified q v) = Some (entry q v)
+entry_of (compared c l r) = relation_of c l r
+entry_of _ = None
+
+-- the group with a truth as one more member, or none
 abbrev pub truth_member : TruthTree → Group → Option Group
-truth_member (qualified q v) group = larger_group q v group
-truth_member _ group = None
+truth_member a group = with (entry_of a) (λ e. larger_group e group)
 
 -- the formula by a group, if there is one, or else another
 abbrev pub choice : Option Group → (Group → Formula) → Formula → Formula
 choice None f g = g
 choice (Some group) f g = f group
 
--- the formula of a truth, or else one of the group after it: the hosts or ports at its end are
--- looked for together with it, or with one another if they don't go with it
+-- an entry, or else one of the group after it; the same of a formula, if there is no entry
+abbrev pub leaf_formula : Link → Option Entry → Formula → Group → Formula
+leaf_formula link None f group = or_group link f group
+leaf_formula link (Some e) f group =
+    choice (larger_group e group) (group_formula link) (or_group link (entry_formula link e) group)
+
+-- the formula of a truth, or else one of the group after it: the members at its end are looked for
+-- together with it, or with one another if they don't go with it
 abbrev pub grouped_formula : Link → Group → TruthTree → Formula
 grouped_formula link group (joined Or a b) =
     choice (truth_member b group) (λ more. grouped_formula link more a)
@@ -277,7 +301,7 @@ grouped_formula link group (joined And a b) =
 grouped_formula link group (denied a) =
     or_group link (Except (grouped_formula link no_group a)) group
 grouped_formula link group (qualified q v) =
-    choice (larger_group q v group) (λ more. group_formula link more)
-    (or_group link (qualified_needed link q v) group)
-grouped_formula link group (compared c l r) = or_group link (relation_formula link c l r) group
+    leaf_formula link (Some (entry q v)) (qualified_needed link q v) group
+grouped_formula link group (compared c l r) =
+    leaf_formula link (relation_of c l r) (relation_formula link c l r) group
 grouped_formula link group a = or_group link (formula link a) group

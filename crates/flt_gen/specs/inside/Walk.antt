@@ -5,9 +5,9 @@ use Rattle.flt_bpf.specs.declared.operation.Operand.TheVariants.{Constant, Index
 use Rattle.flt_bpf.specs.declared.operation.Operation.TheVariants.{Load, Store, Negate}
 use Rattle.flt_bpf.specs.declared.operation.{Register.TheVariants.Accumulator, Source.Source}
 use Rattle.flt_bpf.specs.declared.operation.Source.TheVariants.{Immediate, Length}
-use Rattle.flt_words.specs.declared.token.{Comparison.Comparison, Join.Join, Join.TheVariants.And, Join.TheVariants.Or}
+use Rattle.flt_words.specs.declared.token.{Comparison.Comparison, Comparison.TheVariants.Equal, Join.Join, Join.TheVariants.And, Join.TheVariants.Or}
 use Rattle.flt_words.specs.declared.token.{Operator.Operator, Protocol.Protocol}
-use Rattle.flt_ast.specs.declared.{node.Node.Node, qualifiers.CompleteQualifiers.CompleteQualifiers, value.Value.Value}
+use Rattle.flt_ast.specs.declared.{node.Node.Node}
 use Rattle.cap_octet.specs.declared.link.Link.{Link}
 use Rattle.flt_gen.specs.{Formula.Formula, Numbers.width_of}
 use Rattle.flt_gen.specs.Primitives.{check_formula, cast_formula, sized_formula}
@@ -15,9 +15,10 @@ use Rattle.flt_gen.specs.declared.{code.Targets.Targets, group.Entry.Entry}
 use Rattle.flt_gen.specs.declared.waiting.{LeftTruth.LeftTruth, Pending.Pending, Waiting.Waiting}
 use Rattle.flt_gen.specs.declared.waiting.Waiting.TheVariants.{Index, Left}
 use Rattle.flt_gen.specs.inside.Code.{plain, emit_comparison, emit_field, accessor_offset, emit_accessor, computation, takes_constant, emit_operands, Block, block, emit_formula}
-use Rattle.flt_gen.specs.inside.Emitted.{with_accessor, qualified_needed}
-use Rattle.flt_gen.specs.inside.Group.{Group, no_group, larger_group, group_formula}
+use Rattle.flt_gen.specs.inside.Emitted.{with_accessor}
+use Rattle.flt_gen.specs.inside.Group.{Group, no_group, entry, entry_formula, larger_group, group_formula}
 use Rattle.flt_gen.specs.inside.ProgramCode.{emit_accessor_tests, returns_code}
+use Rattle.flt_gen.specs.inside.Relations.{relation}
 
 -- how far the walk has come: the code so far, the targets of the next truth, the word for the next
 -- left operand; what waits, latest first; and the protocols of the relation's accessors, each once,
@@ -29,8 +30,8 @@ pub record Walk : Type 0 where
   pub truths : List LeftTruth
   pub numbers : List Waiting
   pub accessors : List Protocol
-  -- hosts or ports that are tested in front of the code, and whose code isn't there yet; and what
-  -- the last node hands on to the next one
+  -- members that are tested in front of the code, and whose code isn't there yet; and what the last
+  -- node hands on to the next one
   pub group : Group
   pub pending : Pending
 
@@ -116,25 +117,28 @@ flush_members link w (m ∷ ms) =
 abbrev pub flush_group : Link → Walk → Walk
 flush_group link w = flush_members link (begin_right w.pending w) w.group.entries
 
--- a host or port and those after it: they wait for one more if it is the right operand of an or
+-- a member and those after it: they wait for one more if it is the right operand of an or
 abbrev pub finish_group : Link → Walk → Group → Pending → Walk
 finish_group link w group Pending.Or = record w { group = group; pending = Pending.Nothing }
 finish_group link w group Pending.Nothing =
     finish_formula link (group_formula link group) (record w { group = no_group })
 
--- a value after the group that waited: if it is the right operand of an or, it begins a group, if it
+-- an entry after the group that waited: if it is the right operand of an or, it begins a group, if it
 -- may be a member, and its left operand, which waits by now, is next; else it is on its own
-abbrev pub emit_apart : Link → CompleteQualifiers → Value → Walk → Pending → Option Group → Walk
-emit_apart link q v w Pending.Or (Some group) =
-    record w { truths = others w.truths; group = group }
-emit_apart link q v w _ _ = finish_formula link (qualified_needed link q v) w
+abbrev pub emit_apart : Link → Entry → Walk → Pending → Option Group → Walk
+emit_apart link e w Pending.Or (Some group) = record w { truths = others w.truths; group = group }
+emit_apart link e w _ _ = finish_formula link (entry_formula link e) w
 
--- a value with its qualifiers: a member of the group, if there is such a group, or else after it
-abbrev pub emit_value : Link → CompleteQualifiers → Value → Walk → Option Group → Walk
-emit_value link q v w None =
+-- a value or a relation: a member of the group, if there is such a group, or else after it
+abbrev pub emit_entry : Link → Entry → Walk → Option Group → Walk
+emit_entry link e w None =
     let flushed = flush_group link w in
-    emit_apart link q v flushed w.pending (larger_group q v flushed.group)
-emit_value link q v w (Some group) = finish_group link w group w.pending
+    emit_apart link e flushed w.pending (larger_group e flushed.group)
+emit_entry link e w (Some group) = finish_group link w group w.pending
+
+-- a member of the group that waits, or else after it
+abbrev pub emit_member : Link → Entry → Walk → Walk
+emit_member link e w = emit_entry link e w (larger_group e w.group)
 
 -- `and` or `or`: its right operand is next. The left one of `and` waits; of `or` it waits only once
 -- the right one is known to be no member of the group
@@ -161,7 +165,7 @@ emit_leaf link source n w =
 -- one more node, the one before those that were emitted
 abbrev pub emit_node : Link → Walk → Node → Walk
 emit_node link w (Node.Join join) = emit_join link join w
-emit_node link w (Node.Qualified q v) = emit_value link q v w (larger_group q v w.group)
+emit_node link w (Node.Qualified q v) = emit_member link (entry q v) w
 emit_node link w (Node.Literal n) = emit_leaf link Immediate n w
 emit_node link w (Node.Named n) = emit_leaf link Immediate n w
 emit_node link w Node.Len = emit_leaf link Length 0 w
@@ -197,13 +201,9 @@ emit_load_at link protocol size k w =
 -- none if the nodes are others, or the instruction may not have this constant
 abbrev pub emit_both_nodes : Link → Walk → Node → Node → Option Walk
 emit_both_nodes link w (Node.Apply operator) (Node.Literal k) = emit_operator_with operator k w
-emit_both_nodes link w (Node.Apply operator) (Node.Named k) = emit_operator_with operator k w
 emit_both_nodes link w (Node.Compare comparison) (Node.Literal k) =
     emit_comparison_with comparison k (flush_group link w)
-emit_both_nodes link w (Node.Compare comparison) (Node.Named k) =
-    emit_comparison_with comparison k (flush_group link w)
 emit_both_nodes link w (Node.Load p s) (Node.Literal k) = Some (emit_load_at link p s k w)
-emit_both_nodes link w (Node.Load p s) (Node.Named k) = Some (emit_load_at link p s k w)
 emit_both_nodes link w _ _ = None
 
 -- a node of arithmetic
@@ -248,18 +248,14 @@ emit_pair link w n right =
 -- the walk over nodes, the last first
 abbrev pub emit_nodes : Link → Walk → List Node → Walk
 emit_nodes link w [] = w
+emit_nodes link w (Node.Compare Equal ∷ Node.Literal k ∷ Node.Load p s ∷ Node.Literal i ∷ ns) =
+    emit_nodes link (emit_member link (relation p s i k) w) ns
 emit_nodes link w (Node.Apply o ∷ Node.Literal k ∷ ns) =
     emit_nodes link (emit_pair link w (Node.Apply o) (Node.Literal k)) ns
-emit_nodes link w (Node.Apply o ∷ Node.Named k ∷ ns) =
-    emit_nodes link (emit_pair link w (Node.Apply o) (Node.Named k)) ns
 emit_nodes link w (Node.Compare c ∷ Node.Literal k ∷ ns) =
     emit_nodes link (emit_pair link w (Node.Compare c) (Node.Literal k)) ns
-emit_nodes link w (Node.Compare c ∷ Node.Named k ∷ ns) =
-    emit_nodes link (emit_pair link w (Node.Compare c) (Node.Named k)) ns
 emit_nodes link w (Node.Load p s ∷ Node.Literal k ∷ ns) =
     emit_nodes link (emit_pair link w (Node.Load p s) (Node.Literal k)) ns
-emit_nodes link w (Node.Load p s ∷ Node.Named k ∷ ns) =
-    emit_nodes link (emit_pair link w (Node.Load p s) (Node.Named k)) ns
 emit_nodes link w (n ∷ ns) = emit_nodes link (emit_node link w n) ns
 
 -- the instructions from the beginning of the program

@@ -1,5 +1,5 @@
 -- Both sides by their parts.
-use Rattle.flt_gen.proofs.Common.{◌≡◌, None, ◌+◌, ◌∙◌, sym, ap, subst, take, drop, List, Elementary, ip6_tests, network_offset, Block}
+use Rattle.flt_gen.proofs.Common.{◌≡◌, None, ◌+◌, ◌∙◌, sym, ap, subst, take, drop, ip6_tests, network_offset, Block}
 use Rattle.flt_gen.proofs.Decision.{either_emitted}
 use Rattle.flt_gen.specs.inside.{Code.emit_all, Emits.Emits}
 use Rattle.flt_gen.proofs.code.Code.emit_either_ip6.Goals as goal

@@ -1,6 +1,6 @@
--- A value that can be no member is on its own.
-use Rattle.flt_gen.proofs.Common.{◌≡◌, Some, None, OnOk, ◌∙◌, sym, ap, subst, if◌then◌else◌, Group, larger_group, Walk, finish_formula, qualified_needed}
-use Rattle.flt_gen.specs.{declared.waiting.Pending.Pending, inside.Walk.emit_apart}
+-- An entry that can be no member is on its own.
+use Rattle.flt_gen.proofs.Common.{◌≡◌, Some, None, OnOk, ◌∙◌, sym, ap, subst, if◌then◌else◌, Group, larger_group, Walk, finish_formula}
+use Rattle.flt_gen.specs.{declared.waiting.Pending.Pending, inside.Group.entry_formula, inside.Walk.emit_apart}
 use Rattle.flt_gen.proofs.walk.Walk.emit_apart.Goals as goal
 
 pub returns-then-not-branch : goal.returns-then-not-branch
@@ -20,9 +20,9 @@ returns-then-not-branch g c =
     } in
     let kept : walk c.add.new.self ≡ a.self.now = ap walk (c.in_ok-add-in-Or.ensures.same ∙ ap (λ t. if t then c.add.new.self else i.group) c.if-not-branch.true) ∙ c.self.view_is in
     let none = c.in_ok-add-in-Or.ensures.taken ∙ ap (λ t. if t then Some c.add.new.self else None) c.if-not-branch.true in
-    let none_now = subst (λ (w : Walk). larger_group a.qualifiers a.value w.group ≡ None) c.self.view_is none in
+    let none_now = subst (λ (w : Walk). larger_group a.entry w.group ≡ None) c.self.view_is none in
     subst (λ (w : Walk). OnOk r.result (r.new.self ≡ w))
-    (ap (finish_formula a.link (qualified_needed a.link a.qualifiers a.value)) kept
-    ∙ ap (emit_apart a.link a.qualifiers a.value a.self.now Pending.Or) (sym none_now)
-    ∙ ap (λ p. emit_apart a.link a.qualifiers a.value a.self.now p (larger_group a.qualifiers a.value a.self.now.group)) (sym c.in-Or.is))
+    (ap (finish_formula a.link (entry_formula a.link a.entry)) kept
+    ∙ ap (emit_apart a.link a.entry a.self.now Pending.Or) (sym none_now)
+    ∙ ap (λ p. emit_apart a.link a.entry a.self.now p (larger_group a.entry a.self.now.group)) (sym c.in-Or.is))
     r.ensures

@@ -1,6 +1,7 @@
 -- Each node leaves the same walk to do.
-use Rattle.flt_gen.proofs.Common.{◌≡◌, ◌-◌, ◌<◌, ◌≤◌, Some, None, zero, suc, ℕ, List, ◌∙◌, refl, sym, ap, length, take, get_or, arith, if◌then◌else◌, reverse, Link, Ether, Node, Check, Walk, emit_node, emit_both_nodes, emit_nodes}
-use Rattle.flt_gen.proofs.Turned.{last_is, last_both, last_node}
+use Rattle.flt_gen.proofs.Common.{◌≡◌, ◌-◌, ◌<◌, ◌≤◌, Some, None, zero, suc, ℕ, List, ◌∙◌, refl, sym, ap, length, length-take, take, get_or, arith, if◌then◌else◌, reverse, Link, Ether, Node, Check, Walk, emit_node, emit_both_nodes, emit_nodes}
+use Rattle.flt_gen.proofs.Turned.{relation_put, last_is, last_both, last_node}
+use Rattle.flt_gen.specs.inside.Relations.{relation_in}
 use Rattle.flt_gen.proofs.walk.Walk.emit_nodes.Goals as goal
 
 -- what is left to do after so many nodes
@@ -16,13 +17,26 @@ node_put link ns left w some within none =
     let up : suc (left - 1) ≡ left = omega arith in
     sym (last_node link ns (left - 1) (Check Ether) w (omega arith) (last_is link ns (left - 1) (Check Ether) w some ∙ none)) ∙ ap (λ k. left_walk link ns k w) up
 
-both_put : (link : Link) (ns : List Node) (left : ℕ) (w v : Walk) → 0 < left - 1 → left ≤ length ns → emit_both_nodes link w (get_or ns (left - 1) (Check Ether)) (get_or ns (left - 1 - 1) (Check Ether)) ≡ Some v → left_walk link ns (left - 1 - 1) v ≡ left_walk link ns left w
-both_put link ns left w v some within both =
+both_put : (link : Link) (ns : List Node) (left : ℕ) (w v : Walk) → 0 < left - 1 → left ≤ length ns → relation_in (reverse (take left ns)) ≡ None → emit_both_nodes link w (get_or ns (left - 1) (Check Ether)) (get_or ns (left - 1 - 1) (Check Ether)) ≡ Some v → left_walk link ns (left - 1 - 1) v ≡ left_walk link ns left w
+both_put link ns left w v some within none both =
     let up : suc (left - 1) ≡ left = omega arith in
-    sym (last_both link ns (left - 1) (Check Ether) w v (omega arith) (last_is link ns (left - 1) (Check Ether) w some ∙ both)) ∙ ap (λ k. left_walk link ns k w) up
+    sym (last_both link ns (left - 1) (Check Ether) w v (omega arith) (ap (λ k. relation_in (reverse (take k ns))) up ∙ none) (last_is link ns (left - 1) (Check Ether) w some ∙ both)) ∙ ap (λ k. left_walk link ns k w) up
 
-pub nodes-preserved-in-Continue-1 : goal.nodes-preserved-in-Continue-1
-nodes-preserved-in-Continue-1 g c =
+pub nodes-preserved-in-Some : goal.nodes-preserved-in-Some
+nodes-preserved-in-Some g c =
+    let i = c.nodes.invariant in
+    let ns = c.args.nodes.now in
+    let left = c.nodes.left in
+    let within = i.within in
+    let some = c.in-Some.ensures.four in
+    let long = length-take left ns in
+    record {
+      within = omega arith;
+      same = ap (left_walk c.args.link ns (left - 4)) c.in_ok-emit_entry.ensures ∙ relation_put c.args.link ns left c.nodes.self c.in-Some.relation (omega arith) within (sym c.last_relation.ensures.is ∙ c.in-Some.is) ∙ i.same;
+    }
+
+pub nodes-preserved-in-Continue-branch-2 : goal.nodes-preserved-in-Continue-branch-2
+nodes-preserved-in-Continue-branch-2 g c =
     let i = c.nodes.invariant in
     let ns = c.args.nodes.now in
     let left = c.nodes.left in
@@ -39,10 +53,11 @@ nodes-preserved-then-branch g c =
     let v = c.emit_both_nodes.new.self in
     let within = i.within in
     let more = c.if-left-eq0.false in
+    let none = sym c.last_relation.ensures.is ∙ c.in_default.is in
     let both = c.in_ok-emit_both_nodes.ensures.emits ∙ ap (λ t. if t then Some v else None) c.if-branch.true in
     record {
       within = omega arith;
-      same = both_put c.args.link c.args.nodes.now c.nodes.left c.nodes.self v (omega arith) within both ∙ i.same;
+      same = both_put c.args.link c.args.nodes.now c.nodes.left c.nodes.self v (omega arith) within none both ∙ i.same;
     }
 
 pub nodes-preserved : goal.nodes-preserved
