@@ -1,6 +1,6 @@
 -- Decision trees of cases: they read as one case after the other, and have few tests.
 use Rattle.flt_gen.proofs.Ascending.{if_case, each_is}
-use Rattle.flt_gen.proofs.Common.{◌≡◌, ℕ, zero, suc, ◌+◌, ◌-◌, ◌*◌, ◌^◌, ◌<◌, ◌≤◌, List, [], ◌∷◌, ◌++◌, length, map, take, drop, Bool, true, false, Option, Some, None, refl, sym, ap, ap₂, ◌∙◌, subst, arith, add-one, ◌==◌, ◌&&◌, nat_lt, nat_le, bit_and, nat_tests, and_parts, eqb-true, pow_pos, and_le_r, Tcp, Direction, Link, first_bits, Word, HalfWord, Byte, Width, Offset, Fixed, Equal, Elementary, Field, MatchResult, Yes, No, Rejected, reading_of, with, field_at, under_mask, compares, elementary_reads, network_offset, Formula, both, either, all_of, reads, partial_mask}
+use Rattle.flt_gen.proofs.Common.{◌≡◌, ℕ, zero, suc, ◌+◌, ◌-◌, ◌*◌, ◌^◌, ◌<◌, ◌≤◌, List, [], ◌∷◌, ◌++◌, length, map, take, drop, Bool, true, false, Option, Some, None, refl, sym, ap, ap₂, ◌∙◌, subst, arith, add-one, ◌==◌, ◌&&◌, nat_lt, nat_le, bit_and, nat_tests, and_parts, pow_pos, and_le_r, Tcp, Direction, Link, first_bits, Word, HalfWord, Byte, Width, Offset, Fixed, Equal, Elementary, Field, MatchResult, Yes, No, Rejected, reading_of, with, field_at, under_mask, compares, elementary_reads, network_offset, Formula, both, either, all_of, reads, partial_mask}
 use Rattle.flt_gen.proofs.Counted.{Bare, bare_within, bare_all, bare_one, bare_some, bare_both, bare_either, bare_split}
 use Rattle.flt_gen.proofs.Decision.{decision_none, decision_next}
 use Rattle.flt_gen.proofs.Exclusive.{both_either, or_no, either_assoc, and_yes}
@@ -75,9 +75,9 @@ some_fields link d _ = omega arith
 -- relations of one accessor
 relations_are : (a b : Relation) → same_words (Case.Relation a) (Case.Relation b) ≡ true → (a.protocol ≡ b.protocol) × (a.size ≡ b.size) × (a.index ≡ b.index)
 relations_are a b e =
-    let one = and_parts (equals a.protocol b.protocol) (a.size == b.size && a.index == b.index) e in
-    let two = and_parts (a.size == b.size) (a.index == b.index) one.1 in
-    (equal_are a.protocol b.protocol one.0, eqb-true a.size b.size two.0, eqb-true a.index b.index two.1)
+    let one = and_parts (equals a.protocol b.protocol) _ e in
+    let same = one.1 in
+    (equal_are a.protocol b.protocol one.0, grind (arith, nat_tests), grind (arith, nat_tests))
 
 pub some_front : (link : Link) (c : Case) → 0 < length (case_front link c)
 some_front link (Case.Relation r) = by r.protocol
