@@ -32,3 +32,6 @@ search_put (suc k) from is hit miss c some many =
     let same : k ≡ suc k - 1 = omega arith in
     if_is _ false _ _ many ∙ ap (λ j. halved j from (take (length is / 2) is) (drop (length is / 2) is) hit miss c) same
     ∙ ap (λ (zs : List Interval). halved (suc k - 1) from (take (length is / 2) is) zs hit miss c) (sym (take_rest is (length is / 2)))
+
+-- of a search that isn't halved, and of one that is
+pub ruleset search_steps = (search_none, search_few, search_put)

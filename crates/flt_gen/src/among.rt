@@ -112,7 +112,7 @@ impl<A: Allocator> Code<A> {
 
     /// As `emit_chain`, of intervals that ascend, by a binary search: they are halved at most
     /// `halvings` times, by a test whether A is in the upper half.
-    #[tactic(auto, using(crate::proofs::Search::search_none, crate::proofs::Search::search_few, crate::proofs::Search::search_put))]
+    #[tactic(auto, using(crate::proofs::Search::search_steps))]
     fn emit_search(
         &mut self,
         halvings: usize,

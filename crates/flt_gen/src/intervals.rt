@@ -65,7 +65,7 @@ fn join_touching<A: Allocator>(
     // The label names the loop in its proof.
     'touching: while at < others.len() {
         let next = others[at];
-        // Whether there is a number between them.
+        // There is a number between them.
         if next.low.saturating_sub(last.high) > 1 {
             joined.push(last)?;
             last = next;
@@ -150,8 +150,8 @@ fn cut(last: u32, item: Interval) -> Interval
     }
 }
 
-/// Puts intervals, each cut to the numbers of its blocks, into a list, and those of them that aren't
-/// the first member's into another one. What was in the lists goes.
+/// Puts intervals, each cut to the numbers of its blocks, into a list, and those of them that
+/// aren't the first member's into another one. What was in the lists goes.
 fn put_cut<A: Allocator>(
     last: u32,
     first: Interval,

@@ -175,17 +175,10 @@ impl<A: Allocator> Code<A> {
             None => (Some(header.tcp), header.udp),
             Some(_) => return Ok(to.no),
         };
-        let ports = self.emit_port_sides(header, wanted, numbers, to)?;
-        let yes = match header.no_later_fragment {
-            None => ports,
-            Some(test) => self.emit_elementary(
-                test,
-                Targets {
-                    yes: ports,
-                    no: to.no,
-                },
-            )?,
-        };
+        let mut yes = self.emit_port_sides(header, wanted, numbers, to)?;
+        if let Some(test) = header.no_later_fragment {
+            yes = self.emit_elementary(test, Targets { yes, no: to.no })?;
+        }
         let no = self.emit_elementary(last, Targets { yes, no: to.no })?;
         match first {
             None => Ok(no),

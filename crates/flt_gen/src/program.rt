@@ -48,7 +48,6 @@ fn has_index_copy(insns: &[Wide]) -> bool {
 
 /// The code after a round of the optimiser, which threads and shortens it, if one is wanted; else
 /// the code itself.
-#[tactic(auto, using(flt_short::proofs::Likeness::itself, flt_short::proofs::Threading::threads_itself))]
 fn optimised<A: Allocator + Clone>(
     alloc: A,
     insns: Vec<Wide, A>,

@@ -75,7 +75,8 @@ impl<A: Allocator> Code<A> {
     }
 
     /// Emits `proto N`, where N is a field of the protocol `below`: `ip`, `ip6` or `ether`; `None`
-    /// means IPv4 or IPv6. With any other protocol no packet matches.
+    /// means IPv4 or IPv6. Extension headers of IPv6 aren't skipped. With any other protocol no
+    /// packet matches.
     pub fn emit_proto(
         &mut self,
         link: Link,
