@@ -1,14 +1,8 @@
--- It is the threaded code, or the code itself.
-use Rattle.std.proofs.Common.{◌∙◌, refl}
-use Rattle.flt_short.proofs.Threading.{threads, threads_itself}
+-- What is known at first is true.
+use Rattle.std.proofs.Common.{sym, subst}
+use Rattle.flt_short.specs.inside.Facts.{IsStart}
+use Rattle.flt_short.proofs.Threading.{threads}
 use Rattle.flt_short.proofs.thread.threaded.Goals as goal
 
-pub returns-then-not-repeats_a_load : goal.returns-then-not-repeats_a_load
-returns-then-not-repeats_a_load g c = threads_itself c.args.insns.items
-
-pub returns-then-len-le-FEW : goal.returns-then-len-le-FEW
-returns-then-len-le-FEW g c = threads _ c.args.insns.items _ 16 refl c.threaded_few.ensures
-
 pub returns : goal.returns
-returns g c =
-    threads _ c.args.insns.items c.deref_mut.result.now _ (c.deref_mut.ensures.value ∙ c.in_ok-seen.ensures) c.threaded_insns.ensures
+returns g c = threads _ _ _ (subst IsStart (sym c.deref_mut.ensures.value) c.in_ok-seen.ensures) c.threaded_insns.ensures
