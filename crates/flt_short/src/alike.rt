@@ -10,7 +10,7 @@
 //! Most clauses cite definitions that mirror the code, with the same names or without `is_`; the
 //! contract of `replaces` states what follows from them (`Shortens`).
 
-ghost use Rattle.std.specs.Prelude.{◌≡◌, ◌≢◌, ◌↔◌, ◌+◌, ◌-◌, ◌%◌, ◌==◌, ◌&&◌, length, IsTrue, All};
+ghost use Rattle.std.specs.Prelude.{◌≡◌, ◌≢◌, ◌+◌, ◌-◌, ◌%◌, ◌==◌, ◌&&◌, length, IsTrue, All};
 ghost use Rattle.std.specs.Prelude.{true, false, None, count_by};
 ghost use Rattle.flt_bpf.specs.{Layout.JUMP, Layout.is_branch, Instructions.operation_of};
 ghost use Rattle.flt_bpf.specs.inside.Flow.{goes_on_or_rejects};
@@ -375,14 +375,25 @@ pub fn is_test(insn: &Wide) -> bool
 pub fn count_tests(code: &[Wide]) -> usize
     ensures { result ≡ count_by (λ i. is_branch (operation_of i.code)) code.now }
 {
-    code.iter().filter(|insn| is_test(insn)).count()
+    let mut count = 0;
+    for insn in code {
+        if is_test(insn) {
+            count += 1;
+        }
+    }
+    count
 }
 
 /// Whether no instruction of the code is a jump (`ja` has the code 5).
 fn has_no_jump(code: &[Wide]) -> bool
-    ensures { IsTrue result ↔ All (λ i. i.code ≢ JUMP) code.now }
+    ensures { IsTrue result → All (λ i. i.code ≢ JUMP) code.now }
 {
-    code.iter().all(|insn| insn.code != 5)
+    for insn in code {
+        if insn.code == 5 {
+            return false;
+        }
+    }
+    true
 }
 
 /// Whether a program is proved to replace an old one: its landings show that it does the same, it

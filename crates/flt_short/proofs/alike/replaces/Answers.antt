@@ -14,5 +14,5 @@ returns-then-has_no_jump c = λ t.
     (sym c.begins.ensures ∙ c.if-not-begins.false)
     (sym c.are_alike.ensures ∙ c.if-not-are_alike.false)
     (omega arith)
-    (c.has_no_jump.ensures.0 c.if-has_no_jump.true)
+    (c.has_no_jump.ensures c.if-has_no_jump.true)
     (c.is_valid_unless_long.ensures t)
