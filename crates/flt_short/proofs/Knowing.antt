@@ -1,5 +1,5 @@
 -- What is known holds of the packet and of the registers.
-use Rattle.flt_short.proofs.Common.{◌≡◌, ℕ, zero, suc, ◌+◌, ◌≤◌, ◌%◌, ◌^◌, List, [], ◌∷◌, length, Bool, true, false, Option, Some, None, refl, sym, ap, ◌∙◌, subst, arith, ◌⊎◌, inl, inr, ◌==◌, nat_lt, ◌&&◌, not, if◌then◌else◌, slice_set, slice_get, option_map, nat_tests, State, Operation, LoadAbsolute, LoadIndirect, Load, LoadHeaderLength, Store, Compute, Negate, CopyToIndex, CopyToAccumulator, Accumulator, Index, Immediate, Memory, Length, Constant, Byte, Insn, Next, Goes, does, into, word_into, with_register, goes_on_or_rejects, field, compute, header_length, operand_value, Field, Held, Known, same_optional, same_field, claims_nothing, allows, entails_some, entails, one_of_two, joined_claim, same_held, common_header, outcome_by_claim, other_by_claim, holds_field, known_after, masked_held, masked_by, and_parts, or_cases, loaded, loaded_at, masked, value_of, IsThere, is_said, Says, HeldHolds, IndexHolds, Holds, HoldsAt, JoinsBy, JoinsFact, JoinsFacts, Arrives}
+use Rattle.flt_short.proofs.Common.{◌≡◌, ℕ, zero, suc, ◌+◌, ◌≤◌, ◌%◌, ◌^◌, List, [], ◌∷◌, length, Bool, true, false, Option, Some, None, refl, sym, ap, ◌∙◌, subst, arith, ◌⊎◌, inl, inr, ◌==◌, nat_lt, ◌&&◌, not, if◌then◌else◌, slice_set, slice_get, option_map, nat_tests, State, Operation, LoadAbsolute, LoadIndirect, Load, LoadHeaderLength, Store, Compute, Negate, CopyToIndex, CopyToAccumulator, Accumulator, Index, Immediate, Memory, Length, Constant, Byte, Insn, Next, Goes, does, into, word_into, with_register, goes_on_or_rejects, field, compute, header_length, operand_value, Field, Held, Known, same_optional, same_field, claims_nothing, allows, Implies, JoinsClaims, same_held, common_header, holds_field, known_after, masked_held, masked_by, and_parts, or_cases, loaded, loaded_at, masked, value_of, IsThere, is_said, Says, HeldHolds, IndexHolds, Holds, HoldsAt, JoinsBy, JoinsFact, JoinsFacts, Arrives}
 use Rattle.std.proofs.Common.{◌<◌, All, get_or, take}
 use Rattle.std.proofs.lemmas.List.{take_more_set, take_all}
 use Rattle.std.proofs.lemmas.List.Elements.{All-set, All-push}
@@ -47,56 +47,16 @@ pub silent : (c : Claim) (o : Option ℕ) → claims_nothing c ≡ true → is_s
 silent c None e = e
 silent c (Some n) e = nothing_allows c n e
 
-some_entails : (c d : Claim) (n : ℕ) → entails_some c d ≡ true → allows c n ≡ true → allows d n ≡ true
-some_entails Nothing d n e h = cc
-some_entails (Is a) d n e h = subst (λ m. allows d m ≡ true) (sym (numbers n a h)) e
-some_entails (IsNot a) (IsNot b) n e h = grind (arith, nat_tests)
-some_entails (IsNot a) _ n e h = cc
-some_entails (IsOneOf a b) d n e h =
-    let q = and_parts (allows d a) (allows d b) e in
-    elim (or_cases (n == a) (n == b) h) [
-      | inl i ↦ subst (λ m. allows d m ≡ true) (sym (numbers n a i)) q.0
-      | inr i ↦ subst (λ m. allows d m ≡ true) (sym (numbers n b i)) q.1
-    ]
-
-some_of_nothing : (c d : Claim) → entails_some c d ≡ true → claims_nothing c ≡ true → claims_nothing d ≡ true
-some_of_nothing Nothing d e h = cc
-some_of_nothing _ d e h = cc
-
-entailed : (c d : Claim) (o : Option ℕ) → entails c d ≡ true → is_said c o ≡ true → is_said d o ≡ true
-entailed c d None e h = elim (or_cases (claims_nothing d) (entails_some c d) e) [ inl i ↦ i | inr i ↦ some_of_nothing c d i h ]
-entailed c d (Some n) e h = elim (or_cases (claims_nothing d) (entails_some c d) e) [ inl i ↦ nothing_allows d n i | inr i ↦ some_entails c d n i h ]
-
-one_of_both : (c d : Claim) (o : Option ℕ) → (is_said c o ≡ true) ⊎ (is_said d o ≡ true) → is_said (one_of_two c d) o ≡ true
-one_of_both (Is a) (Is b) None h = elim h [ inl e ↦ cc | inr e ↦ cc ]
-one_of_both (Is a) (Is b) (Some n) h = elim h [ inl e ↦ grind (arith, nat_tests) | inr e ↦ grind (arith, nat_tests) ]
-one_of_both _ _ o h = nothing_said o
-
--- a joined claim holds if one of both does
-joins_claims : (c d : Claim) (o : Option ℕ) → (is_said c o ≡ true) ⊎ (is_said d o ≡ true) → is_said (joined_claim c d) o ≡ true
-joins_claims c d o h =
-    by_test (λ z. is_said z o ≡ true) (entails c d) _ _
-    (λ e. elim h [ inl x ↦ entailed c d o e x | inr x ↦ x ])
-    (λ _. by_test (λ z. is_said z o ≡ true) (entails d c) c (one_of_two c d)
-    (λ e. elim h [ inl x ↦ x | inr x ↦ entailed d c o e x ])
-    (λ _. one_of_both c d o h))
-
--- what a claim says of a test
-pub says_right : (c : Claim) (n v : ℕ) (b : Bool) → allows c v ≡ true → outcome_by_claim c n ≡ Some b → (v == n) ≡ b
-says_right (Is a) n v b h e =
-    let is_b : (a == n) ≡ b = cc in
-    ap (λ m. m == n) (numbers v a h) ∙ is_b
-says_right Nothing n v b h e = cc
-says_right _ n v b h e = grind (arith, nat_tests)
+implied : (c d : Claim) (o : Option ℕ) → Implies c d → is_said c o ≡ true → is_said d o ≡ true
+implied c d None i h = i.1 h
+implied c d (Some n) i h = i.0 n h
 
 -- facts where two ways meet
-pub joined_one : (x : Fact) (ys : List Fact) (k : ℕ) (d : Fact) (claim : Claim) → k < length ys → same_field x.field (get_or ys k d).field ≡ true → claim ≡ joined_claim x.claim (get_or ys k d).claim → JoinsFact x ys (record { field = x.field; claim = claim })
-joined_one x ys k d claim l same e p n h =
+pub joined_one : (x : Fact) (ys : List Fact) (k : ℕ) (d : Fact) (claim : Claim) → k < length ys → same_field x.field (get_or ys k d).field ≡ true → JoinsClaims x.claim (get_or ys k d).claim claim → JoinsFact x ys (record { field = x.field; claim = claim })
+joined_one x ys k d claim l same joins p n (inl h) = implied x.claim claim (value_of p n x.field) joins.0 h
+joined_one x ys k d claim l same joins p n (inr h) =
     let y = get_or ys k d in
-    subst (λ c. is_said c (value_of p n x.field) ≡ true) (sym e) (joins_claims x.claim y.claim (value_of p n x.field) (elim h [
-      | inl i ↦ inl i
-      | inr i ↦ inr (subst (λ o. is_said y.claim o ≡ true) (sym (same_value p n x.field y.field same)) (i k d l))
-    ]))
+    implied y.claim claim (value_of p n x.field) joins.1 (subst (λ o. is_said y.claim o ≡ true) (sym (same_value p n x.field y.field same)) (h k d l))
 
 -- some of the facts xs, those before `at`, are joined with ys already
 abbrev pub JoinedSoFar : List Fact → List Fact → List Fact → ℕ → Type 0
@@ -111,19 +71,6 @@ joined_more first ys xs at d v l h joins p n = (
 pub joined_all : (first ys xs : List Fact) (at : ℕ) → length xs ≤ at → JoinedSoFar first ys xs at → JoinsFacts first ys xs
 joined_all first ys xs at l h p n (inl f) = (h p n).0 f
 joined_all first ys xs at l h p n (inr f) = subst (All (Says p n)) (take_all at xs l) ((h p n).1 f)
-
--- of two numbers it is the other one
-clash : (v n a : ℕ) → (n == a) ≡ true → v ≡ a → (v == n) ≡ false → ⊥
-clash v n a e i other = let same = numbers n a e in let yes = same_number v n (i ∙ sym same) in (let both : true ≡ false = sym yes ∙ other in cc)
-
-pub other_said : (c : Claim) (n m v : ℕ) → allows c v ≡ true → (v == n) ≡ false → other_by_claim c n ≡ Some m → v ≡ m
-other_said (IsOneOf a b) n m v h other =
-    by_test (λ o. o ≡ Some m → v ≡ m) (n == a) _ _
-    (λ e. λ g. elim (or_cases (v == a) (v == b) h) [ inl i ↦ absurd (clash v n a e (numbers v a i) other) | inr i ↦ (let same : b ≡ m = cc in numbers v b i ∙ same) ])
-    (λ _. by_test (λ o. o ≡ Some m → v ≡ m) (n == b) _ _
-    (λ e. λ g. elim (or_cases (v == a) (v == b) h) [ inl i ↦ (let same : a ≡ m = cc in numbers v a i ∙ same) | inr i ↦ absurd (clash v n b e (numbers v b i) other) ])
-    (λ _. λ g. cc))
-other_said _ n m v h other = λ g. cc
 
 -- what is captured
 said_some : (c : Claim) (o : Option ℕ) → claims_nothing c ≡ false → is_said c o ≡ true → (v : ℕ) × (o ≡ Some v)

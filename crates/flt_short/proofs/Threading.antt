@@ -1,7 +1,7 @@
 -- A run may go on where a walk ends instead of where it began; so threaded code returns the same, and keeps its
 -- length, its tests and what breaks no rule.
-use Rattle.flt_short.proofs.Common.{◌≡◌, ℕ, zero, suc, ◌+◌, ◌%◌, ◌^◌, ◌<◌, List, [], ◌∷◌, length, drop, Bool, true, false, Option, Some, None, refl, sym, ap, ◌∙◌, subst, arith, if◌then◌else◌, slice_get, slice_set, bit_and, option_map, nat_tests, nat_lt, ◌&&◌, map, Insn, State, Operation, LoadAbsolute, LoadIndirect, Load, LoadHeaderLength, Store, Compute, Jump, JumpIf, ReturnConstant, ReturnAccumulator, CopyToAccumulator, Accumulator, Index, Immediate, Memory, Length, Constant, Byte, Next, Goes, does_if_known, into, field, header_length, answer_of, answer_after, operand_value, test_holds, is_branch, Field, Held, Known, same_held, same_optional, outcome_by_claim, held_after, is_free_by, is_free, known_step, into_both, word_both, stored_both, count_by, get_or, cond, start, does, goes_on_or_rejects, fault_if_known, ends_in_return, IsFaultless, known_after, loaded, loaded_at, IsThere, HeldHolds, IndexHolds, Holds, HoldsAt, IsClaimAbout, Learns, Arrives, IsStart, with_a, Passes, LeadsTo, Moves, Alike, IsThreaded, AreThreaded}
-use Rattle.flt_short.proofs.Knowing.{numbers, same_masks, same_value, same_holds, says_right, After, after}
+use Rattle.flt_short.proofs.Common.{◌≡◌, ℕ, zero, suc, ◌+◌, ◌%◌, ◌^◌, ◌<◌, List, [], ◌∷◌, length, drop, Bool, true, false, Option, Some, None, refl, sym, ap, ◌∙◌, subst, arith, if◌then◌else◌, slice_get, slice_set, bit_and, option_map, nat_tests, nat_lt, ◌&&◌, map, Insn, State, Operation, LoadAbsolute, LoadIndirect, Load, LoadHeaderLength, Store, Compute, Jump, JumpIf, ReturnConstant, ReturnAccumulator, CopyToAccumulator, Accumulator, Index, Immediate, Memory, Length, Constant, Byte, Next, Goes, does_if_known, into, field, header_length, answer_of, answer_after, operand_value, test_holds, is_branch, Field, Held, Known, same_held, same_optional, IsOutcome, held_after, is_free_by, is_free, known_step, into_both, word_both, stored_both, count_by, get_or, cond, start, does, goes_on_or_rejects, fault_if_known, ends_in_return, IsFaultless, known_after, loaded, loaded_at, IsThere, HeldHolds, IndexHolds, Holds, HoldsAt, IsClaimAbout, Learns, Arrives, IsStart, with_a, Passes, LeadsTo, Moves, Alike, IsThreaded, AreThreaded}
+use Rattle.flt_short.proofs.Knowing.{numbers, same_masks, same_value, same_holds, After, after}
 use Rattle.flt_short.proofs.Likeness.{at_step}
 use Rattle.std.proofs.Common.{◌≤◌, ◌++◌, take, append_assoc}
 use Rattle.std.proofs.Math.Seq.{drop-cons}
@@ -44,9 +44,9 @@ module _ (p : List ℕ) (n : ℕ) where
       by _ rest e = cc
 
 -- what a walk passes
-pub passes_test : (k : Known) (i : Insn) (h : Held) (f : Field) (c : Claim) (b : Bool) (far : ℕ) → operation_of i.code ≡ Some (JumpIf Test.Equal Constant) → h ≡ held.Field f → IsClaimAbout k.facts f c → outcome_by_claim c i.k ≡ Some b → (if b then i.jt else i.jf) ≡ far → Passes k i h far
+pub passes_test : (k : Known) (i : Insn) (h : Held) (f : Field) (c : Claim) (b : Bool) (far : ℕ) → operation_of i.code ≡ Some (JumpIf Test.Equal Constant) → h ≡ held.Field f → IsClaimAbout k.facts f c → IsOutcome c i.k b → (if b then i.jt else i.jf) ≡ far → Passes k i h far
 passes_test k i h f c b far o is about e there p n s a holds x =
-    let outcome = says_right c i.k a b (about p n a holds.facts (subst (λ z. HeldHolds p n z (with_a s a)) is x)) e in
+    let outcome = e a (about p n a holds.facts (subst (λ z. HeldHolds p n z (with_a s a)) is x)) in
     (a, known_step p n i (Some (JumpIf Test.Equal Constant)) (with_a s a) o ∙ ap (λ z. Goes (if z then i.jt else i.jf) (with_a s a)) outcome ∙ ap (λ m. Goes m (with_a s a)) there)
 
 pub passes_load : (k : Known) (i : Insn) (h : Held) (w : Width) → operation_of i.code ≡ Some (LoadAbsolute w) → ((p : List ℕ) (n : ℕ) (s : State) → Holds p n k s → IsThere p n i.code i.k) → Passes k i h 0

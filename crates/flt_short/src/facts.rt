@@ -6,11 +6,11 @@
 //!
 //! `code` and `k` are those of a load: together they say which bytes of the packet it takes.
 
-ghost use Rattle.std.specs.Prelude.{◌≡◌, ◌<◌, IsTrue, IfOk, List, ℕ};
+ghost use Rattle.std.specs.Prelude.{◌≡◌, ◌<◌, IsTrue, IfOk, IfSome, List, ℕ};
 ghost use Rattle.flt_bpf.specs.{Instructions.operation_of, declared.machine.State.State};
 ghost use Rattle.flt_short.specs.inside.Facts.{same_optional, same_field, claims_nothing, allows};
-ghost use Rattle.flt_short.specs.inside.Facts.{entails, joined_claim, same_held, outcome_by_claim};
-ghost use Rattle.flt_short.specs.inside.Facts.{other_by_claim, holds_field, masked_held};
+ghost use Rattle.flt_short.specs.inside.Facts.{Implies, JoinsClaims, same_held, IsOutcome};
+ghost use Rattle.flt_short.specs.inside.Facts.{IsOther, holds_field, masked_held};
 ghost use Rattle.flt_short.specs.inside.Facts.{held_after, index_after, known_after, Holds};
 ghost use Rattle.flt_short.specs.inside.Facts.{IsThere, HoldsAt, IsAlwaysTrue, JoinsFact, JoinsFacts};
 ghost use Rattle.flt_short.specs.inside.Facts.{JoinsBy, IsClaimAbout, IsClaimAfter, AddsFact};
@@ -135,7 +135,7 @@ fn allows(claim: Claim, number: u32) -> bool
 
 /// Whether the claim `other` holds of each number of which `claim` holds.
 fn entails(claim: Claim, other: Claim) -> bool
-    ensures { result ≡ entails claim other }
+    ensures { IsTrue result → Implies claim other }
 {
     if claims_nothing(other) {
         return true;
@@ -151,7 +151,7 @@ fn entails(claim: Claim, other: Claim) -> bool
 /// The join of two claims, of which one holds: the weaker of the two, that the number is one of two
 /// numbers, or nothing.
 fn joined_claim(claim: Claim, other: Claim) -> Claim
-    ensures { result ≡ joined_claim claim other }
+    ensures { JoinsClaims claim other result }
 {
     if entails(claim, other) {
         return other;
@@ -232,7 +232,7 @@ fn join(known: &mut Known, came: &Known)
 /// The outcome of the test whether a number is this one, by a claim about it; `None` if the claim
 /// doesn't decide it.
 pub fn outcome_by_claim(claim: Claim, number: u32) -> Option<bool>
-    ensures { result ≡ outcome_by_claim claim number }
+    ensures { IfSome result (λ outcome. IsOutcome claim number outcome) }
 {
     match claim {
         Claim::Is(one) => Some(one == number),
@@ -265,7 +265,7 @@ pub fn claim_about(facts: &[Fact], field: Field, number: u32) -> Claim
 
 /// The other one of two numbers, if the claim is that a number is one of them, and this is one.
 fn other_by_claim(claim: Claim, number: u32) -> Option<u32>
-    ensures { result ≡ other_by_claim claim number }
+    ensures { IfSome result (λ other. IsOther claim number other) }
 {
     match claim {
         Claim::IsOneOf(one, other) if number == one => Some(other),

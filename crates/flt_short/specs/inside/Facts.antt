@@ -44,31 +44,15 @@ allows (Is a) n = n == a
 allows (IsNot a) n = not (n == a)
 allows (IsOneOf a b) n = n == a || n == b
 
--- whether a claim is that a number isn't this one
-abbrev pub denies : Claim → ℕ → Bool
-denies (IsNot a) n = a == n
-denies _ n = false
+-- the claim d is true of each number of which c is; and of one that isn't captured if c is
+abbrev pub Implies : Claim → Claim → Type 0
+Implies c d =
+    ((n : ℕ) → allows c n ≡ true → allows d n ≡ true)
+    × (claims_nothing c ≡ true → claims_nothing d ≡ true)
 
--- whether the claim d, which isn't `Nothing`, holds of each number of which c holds
-abbrev pub entails_some : Claim → Claim → Bool
-entails_some Nothing d = false
-entails_some (Is a) d = allows d a
-entails_some (IsNot a) d = denies d a
-entails_some (IsOneOf a b) d = allows d a && allows d b
-
--- whether the claim d holds of each number of which c holds
-abbrev pub entails : Claim → Claim → Bool
-entails c d = claims_nothing d || entails_some c d
-
--- the claim that a number is a or b; `Nothing` unless both claims are `Is`
-abbrev pub one_of_two : Claim → Claim → Claim
-one_of_two (Is a) (Is b) = IsOneOf a b
-one_of_two _ _ = Nothing
-
--- the join of two claims, of which one holds: the weaker of the two, that the number is one of two
--- numbers, or `Nothing`
-abbrev pub joined_claim : Claim → Claim → Claim
-joined_claim c d = if entails c d then d else (if entails d c then c else one_of_two c d)
+-- the claim e is true of each number of which c or d is; and so of one that isn't captured
+abbrev pub JoinsClaims : Claim → Claim → Claim → Type 0
+JoinsClaims c d e = Implies c e × Implies d e
 
 -- whether two values of A are the same value of the packet; nothing is known of two that are
 -- `Unknown`
@@ -81,16 +65,13 @@ same_held _ _ = false
 abbrev pub common_header : Option ℕ → Option ℕ → Option ℕ
 common_header a b = if same_optional a b then a else None
 
--- the outcome of the test `number = n`, by a claim about the number; None if the claim doesn't
--- decide it
-abbrev pub outcome_by_claim : Claim → ℕ → Option Bool
-outcome_by_claim (Is a) n = Some (a == n)
-outcome_by_claim c n = if allows c n then None else Some false
+-- the test whether a number is n has this outcome, if the claim is true of the number
+abbrev pub IsOutcome : Claim → ℕ → Bool → Type 0
+IsOutcome c n outcome = (number : ℕ) → allows c number ≡ true → (number == n) ≡ outcome
 
--- the other one of two numbers, if the claim is that a number is one of them, and n is one
-abbrev pub other_by_claim : Claim → ℕ → Option ℕ
-other_by_claim (IsOneOf a b) n = if n == a then Some b else (if n == b then Some a else None)
-other_by_claim _ n = None
+-- a number of which the claim is true is this other one, if it isn't n
+abbrev pub IsOther : Claim → ℕ → ℕ → Type 0
+IsOther c n other = (number : ℕ) → allows c number ≡ true → (number == n) ≡ false → number ≡ other
 
 -- whether A holds the field of a load, perhaps masked, so that its bytes are captured
 abbrev pub holds_field : Held → ℕ → ℕ → Bool
