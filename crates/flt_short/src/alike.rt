@@ -14,7 +14,7 @@ ghost use Rattle.std.specs.Prelude.{◌≡◌, ◌≢◌, ◌+◌, ◌-◌, ◌%
 ghost use Rattle.std.specs.Prelude.{true, false, None, count_by};
 ghost use Rattle.flt_bpf.specs.{Layout.JUMP, Layout.is_branch, Instructions.operation_of};
 ghost use Rattle.flt_bpf.specs.inside.Flow.{goes_on_or_rejects};
-ghost use Rattle.flt_bpf.specs.Check.{fault_of, ends_in_return, IsFaultless, IsValidUnlessLong};
+ghost use Rattle.flt_bpf.specs.Check.{fault_of, ends_in_return, IsFaultless};
 ghost use Rattle.flt_short.specs.inside.Alike.{goes_on, same_step, is_masked_test, one_test};
 ghost use Rattle.flt_short.specs.inside.Alike.{rejects, is_sure, begins, code_from, are_copies};
 ghost use Rattle.flt_short.specs.Alike.{Shortens};
@@ -357,13 +357,6 @@ fn ends_in_return(code: &[Wide]) -> bool
     is_return(last.code)
 }
 
-/// Whether code breaks no rule, that on its length aside.
-pub fn is_valid_unless_long(code: &[Wide]) -> bool
-    ensures { IsTrue result → IsValidUnlessLong code.now }
-{
-    are_faultless(code) && ends_in_return(code)
-}
-
 /// Whether an instruction is a test, which the definition calls a branch.
 pub fn is_test(insn: &Wide) -> bool
     ensures { result ≡ is_branch (operation_of insn.now.code) }
@@ -408,8 +401,8 @@ pub fn replaces(code: &[Wide], old: &[Wide], landings: &[Landing]) -> bool
     if !begins(landings, code.len()) || !are_alike(code, old, landings) {
         return false;
     }
-    if count_tests(code) > count_tests(old) {
+    if count_tests(code) > count_tests(old) || !has_no_jump(code) {
         return false;
     }
-    has_no_jump(code) && is_valid_unless_long(code)
+    are_faultless(code) && ends_in_return(code)
 }

@@ -14,9 +14,11 @@
 ghost use Rattle.std.specs.{Prelude.IfOk, Option.IfSome};
 ghost use Rattle.flt_short.specs.Alike.{Shortens};
 
-use crate::alike::{Landing, goes_on_or_rejects, is_masked_test, is_rejection, is_sure, replaces};
+use crate::alike::{
+    Landing, goes_on_or_rejects, is_masked_test, is_rejection, is_sure, is_test, replaces,
+};
 use flt_bpf::operation::{AluOperation, Operand, Operation, Register, Source, Test, decode};
-use flt_bpf::{Wide, reads_accumulator, reads_index, sets_accumulator, sets_index};
+use flt_bpf::{Wide, is_return, reads_accumulator, reads_index, sets_accumulator, sets_index};
 use std::alloc::{AllocError, Allocator};
 
 /// The factor of a multiplicative hash: 2^64 divided by the golden ratio, rounded to an odd number.
@@ -57,10 +59,7 @@ fn index_after(at: usize, offset: usize) -> usize {
 /// Whether an instruction ends a block: it is a test or a return. (A `ja` would too, but code in
 /// which a run reaches one isn't shortened.)
 fn ends_block(insn: Wide) -> bool {
-    matches!(
-        decode(insn.code),
-        Some(Operation::JumpIf(_, _) | Operation::ReturnConstant | Operation::ReturnAccumulator)
-    )
+    is_test(&insn) || is_return(insn.code)
 }
 
 /// The test with these offsets instead of its own. One that exceeds 32 bits leads elsewhere, and
@@ -106,7 +105,7 @@ impl Shortening<'_> {
         if let Some(free) = self.backwards.get_mut(self.len) {
             *free = insn;
             self.len = self.len.saturating_add(1);
-            if let Some(Operation::JumpIf(_, _)) = decode(insn.code) {
+            if is_test(&insn) {
                 self.note_test(insn);
             }
         }
@@ -183,13 +182,11 @@ impl Shortening<'_> {
         self.mark_reached(0);
         for (at, insn) in self.insns.iter().enumerate() {
             if self.landing_at(at).place > 0 {
-                match decode(insn.code) {
-                    Some(Operation::JumpIf(_, _)) => {
-                        self.mark_reached(index_after(at, insn.yes as usize));
-                        self.mark_reached(index_after(at, insn.no as usize));
-                    }
-                    Some(Operation::ReturnConstant | Operation::ReturnAccumulator) => {}
-                    _ => self.mark_reached(index_after(at, 0)),
+                if is_test(insn) {
+                    self.mark_reached(index_after(at, insn.yes as usize));
+                    self.mark_reached(index_after(at, insn.no as usize));
+                } else if !is_return(insn.code) {
+                    self.mark_reached(index_after(at, 0));
                 }
             }
         }

@@ -97,24 +97,21 @@ fn is_free(code: &[Wide]) -> bool
     }
 }
 
-/// Whether a run may continue at a spot instead of at the start of the walk: the place is inside
-/// the code, and A is the same there as after the passed instructions, or its value doesn't matter.
-fn can_stop(known: &Known, code: &[Wide], spot: Spot) -> bool
-    ensures { IsTrue result → (best : ℕ) → LeadsTo known.now code.now spot best spot.place }
-{
-    spot.place < code.len() && (same_held(spot.held, known.held) || is_free(&code[spot.place..]))
-}
-
-/// The place of a spot if a run may continue there; else `best`, the last such place so far. At the
-/// start of a walk both are the same.
+/// The place of a spot if a run may continue there instead of at the start of the walk: the place
+/// is inside the code, and A is the same there as after the passed instructions, or its value
+/// doesn't matter. Else `best`, the last such place so far; at the start of a walk both are the
+/// same.
 fn place_or_best(known: &Known, code: &[Wide], spot: Spot, best: usize) -> usize
     ensures { LeadsTo known.now code.now spot best result }
 {
-    if spot.place == best || can_stop(known, code, spot) {
-        spot.place
-    } else {
-        best
+    let place = spot.place;
+    if place == best || place >= code.len() {
+        return best;
     }
+    if same_held(spot.held, known.held) {
+        return place;
+    }
+    if is_free(&code[place..]) { place } else { best }
 }
 
 /// The last place found at which a run may continue instead of at the start of a walk that is at
