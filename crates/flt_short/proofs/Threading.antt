@@ -1,6 +1,6 @@
 -- A run may go on where a walk ends instead of where it began; so threaded code returns the same, and keeps its
 -- length, its tests and what breaks no rule.
-use Rattle.flt_short.proofs.Common.{◌≡◌, ℕ, zero, suc, ◌+◌, ◌%◌, ◌^◌, ◌<◌, List, [], ◌∷◌, length, drop, Bool, true, false, Option, Some, None, refl, sym, ap, ◌∙◌, subst, arith, if◌then◌else◌, slice_get, slice_set, bit_and, option_map, nat_tests, nat_lt, ◌&&◌, map, Insn, State, Operation, LoadAbsolute, LoadIndirect, Load, LoadHeaderLength, Store, Compute, Jump, JumpIf, ReturnConstant, ReturnAccumulator, CopyToAccumulator, Accumulator, Index, Immediate, Memory, Length, Constant, Byte, Next, Goes, does_if_known, into, field, header_length, answer_of, answer_after, operand_value, test_holds, is_branch, Field, Held, Known, same_held, same_optional, IsOutcome, held_after, is_free_by, is_free, known_step, into_both, word_both, stored_both, count_by, get_or, cond, start, does, goes_on_or_rejects, fault_if_known, ends_in_return, IsFaultless, known_after, loaded, loaded_at, IsThere, HeldHolds, IndexHolds, Holds, HoldsAt, IsClaimAbout, Learns, Arrives, IsStart, with_a, Passes, LeadsTo, Moves, Alike, IsThreaded, AreThreaded}
+use Rattle.flt_short.proofs.Common.{◌≡◌, ℕ, zero, suc, ◌+◌, ◌%◌, ◌^◌, ◌<◌, List, [], ◌∷◌, length, drop, Bool, true, false, Option, Some, None, refl, sym, ap, ◌∙◌, subst, arith, if◌then◌else◌, slice_get, slice_set, bit_and, option_map, nat_tests, nat_lt, ◌&&◌, map, Insn, State, Operation, LoadAbsolute, LoadIndirect, Load, LoadHeaderLength, Store, Compute, Jump, JumpIf, ReturnConstant, ReturnAccumulator, CopyToAccumulator, Accumulator, Index, Immediate, Memory, Length, Constant, Byte, Next, Goes, does_if_known, into, field, header_length, answer_of, answer_after, operand_value, test_holds, is_branch, Field, Held, Known, same_held, same_optional, IsOutcome, held_after, is_free_by, is_free, known_step, into_both, word_both, stored_both, count_by, get_or, cond, start, does, goes_on_or_rejects, fault_if_known, ends_in_return, IsFaultless, known_after, loaded, loaded_at, IsThere, HeldHolds, IndexHolds, Holds, HoldsAt, IsClaimAbout, Learns, Arrives, with_a, Passes, LeadsTo, Moves, Alike, IsThreaded, AreThreaded}
 use Rattle.flt_short.proofs.Knowing.{numbers, same_masks, same_value, same_holds, After, after}
 use Rattle.flt_short.proofs.Likeness.{at_step}
 use Rattle.std.proofs.Common.{◌≤◌, ◌++◌, take, append_assoc}
@@ -263,7 +263,7 @@ ends _ _ e = cc
 code_at : (new old : List Insn) (m : ℕ) (e : Insn) → codes_of new ≡ codes_of old → (get_or new m e).code ≡ (get_or old m e).code
 code_at new old m e same = sym (get_or-map (λ (i : Insn). i.code) new m e) ∙ ap (λ cs. get_or cs m e.code) same ∙ get_or-map (λ (i : Insn). i.code) old m e
 
-pub threads : (new old : List Insn) (seen : List Known) → IsStart seen → AreThreaded 0 seen new old → Threads new old
+pub threads : (new old : List Insn) (seen : List Known) → ((p : List ℕ) (n : ℕ) (s : State) → HoldsAt p n seen 0 s) → AreThreaded 0 seen new old → Threads new old
 threads new old seen begins t =
     let same : length new ≡ length old = sym (length-map new (λ (x : Insn). x.code)) ∙ ap length t.codes ∙ length-map old (λ (x : Insn). x.code) in
     record {

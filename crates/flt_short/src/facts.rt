@@ -6,7 +6,7 @@
 //!
 //! `code` and `k` are those of a load: together they say which bytes of the packet it takes.
 
-ghost use Rattle.std.specs.Prelude.{◌≡◌, ◌<◌, IsTrue, IfOk, IfSome, List, ℕ};
+ghost use Rattle.std.specs.Prelude.{◌≡◌, ◌<◌, IsTrue, IfSome, List, ℕ};
 ghost use Rattle.flt_bpf.specs.{Instructions.operation_of, declared.machine.State.State};
 ghost use Rattle.flt_short.specs.inside.Facts.{same_optional, same_field, claims_nothing, allows};
 ghost use Rattle.flt_short.specs.inside.Facts.{Implies, JoinsClaims, same_held, IsOutcome};
@@ -14,11 +14,10 @@ ghost use Rattle.flt_short.specs.inside.Facts.{IsOther, holds_field, masked_held
 ghost use Rattle.flt_short.specs.inside.Facts.{held_after, index_after, known_after, Holds};
 ghost use Rattle.flt_short.specs.inside.Facts.{IsThere, HoldsAt, IsAlwaysTrue, JoinsFact, JoinsFacts};
 ghost use Rattle.flt_short.specs.inside.Facts.{JoinsBy, IsClaimAbout, IsClaimAfter, AddsFact};
-ghost use Rattle.flt_short.specs.inside.Facts.{Learns, Arrives, IsStart};
+ghost use Rattle.flt_short.specs.inside.Facts.{Learns, Arrives};
 
 use flt_bpf::Wide;
 use flt_bpf::operation::{AluOperation, Operand, Operation, Register, Source, Test, decode};
-use std::alloc::{AllocError, Allocator};
 
 /// The number of facts kept at a place. One more takes the place of another (`place_for`).
 pub const MOST_FACTS: usize = 5;
@@ -82,7 +81,7 @@ const NOTHING_CLAIMED: Fact = Fact {
 };
 
 /// The state at a place if nothing is known of the runs that reach it.
-fn nothing_known() -> Known
+pub fn nothing_known() -> Known
     ensures { IsAlwaysTrue result }
 {
     Known {
@@ -93,7 +92,7 @@ fn nothing_known() -> Known
 }
 
 /// The state at a place that no run reaches.
-fn unreached() -> Known {
+pub fn unreached() -> Known {
     Known {
         held: Held::Unreached,
         ..nothing_known()
@@ -429,23 +428,4 @@ pub fn arrive(seen: &mut [Known], place: usize, known: &Known)
     if place < seen.len() {
         join(&mut seen[place], known);
     }
-}
-
-/// The states before code of this length is read: a run reaches place 0, with nothing known, and
-/// none reaches another place.
-pub fn at_start<A: Allocator>(alloc: A, len: usize) -> Result<Vec<Known, A>, AllocError>
-    ensures { IfOk result (λ seen. IsStart seen.items) }
-{
-    let mut seen = vec![in alloc; unreached(); len]?;
-    arrive(&mut seen, 0, &nothing_known());
-    Ok(seen)
-}
-
-/// As `at_start`, for code of few instructions: an array.
-pub fn few_at_start() -> [Known; FEW]
-    ensures { IsStart result }
-{
-    let mut seen = [unreached(); FEW];
-    arrive(&mut seen, 0, &nothing_known());
-    seen
 }

@@ -16,12 +16,11 @@ ghost use Rattle.flt_bpf.specs.declared.operation.Operation.TheVariants.{JumpIf}
 ghost use Rattle.flt_bpf.specs.declared.operation.Test.TheVariants.{Equal};
 ghost use Rattle.flt_short.specs.Threads.{Threads};
 ghost use Rattle.flt_short.specs.inside.Threads.{Passes, is_free, LeadsTo, Moves, IsThreaded};
-ghost use Rattle.flt_short.specs.inside.Threads.{AreThreaded};
 
 use crate::alike::{goes_on_or_rejects, is_test};
 use crate::facts::{
-    FEW, Held, Known, arrive, at_start, claim_about, few_at_start, held_after, is_captured,
-    known_at, learn, outcome_by_claim, pass_insn, same_held, same_optional,
+    FEW, Held, Known, arrive, claim_about, held_after, is_captured, known_at, learn, nothing_known,
+    outcome_by_claim, pass_insn, same_held, same_optional, unreached,
 };
 use flt_bpf::operation::{AluOperation, Operand, Operation, Register, Source, Test, decode};
 use flt_bpf::{Wide, reads_accumulator, sets_accumulator};
@@ -213,10 +212,12 @@ fn thread_insn(
 }
 
 /// Threads all instructions in order, each with the state at its place, which is the join of the
-/// states on all paths to it.
+/// states on all paths to it. At first `seen` has no place that a run reaches; a run begins at place
+/// 0, with nothing known.
 fn thread_all(seen: &mut [Known], insns: &mut [Wide])
-    ensures { AreThreaded 0 seen.old insns.new insns.old }
+    ensures { Threads insns.new insns.old }
 {
+    arrive(seen, 0, &nothing_known());
     let mut at = 0;
     // The label names the loop in its proof.
     'insns: while at < insns.len() {
@@ -228,9 +229,9 @@ fn thread_all(seen: &mut [Known], insns: &mut [Wide])
     }
 }
 
-/// Threads code; `seen` has the state at each place before the first instruction is read.
+/// Threads code; `seen` has room for the state at each place.
 fn threaded_insns<A: Allocator>(seen: &mut [Known], mut insns: Vec<Wide, A>) -> Vec<Wide, A>
-    ensures { AreThreaded 0 seen.old result.items insns.items }
+    ensures { Threads result.items insns.items }
 {
     thread_all(seen, &mut insns);
     insns
@@ -240,7 +241,7 @@ fn threaded_insns<A: Allocator>(seen: &mut [Known], mut insns: Vec<Wide, A>) -> 
 fn threaded_few<A: Allocator>(insns: Vec<Wide, A>) -> Vec<Wide, A>
     ensures { Threads result.items insns.items }
 {
-    threaded_insns(&mut few_at_start(), insns)
+    threaded_insns(&mut [unreached(); FEW], insns)
 }
 
 /// Whether an instruction loads bytes of the packet, its length, or the length of a header.
@@ -285,6 +286,6 @@ pub fn threaded<A: Allocator>(alloc: A, insns: Vec<Wide, A>) -> Result<Vec<Wide,
     if insns.len() <= FEW {
         return Ok(threaded_few(insns));
     }
-    let mut seen = at_start(alloc, insns.len())?;
+    let mut seen = vec![in alloc; unreached(); insns.len()]?;
     Ok(threaded_insns(&mut seen, insns))
 }

@@ -217,7 +217,3 @@ Learns k i outcome new = (p : List ℕ) (n : ℕ) (s : State) (test : Test) (ope
 pub record Arrives (k : Known) (place : ℕ) (old new : List Known) : Type 0 where
   pub keeps : (p : List ℕ) (n q : ℕ) (s : State) → HoldsAt p n old q s → HoldsAt p n new q s
   pub comes : (p : List ℕ) (n : ℕ) (s : State) → Holds p n k s → HoldsAt p n new place s
-
--- what is known at the first place is true of every run
-abbrev pub IsStart : List Known → Type 0
-IsStart seen = (p : List ℕ) (n : ℕ) (s : State) → HoldsAt p n seen 0 s

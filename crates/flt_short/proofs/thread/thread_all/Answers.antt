@@ -2,7 +2,7 @@
 use Rattle.flt_short.proofs.Common.{◌≡◌, ◌+◌, ◌-◌, ◌≤◌, length, drop, subst, sym, arith, Insn, IsThreaded}
 use Rattle.std.proofs.Common.{length-set}
 use Rattle.std.proofs.lemmas.List.{take_rest}
-use Rattle.flt_short.proofs.Threading.{threaded_more, threaded_all}
+use Rattle.flt_short.proofs.Threading.{threaded_more, threaded_all, threads}
 use Rattle.flt_short.proofs.thread.thread_all.Goals as goal
 
 pub insns-preserved : goal.insns-preserved
@@ -15,8 +15,10 @@ insns-preserved c =
     record {
       shape = omega (arith, length-set insns at c.thread_insn-insn.result);
       within = omega (arith, length-set insns at c.thread_insn-insn.result);
-      so_far = threaded_more c.args.seen.now c.args.insns.now c.insns.seen seen c.known_at-here.result insns at c.index-insns-at.result c.thread_insn-insn.result c.insns-test.true c.insns.invariant.so_far c.known_at-here.ensures here;
+      so_far = threaded_more c.arrive.new.seen c.args.insns.now c.insns.seen seen c.known_at-here.result insns at c.index-insns-at.result c.thread_insn-insn.result c.insns-test.true c.insns.invariant.so_far c.known_at-here.ensures here;
     }
 
 pub returns : goal.returns
-returns c = threaded_all c.args.seen.now c.args.insns.now c.insns.seen c.insns.insns c.insns.at c.insns-test.false c.insns.invariant.so_far
+returns c =
+    threads _ c.args.insns.now c.arrive.new.seen (λ p n s. c.arrive.ensures.comes p n s (c.nothing_known.ensures p n s))
+    (threaded_all c.arrive.new.seen c.args.insns.now c.insns.seen c.insns.insns c.insns.at c.insns-test.false c.insns.invariant.so_far)
