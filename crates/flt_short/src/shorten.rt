@@ -180,9 +180,10 @@ impl Shortening<'_> {
     /// pass over the code is enough.
     fn mark_all_reached(&mut self) {
         self.mark_reached(0);
-        for (at, insn) in self.insns.iter().enumerate() {
+        for at in 0..self.insns.len() {
+            let insn = self.old_insn(at);
             if self.landing_at(at).place > 0 {
-                if is_test(insn) {
+                if is_test(&insn) {
                     self.mark_reached(index_after(at, insn.yes as usize));
                     self.mark_reached(index_after(at, insn.no as usize));
                 } else if !is_return(insn.code) {
@@ -376,7 +377,8 @@ impl Shortening<'_> {
     }
 
     /// Emits an instruction of the old code, joined with the one after it if that is shorter.
-    fn emit(&mut self, at: usize, insn: Wide) {
+    fn emit(&mut self, at: usize) {
+        let insn = self.old_insn(at);
         if let Some(test) = self.bits_test_at(at) {
             self.emit_test(at, test, index_after(at, 0));
             return;
@@ -395,11 +397,11 @@ impl Shortening<'_> {
     /// joined with it. Returns the number of instructions of the new code.
     fn read_all(&mut self) -> usize {
         self.mark_all_reached();
-        for (at, insn) in self.insns.iter().enumerate().rev() {
+        for at in (0..self.insns.len()).rev() {
             let is_reached = self.landing_at(at).place > 0;
             self.land(at, NOWHERE);
             if is_reached && !self.is_joined(at) {
-                self.emit(at, *insn);
+                self.emit(at);
             }
         }
         self.len
