@@ -1,8 +1,8 @@
 //! The abstract state at an instruction: what is known of the packet, of A and of X in each run
 //! that reaches it; the join of two such states; and the states at all places, which here are
 //! indices of instructions from the beginning of the code. What is known holds in each run: clauses
-//! say so where facts are found, joined and added. Which fact gives way to another matters only for
-//! the length of the code.
+//! state it where facts are found, joined and added. Which fact gives way to another matters only
+//! for the length of the code.
 //!
 //! `code` and `k` are those of a load: together they say which bytes of the packet it takes.
 
@@ -10,11 +10,11 @@ ghost use Rattle.std.specs.Prelude.{◌≡◌, ◌<◌, IsTrue, IfSome, List, �
 ghost use Rattle.flt_bpf.specs.{Instructions.operation_of, declared.machine.State.State};
 ghost use Rattle.flt_short.specs.inside.Facts.{same_optional, same_field, claims_nothing, allows};
 ghost use Rattle.flt_short.specs.inside.Facts.{Implies, JoinsClaims, same_held, IsOutcome};
-ghost use Rattle.flt_short.specs.inside.Facts.{IsOther, holds_field, masked_held};
-ghost use Rattle.flt_short.specs.inside.Facts.{held_after, index_after, known_after, Holds};
-ghost use Rattle.flt_short.specs.inside.Facts.{IsThere, HoldsAt, IsAlwaysTrue, JoinsFact, JoinsFacts};
-ghost use Rattle.flt_short.specs.inside.Facts.{JoinsBy, IsClaimAbout, IsClaimAfter, AddsFact};
-ghost use Rattle.flt_short.specs.inside.Facts.{Learns, Arrives};
+ghost use Rattle.flt_short.specs.inside.Facts.{IsOther, holds_field, masked_held, held_after};
+ghost use Rattle.flt_short.specs.inside.Facts.{index_after, known_after, Holds, IsThere, HoldsAt};
+ghost use Rattle.flt_short.specs.inside.Facts.{IsAlwaysTrue, JoinsFact, JoinsFacts, JoinsBy};
+ghost use Rattle.flt_short.specs.inside.Facts.{IsClaimAbout, IsClaimAfter, AddsFact, Learns};
+ghost use Rattle.flt_short.specs.inside.Facts.{Arrives};
 
 use flt_bpf::Wide;
 use flt_bpf::operation::{AluOperation, Operand, Operation, Register, Source, Test, decode};

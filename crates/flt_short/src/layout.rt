@@ -183,7 +183,7 @@ impl<A: Allocator> Layout<A> {
     }
 
     /// Which of its two places a test that is put in front needs a jump for: as few as possible. A
-    /// jump for one makes the other one farther by an instruction, so that must not be at the limit.
+    /// jump for one makes the other one farther by an instruction.
     fn test_reach(&self, yes: usize, no: usize) -> Reach
         ensures { result ≡ test_reach yes no self.now.code }
     {

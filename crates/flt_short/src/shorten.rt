@@ -31,7 +31,7 @@ const NOWHERE: Landing = Landing {
     index: false,
 };
 
-/// Fills the space of the new code that has no instruction yet, and stands for one outside the code.
+/// Fills the space of the new code that has no instruction yet, and is read outside the code.
 const EMPTY: Wide = Wide {
     code: 0,
     yes: 0,

@@ -6,8 +6,8 @@
 //! walk at which a run may continue instead of at the old target. If the walk ends at a test, it
 //! goes on after both of its outcomes.
 //!
-//! In a walk a place is an index of the code that follows the test. Clauses say that what is known
-//! stays true and that a run has the same answer; the contract of `threaded` (`Threads`) follows.
+//! In a walk a place is an index of the code that follows the test. Clauses state that what is
+//! known stays true and that a run has the same answer. The contract of `threaded` follows.
 
 ghost use Rattle.std.specs.Prelude.{IfOk, ◌≡◌, ◌<◌, ◌≤◌, ◌^◌, length, IfSome, IsTrue, List, ℕ};
 ghost use Rattle.flt_bpf.specs.Instructions.{operation_of};
@@ -46,8 +46,8 @@ pub struct Spot {
 /// How many instructions a test for equality with a constant skips if A is `held`; `None` if the
 /// facts don't decide it.
 fn skipped_by_test(known: &Known, insn: Wide, held: Held) -> Option<u32>
-    requires { operation_of insn.code ≡ Some (JumpIf Equal Constant) }
-    ensures { IfSome result (λ skipped. Passes known.now insn held skipped) }
+    ensures { operation_of insn.code ≡ Some (JumpIf Equal Constant)
+        → IfSome result (λ skipped. Passes known.now insn held skipped) }
 {
     let Held::Field(field) = held else {
         return None;
@@ -212,8 +212,8 @@ fn thread_insn(
 }
 
 /// Threads all instructions in order, each with the state at its place, which is the join of the
-/// states on all paths to it. At first `seen` has no place that a run reaches; a run begins at place
-/// 0, with nothing known.
+/// states on all paths to it. At first `seen` has no place that a run reaches. A run begins at
+/// place 0, with nothing known.
 fn thread_all(seen: &mut [Known], insns: &mut [Wide])
     ensures { Threads insns.new insns.old }
 {

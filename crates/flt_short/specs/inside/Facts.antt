@@ -127,7 +127,7 @@ abbrev pub loaded_at : Option Operation → List ℕ → ℕ → ℕ → Option 
 loaded_at (Some (LoadIndirect width)) p x k = field p ((x + k) % 2 ^ 32) width
 loaded_at _ p x k = None
 
--- the bits of a number that a mask, if there is one, leaves
+-- a number, with only the bits of the mask if there is one
 abbrev pub masked : Option ℕ → Option ℕ → Option ℕ
 masked None number = number
 masked (Some m) number = option_map (λ n. bit_and n m) number
@@ -175,11 +175,11 @@ HoldsAt p n seen place s = IfSome (slice_get seen place) (λ k. Holds p n k s)
 abbrev pub IsAlwaysTrue : Known → Type 0
 IsAlwaysTrue k = (p : List ℕ) (n : ℕ) (s : State) → Holds p n k s
 
--- z is true where x is, and where all of ys are
+-- z is true of a packet of which x is, or of which all of ys are
 abbrev pub JoinsFact : Fact → List Fact → Fact → Type 0
 JoinsFact x ys z = (p : List ℕ) (n : ℕ) → Says p n x ⊎ All (Says p n) ys → Says p n z
 
--- zs are true where xs are, and where ys are
+-- all of zs are true of a packet of which all of xs are, or all of ys
 abbrev pub JoinsFacts : List Fact → List Fact → List Fact → Type 0
 JoinsFacts xs ys zs = (p : List ℕ) (n : ℕ) → All (Says p n) xs ⊎ All (Says p n) ys → All (Says p n) zs
 
@@ -213,7 +213,8 @@ Learns k i outcome new = (p : List ℕ) (n : ℕ) (s : State) (test : Test) (ope
     → test_holds test s.accumulator (operand_value operand i.k s.index) ≡ outcome
     → Holds p n k s → Holds p n new s
 
--- what was known at places is true still, and `new` also in a run that comes with the state k
+-- what was known at each place is true still; at this one it is true in one more run, which comes
+-- with the state k
 pub record Arrives (k : Known) (place : ℕ) (old new : List Known) : Type 0 where
   pub keeps : (p : List ℕ) (n q : ℕ) (s : State) → HoldsAt p n old q s → HoldsAt p n new q s
   pub comes : (p : List ℕ) (n : ℕ) (s : State) → Holds p n k s → HoldsAt p n new place s

@@ -15,8 +15,8 @@ use Rattle.flt_short.specs.inside.Facts.{HeldHolds, Holds, HoldsAt}
 abbrev pub with_a : State → ℕ → State
 with_a s a = record s { accumulator = a }
 
--- where k is true and A is h, but for A, the instruction goes on past `skipped` others, and changes
--- nothing but A
+-- in a run with the state k, in which A is h instead, the instruction goes on past `skipped` others
+-- and changes only A
 abbrev pub Passes : Known → Insn → Held → ℕ → Type 0
 Passes k i h skipped = (p : List ℕ) (n : ℕ) (s : State) (a : ℕ)
     → Holds p n k s → HeldHolds p n h (with_a s a)
