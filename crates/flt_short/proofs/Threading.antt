@@ -1,7 +1,7 @@
 -- A run may go on where a walk ends instead of where it began; so threaded code returns the same, and keeps its
 -- length, its tests and what breaks no rule.
-use Rattle.flt_short.proofs.Common.{◌≡◌, ℕ, zero, suc, ◌+◌, ◌%◌, ◌^◌, ◌<◌, List, [], ◌∷◌, length, drop, Bool, true, false, Option, Some, None, refl, sym, ap, ◌∙◌, subst, arith, if◌then◌else◌, slice_get, slice_set, bit_and, option_map, nat_tests, nat_lt, ◌&&◌, map, Insn, State, Operation, LoadAbsolute, LoadIndirect, Load, LoadHeaderLength, Store, Compute, Jump, JumpIf, ReturnConstant, ReturnAccumulator, CopyToAccumulator, Accumulator, Index, Immediate, Memory, Length, Constant, Byte, Next, Goes, does_if_known, into, field, header_length, answer_of, answer_after, operand_value, test_holds, is_branch, Field, Held, Known, same_held, same_optional, IsOutcome, held_after, is_free_by, is_free, known_step, into_both, word_both, stored_both, count_by, get_or, cond, start, does, goes_on_or_rejects, fault_if_known, ends_in_return, IsFaultless, known_after, loaded, loaded_at, IsThere, HeldHolds, IndexHolds, Holds, HoldsAt, IsClaimAbout, Learns, Arrives, with_a, Passes, LeadsTo, Moves, Alike, IsThreaded, AreThreaded}
-use Rattle.flt_short.proofs.Knowing.{numbers, same_masks, same_value, same_holds, After, after}
+use Rattle.flt_short.proofs.Common.{◌≡◌, ℕ, zero, suc, ◌+◌, ◌%◌, ◌^◌, ◌<◌, List, [], ◌∷◌, length, drop, Bool, true, false, Option, Some, None, refl, sym, ap, ◌∙◌, subst, arith, if◌then◌else◌, slice_get, slice_set, bit_and, option_map, nat_tests, nat_lt, map, Insn, State, Operation, LoadAbsolute, LoadIndirect, Load, LoadHeaderLength, Store, Compute, Jump, JumpIf, ReturnConstant, ReturnAccumulator, CopyToAccumulator, Accumulator, Index, Immediate, Memory, Length, Constant, Byte, Next, Goes, does_if_known, into, field, header_length, answer_of, answer_after, operand_value, test_holds, is_branch, Field, Held, Known, same_held, same_optional, IsOutcome, held_after, is_free_by, is_free, known_step, into_both, word_both, stored_both, count_by, get_or, cond, start, does, goes_on_or_rejects, fault_if_known, ends_in_return, known_after, loaded, loaded_at, IsThere, HeldHolds, IndexHolds, Holds, HoldsAt, IsClaimAbout, Learns, Arrives, with_a, Passes, LeadsTo, Moves, Alike, IsThreaded, AreThreaded}
+use Rattle.flt_short.proofs.Knowing.{same_masks, same_value, same_holds, After, after}
 use Rattle.flt_short.proofs.Likeness.{at_step}
 use Rattle.std.proofs.Common.{◌≤◌, ◌++◌, take, append_assoc}
 use Rattle.std.proofs.Math.Seq.{drop-cons}
@@ -11,7 +11,7 @@ use Rattle.std.proofs.lemmas.List.Sums.{sum_by-cons}
 use Rattle.flt_bpf.proofs.Suffix.{answer_drop}
 use Rattle.flt_bpf.specs.{Check.fault_of, Instructions.operation_of}
 use Rattle.flt_bpf.specs.Machine.{step}
-use Rattle.flt_bpf.specs.declared.{fault.CheckFault.TheVariants.JumpOut, operation.Width.Width}
+use Rattle.flt_bpf.specs.declared.{operation.Width.Width}
 use Rattle.flt_bpf.specs.declared.operation.{AluOperation.AluOperation, Operand.Operand, Test.Test}
 use Rattle.flt_short.specs.{Threads.Threads, declared.facts.Claim.Claim, declared.thread.Spot.Spot}
 use Rattle.flt_short.specs.declared.facts.Held.TheVariants as held

@@ -75,7 +75,10 @@ fn with_offsets(insn: Wide, yes: usize, no: usize) -> Wide {
 /// The number of entries in the table of tests for code of a length: a power of two, greater than
 /// the number of tests in the code.
 fn table_len(len: usize) -> usize {
-    len.saturating_add(1).max(16).checked_next_power_of_two().unwrap_or(16)
+    len.saturating_add(1)
+        .max(16)
+        .checked_next_power_of_two()
+        .unwrap_or(16)
 }
 
 /// The new code, which grows from its end to its beginning while the old code is read in that order

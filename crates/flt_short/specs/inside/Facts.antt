@@ -3,7 +3,7 @@
 -- and `k` are those of a load. Together they identify its value: bytes of the packet at a fixed
 -- place or at X, or the packet's length. Elsewhere `k` is a state. `i` is an instruction.
 use Rattle.std.specs.Option.{option_map}
-use Rattle.std.specs.Prelude.{◌≡◌, ℕ, ◌+◌, ◌<◌, ◌%◌, ◌^◌, ◌==◌, not, Bool, true, false, if◌then◌else◌, ◌&&◌, ◌||◌, ◌⊎◌, List, All, length, Option, Some, None, IfSome, slice_get, bit_and}
+use Rattle.std.specs.Prelude.{◌≡◌, ℕ, ◌+◌, ◌%◌, ◌^◌, ◌==◌, not, Bool, true, false, if◌then◌else◌, ◌&&◌, ◌||◌, ◌⊎◌, List, All, Option, Some, None, IfSome, slice_get, bit_and}
 use Rattle.flt_bpf.specs.Instructions.{operation_of}
 use Rattle.flt_bpf.specs.Machine.{field, header_length, test_holds, operand_value}
 use Rattle.flt_bpf.specs.declared.{insn.Insn.Insn, machine.State.State}

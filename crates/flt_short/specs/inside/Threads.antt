@@ -1,7 +1,7 @@
 -- Jump threading, as `thread.rt` does it: the targets of tests are moved further on. In a walk a
 -- place is an index of the code c that follows the test, k is the state at the start of the walk, h
 -- the value of A after the passed instructions, and i an instruction.
-use Rattle.std.specs.Prelude.{◌≡◌, ℕ, suc, ◌+◌, ◌<◌, Bool, true, false, ◌&&◌, ◌||◌, not, List, [], ◌∷◌, length, map, Option, Some, None}
+use Rattle.std.specs.Prelude.{◌≡◌, ℕ, ◌+◌, ◌<◌, Bool, true, false, ◌&&◌, ◌||◌, not, List, [], ◌∷◌, length, map, Option, Some, None}
 use Rattle.flt_bpf.specs.{Answer.answer_of, Check.fault_of, Check.IsFaultless}
 use Rattle.flt_bpf.specs.{Instructions.operation_of, Machine.Goes, Machine.step}
 use Rattle.flt_bpf.specs.Registers.{reads_accumulator, sets_accumulator}

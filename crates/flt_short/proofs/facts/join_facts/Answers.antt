@@ -1,5 +1,5 @@
 -- One more is joined, or all are.
-use Rattle.std.proofs.Common.{arith, ◌≤◌, length}
+use Rattle.std.proofs.Common.{arith}
 use Rattle.flt_short.proofs.Knowing.{joined_more, joined_all}
 use Rattle.flt_short.proofs.facts.join_facts.Goals as goal
 

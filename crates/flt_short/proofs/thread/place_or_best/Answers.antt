@@ -8,6 +8,6 @@ pub returns-then-same_held : goal.returns-then-same_held
 returns-then-same_held c = stops_same c.args.known.now c.args.code.now c.args.spot c.args.best (sym c.same_held.ensures ∙ c.if-same_held.true)
 
 pub returns-then-is_free : goal.returns-then-is_free
-returns-then-is_free c = 
+returns-then-is_free c =
     stops_free c.args.known.now c.args.code.now c.args.spot c.args.best
     (subst (λ c'. is_free c' ≡ true) (take_rest c.args.code.now c.args.spot.place) (sym c.is_free.ensures ∙ c.if-is_free.true))

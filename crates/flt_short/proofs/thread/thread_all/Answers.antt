@@ -1,5 +1,5 @@
 -- One more is threaded, or all are.
-use Rattle.flt_short.proofs.Common.{◌≡◌, ◌+◌, ◌-◌, ◌≤◌, length, drop, subst, sym, arith, Insn, IsThreaded}
+use Rattle.flt_short.proofs.Common.{◌+◌, drop, subst, arith, Insn, IsThreaded}
 use Rattle.std.proofs.Common.{length-set}
 use Rattle.std.proofs.lemmas.List.{take_rest}
 use Rattle.flt_short.proofs.Threading.{threaded_more, threaded_all, threads}

@@ -1,5 +1,5 @@
 -- An instruction is threaded by its operation.
-use Rattle.flt_short.proofs.Common.{◌≡◌, ◌+◌, Some, None, sym, ap, ◌∙◌, subst, Insn, Known, JumpIf, Jump, Moves, Learns, Arrives, IsThreaded, known_after}
+use Rattle.flt_short.proofs.Common.{◌≡◌, ◌+◌, Some, sym, ap, ◌∙◌, subst, Insn, JumpIf, Jump, Moves, Arrives, IsThreaded, known_after}
 use Rattle.flt_bpf.specs.Instructions.{operation_of}
 use Rattle.flt_short.proofs.Threading.{unknown_threaded, plain_threaded, test_threaded, jump_threaded, return_threaded}
 use Rattle.flt_short.proofs.thread.thread_insn.Goals as goal
