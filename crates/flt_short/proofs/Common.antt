@@ -19,5 +19,5 @@ pub use Rattle.flt_bpf.proofs.Both.{known_step, into_both, word_both, stored_bot
 pub use Rattle.flt_bpf.proofs.Checking.{parts, last_returns}
 pub use Rattle.flt_short.specs.declared.facts.{Field.Field, Held.Held, Known.Known}
 pub use Rattle.flt_short.specs.inside.Alike.{goes_on, rejects, is_sure, same_target, goes_on_alike, are_copies, lands_at_if, lands_at, code_from, stands_at, stands, are_alike, begins}
-pub use Rattle.flt_short.specs.inside.Facts.{nothing_known, unreached, nothing_claimed, same_optional, same_field, claims_nothing, allows, entails_some, entails, one_of_two, joined_claim, joined_with_any, joined_fact, same_held, common_header, joined_by, joined, outcome_by_claim, speaks_of, claim_about, other_by_claim, with_fact, captures, any_captures, holds_field, is_captured, claim_after, known_by_test, masked_by, masked_held, held_after, known_after, known_at, arrived, at_start}
-pub use Rattle.flt_short.specs.inside.Threads.{threaded_offset, threaded_by, threaded_insn, is_reached, with_arrivals_by, with_arrivals, flow, skipped_by_test, skipped_after, is_free_by, is_free, can_stop, place_or_best, spot_after, walk_on, target}
+pub use Rattle.flt_short.specs.inside.Facts.{same_optional, same_field, claims_nothing, allows, Implies, JoinsClaims, same_held, common_header, IsOutcome, holds_field, masked_by, masked_held, held_after, known_after, loaded, loaded_at, masked, value_of, IsThere, is_said, Says, HeldHolds, IndexHolds, Holds, HoldsAt, JoinsBy, JoinsFact, JoinsFacts, IsClaimAbout, Learns, Arrives}
+pub use Rattle.flt_short.specs.inside.Threads.{with_a, Passes, is_free_by, is_free, LeadsTo, Moves, Alike, IsThreaded, AreThreaded}

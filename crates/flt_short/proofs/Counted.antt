@@ -1,5 +1,5 @@
 -- How many instructions are laid out; a jump stands only for a target that is too far for its test.
-use Rattle.flt_short.proofs.LayoutNames.{◌≡◌, ℕ, ◌+◌, ◌-◌, ◌*◌, ◌<◌, ◌≤◌, List, [], ◌∷◌, length, true, cond, Option, Some, refl, sym, subst, arith, ◌≢◌, nat_le, count_by, nat_tests, All-cons, All-head, All-tail, Insn, Operation, Jump, JumpIf, is_branch, JUMP, MOST_OFFSET, HasNoJump, IsShort, back_of_code, Reach, Near, PlacedCode, place_at, emitted, with_offsets, with_test_by, with_insn, placed_code, laid_out, zero, suc, Bool, false, ap, ◌∙◌, inl, inr, ◌⊎◌, slice_get, ◌&&◌, if◌then◌else◌, IsNeeded, JumpsAreNeeded, YesFar, NoFar, BothFar, with_jump}
+use Rattle.flt_short.proofs.LayoutNames.{◌≡◌, ℕ, ◌+◌, ◌-◌, ◌*◌, ◌<◌, ◌≤◌, List, [], ◌∷◌, length, true, cond, Option, Some, refl, sym, subst, arith, ◌≢◌, nat_le, nat_lt, count_by, nat_tests, All-cons, All-head, All-tail, Insn, Operation, Jump, JumpIf, is_branch, JUMP, MOST_OFFSET, HasNoJump, IsShort, back_of_code, Reach, Near, PlacedCode, place_at, emitted, with_offsets, with_test_by, with_insn, placed_code, laid_out, zero, suc, Bool, false, ap, ◌∙◌, inl, inr, ◌⊎◌, slice_get, ◌&&◌, if◌then◌else◌, IsNeeded, JumpsAreNeeded, YesFar, NoFar, BothFar, with_jump}
 use Rattle.std.proofs.lemmas.List.Sums.{count_by-le-length, sum_by-cons}
 use Rattle.flt_bpf.proofs.Jumps.{jump_later, needed_put}
 use Rattle.flt_bpf.specs.Instructions.{operation_of}
@@ -116,7 +116,7 @@ needed_two c i hit miss other branches far_hit far_miss h = record { each = at }
         record { from = 0; branch = with_offsets i 0 1; there = refl; branches = branches; leads = inr refl; far = omega arith }
     at (suc (suc (suc place))) jump g e = jump_later _ _ (suc (suc place)) jump (jump_later _ _ (suc place) jump (jump_later c _ place jump (h.each place jump g e)))
 
-needed_choice : (i : Insn) (hit miss : ℕ) (l : PlacedCode) → i.code ≢ JUMP → is_branch (operation_of i.code) ≡ true → JumpsAreNeeded l.code → (a b d : Bool) → a ≡ (nat_le (length l.code - hit) MOST_OFFSET && nat_le (length l.code - miss) MOST_OFFSET) → b ≡ nat_le (length l.code + 1 - miss) MOST_OFFSET → d ≡ nat_le (length l.code + 1 - hit) MOST_OFFSET → JumpsAreNeeded (with_test_by (if a then Near else (if b then YesFar else (if d then NoFar else BothFar))) i hit miss l).code
+needed_choice : (i : Insn) (hit miss : ℕ) (l : PlacedCode) → i.code ≢ JUMP → is_branch (operation_of i.code) ≡ true → JumpsAreNeeded l.code → (a b d : Bool) → a ≡ (nat_le (length l.code - hit) MOST_OFFSET && nat_le (length l.code - miss) MOST_OFFSET) → b ≡ nat_lt (length l.code - miss) MOST_OFFSET → d ≡ nat_lt (length l.code - hit) MOST_OFFSET → JumpsAreNeeded (with_test_by (if a then Near else (if b then YesFar else (if d then NoFar else BothFar))) i hit miss l).code
 needed_choice i hit miss l other branches h true b d ea eb ed = needed_put l.code _ other h
 needed_choice i hit miss l other branches h false true d ea eb ed =
     let far : MOST_OFFSET < length l.code - hit = grind (arith, nat_tests) in

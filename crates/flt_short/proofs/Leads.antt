@@ -1,6 +1,6 @@
 -- What is laid out first stays at the end of the code, where its place says; from a jump a run goes on where
 -- the jump leads; so the code that is laid out gives the answers of the wide code.
-use Rattle.flt_short.proofs.LayoutNames.{◌≡◌, ℕ, zero, suc, ◌≤◌, List, [], ◌∷◌, ◌++◌, length, drop, Option, Some, refl, sym, ap, ◌∙◌, arith, append_assoc, length-append, Insn, Operation, JumpIf, Reach, Near, BothFar, PlacedCode, place_at, with_test_by, with_insn, placed_code, laid_out, ◌+◌, ◌-◌, ◌<◌, Bool, true, false, subst, ◌==◌, ◌&&◌, nat_le, if◌then◌else◌, All, nat_tests, All-cons, All-head, All-tail, All-take, All-replicate, State, Jump, answer_of, MOST_OFFSET, YesFar, NoFar, emitted, with_jump, with_noted_jump, jump_near, None, ReturnConstant, ReturnAccumulator, Test, Operand, does_if_known, test_holds, operand_value, answer_after, with_offsets}
+use Rattle.flt_short.proofs.LayoutNames.{◌≡◌, ℕ, zero, suc, ◌≤◌, List, [], ◌∷◌, ◌++◌, length, drop, Option, Some, refl, sym, ap, ◌∙◌, arith, append_assoc, length-append, Insn, Operation, JumpIf, Reach, Near, BothFar, PlacedCode, place_at, with_test_by, with_insn, placed_code, laid_out, ◌+◌, ◌-◌, ◌<◌, Bool, true, false, subst, ◌==◌, ◌&&◌, nat_le, nat_lt, if◌then◌else◌, All, nat_tests, All-cons, All-head, All-tail, All-take, All-replicate, State, Jump, answer_of, MOST_OFFSET, YesFar, NoFar, emitted, with_jump, with_noted_jump, jump_near, None, ReturnConstant, ReturnAccumulator, Test, Operand, does_if_known, test_holds, operand_value, answer_after, with_offsets}
 use Rattle.std.proofs.Common.{add-one}
 use Rattle.std.specs.Prelude.{slice_index}
 use Rattle.flt_bpf.proofs.Both.{plain_both}
@@ -122,7 +122,7 @@ all_jump to l b h =
 near_jump : (c : List Insn) (js : List PlacedJump) (to : ℕ) → to ≤ length c → All (Leads c) js → GoesTo c (jump_near js to (length c)) to
 near_jump c [] to l h = stays c to l
 near_jump c (j ∷ js) to l h =
-    choice (j.to == to) (nat_le (length c + 1 - j.place) MOST_OFFSET) refl (near_jump c js to l (All-tail (Leads c) j js h))
+    choice (j.to == to) (nat_lt (length c - j.place) MOST_OFFSET) refl (near_jump c js to l (All-tail (Leads c) j js h))
   where
     choice : (a b : Bool) → a ≡ (j.to == to) → GoesTo c (jump_near js to (length c)) to → GoesTo c (if a && b then j.place else jump_near js to (length c)) to
     choice true true e rest =

@@ -1,26 +1,24 @@
 -- A run may go on where a walk ends instead of where it began; so threaded code returns the same, and keeps its
 -- length, its tests and what breaks no rule.
-use Rattle.flt_short.proofs.Common.{◌≡◌, ℕ, zero, suc, ◌+◌, ◌%◌, ◌^◌, ◌<◌, List, [], ◌∷◌, length, drop, Bool, true, false, Option, Some, None, refl, sym, ap, ◌∙◌, subst, arith, inl, inr, ◌==◌, nat_lt, ◌&&◌, ◌||◌, if◌then◌else◌, slice_get, slice_set, bit_and, option_map, option_map_or, nat_tests, Insn, State, Operation, LoadAbsolute, LoadIndirect, Load, LoadHeaderLength, Store, Compute, Jump, JumpIf, ReturnConstant, ReturnAccumulator, CopyToAccumulator, Accumulator, Index, Immediate, Memory, Length, Constant, Byte, Next, Goes, does_if_known, into, field, header_length, answer_of, answer_after, operand_value, test_holds, is_branch, Field, Held, Known, same_held, same_optional, claim_about, outcome_by_claim, is_captured, held_after, skipped_after, is_free_by, is_free, can_stop, place_or_best, spot_after, walk_on, target, threaded_offset, and_parts, or_cases, known_step, into_both, word_both, stored_both, count_by, get_or, cond, does, start, unless, fault_if_known, ends_in_return, IsFaultless, at_start, known_at, arrived, known_after, known_by_test, threaded_by, threaded_insn, is_reached, with_arrivals_by, with_arrivals, flow}
-use Rattle.flt_short.proofs.Knowing.{by_test, loaded, loaded_at, numbers, same_masks, same_value, HeldHolds, IndexHolds, Holds, same_holds, captured_there, says_right, about_right, After, after, tested, HoldsAt, start_holds, raised_at, raised_keeps}
+use Rattle.flt_short.proofs.Common.{◌≡◌, ℕ, zero, suc, ◌+◌, ◌%◌, ◌^◌, ◌<◌, List, [], ◌∷◌, length, drop, Bool, true, false, Option, Some, None, refl, sym, ap, ◌∙◌, subst, arith, if◌then◌else◌, slice_get, slice_set, bit_and, option_map, nat_tests, nat_lt, map, Insn, State, Operation, LoadAbsolute, LoadIndirect, Load, LoadHeaderLength, Store, Compute, Jump, JumpIf, ReturnConstant, ReturnAccumulator, CopyToAccumulator, Accumulator, Index, Immediate, Memory, Length, Constant, Byte, Next, Goes, does_if_known, into, field, header_length, answer_of, answer_after, operand_value, test_holds, is_branch, Field, Held, Known, same_held, same_optional, IsOutcome, held_after, is_free_by, is_free, known_step, into_both, word_both, stored_both, count_by, get_or, cond, start, does, goes_on_or_rejects, fault_if_known, ends_in_return, known_after, loaded, loaded_at, IsThere, HeldHolds, IndexHolds, Holds, HoldsAt, IsClaimAbout, Learns, Arrives, with_a, Passes, LeadsTo, Moves, Alike, IsThreaded, AreThreaded}
+use Rattle.flt_short.proofs.Knowing.{same_masks, same_value, same_holds, After, after}
 use Rattle.flt_short.proofs.Likeness.{at_step}
+use Rattle.std.proofs.Common.{◌≤◌, ◌++◌, take, append_assoc}
+use Rattle.std.proofs.Math.Seq.{drop-cons}
+use Rattle.std.proofs.lemmas.List.{append-nil, drop_all, length-map, take_all, take_more_set, drop-set-lt}
+use Rattle.std.proofs.Math.ListN.{get_or-map}
 use Rattle.std.proofs.lemmas.List.Sums.{sum_by-cons}
 use Rattle.flt_bpf.proofs.Suffix.{answer_drop}
-use Rattle.flt_bpf.specs.{Check.fault_of, Instructions.operation_of, declared.fault.CheckFault.CheckFault}
-use Rattle.flt_bpf.specs.declared.operation.{AluOperation.AluOperation, Test.Test}
-use Rattle.flt_short.specs.{Threads.Threads, declared.thread.Spot.Spot, inside.Threads.walk}
+use Rattle.flt_bpf.specs.{Check.fault_of, Instructions.operation_of}
+use Rattle.flt_bpf.specs.Machine.{step}
+use Rattle.flt_bpf.specs.declared.{operation.Width.Width}
+use Rattle.flt_bpf.specs.declared.operation.{AluOperation.AluOperation, Operand.Operand, Test.Test}
+use Rattle.flt_short.specs.{Threads.Threads, declared.facts.Claim.Claim, declared.thread.Spot.Spot}
 use Rattle.flt_short.specs.declared.facts.Held.TheVariants as held
-
--- another value of A
-abbrev with_a : State → ℕ → State
-with_a s a = record s { accumulator = a }
-
-zero_if : (b : Bool) (far : ℕ) → (if b then Some 0 else None) ≡ Some far → (b ≡ true) × (0 ≡ far)
-zero_if true far e = (refl, cc)
-zero_if false far e = cc
 
 module _ (p : List ℕ) (n : ℕ) where
   -- what A holds doesn't matter before code that is free
-  free_same : (c : List Insn) → is_free c ≡ true → (s : State) (a : ℕ) → answer_of c p n 0 (with_a s a) ≡ answer_of c p n 0 s
+  pub free_same : (c : List Insn) → is_free c ≡ true → (s : State) (a : ℕ) → answer_of c p n 0 (with_a s a) ≡ answer_of c p n 0 s
   free_same [] e s a = cc
   free_same (i ∷ is) e s a =
       ap (answer_after (answer_of is p n)) (known_step p n i (operation_of i.code) (with_a s a) refl)
@@ -45,297 +43,236 @@ module _ (p : List ℕ) (n : ℕ) where
       by (Some CopyToAccumulator) rest e = refl
       by _ rest e = cc
 
-  module _ (k : Known) (s : State) (holds : Holds p n k s) where
-    -- an instruction that a walk passes changes nothing but A
-    abbrev Passes : Option Operation → Insn → ℕ → ℕ → Type 0
-    Passes op i a far = (b : ℕ) × (does_if_known op i p n (with_a s a) ≡ Goes far (with_a s b))
+-- what a walk passes
+pub passes_test : (k : Known) (i : Insn) (h : Held) (f : Field) (c : Claim) (b : Bool) (far : ℕ) → operation_of i.code ≡ Some (JumpIf Test.Equal Constant) → h ≡ held.Field f → IsClaimAbout k.facts f c → IsOutcome c i.k b → (if b then i.jt else i.jf) ≡ far → Passes k i h far
+passes_test k i h f c b far o is about e there p n s a holds x =
+    let outcome = e a (about p n a holds.facts (subst (λ z. HeldHolds p n z (with_a s a)) is x)) in
+    (a, known_step p n i (Some (JumpIf Test.Equal Constant)) (with_a s a) o ∙ ap (λ z. Goes (if z then i.jt else i.jf) (with_a s a)) outcome ∙ ap (λ m. Goes m (with_a s a)) there)
 
-    passed : (op : Option Operation) (i : Insn) (h : Held) (a far : ℕ) → operation_of i.code ≡ op → HeldHolds p n h (with_a s a) → skipped_after op k i h ≡ Some far → Passes op i a far
-    passed (Some (JumpIf Test.Equal Constant)) i (held.Field f) a far o x e = by (outcome_by_claim (claim_about k.facts f i.k) i.k) refl e
+pub passes_load : (k : Known) (i : Insn) (h : Held) (w : Width) → operation_of i.code ≡ Some (LoadAbsolute w) → ((p : List ℕ) (n : ℕ) (s : State) → Holds p n k s → IsThere p n i.code i.k) → Passes k i h 0
+passes_load k i h w o there p n s a holds x =
+    let t = there p n s holds in
+    (t.0, known_step p n i (Some (LoadAbsolute w)) (with_a s a) o ∙ ap (λ z. into Accumulator z (with_a s a)) (ap (λ z. loaded z p n i.k) (sym o) ∙ t.1))
+
+pub passes_load_at : (k : Known) (i : Insn) (h : Held) (w : Width) → operation_of i.code ≡ Some (LoadIndirect w) → same_held (held.AtIndex i.code i.k) k.held ≡ true → Passes k i h 0
+passes_load_at k i h w o e p n s a holds x =
+    (s.accumulator, known_step p n i (Some (LoadIndirect w)) (with_a s a) o ∙ ap (λ z. into Accumulator z (with_a s a)) (ap (λ z. loaded_at z p s.index i.k) (sym o) ∙ same_holds p n (held.AtIndex i.code i.k) k.held s e holds.a))
+
+pub passes_header : (k : Known) (i : Insn) (h : Held) → operation_of i.code ≡ Some LoadHeaderLength → same_optional k.index (Some i.k) ≡ true → Passes k i h 0
+passes_header k i h o e p n s a holds x =
+    let is : IndexHolds p (Some i.k) s.index = subst (λ z. IndexHolds p z s.index) (same_masks k.index (Some i.k) e) holds.x in
+    (a, known_step p n i (Some LoadHeaderLength) (with_a s a) o ∙ ap (λ z. into Index z (with_a s a)) is)
+
+pub passes_length : (k : Known) (i : Insn) (h : Held) → operation_of i.code ≡ Some (Load Accumulator Length) → Passes k i h 0
+passes_length k i h o p n s a holds x = (n, known_step p n i (Some (Load Accumulator Length)) (with_a s a) o)
+
+pub passes_mask : (k : Known) (i : Insn) (h : Held) → operation_of i.code ≡ Some (Compute AluOperation.And Constant) → Passes k i h 0
+passes_mask k i h o p n s a holds x = (bit_and a i.k, known_step p n i (Some (Compute AluOperation.And Constant)) (with_a s a) o)
+
+-- what A holds after any instruction
+held_next : (p : List ℕ) (n : ℕ) (k : Known) (s : State) → Holds p n k s → (op : Option Operation) (i : Insn) (h : Held) (a b far : ℕ) → operation_of i.code ≡ op → HeldHolds p n h (with_a s a) → does_if_known op i p n (with_a s a) ≡ Goes far (with_a s b) → HeldHolds p n (held_after op h i) (with_a s b)
+held_next p n k s holds None i h a b far o x e = cc
+held_next p n k s holds (Some (JumpIf t u)) i h a b far o x e = let same : with_a s a ≡ with_a s b = cc in subst (HeldHolds p n h) same x
+held_next p n k s holds (Some Jump) i h a b far o x e = tt
+held_next p n k s holds (Some ReturnConstant) i h a b far o x e = cc
+held_next p n k s holds (Some ReturnAccumulator) i h a b far o x e = cc
+held_next p n k s holds (Some op) i h a b far o x e =
+    let known = record k { held = h } in
+    (subst (After p n _) e (after p n op known i (with_a s a) o refl (record { a = x; x = holds.x; facts = holds.facts }))).1.a
+
+-- the answer from the spot after an instruction
+stepped : (c : List Insn) (spot : Spot) (i : Insn) (p : List ℕ) (n a b far : ℕ) (s : State) → slice_get c spot.place ≡ Some i → step i p n (with_a s a) ≡ Goes far (with_a s b) → answer_of c p n spot.place (with_a s a) ≡ answer_of c p n (spot.place + 1 + far) (with_a s b)
+stepped c spot i p n a b far s g e = at_step c p n spot.place i (with_a s a) g ∙ ap (answer_after (λ m v. answer_of c p n (spot.place + 1 + m) v)) e
+
+-- a walk goes on after an instruction that it passes
+pub walks_on : (k : Known) (c : List Insn) (spot : Spot) (best here far found : ℕ) (i : Insn) → slice_get c spot.place ≡ Some i → LeadsTo k c spot best here → Passes k i spot.held far → LeadsTo k c (record { place = spot.place + 1 + far; held = held_after (operation_of i.code) spot.held i }) here found → LeadsTo k c spot best found
+walks_on k c spot best here far found i g near passes later p n s a holds x e =
+    let r = passes p n s a holds x in
+    let so_far = near p n s a holds x e in
+    let next = held_next p n k s holds (operation_of i.code) i spot.held a r.0 far refl x (sym (known_step p n i (operation_of i.code) (with_a s a) refl) ∙ r.1) in
+    later p n s r.0 holds next (sym (stepped c spot i p n a r.0 far s g r.1) ∙ e ∙ sym so_far) ∙ so_far
+
+-- or after both outcomes of a test
+pub forks_on : (k : Known) (c : List Insn) (spot : Spot) (best here found : ℕ) (i : Insn) → slice_get c spot.place ≡ Some i → is_branch (operation_of i.code) ≡ true → LeadsTo k c spot best here → LeadsTo k c (record { place = spot.place + 1 + i.jt; held = spot.held }) here found → LeadsTo k c (record { place = spot.place + 1 + i.jf; held = spot.held }) here found → LeadsTo k c spot best found
+forks_on k c spot best here found i g branch near by_yes by_no p n s a holds x e = by (operation_of i.code) refl branch
+  where
+    by : (op : Option Operation) → operation_of i.code ≡ op → is_branch op ≡ true → answer_of c p n found s ≡ answer_of c p n best s
+    by (Some (JumpIf t o)) d b = either (test_holds t a (operand_value o i.k s.index)) (known_step p n i (Some (JumpIf t o)) (with_a s a) d)
       where
-        by : (d : Option Bool) → outcome_by_claim (claim_about k.facts f i.k) i.k ≡ d → option_map (λ outcome. if outcome then i.jt else i.jf) d ≡ Some far → Passes (Some (JumpIf Test.Equal Constant)) i a far
-        by None q e' = cc
-        by (Some b) q e' =
-            let outcome = says_right (claim_about k.facts f i.k) i.k a b (about_right p n k.facts f a i.k holds.facts x) q in
-            let there : (if b then i.jt else i.jf) ≡ far = cc in
-            (a, ap (λ z. Goes (if z then i.jt else i.jf) (with_a s a)) outcome ∙ ap (λ m. Goes m (with_a s a)) there)
-    passed (Some (LoadAbsolute w)) i h a far o x e =
-        let q = zero_if (is_captured k i.code i.k) far e in
-        let there = captured_there p n k i.code i.k s holds q.0 in
-        (there.0, ap (λ z. into Accumulator z (with_a s a)) (ap (λ z. loaded z p n i.k) (sym o) ∙ there.1) ∙ ap (λ m. Goes m (with_a s there.0)) q.1)
-    passed (Some (LoadIndirect w)) i h a far o x e =
-        let q = zero_if (same_held (held.AtIndex i.code i.k) k.held) far e in
-        (s.accumulator, ap (λ z. into Accumulator z (with_a s a)) (ap (λ z. loaded_at z p s.index i.k) (sym o) ∙ same_holds p n (held.AtIndex i.code i.k) k.held s q.0 holds.a) ∙ ap (λ m. Goes m s) q.1)
-    passed (Some LoadHeaderLength) i h a far o x e =
-        let q = zero_if (same_optional k.index (Some i.k)) far e in
-        let is : IndexHolds p n (Some i.k) s.index = subst (λ z. IndexHolds p n z s.index) (same_masks k.index (Some i.k) q.0) holds.x in
-        (a, ap (λ z. into Index z (with_a s a)) is ∙ ap (λ m. Goes m (with_a s a)) q.1)
-    passed (Some (Load Accumulator Length)) i h a far o x e = let zero : 0 ≡ far = cc in (n, ap (λ m. Goes m (with_a s n)) zero)
-    passed (Some (Compute AluOperation.And Constant)) i h a far o x e = let zero : 0 ≡ far = cc in (bit_and a i.k, ap (λ m. Goes m (with_a s (bit_and a i.k))) zero)
-    passed _ i h a far o x e = cc
+        either : (z : Bool) → step i p n (with_a s a) ≡ Goes (if z then i.jt else i.jf) (with_a s a) → answer_of c p n found s ≡ answer_of c p n best s
+        either true f = let so_far = near p n s a holds x e in by_yes p n s a holds x (sym (stepped c spot i p n a a i.jt s g f) ∙ e ∙ sym so_far) ∙ so_far
+        either false f = let so_far = near p n s a holds x e in by_no p n s a holds x (sym (stepped c spot i p n a a i.jf s g f) ∙ e ∙ sym so_far) ∙ so_far
+    by _ d b = cc
 
-    -- what A holds after any instruction
-    held_next : (op : Option Operation) (i : Insn) (h : Held) (a b far : ℕ) → operation_of i.code ≡ op → HeldHolds p n h (with_a s a) → does_if_known op i p n (with_a s a) ≡ Goes far (with_a s b) → HeldHolds p n (held_after op h i) (with_a s b)
-    held_next None i h a b far o x e = cc
-    held_next (Some (JumpIf t u)) i h a b far o x e = let same : with_a s a ≡ with_a s b = cc in subst (HeldHolds p n h) same x
-    held_next (Some Jump) i h a b far o x e = tt
-    held_next (Some ReturnConstant) i h a b far o x e = cc
-    held_next (Some ReturnAccumulator) i h a b far o x e = cc
-    held_next (Some op) i h a b far o x e =
-        let known = record k { held = h } in
-        (subst (After p n _) e (after p n op known i (with_a s a) o refl (record { a = x; x = holds.x; facts = holds.facts }))).1.a
+-- A is as at the start of the walk, or doesn't matter
+a_same : (p : List ℕ) (n : ℕ) (s : State) (g h : Held) (a : ℕ) → same_held g h ≡ true → HeldHolds p n g (with_a s a) → HeldHolds p n h s → a ≡ s.accumulator
+a_same p n s (held.Field f) (held.Field g) a e x y = (let one : Some a ≡ Some s.accumulator = sym x ∙ same_value p n f g e ∙ y in cc)
+a_same p n s (held.AtIndex d m) (held.AtIndex f j) a e x y = (let one : Some a ≡ Some s.accumulator = sym x ∙ same_holds p n (held.AtIndex d m) (held.AtIndex f j) s e y in cc)
+a_same p n s _ _ a e x y = cc
 
-    module _ (c : List Insn) (answer : Option ℕ) where
-      -- a run with another A at a spot has this answer
-      record Walks (spot : Spot) : Type 0 where
-        a : ℕ
-        is : HeldHolds p n spot.held (with_a s a)
-        same : answer_of c p n spot.place (with_a s a) ≡ answer
+pub stops_same : (k : Known) (c : List Insn) (spot : Spot) (best : ℕ) → same_held spot.held k.held ≡ true → LeadsTo k c spot best spot.place
+stops_same k c spot best same p n s a holds x e = sym (ap (λ m. answer_of c p n spot.place (with_a s m)) (a_same p n s spot.held k.held a same x holds.a)) ∙ e
 
-      -- so has the run at a place
-      abbrev IsSame : ℕ → Type 0
-      IsSame place = answer_of c p n place s ≡ answer
+pub stops_free : (k : Known) (c : List Insn) (spot : Spot) (best : ℕ) → is_free (drop spot.place c) ≡ true → LeadsTo k c spot best spot.place
+stops_free k c spot best free p n s a holds x e =
+    sym (answer_drop c p n spot.place s) ∙ sym (free_same p n (drop spot.place c) free s a) ∙ answer_drop c p n spot.place (with_a s a) ∙ e
 
-      a_same : (g h : Held) (a : ℕ) → same_held g h ≡ true → HeldHolds p n g (with_a s a) → HeldHolds p n h s → a ≡ s.accumulator
-      a_same (held.Field f) (held.Field g) a e x y = (let one : Some a ≡ Some s.accumulator = sym x ∙ same_value p n f g e ∙ y in cc)
-      a_same (held.AtIndex d m) (held.AtIndex f j) a e x y = (let one : Some a ≡ Some s.accumulator = sym x ∙ same_holds p n (held.AtIndex d m) (held.AtIndex f j) s e y in cc)
-      a_same _ _ a e x y = cc
+-- a walk from a target
+pub moves : (k : Known) (c : List Insn) (from found : ℕ) → LeadsTo k c (record { place = from; held = k.held }) from found → found < length c → Moves k c from found
+moves k c from found leads inside = record { runs = λ p n s holds. leads p n s s.accumulator holds holds.a refl; inside = λ _. inside }
 
-      best_same : (spot : Spot) (best : ℕ) → Walks spot → IsSame best → IsSame (place_or_best k c spot best)
-      best_same spot best w e = by_test IsSame (spot.place == best || can_stop k c spot) spot.place best
-          (λ either. elim (or_cases (spot.place == best) (can_stop k c spot) either) [
-            | inl z ↦ subst IsSame (sym (numbers spot.place best z)) e
-            | inr t ↦ elim (or_cases (same_held spot.held k.held) (is_free (drop spot.place c)) (and_parts (nat_lt spot.place (length c)) (same_held spot.held k.held || is_free (drop spot.place c)) t).1) [
-              | inl i ↦ sym (ap (λ m. answer_of c p n spot.place (with_a s m)) (a_same spot.held k.held w.a i w.is holds.a)) ∙ w.same
-              | inr i ↦ sym (answer_drop c p n spot.place s) ∙ sym (free_same (drop spot.place c) i s w.a) ∙ answer_drop c p n spot.place (with_a s w.a) ∙ w.same
-            ]
-          ])
-          (λ _. e)
+pub stays : (k : Known) (c : List Insn) (from : ℕ) → Moves k c from from
+stays k c from = record { runs = λ p n s holds. refl; inside = λ l. l }
 
-      walks_on : (spot : Spot) (i : Insn) (w : Walks spot) (far b : ℕ) (h : Held) → slice_get c spot.place ≡ Some i → does_if_known (operation_of i.code) i p n (with_a s w.a) ≡ Goes far (with_a s b) → HeldHolds p n h (with_a s b) → Walks (spot_after h spot far)
-      walks_on spot i w far b h g d x = record {
-        a = b;
-        is = x;
-        same = sym (at_step c p n spot.place i (with_a s w.a) g ∙ ap (answer_after (λ m v. answer_of c p n (spot.place + 1 + m) v)) (known_step p n i (operation_of i.code) (with_a s w.a) refl ∙ d)) ∙ w.same;
-      }
+-- an instruction that is threaded, of each kind
+module _ (from : ℕ) (k : Known) (i : Insn) (is : List Insn) where
+  pub unreached_threaded : (seen : List Known) → k.held ≡ held.Unreached → IsThreaded from k i is i seen seen
+  unreached_threaded seen e = record {
+    code = refl;
+    sound = λ f. f;
+    keeps = λ p n q s x. x;
+    runs = λ d alike p n s holds. absurd (subst (λ h. HeldHolds p n h s) e holds.a);
+  }
 
-      walk_next : (go_on : Spot → Bool → ℕ) (spot : Spot) (best : ℕ) (forks : Bool) → Walks spot → IsSame best → ((next : Spot) (f : Bool) → Walks next → IsSame (go_on next f)) → IsSame (option_map_or (λ i. walk_on go_on spot i best forks (skipped_after (operation_of i.code) k i spot.held)) (slice_get c spot.place) best)
-      walk_next go_on spot best forks w is later = there (slice_get c spot.place) refl
-        where
-          -- after both outcomes of a test
-          fork : (i : Insn) (op : Option Operation) → slice_get c spot.place ≡ Some i → operation_of i.code ≡ op → is_branch op ≡ true → go_on (spot_after spot.held spot i.jt) false ≡ go_on (spot_after spot.held spot i.jf) false → IsSame (go_on (spot_after spot.held spot i.jt) false)
-          fork i (Some (JumpIf t o)) g e b same = either (test_holds t w.a (operand_value o i.k s.index)) (ap (λ z. does_if_known z i p n (with_a s w.a)) e)
-            where
-              either : (z : Bool) → does_if_known (operation_of i.code) i p n (with_a s w.a) ≡ Goes (if z then i.jt else i.jf) (with_a s w.a) → IsSame (go_on (spot_after spot.held spot i.jt) false)
-              either true d = later _ false (walks_on spot i w i.jt w.a spot.held g d w.is)
-              either false d = subst IsSame (sym same) (later _ false (walks_on spot i w i.jf w.a spot.held g d w.is))
-          fork i _ g e b same = cc
+  -- whose step goes on so
+  step_threaded : (op : Operation) (old seen : List Known) → operation_of i.code ≡ Some op → ((p : List ℕ) (n q : ℕ) (s : State) → HoldsAt p n old q s → HoldsAt p n seen q s) → ((d : List Insn) → Alike from seen d is → (p : List ℕ) (n : ℕ) (s : State) → Holds p n k s → answer_after (answer_of d p n) (does op i p n s) ≡ answer_after (answer_of is p n) (does op i p n s)) → IsThreaded from k i is i old seen
+  step_threaded op old seen o keeps runs = record {
+    code = refl;
+    sound = λ f. f;
+    keeps = keeps;
+    runs = λ d alike p n s holds.
+        ap (answer_after (answer_of d p n)) (known_step p n i (Some op) s o) ∙ runs d alike p n s holds ∙ sym (ap (answer_after (answer_of is p n)) (known_step p n i (Some op) s o));
+  }
 
-          on : (i : Insn) (o : Option ℕ) → slice_get c spot.place ≡ Some i → skipped_after (operation_of i.code) k i spot.held ≡ o → IsSame (walk_on go_on spot i best forks o)
-          on i (Some far) g q =
-              let r = passed (operation_of i.code) i spot.held w.a far refl w.is q in
-              later _ forks (walks_on spot i w far r.0 (held_after (operation_of i.code) spot.held i) g r.1 (held_next (operation_of i.code) i spot.held w.a r.0 far refl w.is r.1))
-          on i None g q =
-              let yes = go_on (spot_after spot.held spot i.jt) false in
-              let no = go_on (spot_after spot.held spot i.jf) false in
-              by_test IsSame (forks && is_branch (operation_of i.code)) _ _
-              (λ b. by_test IsSame (yes == best) best _ (λ _. is) (λ _. by_test IsSame (yes == no) yes best (λ same. fork i (operation_of i.code) g refl (and_parts forks (is_branch (operation_of i.code)) b).1 (numbers yes no same)) (λ _. is)))
-              (λ _. is)
+  pub jump_threaded : (old seen : List Known) → operation_of i.code ≡ Some Jump → Arrives k (from + i.k) old seen → IsThreaded from k i is i old seen
+  jump_threaded old seen o comes = step_threaded Jump old seen o comes.keeps (λ d alike p n s holds. alike p n i.k s (comes.comes p n s holds))
 
-          there : (o : Option Insn) → slice_get c spot.place ≡ o → IsSame (option_map_or (λ i. walk_on go_on spot i best forks (skipped_after (operation_of i.code) k i spot.held)) o best)
-          there None g = is
-          there (Some i) g = on i (skipped_after (operation_of i.code) k i spot.held) g refl
+  pub unknown_threaded : (seen : List Known) → operation_of i.code ≡ None → IsThreaded from k i is i seen seen
+  unknown_threaded seen o = record {
+    code = refl;
+    sound = λ f. f;
+    keeps = λ p n q s x. x;
+    runs = λ d alike p n s holds. ap (answer_after (answer_of d p n)) (known_step p n i None s o) ∙ sym (ap (answer_after (answer_of is p n)) (known_step p n i None s o));
+  }
 
-      walk_right : (fuel : ℕ) (spot : Spot) (best : ℕ) (forks : Bool) → Walks spot → IsSame best → IsSame (walk fuel k c spot best forks)
-      unfolding walk
-      walk_right zero spot best forks w e = best_same spot best w e
-      walk_right (suc fuel) spot best forks w e =
-          let here = best_same spot best w e in
-          walk_next (λ next f. walk fuel k c next (place_or_best k c spot best) f) spot (place_or_best k c spot best) forks w here (λ next f v. walk_right fuel next (place_or_best k c spot best) f v here)
+  pub return_threaded : (op : Operation) (seen : List Known) → operation_of i.code ≡ Some op → goes_on_or_rejects op ≡ false → ((t : Test) (o : Operand) → op ≡ JumpIf t o → ⊥) → (op ≡ Jump → ⊥) → IsThreaded from k i is i seen seen
+  return_threaded (JumpIf t o) seen e none not_test not_jump = absurd (not_test t o refl)
+  return_threaded Jump seen e none not_test not_jump = absurd (not_jump refl)
+  return_threaded ReturnConstant seen e none not_test not_jump = step_threaded ReturnConstant seen seen e (λ p n q s x. x) (λ d alike p n s holds. refl)
+  return_threaded ReturnAccumulator seen e none not_test not_jump = step_threaded ReturnAccumulator seen seen e (λ p n q s x. x) (λ d alike p n s holds. refl)
+  return_threaded _ seen e none not_test not_jump = cc
 
-  pub moved_same : (c : List Insn) (k : Known) (from : ℕ) (s : State) → Holds p n k s → answer_of c p n (threaded_offset k c from) s ≡ answer_of c p n from s
-  moved_same c k from s h =
-      by_test (λ m. answer_of c p n m s ≡ answer_of c p n from s) (nat_lt (target k c from) (2 ^ 32) && nat_lt (target k c from) (length c)) _ _
-      (λ _. walk_right k s h c (answer_of c p n from s) 128 (record { place = from; held = k.held }) from true (record { a = s.accumulator; is = h.a; same = refl }) refl)
-      (λ _. refl)
+  pub plain_threaded : (op : Operation) (old seen : List Known) → operation_of i.code ≡ Some op → goes_on_or_rejects op ≡ true → Arrives (known_after (Some op) k i) from old seen → IsThreaded from k i is i old seen
+  plain_threaded op old seen o e comes = step_threaded op old seen o comes.keeps (λ d alike p n s holds. by d alike p n (does op i p n s) (after p n op k i s o e holds))
+    where
+      by : (d : List Insn) → Alike from seen d is → (p : List ℕ) (n : ℕ) (u : Next) → After p n (known_after (Some op) k i) u → answer_after (answer_of d p n) u ≡ answer_after (answer_of is p n) u
+      by d alike p n (Goes far t) h =
+          let none = h.0 in
+          let there : from ≡ from + far = omega arith in
+          alike p n far t (subst (λ q. HoldsAt p n seen q t) there (comes.comes p n t h.1))
+      by d alike p n _ h = refl
 
-pub moved_inside : (c : List Insn) (k : Known) (from : ℕ) → nat_lt from (length c) ≡ true → nat_lt (threaded_offset k c from) (length c) ≡ true
-moved_inside c k from l =
-    by_test (λ m. nat_lt m (length c) ≡ true) (nat_lt (target k c from) (2 ^ 32) && nat_lt (target k c from) (length c)) _ _
-    (λ t. (and_parts (nat_lt (target k c from) (2 ^ 32)) (nat_lt (target k c from) (length c)) t).1)
-    (λ _. l)
+  pub test_threaded : (hit miss : Known) (old mid seen : List Known) (a b : ℕ) (t : Test) (o : Operand) → operation_of i.code ≡ Some (JumpIf t o) → Learns k i true hit → Learns k i false miss → Moves hit is i.jt a → Moves miss is i.jf b → Arrives hit (from + a) old mid → Arrives miss (from + b) mid seen → IsThreaded from k i is (record i { jt = a; jf = b }) old seen
+  unfolding fault_of
+  test_threaded hit miss old mid seen a b t o e learns_yes learns_no to_yes to_no first second = record {
+    code = refl;
+    sound = sound;
+    keeps = λ p n q s x. second.keeps p n q s (first.keeps p n q s x);
+    runs = λ d alike p n s holds.
+        ap (answer_after (answer_of d p n)) (known_step p n (record i { jt = a; jf = b }) (Some (JumpIf t o)) s e) ∙ way d alike p n s holds (test_holds t s.accumulator (operand_value o i.k s.index)) refl ∙ sym (ap (answer_after (answer_of is p n)) (known_step p n i (Some (JumpIf t o)) s e));
+  }
+    where
+      way : (d : List Insn) → Alike from seen d is → (p : List ℕ) (n : ℕ) (s : State) → Holds p n k s → (z : Bool) → test_holds t s.accumulator (operand_value o i.k s.index) ≡ z → answer_of d p n (if z then a else b) s ≡ answer_of is p n (if z then i.jt else i.jf) s
+      way d alike p n s holds true g =
+          let h = learns_yes p n s t o e g holds in
+          alike p n a s (second.keeps p n (from + a) s (first.comes p n s h)) ∙ to_yes.runs p n s h
+      way d alike p n s holds false g =
+          let h = learns_no p n s t o e g holds in
+          alike p n b s (second.comes p n s h) ∙ to_no.runs p n s h
 
-by_code : (op : Option Operation) (k : Known) (i : Insn) (c : List Insn) → (threaded_by op k i c).code ≡ i.code
-by_code (Some (JumpIf t o)) k i c = refl
-by_code _ k i c = refl
+      tests : (y x : Bool) → nat_lt i.jt (length is) ≡ y → nat_lt i.jf (length is) ≡ x → fault_if_known (Some (JumpIf t o)) i (length is) ≡ None → fault_if_known (Some (JumpIf t o)) (record i { jt = a; jf = b }) (length is) ≡ None
+      tests true true f g none =
+          let yes_in : i.jt < length is = grind (arith, nat_tests) in
+          let no_in : i.jf < length is = grind (arith, nat_tests) in
+          let yes_there = to_yes.inside yes_in in
+          let no_there = to_no.inside no_in in
+          let l : nat_lt a (length is) ≡ true = grind (arith, nat_tests) in
+          let m : nat_lt b (length is) ≡ true = grind (arith, nat_tests) in
+          rw (l, m) refl
+      tests _ _ f g none = grind (arith, nat_tests)
 
-threaded_code : (op : Option Operation) (k : Known) (i : Insn) (c : List Insn) → (threaded_insn op k i c).code ≡ i.code
-threaded_code op k i c = by_test (λ (j : Insn). j.code ≡ i.code) (is_reached k.held) (threaded_by op k i c) i (λ _. by_code op k i c) (λ _. refl)
+      sound : fault_of i (length is) ≡ None → fault_of (record i { jt = a; jf = b }) (length is) ≡ None
+      sound f =
+          ap (λ op. fault_if_known op (record i { jt = a; jf = b }) (length is)) e
+          ∙ tests (nat_lt i.jt (length is)) (nat_lt i.jf (length is)) refl refl (sym (ap (λ op. fault_if_known op i (length is)) e) ∙ f)
 
-module _ (p : List ℕ) (n : ℕ) where
-  -- what was known holds still
-  by_keeps : (op : Option Operation) (from : ℕ) (k : Known) (i : Insn) (seen : List Known) (q : ℕ) (s : State) → HoldsAt p n seen q s → HoldsAt p n (with_arrivals_by from op k i seen) q s
-  by_keeps (Some (JumpIf t o)) from k i seen q s x =
-      raised_keeps p n (arrived seen (from + i.jt) (known_by_test (Some (JumpIf t o)) k.held k i.k true)) (from + i.jf) _ q s (raised_keeps p n seen (from + i.jt) _ q s x)
-  by_keeps (Some Jump) from k i seen q s x = raised_keeps p n seen (from + i.k) k q s x
-  by_keeps (Some ReturnConstant) from k i seen q s x = x
-  by_keeps (Some ReturnAccumulator) from k i seen q s x = x
-  by_keeps op from k i seen q s x = raised_keeps p n seen from (known_after op k i) q s x
+abbrev pub codes_of : List Insn → List ℕ
+codes_of is = map (λ i. i.code) is
 
-  keeps : (op : Option Operation) (from : ℕ) (k : Known) (i : Insn) (seen : List Known) (q : ℕ) (s : State) → HoldsAt p n seen q s → HoldsAt p n (with_arrivals from op k i seen) q s
-  keeps op from k i seen q s x = by_test (λ z. HoldsAt p n z q s) (is_reached k.held) (with_arrivals_by from op k i seen) seen (λ _. by_keeps op from k i seen q s x) (λ _. x)
+-- in front of code that is threaded
+pub threaded_front : (at : ℕ) (k : Known) (i j : Insn) (is d : List Insn) (old seen : List Known) → ((p : List ℕ) (n : ℕ) (s : State) → HoldsAt p n old at s → Holds p n k s) → IsThreaded (at + 1) k i is j old seen → AreThreaded (at + 1) seen d is → AreThreaded at old (j ∷ d) (i ∷ is)
+threaded_front at k i j is d old seen there one rest = record {
+  codes = codes;
+  sound = λ f. (ap (fault_of j) same ∙ one.sound f.0, rest.sound f.1);
+  runs = runs;
+}
+  where
+    codes : codes_of (j ∷ d) ≡ codes_of (i ∷ is)
+    codes = let head = one.code in let tail = rest.codes in cc
 
-  -- the code after an instruction has the same answers wherever that is known
-  abbrev Alike : ℕ → List Insn → List Insn → List Known → Type 0
-  Alike from c d seen = (m : ℕ) (t : State) → HoldsAt p n seen (from + m) t → answer_of c p n m t ≡ answer_of d p n m t
+    same : length d ≡ length is
+    same = sym (length-map d (λ (x : Insn). x.code)) ∙ ap length rest.codes ∙ length-map is (λ (x : Insn). x.code)
 
-  module _ (c d : List Insn) where
-    way_same : (b : Bool) (v w x y : ℕ) (s : State) → (b ≡ true → answer_of c p n v s ≡ answer_of d p n x s) → (b ≡ false → answer_of c p n w s ≡ answer_of d p n y s) → answer_of c p n (if b then v else w) s ≡ answer_of d p n (if b then x else y) s
-    way_same true v w x y s f g = f refl
-    way_same false v w x y s f g = g refl
+    runs : Alike at old (j ∷ d) (i ∷ is)
+    runs p n zero s x = let here : at + 0 ≡ at = omega arith in one.runs d rest.runs p n s (there p n s (subst (λ q. HoldsAt p n old q s) here x))
+    runs p n (suc m) s x = let next : at + suc m ≡ at + 1 + m = omega arith in rest.runs p n m s (one.keeps p n (at + 1 + m) s (subst (λ q. HoldsAt p n old q s) next x))
 
-  module _ (from : ℕ) (k : Known) (i : Insn) (is d : List Insn) (seen : List Known) (s : State) (x : Holds p n k s) where
-    plain : (op : Option Operation) (u : Next) → Alike from d is (arrived seen from (known_after op k i)) → After p n (known_after op k i) u → answer_after (answer_of d p n) u ≡ answer_after (answer_of is p n) u
-    plain op (Goes far t) f h =
-        let zero = h.0 in
-        let there : from ≡ from + far = omega arith in
-        f far t (subst (λ q. HoldsAt p n (arrived seen from (known_after op k i)) q t) there (raised_at p n seen from (known_after op k i) t h.1))
-    plain op _ f h = refl
+-- the instructions before `at` are threaded already
+abbrev pub ThreadedSoFar : List Known → List Insn → List Known → List Insn → ℕ → Type 0
+ThreadedSoFar begin old seen new at = (d : List Insn) → AreThreaded at seen d (drop at new) → AreThreaded 0 begin (take at new ++ d) old
 
-    here : (op : Option Operation) → operation_of i.code ≡ op → Alike from d is (with_arrivals_by from op k (threaded_by op k i is) seen) → answer_after (answer_of d p n) (does_if_known op (threaded_by op k i is) p n s) ≡ answer_after (answer_of is p n) (does_if_known op i p n s)
-    here None e f = refl
-    here (Some (JumpIf t o)) e f =
-        let yes = known_by_test (Some (JumpIf t o)) k.held k i.k true in
-        let other = known_by_test (Some (JumpIf t o)) k.held k i.k false in
-        let a = threaded_offset yes is i.jt in
-        let b = threaded_offset other is i.jf in
-        way_same d is (test_holds t s.accumulator (operand_value o i.k s.index)) a b i.jt i.jf s
-        (λ g. let h = tested p n t o k i true s x g in
-        f a s (raised_keeps p n (arrived seen (from + a) yes) (from + b) other (from + a) s (raised_at p n seen (from + a) yes s h)) ∙ moved_same p n is yes i.jt s h)
-        (λ g. let h = tested p n t o k i false s x g in
-        f b s (raised_at p n (arrived seen (from + a) yes) (from + b) other s h) ∙ moved_same p n is other i.jf s h)
-    here (Some Jump) e f = f i.k s (raised_at p n seen (from + i.k) k s x)
-    here (Some ReturnConstant) e f = refl
-    here (Some ReturnAccumulator) e f = refl
-    here (Some op) e f = plain (Some op) (does op i p n s) f (after p n op k i s e refl x)
+pub threaded_more : (begin : List Known) (old : List Insn) (before seen : List Known) (k : Known) (xs : List Insn) (at : ℕ) (e j : Insn) → at < length xs → ThreadedSoFar begin old before xs at → ((p : List ℕ) (n : ℕ) (s : State) → HoldsAt p n before at s → Holds p n k s) → IsThreaded (at + 1) k (get_or xs at e) (drop (at + 1) xs) j before seen → ThreadedSoFar begin old seen (slice_set xs at j) (at + 1)
+threaded_more begin old before seen k xs at e j l so_far there one d rest =
+    let left = subst (AreThreaded (at + 1) seen d) (drop-set-lt (at + 1) xs at j (omega arith)) rest in
+    let next : suc at ≡ at + 1 = omega arith in
+    let here : drop at xs ≡ get_or xs at e ∷ drop (at + 1) xs = drop-cons xs at e l ∙ ap (λ m. get_or xs at e ∷ drop m xs) next in
+    let whole = so_far (j ∷ d) (subst (AreThreaded at before (j ∷ d)) (sym here) (threaded_front at k (get_or xs at e) j (drop (at + 1) xs) d before seen there one left)) in
+    subst (λ new. AreThreaded 0 begin new old) (sym (ap (λ front. front ++ d) (take_more_set xs at j l) ∙ append_assoc (take at xs) (j ∷ []) d)) whole
 
-    at_top : Alike from d is (with_arrivals_by from (operation_of i.code) k (threaded_by (operation_of i.code) k i is) seen) → answer_of (threaded_by (operation_of i.code) k i is ∷ d) p n 0 s ≡ answer_of (i ∷ is) p n 0 s
-    at_top f =
-        ap (answer_after (answer_of d p n)) (known_step p n (threaded_by (operation_of i.code) k i is) (operation_of i.code) s (ap operation_of (by_code (operation_of i.code) k i is)))
-        ∙ here (operation_of i.code) refl f
-        ∙ sym (ap (answer_after (answer_of is p n)) (known_step p n i (operation_of i.code) s refl))
+pub threaded_all : (begin : List Known) (old : List Insn) (seen : List Known) (xs : List Insn) (at : ℕ) → length xs ≤ at → ThreadedSoFar begin old seen xs at → AreThreaded 0 begin xs old
+threaded_all begin old seen xs at l so_far =
+    let none : AreThreaded at seen [] [] = record { codes = refl; sound = λ f. tt; runs = λ p n m s x. refl } in
+    subst (λ new. AreThreaded 0 begin new old) (append-nil (take at xs) ∙ take_all at xs l) (so_far [] (subst (AreThreaded at seen []) (sym (drop_all at xs l)) none))
 
-  reached : (h : Held) (s : State) → HeldHolds p n h s → is_reached h ≡ true
-  reached held.Unreached s x = absurd x
-  reached _ s x = refl
-
-  -- the code has the same answers where what is known holds
-  answers_same : (is : List Insn) (at : ℕ) (seen : List Known) (m : ℕ) (s : State) → HoldsAt p n seen (at + m) s → answer_of (flow at seen is) p n m s ≡ answer_of is p n m s
-  answers_same [] at seen m s x = refl
-  answers_same (i ∷ is) at seen (suc m) s x =
-      let op = operation_of i.code in
-      let k = known_at seen at in
-      let j = threaded_insn op k i is in
-      let there : at + suc m ≡ at + 1 + m = omega arith in
-      answers_same is (at + 1) (with_arrivals (at + 1) op k j seen) m s (keeps op (at + 1) k j seen (at + 1 + m) s (subst (λ q. HoldsAt p n seen q s) there x))
-  answers_same (i ∷ is) at seen zero s x =
-      let op = operation_of i.code in
-      let k = known_at seen at in
-      let here : at + 0 ≡ at = omega arith in
-      let holds : Holds p n k s = subst (λ q. HoldsAt p n seen q s) here x in
-      let comes = sym (reached k.held s holds.a) in
-      subst (λ b. answer_of (let j = if b then threaded_by op k i is else i in j ∷ flow (at + 1) (if b then with_arrivals_by (at + 1) op k j seen else seen) is) p n 0 s ≡ answer_of (i ∷ is) p n 0 s) comes
-      (let j = threaded_by op k i is in
-      at_top (at + 1) k i is (flow (at + 1) (with_arrivals_by (at + 1) op k j seen) is) seen s holds (λ m t y. answers_same is (at + 1) (with_arrivals_by (at + 1) op k j seen) m t y))
-
-  threaded_answers : (is : List Insn) (places : ℕ) (s : State) → answer_of (flow 0 (at_start places) is) p n 0 s ≡ answer_of is p n 0 s
-  threaded_answers is places s = answers_same is 0 (at_start places) 0 s (start_holds p n places s)
-
-length_flow : (at : ℕ) (seen : List Known) (is : List Insn) → length (flow at seen is) ≡ length is
-length_flow at seen [] = refl
-length_flow at seen (i ∷ is) =
-    let k = known_at seen at in
-    ap suc (length_flow (at + 1) (with_arrivals (at + 1) (operation_of i.code) k (threaded_insn (operation_of i.code) k i is) seen) is)
-
--- faults
-passes : (b : Bool) (f : CheckFault) → unless b f ≡ None → b ≡ true
-passes true f e = refl
-passes false f e = cc
-
-both_inside : (k g : Known) (i : Insn) (is : List Insn) (f : CheckFault) → unless (nat_lt i.jt (length is) && nat_lt i.jf (length is)) f ≡ None → unless (nat_lt (threaded_offset k is i.jt) (length is) && nat_lt (threaded_offset g is i.jf) (length is)) f ≡ None
-both_inside k g i is f e =
-    let q = and_parts (nat_lt i.jt (length is)) (nat_lt i.jf (length is)) (passes _ f e) in
-    ap (λ x. unless (x && nat_lt (threaded_offset g is i.jf) (length is)) f) (moved_inside is k i.jt q.0) ∙ ap (λ x. unless x f) (moved_inside is g i.jf q.1)
-
-moved_fault : (op : Option Operation) (k : Known) (i : Insn) (is : List Insn) → fault_if_known op i (length is) ≡ None → fault_if_known op (threaded_by op k i is) (length is) ≡ None
-moved_fault (Some (JumpIf t o)) k i is e = both_inside _ _ i is _ e
-moved_fault _ k i is e = e
-
-threaded_fault : (op : Option Operation) (k : Known) (i : Insn) (is : List Insn) → fault_if_known op i (length is) ≡ None → fault_if_known op (threaded_insn op k i is) (length is) ≡ None
-threaded_fault op k i is e = by_test (λ j. fault_if_known op j (length is) ≡ None) (is_reached k.held) (threaded_by op k i is) i (λ _. moved_fault op k i is e) (λ _. e)
-
-fault_is : (i : Insn) (op : Option Operation) (m : ℕ) → operation_of i.code ≡ op → fault_of i m ≡ fault_if_known op i m
-unfolding fault_of
-fault_is i op m e = ap (λ o. fault_if_known o i m) e
-
-faultless_flow : (at : ℕ) (seen : List Known) (is : List Insn) → IsFaultless is → IsFaultless (flow at seen is)
-faultless_flow at seen [] f = tt
-faultless_flow at seen (i ∷ is) f =
-    let op = operation_of i.code in
-    let k = known_at seen at in
-    let j = threaded_insn op k i is in
-    let bs = with_arrivals (at + 1) op k j seen in (
-      ap (fault_of j) (length_flow (at + 1) bs is)
-          ∙ fault_is j op (length is) (ap operation_of (threaded_code op k i is))
-          ∙ threaded_fault op k i is (sym (fault_is i op (length is) refl) ∙ f.0),
-      faultless_flow (at + 1) bs is f.1,
-    )
-
--- the end, the tests and the jumps
-ends_after : (i : Insn) (c : List Insn) → 0 < length c → ends_in_return (i ∷ c) ≡ ends_in_return c
-ends_after i [] l = absurd (omega arith)
-ends_after i (j ∷ c) l = refl
-
-ends_flow : (at : ℕ) (seen : List Known) (is : List Insn) → ends_in_return (flow at seen is) ≡ ends_in_return is
-ends_flow at seen [] = refl
-ends_flow at seen (i ∷ []) =
-    ap (λ c. ends_in_return (record i { code = c } ∷ [])) (threaded_code (operation_of i.code) (known_at seen at) i [])
-ends_flow at seen (i ∷ j ∷ is) =
-    let op = operation_of i.code in
-    let k = known_at seen at in
-    let t = threaded_insn op k i (j ∷ is) in
-    let bs = with_arrivals (at + 1) op k t seen in
-    let long = length_flow (at + 1) bs (j ∷ is) in
-    ends_after t (flow (at + 1) bs (j ∷ is)) (omega arith) ∙ ends_flow (at + 1) bs (j ∷ is)
-
-tests_flow : (at : ℕ) (seen : List Known) (is : List Insn) → count_by (λ i. is_branch (operation_of i.code)) (flow at seen is) ≡ count_by (λ i. is_branch (operation_of i.code)) is
-tests_flow at seen [] = refl
-tests_flow at seen (i ∷ is) =
-    let op = operation_of i.code in
-    let k = known_at seen at in
-    let j = threaded_insn op k i is in
-    let rest = flow (at + 1) (with_arrivals (at + 1) op k j seen) is in
+-- what the codes of instructions decide
+branches : (new old : List Insn) → codes_of new ≡ codes_of old → count_by (λ i. is_branch (operation_of i.code)) new ≡ count_by (λ i. is_branch (operation_of i.code)) old
+branches [] [] e = refl
+branches (j ∷ new) (i ∷ old) e =
     let test = λ (m : Insn). cond (is_branch (operation_of m.code)) 1 0 in
-    let new : count_by (λ m. is_branch (operation_of m.code)) (j ∷ rest) ≡ test j + count_by (λ m. is_branch (operation_of m.code)) rest = sum_by-cons test j rest in
-    let old : count_by (λ m. is_branch (operation_of m.code)) (i ∷ is) ≡ test i + count_by (λ m. is_branch (operation_of m.code)) is = sum_by-cons test i is in
-    let same : test j ≡ test i = ap (λ c. cond (is_branch (operation_of c)) 1 0) (threaded_code op k i is) in
-    new ∙ ap (λ m. m + count_by (λ m'. is_branch (operation_of m'.code)) rest) same ∙ ap (λ m. test i + m) (tests_flow (at + 1) (with_arrivals (at + 1) op k j seen) is) ∙ sym old
+    let head : j.code ≡ i.code = cc in
+    let tail : codes_of new ≡ codes_of old = cc in
+    sum_by-cons test j new ∙ ap (λ c. cond (is_branch (operation_of c)) 1 0 + count_by (λ m. is_branch (operation_of m.code)) new) head ∙ ap (λ m. test i + m) (branches new old tail) ∙ sym (sum_by-cons test i old)
+branches _ _ e = cc
 
-code_at : (at : ℕ) (seen : List Known) (is : List Insn) (m : ℕ) (e : Insn) → (get_or (flow at seen is) m e).code ≡ (get_or is m e).code
-code_at at seen [] m e = refl
-code_at at seen (i ∷ is) zero e = threaded_code (operation_of i.code) (known_at seen at) i is
-code_at at seen (i ∷ is) (suc m) e =
-    let k = known_at seen at in
-    code_at (at + 1) (with_arrivals (at + 1) (operation_of i.code) k (threaded_insn (operation_of i.code) k i is) seen) is m e
+ends : (new old : List Insn) → codes_of new ≡ codes_of old → ends_in_return new ≡ ends_in_return old
+ends [] [] e = refl
+ends (j ∷ []) (i ∷ []) e = let head : j.code ≡ i.code = cc in ap (λ c. ends_in_return (record i { code = c } ∷ [])) head
+ends (j ∷ h ∷ new) (i ∷ g ∷ old) e = let tail : codes_of (h ∷ new) ≡ codes_of (g ∷ old) = cc in ends (h ∷ new) (g ∷ old) tail
+ends _ _ e = cc
 
-pub threads : (new old : List Insn) (seen : List Known) (places : ℕ) → seen ≡ at_start places → new ≡ flow 0 seen old → Threads new old
-threads new old seen places f e = subst (λ c. Threads c old) (sym (e ∙ ap (λ gs. flow 0 gs old) f)) (record {
-  same_length = length_flow 0 (at_start places) old;
-  branches = tests_flow 0 (at_start places) old;
-  sound = λ v. record { faultless = faultless_flow 0 (at_start places) old v.faultless; ends = ends_flow 0 (at_start places) old ∙ v.ends };
-  runs = λ p n. threaded_answers p n old places start;
-  no_jump = λ h. λ m e l f. (let long = length_flow 0 (at_start places) old in h m e (omega arith) (sym (code_at 0 (at_start places) old m e) ∙ f));
-})
+code_at : (new old : List Insn) (m : ℕ) (e : Insn) → codes_of new ≡ codes_of old → (get_or new m e).code ≡ (get_or old m e).code
+code_at new old m e same = sym (get_or-map (λ (i : Insn). i.code) new m e) ∙ ap (λ cs. get_or cs m e.code) same ∙ get_or-map (λ (i : Insn). i.code) old m e
+
+pub threads : (new old : List Insn) (seen : List Known) → ((p : List ℕ) (n : ℕ) (s : State) → HoldsAt p n seen 0 s) → AreThreaded 0 seen new old → Threads new old
+threads new old seen begins t =
+    let same : length new ≡ length old = sym (length-map new (λ (x : Insn). x.code)) ∙ ap length t.codes ∙ length-map old (λ (x : Insn). x.code) in
+    record {
+      same_length = same;
+      branches = branches new old t.codes;
+      sound = λ v. record { faultless = t.sound v.faultless; ends = ends new old t.codes ∙ v.ends };
+      runs = λ p n. t.runs p n 0 start (begins p n start);
+      no_jump = λ h m e l f. h m e (omega arith) (sym (code_at new old m e t.codes) ∙ f);
+    }
 
 -- code stays as it is
 pub threads_itself : (c : List Insn) → Threads c c

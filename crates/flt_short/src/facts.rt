@@ -1,25 +1,23 @@
 //! The abstract state at an instruction: what is known of the packet, of A and of X in each run
 //! that reaches it; the join of two such states; and the states at all places, which here are
-//! indices of instructions from the beginning of the code. Clauses cite definitions of the same
-//! names; a function that changes what is known cites the definition of its effect. The proofs show
-//! that what is known holds in each run.
+//! indices of instructions from the beginning of the code. What is known holds in each run: clauses
+//! state it where facts are found, joined and added. Which fact gives way to another matters only
+//! for the length of the code.
 //!
 //! `code` and `k` are those of a load: together they say which bytes of the packet it takes.
 
-ghost use Rattle.std.specs.Prelude.{◌≡◌, ◌≤◌, length, map, IfOk};
-ghost use Rattle.flt_bpf.specs.Instructions.{operation_of};
+ghost use Rattle.std.specs.Prelude.{◌≡◌, ◌<◌, IsTrue, IfSome, List, ℕ};
+ghost use Rattle.flt_bpf.specs.{Instructions.operation_of, declared.machine.State.State};
 ghost use Rattle.flt_short.specs.inside.Facts.{same_optional, same_field, claims_nothing, allows};
-ghost use Rattle.flt_short.specs.inside.Facts.{entails, joined_claim, joined_with_any, joined_fact};
-ghost use Rattle.flt_short.specs.inside.Facts.{same_held, joined, outcome_by_claim, speaks_of};
-ghost use Rattle.flt_short.specs.inside.Facts.{claim_about, gives_way, other_by_claim, place_for};
-ghost use Rattle.flt_short.specs.inside.Facts.{with_fact, any_captures, holds_field, is_captured};
-ghost use Rattle.flt_short.specs.inside.Facts.{masked_held, held_after, index_after, known_after};
-ghost use Rattle.flt_short.specs.inside.Facts.{claim_after, known_by_test, nothing_known};
-ghost use Rattle.flt_short.specs.inside.Facts.{unreached, known_at, arrived, at_start};
+ghost use Rattle.flt_short.specs.inside.Facts.{Implies, JoinsClaims, same_held, IsOutcome};
+ghost use Rattle.flt_short.specs.inside.Facts.{IsOther, holds_field, masked_held, held_after};
+ghost use Rattle.flt_short.specs.inside.Facts.{index_after, known_after, Holds, IsThere, HoldsAt};
+ghost use Rattle.flt_short.specs.inside.Facts.{IsAlwaysTrue, JoinsFact, JoinsFacts, JoinsBy};
+ghost use Rattle.flt_short.specs.inside.Facts.{IsClaimAbout, IsClaimAfter, AddsFact, Learns};
+ghost use Rattle.flt_short.specs.inside.Facts.{Arrives};
 
 use flt_bpf::Wide;
 use flt_bpf::operation::{AluOperation, Operand, Operation, Register, Source, Test, decode};
-use std::alloc::{AllocError, Allocator};
 
 /// The number of facts kept at a place. One more takes the place of another (`place_for`).
 pub const MOST_FACTS: usize = 5;
@@ -83,8 +81,8 @@ const NOTHING_CLAIMED: Fact = Fact {
 };
 
 /// The state at a place if nothing is known of the runs that reach it.
-fn nothing_known() -> Known
-    ensures { result ≡ nothing_known }
+pub fn nothing_known() -> Known
+    ensures { IsAlwaysTrue result }
 {
     Known {
         held: Held::Unknown,
@@ -94,9 +92,7 @@ fn nothing_known() -> Known
 }
 
 /// The state at a place that no run reaches.
-fn unreached() -> Known
-    ensures { result ≡ unreached }
-{
+pub fn unreached() -> Known {
     Known {
         held: Held::Unreached,
         ..nothing_known()
@@ -138,7 +134,7 @@ fn allows(claim: Claim, number: u32) -> bool
 
 /// Whether the claim `other` holds of each number of which `claim` holds.
 fn entails(claim: Claim, other: Claim) -> bool
-    ensures { result ≡ entails claim other }
+    ensures { IsTrue result → Implies claim other }
 {
     if claims_nothing(other) {
         return true;
@@ -154,7 +150,7 @@ fn entails(claim: Claim, other: Claim) -> bool
 /// The join of two claims, of which one holds: the weaker of the two, that the number is one of two
 /// numbers, or nothing.
 fn joined_claim(claim: Claim, other: Claim) -> Claim
-    ensures { result ≡ joined_claim claim other }
+    ensures { JoinsClaims claim other result }
 {
     if entails(claim, other) {
         return other;
@@ -168,46 +164,29 @@ fn joined_claim(claim: Claim, other: Claim) -> Claim
     }
 }
 
-/// The claim about a fact's field that holds on two paths: the fact, which claims something, holds
-/// on one, and all of `others` hold on the other. The first of these that keeps a claim decides; if
-/// there is none, it is `Nothing`.
-fn joined_with_any(fact: &Fact, others: &[Fact]) -> Fact
-    ensures { result ≡ joined_with_any fact.now others.now }
+/// The fact that holds where two paths meet: this one holds on one of them, and all of `others`
+/// hold on the other. The first of these with which a claim about its field is left decides.
+fn joined_fact(fact: Fact, others: &[Fact]) -> Fact
+    ensures { JoinsFact fact others.now result }
 {
-    match others {
-        [] => NOTHING_CLAIMED,
-        [first, others @ ..] => {
-            if !same_field(fact.field, first.field) {
-                return joined_with_any(fact, others);
-            }
-            let claim = joined_claim(fact.claim, first.claim);
-            if claims_nothing(claim) {
-                return joined_with_any(fact, others);
-            }
-            Fact {
-                field: fact.field,
-                claim,
+    for other in others {
+        if same_field(fact.field, other.field) {
+            let claim = joined_claim(fact.claim, other.claim);
+            if !claims_nothing(claim) {
+                return Fact {
+                    field: fact.field,
+                    claim,
+                };
             }
         }
     }
-}
-
-/// The fact that holds where two paths meet: this one holds on one of them, and all of `others`
-/// hold on the other.
-fn joined_fact(fact: Fact, others: &[Fact]) -> Fact
-    ensures { result ≡ joined_fact fact others.now }
-{
-    if claims_nothing(fact.claim) {
-        fact
-    } else {
-        joined_with_any(&fact, others)
-    }
+    NOTHING_CLAIMED
 }
 
 /// Changes facts to those that hold where two paths meet: all of them hold on one, and all of
 /// `others` hold on the other.
 fn join_facts(facts: &mut [Fact], others: &[Fact])
-    ensures { facts.new ≡ map (λ fact. joined_fact fact others.now) facts.old }
+    ensures { JoinsFacts facts.old others.now facts.new }
 {
     for at in 0..facts.len() {
         facts[at] = joined_fact(facts[at], others);
@@ -231,7 +210,7 @@ pub fn same_held(one: Held, other: Held) -> bool
 /// The join of states: changes the state at a place so that it also holds in one more run, which
 /// has the state `came`. If no run came before, it becomes `came`.
 fn join(known: &mut Known, came: &Known)
-    ensures { known.new ≡ joined known.old came.now }
+    ensures { JoinsBy known.old.held known.old came.now known.new }
 {
     if let Held::Unreached = known.held {
         *known = *came;
@@ -249,7 +228,7 @@ fn join(known: &mut Known, came: &Known)
 /// The outcome of the test whether a number is this one, by a claim about it; `None` if the claim
 /// doesn't decide it.
 pub fn outcome_by_claim(claim: Claim, number: u32) -> Option<bool>
-    ensures { result ≡ outcome_by_claim claim number }
+    ensures { IfSome result (λ outcome. IsOutcome claim number outcome) }
 {
     match claim {
         Claim::Is(one) => Some(one == number),
@@ -259,9 +238,7 @@ pub fn outcome_by_claim(claim: Claim, number: u32) -> Option<bool>
 }
 
 /// Whether a claim says something of whether a number is this one.
-fn speaks_of(claim: Claim, number: u32) -> bool
-    ensures { result ≡ speaks_of claim number }
-{
+fn speaks_of(claim: Claim, number: u32) -> bool {
     match claim {
         Claim::Nothing => false,
         Claim::IsNot(one) => one == number,
@@ -271,24 +248,20 @@ fn speaks_of(claim: Claim, number: u32) -> bool
 
 /// The claim of the first fact that says something of whether a field is this number; `Nothing` if
 /// no fact does.
-pub fn claim_about(facts: &[Fact], field: &Field, number: u32) -> Claim
-    ensures { result ≡ claim_about facts.now field.now number }
+pub fn claim_about(facts: &[Fact], field: Field, number: u32) -> Claim
+    ensures { IsClaimAbout facts.now field result }
 {
-    match facts {
-        [] => Claim::Nothing,
-        [first, others @ ..] => {
-            if same_field(first.field, *field) && speaks_of(first.claim, number) {
-                first.claim
-            } else {
-                claim_about(others, field, number)
-            }
+    for fact in facts {
+        if same_field(fact.field, field) && speaks_of(fact.claim, number) {
+            return fact.claim;
         }
     }
+    Claim::Nothing
 }
 
 /// The other one of two numbers, if the claim is that a number is one of them, and this is one.
 fn other_by_claim(claim: Claim, number: u32) -> Option<u32>
-    ensures { result ≡ other_by_claim claim number }
+    ensures { IfSome result (λ other. IsOther claim number other) }
 {
     match claim {
         Claim::IsOneOf(one, other) if number == one => Some(other),
@@ -299,55 +272,31 @@ fn other_by_claim(claim: Claim, number: u32) -> Option<u32>
 
 /// Whether a new fact may take the place of an old one without loss: the old one claims nothing, or
 /// follows from the new one.
-fn gives_way(old: Fact, fact: Fact) -> bool
-    ensures { result ≡ gives_way old fact }
-{
+fn gives_way(old: Fact, fact: Fact) -> bool {
     claims_nothing(old.claim)
         || (same_field(old.field, fact.field) && entails(fact.claim, old.claim))
 }
 
 /// The index of the fact whose place one more fact takes: the first one that it replaces
 /// without loss, or else the last one.
-fn place_for(facts: &[Fact], fact: &Fact) -> usize
-    ensures place { result ≡ place_for facts.now fact.now }
-    ensures upper_bound { result ≤ length facts.now }
+fn place_for(facts: &[Fact; MOST_FACTS], fact: Fact) -> usize
+    ensures { result < MOST_FACTS }
 {
-    match facts {
-        [] => 0,
-        [first, others @ ..] => {
-            if others.len() == 0 || gives_way(*first, *fact) {
-                0
-            } else {
-                1 + place_for(others, fact)
-            }
+    for at in 0..MOST_FACTS - 1 {
+        if gives_way(facts[at], fact) {
+            return at;
         }
     }
+    MOST_FACTS - 1
 }
 
 /// Adds a fact, in the place of the first one that it replaces without loss, or else of the last.
 fn add_fact(known: &mut Known, field: Field, claim: Claim)
-    ensures { known.new ≡ with_fact known.old field claim }
+    ensures { AddsFact known.old field claim known.new }
 {
     let fact = Fact { field, claim };
-    let at = place_for(&known.facts, &fact);
-    // It always is: `place_for` returns an index of the facts, unless there are none.
-    if at < MOST_FACTS {
-        known.facts[at] = fact;
-    }
-}
-
-/// Whether one of some facts says that the bytes that a load takes are captured: any claim of their
-/// number does.
-fn any_captures(facts: &[Fact], code: u16, k: u32) -> bool
-    ensures { result ≡ any_captures facts.now code k }
-{
-    match facts {
-        [] => false,
-        [first, others @ ..] => {
-            ((first.field.code == code && first.field.k == k) && !claims_nothing(first.claim))
-                || any_captures(others, code, k)
-        }
-    }
+    let at = place_for(&known.facts, fact);
+    known.facts[at] = fact;
 }
 
 /// Whether A holds the field of a load, perhaps masked, so that its bytes are captured.
@@ -357,11 +306,21 @@ fn holds_field(held: Held, code: u16, k: u32) -> bool
     matches!(held, Held::Field(field) if field.code == code && field.k == k)
 }
 
-/// Whether the bytes that a load takes are captured, by what A holds or by a fact.
+/// Whether the bytes that a load takes are captured, by what A holds or by a fact: any claim of
+/// their number says so.
 pub fn is_captured(known: &Known, code: u16, k: u32) -> bool
-    ensures { result ≡ is_captured known.now code k }
+    ensures { IsTrue result → (p : List ℕ) (n : ℕ) (s : State)
+        → Holds p n known.now s → IsThere p n code k }
 {
-    holds_field(known.held, code, k) || any_captures(&known.facts, code, k)
+    if holds_field(known.held, code, k) {
+        return true;
+    }
+    for fact in &known.facts {
+        if fact.field.code == code && fact.field.k == k && !claims_nothing(fact.claim) {
+            return true;
+        }
+    }
+    false
 }
 
 /// The value of A after a mask, by the value before. It is `Unknown` after two masks.
@@ -422,9 +381,8 @@ pub fn pass_insn(known: &mut Known, insn: Wide)
 
 /// The claim about a field after the test whether it is a number had this outcome. If the field is
 /// known to be one of two numbers, and isn't this one, it is the other one.
-fn claim_by_outcome(facts: &[Fact], field: &Field, number: u32, outcome: bool) -> Claim
-    ensures { result ≡ claim_after outcome number
-        (other_by_claim (claim_about facts.now field.now number) number) }
+fn claim_by_outcome(facts: &[Fact], field: Field, number: u32, outcome: bool) -> Claim
+    ensures { IsClaimAfter facts.now field number outcome result }
 {
     if outcome {
         return Claim::Is(number);
@@ -438,12 +396,11 @@ fn claim_by_outcome(facts: &[Fact], field: &Field, number: u32, outcome: bool) -
 /// Adds to the state the fact that a test had this outcome. Only a test for equality shows one, if
 /// A holds a field.
 pub fn learn(known: &mut Known, insn: Wide, outcome: bool)
-    ensures { known.new
-        ≡ known_by_test (operation_of insn.code) known.old.held known.old insn.k outcome }
+    ensures { Learns known.old insn outcome known.new }
 {
     if let Some(Operation::JumpIf(Test::Equal, Operand::Constant)) = decode(insn.code) {
         if let Held::Field(field) = known.held {
-            let claim = claim_by_outcome(&known.facts, &field, insn.k, outcome);
+            let claim = claim_by_outcome(&known.facts, field, insn.k, outcome);
             add_fact(known, field, claim);
         }
     }
@@ -455,7 +412,8 @@ pub const FEW: usize = 16;
 
 /// The state at a place; past the end of the code, the one in which nothing is known.
 pub fn known_at(seen: &[Known], place: usize) -> Known
-    ensures { result ≡ known_at seen.now place }
+    ensures { (p : List ℕ) (n : ℕ) (s : State)
+        → HoldsAt p n seen.now place s → Holds p n result s }
 {
     match seen.get(place) {
         Some(known) => *known,
@@ -465,28 +423,9 @@ pub fn known_at(seen: &[Known], place: usize) -> Known
 
 /// Joins the state of one more run into the state at a place.
 pub fn arrive(seen: &mut [Known], place: usize, known: &Known)
-    ensures { seen.new ≡ arrived seen.old place known.now }
+    ensures { Arrives known.now place seen.old seen.new }
 {
     if place < seen.len() {
         join(&mut seen[place], known);
     }
-}
-
-/// The states before code of this length is read: a run reaches place 0, with nothing known, and
-/// none reaches another place.
-pub fn at_start<A: Allocator>(alloc: A, len: usize) -> Result<Vec<Known, A>, AllocError>
-    ensures { IfOk result (λ seen. seen.items ≡ at_start len) }
-{
-    let mut seen = vec![in alloc; unreached(); len]?;
-    arrive(&mut seen, 0, &nothing_known());
-    Ok(seen)
-}
-
-/// As `at_start`, for code of few instructions: an array.
-pub fn few_at_start() -> [Known; FEW]
-    ensures { result ≡ at_start 16 }
-{
-    let mut seen = [unreached(); FEW];
-    arrive(&mut seen, 0, &nothing_known());
-    seen
 }

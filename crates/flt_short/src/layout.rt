@@ -45,13 +45,12 @@ struct PlacedJump {
 /// The place of the first of these jumps that leads to `to` and is near a test in front of `top`
 /// instructions, though a jump comes between; `to` if there is none.
 fn jump_near(jumps: &[PlacedJump], to: usize, top: usize) -> usize
-    requires { top < 2 ^ 32 }
     ensures { result ≡ jump_near jumps.now to top }
 {
     match jumps {
         [] => to,
         [jump, others @ ..] => {
-            if jump.to == to && (top + 1).saturating_sub(jump.place) <= MOST_OFFSET {
+            if jump.to == to && top.saturating_sub(jump.place) < MOST_OFFSET {
                 jump.place
             } else {
                 jump_near(others, to, top)
@@ -143,15 +142,6 @@ impl<A: Allocator> Layout<A> {
         self.top().saturating_sub(place)
     }
 
-    /// The offset to a place from a test that has a jump after it: it skips that one too. Neither
-    /// is present yet.
-    fn distance_over_jump(&self, place: usize) -> usize
-        requires { length self.now.code < 2 ^ 32 }
-        ensures { result ≡ length self.now.code + 1 - place }
-    {
-        (self.top() + 1).saturating_sub(place)
-    }
-
     /// Puts an instruction in front.
     fn emit(&mut self, insn: Insn) -> Result<(), AllocError>
         ensures { OnOk result (self.new ≡ emitted insn self.old) }
@@ -183,7 +173,6 @@ impl<A: Allocator> Layout<A> {
     /// one too, for which the test needs a jump of its own.
     #[tactic(auto, unfolding(crate::specs::inside::Layout::near_place))]
     fn near_place(&self, to: usize) -> usize
-        requires { length self.now.code < 2 ^ 32 }
         ensures { result ≡ near_place self.now to }
     {
         if self.distance(to) <= MOST_OFFSET {
@@ -196,14 +185,13 @@ impl<A: Allocator> Layout<A> {
     /// Which of its two places a test that is put in front needs a jump for: as few as possible. A
     /// jump for one makes the other one farther by an instruction.
     fn test_reach(&self, yes: usize, no: usize) -> Reach
-        requires { length self.now.code < 2 ^ 32 }
         ensures { result ≡ test_reach yes no self.now.code }
     {
         if self.distance(yes) <= MOST_OFFSET && self.distance(no) <= MOST_OFFSET {
             Reach::Near
-        } else if self.distance_over_jump(no) <= MOST_OFFSET {
+        } else if self.distance(no) < MOST_OFFSET {
             Reach::YesFar
-        } else if self.distance_over_jump(yes) <= MOST_OFFSET {
+        } else if self.distance(yes) < MOST_OFFSET {
             Reach::NoFar
         } else {
             Reach::BothFar

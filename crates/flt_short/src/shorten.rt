@@ -14,9 +14,11 @@
 ghost use Rattle.std.specs.{Prelude.IfOk, Option.IfSome};
 ghost use Rattle.flt_short.specs.Alike.{Shortens};
 
-use crate::alike::{Landing, goes_on_or_rejects, is_masked_test, is_rejection, is_sure, replaces};
+use crate::alike::{
+    Landing, goes_on_or_rejects, is_masked_test, is_rejection, is_sure, is_test, replaces,
+};
 use flt_bpf::operation::{AluOperation, Operand, Operation, Register, Source, Test, decode};
-use flt_bpf::{Wide, reads_accumulator, reads_index, sets_accumulator, sets_index};
+use flt_bpf::{Wide, is_return, reads_accumulator, reads_index, sets_accumulator, sets_index};
 use std::alloc::{AllocError, Allocator};
 
 /// The factor of a multiplicative hash: 2^64 divided by the golden ratio, rounded to an odd number.
@@ -29,7 +31,7 @@ const NOWHERE: Landing = Landing {
     index: false,
 };
 
-/// Fills the space of the new code that has no instruction yet.
+/// Fills the space of the new code that has no instruction yet, and is read outside the code.
 const EMPTY: Wide = Wide {
     code: 0,
     yes: 0,
@@ -57,38 +59,26 @@ fn index_after(at: usize, offset: usize) -> usize {
 /// Whether an instruction ends a block: it is a test or a return. (A `ja` would too, but code in
 /// which a run reaches one isn't shortened.)
 fn ends_block(insn: Wide) -> bool {
-    matches!(
-        decode(insn.code),
-        Some(Operation::JumpIf(_, _) | Operation::ReturnConstant | Operation::ReturnAccumulator)
-    )
+    is_test(&insn) || is_return(insn.code)
 }
 
-/// The test with these offsets instead of its own; `None` if one exceeds 32 bits.
-fn with_offsets(insn: Wide, yes: usize, no: usize) -> Option<Wide> {
-    match (u32::try_from(yes), u32::try_from(no)) {
-        (Ok(yes), Ok(no)) => Some(Wide { yes, no, ..insn }),
-        _ => None,
-    }
-}
-
-/// A copy of an instruction that is put `farther` instructions in front of it: a test gets greater
-/// offsets to the same targets. `None` if one exceeds 32 bits.
-fn with_farther_targets(insn: Wide, farther: usize) -> Option<Wide> {
-    match decode(insn.code) {
-        Some(Operation::JumpIf(_, _)) => with_offsets(
-            insn,
-            farther.saturating_add(insn.yes as usize),
-            farther.saturating_add(insn.no as usize),
-        ),
-        _ => Some(insn),
+/// The test with these offsets instead of its own. One that exceeds 32 bits leads elsewhere, and
+/// then the new code isn't taken.
+fn with_offsets(insn: Wide, yes: usize, no: usize) -> Wide {
+    Wide {
+        yes: u32::try_from(yes).unwrap_or(u32::MAX),
+        no: u32::try_from(no).unwrap_or(u32::MAX),
+        ..insn
     }
 }
 
 /// The number of entries in the table of tests for code of a length: a power of two, greater than
 /// the number of tests in the code.
 fn table_len(len: usize) -> usize {
-    let entries = len.max(15).saturating_add(1);
-    entries.checked_next_power_of_two().unwrap_or(entries)
+    len.saturating_add(1)
+        .max(16)
+        .checked_next_power_of_two()
+        .unwrap_or(16)
 }
 
 /// The new code, which grows from its end to its beginning while the old code is read in that order
@@ -118,7 +108,7 @@ impl Shortening<'_> {
         if let Some(free) = self.backwards.get_mut(self.len) {
             *free = insn;
             self.len = self.len.saturating_add(1);
-            if let Some(Operation::JumpIf(_, _)) = decode(insn.code) {
+            if is_test(&insn) {
                 self.note_test(insn);
             }
         }
@@ -160,6 +150,16 @@ impl Shortening<'_> {
         self.landings.get(at).copied().unwrap_or(NOWHERE)
     }
 
+    /// The instruction of the old code at an index; outside it `EMPTY`.
+    fn old_insn(&self, at: usize) -> Wide {
+        self.insns.get(at).copied().unwrap_or(EMPTY)
+    }
+
+    /// The instruction right in front of a place of the new code; `EMPTY` if there is no room.
+    fn insn_before(&self, place: usize) -> Wide {
+        self.backwards.get(place).copied().unwrap_or(EMPTY)
+    }
+
     /// Notes the landing of an instruction of the old code.
     fn land(&mut self, at: usize, landing: Landing) {
         if let Some(here) = self.landings.get_mut(at) {
@@ -183,15 +183,14 @@ impl Shortening<'_> {
     /// pass over the code is enough.
     fn mark_all_reached(&mut self) {
         self.mark_reached(0);
-        for (at, insn) in self.insns.iter().enumerate() {
+        for at in 0..self.insns.len() {
+            let insn = self.old_insn(at);
             if self.landing_at(at).place > 0 {
-                match decode(insn.code) {
-                    Some(Operation::JumpIf(_, _)) => {
-                        self.mark_reached(index_after(at, insn.yes as usize));
-                        self.mark_reached(index_after(at, insn.no as usize));
-                    }
-                    Some(Operation::ReturnConstant | Operation::ReturnAccumulator) => {}
-                    _ => self.mark_reached(index_after(at, 0)),
+                if is_test(&insn) {
+                    self.mark_reached(index_after(at, insn.yes as usize));
+                    self.mark_reached(index_after(at, insn.no as usize));
+                } else if !is_return(insn.code) {
+                    self.mark_reached(index_after(at, 0));
                 }
             }
         }
@@ -201,10 +200,8 @@ impl Shortening<'_> {
     /// (`84 k`, `21 0`). `None` if these aren't the instructions at `at`, if A is read after them,
     /// or if both outcomes land at the same place.
     fn bits_test_at(&self, at: usize) -> Option<Wide> {
-        let Some([mask, test, ..]) = self.insns.get(at..) else {
-            return None;
-        };
-        if !is_masked_test(*mask, *test) {
+        let (mask, test) = (self.old_insn(at), self.old_insn(index_after(at, 0)));
+        if !is_masked_test(mask, test) {
             return None;
         }
         let zero = self.landing_at(index_after(at, 1 + test.yes as usize));
@@ -221,20 +218,17 @@ impl Shortening<'_> {
         })
     }
 
-    /// Whether an earlier instruction of the old code is joined with this one at `at`, which then
+    /// Whether the instruction of the old code at `at` is joined with an earlier one, and then
     /// isn't emitted and lands nowhere. If a run jumps to that one, the new code isn't taken.
-    fn is_joined(&self, at: usize, insn: Wide) -> bool {
-        match decode(insn.code) {
-            Some(Operation::JumpIf(_, _)) => at >= 1 && self.bits_test_at(at - 1).is_some(),
-            _ => false,
-        }
+    fn is_joined(&self, at: usize) -> bool {
+        at >= 1 && self.bits_test_at(at - 1).is_some()
     }
 
     /// The place of a test in the new code with the same code, `k` and targets; `None` if there is
     /// none. A test after the same instruction as in the old code is preferred, since that
     /// instruction can then be shared too.
     fn find_same_test(&self, at: usize, insn: Wide, yes: usize, no: usize) -> Option<usize> {
-        let front = self.insns.get(at.wrapping_sub(1)).copied().unwrap_or(EMPTY);
+        let front = self.old_insn(at.wrapping_sub(1));
         let mut found = None;
         let mut entry = self.first_entry(insn, yes, no);
         for _ in 0..self.tests.len() {
@@ -243,7 +237,7 @@ impl Shortening<'_> {
                 break;
             }
             let place = test.saturating_sub(1);
-            let other = self.backwards.get(place).copied().unwrap_or(EMPTY);
+            let other = self.insn_before(place);
             if place >= yes.max(no)
                 && (other.code == insn.code && other.k == insn.k)
                 && other.yes as usize == place.saturating_sub(yes)
@@ -269,8 +263,7 @@ impl Shortening<'_> {
             return Some(place);
         }
         let top = self.len;
-        let test = with_offsets(insn, top.saturating_sub(yes), top.saturating_sub(no))?;
-        self.push(test);
+        self.push(with_offsets(insn, top.saturating_sub(yes), top.saturating_sub(no)));
         Some(top.saturating_add(1))
     }
 
@@ -305,20 +298,17 @@ impl Shortening<'_> {
         let mut low = landed;
         for place in (0..landed).rev() {
             low = place;
-            match self.backwards.get(place) {
-                Some(insn) if !ends_block(*insn) => {}
-                _ => break,
+            if ends_block(self.insn_before(place)) {
+                break;
             }
         }
         let farther = top.saturating_sub(low);
         for place in low..landed {
-            let Some(insn) = self.backwards.get(place).copied() else {
-                return;
-            };
-            let Some(insn) = with_farther_targets(insn, farther) else {
-                return;
-            };
-            self.push(insn);
+            // The copy of a test has the same targets. No other instruction uses its offsets.
+            let insn = self.insn_before(place);
+            let yes = farther.saturating_add(insn.yes as usize);
+            let no = farther.saturating_add(insn.no as usize);
+            self.push(with_offsets(insn, yes, no));
         }
         self.move_block(from, farther);
     }
@@ -332,9 +322,8 @@ impl Shortening<'_> {
                 let place = landing.place.saturating_add(farther);
                 self.land(at, Landing { place, ..landing });
             }
-            match self.insns.get(at) {
-                Some(insn) if !ends_block(*insn) => {}
-                _ => return,
+            if ends_block(self.old_insn(at)) {
+                return;
             }
         }
     }
@@ -342,18 +331,13 @@ impl Shortening<'_> {
     /// Whether the instruction right in front of a place of the new code has the code and the `k`
     /// of this one; tests may have other targets.
     fn stands_before(&self, place: usize, insn: Wide) -> bool {
-        match self.backwards.get(place) {
-            Some(other) => other.code == insn.code && other.k == insn.k,
-            None => false,
-        }
+        let other = self.insn_before(place);
+        other.code == insn.code && other.k == insn.k
     }
 
     /// Whether the instruction at a place of the new code rejects the packet.
     fn rejects(&self, place: usize) -> bool {
-        match self.backwards.get(place.wrapping_sub(1)) {
-            Some(insn) => is_rejection(*insn),
-            None => false,
-        }
+        is_rejection(self.insn_before(place.wrapping_sub(1)))
     }
 
     /// Whether an operation is omitted before the landing `next`, and so lands there itself: it
@@ -396,7 +380,8 @@ impl Shortening<'_> {
     }
 
     /// Emits an instruction of the old code, joined with the one after it if that is shorter.
-    fn emit(&mut self, at: usize, insn: Wide) {
+    fn emit(&mut self, at: usize) {
+        let insn = self.old_insn(at);
         if let Some(test) = self.bits_test_at(at) {
             self.emit_test(at, test, index_after(at, 0));
             return;
@@ -415,11 +400,11 @@ impl Shortening<'_> {
     /// joined with it. Returns the number of instructions of the new code.
     fn read_all(&mut self) -> usize {
         self.mark_all_reached();
-        for (at, insn) in self.insns.iter().enumerate().rev() {
+        for at in (0..self.insns.len()).rev() {
             let is_reached = self.landing_at(at).place > 0;
             self.land(at, NOWHERE);
-            if is_reached && !self.is_joined(at, *insn) {
-                self.emit(at, *insn);
+            if is_reached && !self.is_joined(at) {
+                self.emit(at);
             }
         }
         self.len

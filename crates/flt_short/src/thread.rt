@@ -6,20 +6,21 @@
 //! walk at which a run may continue instead of at the old target. If the walk ends at a test, it
 //! goes on after both of its outcomes.
 //!
-//! In a walk a place is an index of the code that follows the test. Clauses cite definitions of the
-//! same names; the contract of `threaded` states what follows from them (`Threads`).
+//! In a walk a place is an index of the code that follows the test. Clauses state that what is
+//! known stays true and that a run has the same answer. The contract of `threaded` follows.
 
-ghost use Rattle.std.specs.Prelude.{IfOk, ◌≡◌, ◌<◌, ◌^◌, length};
+ghost use Rattle.std.specs.Prelude.{IfOk, ◌≡◌, ◌<◌, ◌≤◌, ◌^◌, length, IfSome, IsTrue, List, ℕ};
 ghost use Rattle.flt_bpf.specs.Instructions.{operation_of};
-ghost use Rattle.flt_short.specs.inside.Threads.{skipped_by_test, skipped_after, is_free, can_stop};
-ghost use Rattle.flt_short.specs.inside.Threads.{walk, threaded_offset, threaded_insn};
-ghost use Rattle.flt_short.specs.{Threads.Threads, inside.Facts.at_start};
-ghost use Rattle.flt_short.specs.inside.Threads.{place_or_best, with_arrivals, flow};
+ghost use Rattle.flt_bpf.specs.declared.operation.Operand.TheVariants.{Constant};
+ghost use Rattle.flt_bpf.specs.declared.operation.Operation.TheVariants.{JumpIf};
+ghost use Rattle.flt_bpf.specs.declared.operation.Test.TheVariants.{Equal};
+ghost use Rattle.flt_short.specs.Threads.{Threads};
+ghost use Rattle.flt_short.specs.inside.Threads.{Passes, is_free, LeadsTo, Moves, IsThreaded};
 
-use crate::alike::is_test;
+use crate::alike::{goes_on_or_rejects, is_test};
 use crate::facts::{
-    FEW, Held, Known, arrive, at_start, claim_about, few_at_start, held_after, is_captured,
-    known_at, learn, outcome_by_claim, pass_insn, same_held, same_optional,
+    FEW, Held, Known, arrive, claim_about, held_after, is_captured, known_at, learn, nothing_known,
+    outcome_by_claim, pass_insn, same_held, same_optional, unreached,
 };
 use flt_bpf::operation::{AluOperation, Operand, Operation, Register, Source, Test, decode};
 use flt_bpf::{Wide, reads_accumulator, sets_accumulator};
@@ -45,17 +46,16 @@ pub struct Spot {
 /// How many instructions a test for equality with a constant skips if A is `held`; `None` if the
 /// facts don't decide it.
 fn skipped_by_test(known: &Known, insn: Wide, held: Held) -> Option<u32>
-    ensures { result ≡ skipped_by_test known.now insn held }
+    ensures { operation_of insn.code ≡ Some (JumpIf Equal Constant)
+        → IfSome result (λ skipped. Passes known.now insn held skipped) }
 {
-    match held {
-        Held::Field(field) => {
-            let claim = claim_about(&known.facts, &field, insn.k);
-            match outcome_by_claim(claim, insn.k) {
-                None => None,
-                Some(outcome) => Some(if outcome { insn.yes } else { insn.no }),
-            }
-        }
-        _ => None,
+    let Held::Field(field) = held else {
+        return None;
+    };
+    match outcome_by_claim(claim_about(&known.facts, field, insn.k), insn.k) {
+        Some(true) => Some(insn.yes),
+        Some(false) => Some(insn.no),
+        None => None,
     }
 }
 
@@ -63,24 +63,20 @@ fn skipped_by_test(known: &Known, insn: Wide, held: Held) -> Option<u32>
 /// walk ends before it. A walk passes only tests that the facts decide, and instructions that
 /// change nothing but A and go on at the next one on each packet with this state.
 fn skipped_after(known: &Known, insn: Wide, held: Held) -> Option<u32>
-    ensures { result ≡ skipped_after (operation_of insn.code) known.now insn held }
+    ensures { IfSome result (λ skipped. Passes known.now insn held skipped) }
 {
-    let is_passed = match decode(insn.code) {
+    match decode(insn.code) {
         Some(Operation::JumpIf(Test::Equal, Operand::Constant)) => {
-            return skipped_by_test(known, insn, held);
+            skipped_by_test(known, insn, held)
         }
-        Some(Operation::LoadAbsolute(_)) => is_captured(known, insn.code, insn.k),
-        Some(Operation::LoadIndirect(_)) => {
-            same_held(Held::AtIndex(insn.code, insn.k), known.held)
-        }
-        Some(Operation::LoadHeaderLength) => same_optional(known.index, Some(insn.k)),
-        Some(
-            Operation::Load(Register::Accumulator, Source::Length)
-            | Operation::Compute(AluOperation::And, Operand::Constant),
-        ) => true,
-        _ => false,
-    };
-    if is_passed { Some(0) } else { None }
+        Some(Operation::LoadAbsolute(_)) if is_captured(known, insn.code, insn.k) => Some(0),
+        Some(Operation::LoadIndirect(_))
+            if same_held(Held::AtIndex(insn.code, insn.k), known.held) => { Some(0) }
+        Some(Operation::LoadHeaderLength) if same_optional(known.index, Some(insn.k)) => Some(0),
+        Some(Operation::Load(Register::Accumulator, Source::Length)) => Some(0),
+        Some(Operation::Compute(AluOperation::And, Operand::Constant)) => Some(0),
+        _ => None,
+    }
 }
 
 /// Whether the value of A doesn't matter before this code: it overwrites A, or ends the run,
@@ -100,33 +96,29 @@ fn is_free(code: &[Wide]) -> bool
     }
 }
 
-/// Whether a run may continue at a spot instead of at the start of the walk: the place is inside
-/// the code, and A is the same there as after the passed instructions, or its value doesn't matter.
-fn can_stop(known: &Known, code: &[Wide], spot: Spot) -> bool
-    ensures { result ≡ can_stop known.now code.now spot }
-{
-    spot.place < code.len() && (same_held(spot.held, known.held) || is_free(&code[spot.place..]))
-}
-
-/// The place of a spot if a run may continue there; else `best`, the last such place so far. At the
-/// start of a walk both are the same.
+/// The place of a spot if a run may continue there instead of at the start of the walk: the place
+/// is inside the code, and A is the same there as after the passed instructions, or its value
+/// doesn't matter. Else `best`, the last such place so far; at the start of a walk both are the
+/// same.
 fn place_or_best(known: &Known, code: &[Wide], spot: Spot, best: usize) -> usize
-    ensures { result ≡ place_or_best known.now code.now spot best }
+    ensures { LeadsTo known.now code.now spot best result }
 {
-    if spot.place == best || can_stop(known, code, spot) {
-        spot.place
-    } else {
-        best
+    let place = spot.place;
+    if place == best || place >= code.len() {
+        return best;
     }
+    if same_held(spot.held, known.held) {
+        return place;
+    }
+    if is_free(&code[place..]) { place } else { best }
 }
 
 /// The last place found at which a run may continue instead of at the start of a walk that is at
 /// `spot`; `best` if it finds none. The walk goes on to the first instruction that it can't pass,
 /// past at most `fuel` instructions. If that is a test, it goes on after both outcomes, unless it
 /// did so before (`forks`): if both lead to the same place, that is the result.
-#[tactic(auto, unfolding(crate::specs::inside::Threads::walk))]
 fn walk(fuel: usize, known: &Known, code: &[Wide], spot: Spot, best: usize, forks: bool) -> usize
-    ensures { result ≡ walk fuel known.now code.now spot best forks }
+    ensures { LeadsTo known.now code.now spot best result }
 {
     let best = place_or_best(known, code, spot, best);
     if fuel == 0 {
@@ -156,7 +148,7 @@ fn walk(fuel: usize, known: &Known, code: &[Wide], spot: Spot, best: usize, fork
 /// The threaded offset of a test whose old one is `skipped`; it is `skipped` if the new one exceeds
 /// 32 bits or leads out of the code.
 fn threaded_offset(known: &Known, following: &[Wide], skipped: u32) -> u32
-    ensures { result ≡ threaded_offset known.now following.now skipped }
+    ensures { Moves known.now following.now skipped result }
 {
     let from = skipped as usize;
     let spot = Spot {
@@ -183,14 +175,21 @@ fn thread_insn(
     following: &[Wide],
 ) -> Wide
     requires { from < 2 ^ 63 }
-    ensures insn { result ≡ threaded_insn (operation_of insn.code) here.old insn following.now }
-    ensures seen { seen.new ≡ with_arrivals from (operation_of insn.code) here.old result seen.old }
+    ensures { IsThreaded from here.old insn following.now result seen.old seen.new }
 {
     if let Held::Unreached = here.held {
         return insn;
     }
-    match decode(insn.code) {
-        Some(Operation::JumpIf(_, _)) => {
+    let Some(operation) = decode(insn.code) else {
+        return insn;
+    };
+    if goes_on_or_rejects(operation) {
+        pass_insn(here, insn);
+        arrive(seen, from, here);
+        return insn;
+    }
+    match operation {
+        Operation::JumpIf(_, _) => {
             let mut yes = *here;
             learn(&mut yes, insn, true);
             learn(here, insn, false);
@@ -204,24 +203,21 @@ fn thread_insn(
             arrive(seen, from + insn.no as usize, here);
             insn
         }
-        Some(Operation::Jump) => {
+        Operation::Jump => {
             arrive(seen, from + insn.k as usize, here);
             insn
         }
-        Some(Operation::ReturnConstant | Operation::ReturnAccumulator) => insn,
-        _ => {
-            pass_insn(here, insn);
-            arrive(seen, from, here);
-            insn
-        }
+        _ => insn,
     }
 }
 
 /// Threads all instructions in order, each with the state at its place, which is the join of the
-/// states on all paths to it.
+/// states on all paths to it. At first `seen` has no place that a run reaches. A run begins at
+/// place 0, with nothing known.
 fn thread_all(seen: &mut [Known], insns: &mut [Wide])
-    ensures { insns.new ≡ flow 0 seen.old insns.old }
+    ensures { Threads insns.new insns.old }
 {
+    arrive(seen, 0, &nothing_known());
     let mut at = 0;
     // The label names the loop in its proof.
     'insns: while at < insns.len() {
@@ -233,10 +229,9 @@ fn thread_all(seen: &mut [Known], insns: &mut [Wide])
     }
 }
 
-/// Threads code; `seen` has the state at each place before the first instruction is read. The
-/// contract here defines the new code; that of `threaded` states what follows from it.
+/// Threads code; `seen` has room for the state at each place.
 fn threaded_insns<A: Allocator>(seen: &mut [Known], mut insns: Vec<Wide, A>) -> Vec<Wide, A>
-    ensures { result.items ≡ flow 0 seen.old insns.items }
+    ensures { Threads result.items insns.items }
 {
     thread_all(seen, &mut insns);
     insns
@@ -244,9 +239,9 @@ fn threaded_insns<A: Allocator>(seen: &mut [Known], mut insns: Vec<Wide, A>) -> 
 
 /// Threads code of at most `FEW` instructions without allocating memory.
 fn threaded_few<A: Allocator>(insns: Vec<Wide, A>) -> Vec<Wide, A>
-    ensures { result.items ≡ flow 0 (at_start 16) insns.items }
+    ensures { Threads result.items insns.items }
 {
-    threaded_insns(&mut few_at_start(), insns)
+    threaded_insns(&mut [unreached(); FEW], insns)
 }
 
 /// Whether an instruction loads bytes of the packet, its length, or the length of a header.
@@ -281,6 +276,7 @@ fn repeats_a_load(insns: &[Wide]) -> bool {
 /// Threads code: its tests skip tests whose outcome is known. The new code returns the same on each
 /// packet. Code of at most 64 instructions in which no load occurs twice is returned unchanged,
 /// since threading seldom changes it. The error is a failed allocation.
+#[tactic(auto, using(crate::proofs::Threading::threads_itself))]
 pub fn threaded<A: Allocator>(alloc: A, insns: Vec<Wide, A>) -> Result<Vec<Wide, A>, AllocError>
     ensures { IfOk result (λ new. Threads new.items insns.items) }
 {
@@ -290,6 +286,6 @@ pub fn threaded<A: Allocator>(alloc: A, insns: Vec<Wide, A>) -> Result<Vec<Wide,
     if insns.len() <= FEW {
         return Ok(threaded_few(insns));
     }
-    let mut seen = at_start(alloc, insns.len())?;
+    let mut seen = vec![in alloc; unreached(); insns.len()]?;
     Ok(threaded_insns(&mut seen, insns))
 }

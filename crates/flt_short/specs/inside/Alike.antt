@@ -1,8 +1,7 @@
 -- When two places of two programs do the same: the new one is c, the old one is read from its
 -- instruction i on, which lands at l. `is` are the old instructions after i, `ls` their landings, j
 -- the instruction of the new program where i lands, and `js` those after it.
-use Rattle.std.specs.Option.{is_some, option_map_or}
-use Rattle.std.specs.Prelude.{ℕ, ◌+◌, ◌-◌, ◌%◌, ◌^◌, ◌==◌, nat_lt, nat_le, Bool, true, false, ◌&&◌, ◌||◌, not, List, [], ◌∷◌, length, Option, Some, None, slice_get, drop}
+use Rattle.std.specs.Prelude.{ℕ, ◌+◌, ◌-◌, ◌==◌, nat_lt, nat_le, Bool, true, false, ◌&&◌, ◌||◌, not, List, [], ◌∷◌, length, Option, Some, None, slice_get, drop}
 use Rattle.flt_bpf.specs.Instructions.{code_of, operation_of}
 use Rattle.flt_bpf.specs.Registers.{reads_accumulator, reads_index, sets_accumulator, sets_index}
 use Rattle.flt_bpf.specs.declared.insn.Insn.{Insn}

@@ -1,39 +1,26 @@
--- The abstract state (`Known`) at an instruction: what is known of the packet, of A and of X in
--- each run that reaches it; the join of two states; and the states at all places (`seen`). `code`
+-- What is known of a packet p of original length n and of a run's state s: the abstract state
+-- (`Known`) at a place, when it is true, and what the functions of `facts.rt` keep of that. `code`
 -- and `k` are those of a load. Together they identify its value: bytes of the packet at a fixed
 -- place or at X, or the packet's length. Elsewhere `k` is a state. `i` is an instruction.
-use Rattle.std.specs.Option.{option_or}
-use Rattle.std.specs.Prelude.{ℕ, suc, ◌==◌, not, Bool, true, false, if◌then◌else◌, ◌&&◌, ◌||◌, List, [], ◌∷◌, length, map, replicate, Option, Some, None, slice_set, slice_index_or}
-use Rattle.flt_bpf.specs.declared.insn.Insn.{Insn}
+use Rattle.std.specs.Option.{option_map}
+use Rattle.std.specs.Prelude.{◌≡◌, ℕ, ◌+◌, ◌%◌, ◌^◌, ◌==◌, not, Bool, true, false, if◌then◌else◌, ◌&&◌, ◌||◌, ◌⊎◌, List, All, Option, Some, None, IfSome, slice_get, bit_and}
+use Rattle.flt_bpf.specs.Instructions.{operation_of}
+use Rattle.flt_bpf.specs.Machine.{field, header_length, test_holds, operand_value}
+use Rattle.flt_bpf.specs.declared.{insn.Insn.Insn, machine.State.State}
 use Rattle.flt_bpf.specs.declared.operation.AluOperation.TheVariants.{And}
-use Rattle.flt_bpf.specs.declared.operation.Operand.TheVariants.{Constant}
+use Rattle.flt_bpf.specs.declared.operation.{Operand.Operand, Operand.TheVariants.Constant}
 use Rattle.flt_bpf.specs.declared.operation.Operation.{Operation}
 use Rattle.flt_bpf.specs.declared.operation.Operation.TheVariants.{LoadAbsolute, LoadIndirect, Load, LoadHeaderLength, Compute, JumpIf, CopyToIndex}
 use Rattle.flt_bpf.specs.declared.operation.Register.TheVariants.{Accumulator, Index}
 use Rattle.flt_bpf.specs.declared.operation.Source.TheVariants.{Length}
-use Rattle.flt_bpf.specs.declared.operation.Test.TheVariants.{Equal}
+use Rattle.flt_bpf.specs.declared.operation.Test.{Test}
+use Rattle.flt_bpf.specs.declared.operation.Width.TheVariants.{Byte}
 use Rattle.flt_short.specs.declared.facts.Claim.{Claim}
 use Rattle.flt_short.specs.declared.facts.Claim.TheVariants.{Nothing, Is, IsNot, IsOneOf}
 use Rattle.flt_short.specs.declared.facts.Fact.{Fact}
 use Rattle.flt_short.specs.declared.facts.Field.{Field}
 use Rattle.flt_short.specs.declared.facts.Held.{Held}
 use Rattle.flt_short.specs.declared.facts.Known.{Known}
-
--- a fact that claims nothing
-abbrev pub nothing_claimed : Fact
-nothing_claimed = record { field = record { code = 0; k = 0; mask = None }; claim = Nothing }
-
--- the state at a place if nothing is known of the runs that reach it
-abbrev pub nothing_known : Known
-nothing_known = record {
-  held = Held.Unknown;
-  index = None;
-  facts = replicate 5 nothing_claimed;
-}
-
--- the state at a place that no run reaches
-abbrev pub unreached : Known
-unreached = record nothing_known { held = Held.Unreached }
 
 -- whether two numbers that may be missing are the same or both missing: masks, or headers
 abbrev pub same_optional : Option ℕ → Option ℕ → Bool
@@ -57,45 +44,15 @@ allows (Is a) n = n == a
 allows (IsNot a) n = not (n == a)
 allows (IsOneOf a b) n = n == a || n == b
 
--- whether a claim is that a number isn't this one
-abbrev pub denies : Claim → ℕ → Bool
-denies (IsNot a) n = a == n
-denies _ n = false
+-- the claim d is true of each number of which c is; and of one that isn't captured if c is
+abbrev pub Implies : Claim → Claim → Type 0
+Implies c d =
+    ((n : ℕ) → allows c n ≡ true → allows d n ≡ true)
+    × (claims_nothing c ≡ true → claims_nothing d ≡ true)
 
--- whether the claim d, which isn't `Nothing`, holds of each number of which c holds
-abbrev pub entails_some : Claim → Claim → Bool
-entails_some Nothing d = false
-entails_some (Is a) d = allows d a
-entails_some (IsNot a) d = denies d a
-entails_some (IsOneOf a b) d = allows d a && allows d b
-
--- whether the claim d holds of each number of which c holds
-abbrev pub entails : Claim → Claim → Bool
-entails c d = claims_nothing d || entails_some c d
-
--- the claim that a number is a or b; `Nothing` unless both claims are `Is`
-abbrev pub one_of_two : Claim → Claim → Claim
-one_of_two (Is a) (Is b) = IsOneOf a b
-one_of_two _ _ = Nothing
-
--- the join of two claims, of which one holds: the weaker of the two, that the number is one of two
--- numbers, or `Nothing`
-abbrev pub joined_claim : Claim → Claim → Claim
-joined_claim c d = if entails c d then d else (if entails d c then c else one_of_two c d)
-
--- The fact about the field of x that holds on two paths: x, which claims something, holds on one,
--- and all of ys hold on the other. The first of these that keeps a claim decides; if there is none,
--- nothing is claimed.
-abbrev pub joined_with_any : Fact → List Fact → Fact
-joined_with_any x [] = nothing_claimed
-joined_with_any x (y ∷ ys) =
-    if same_field x.field y.field && not (claims_nothing (joined_claim x.claim y.claim))
-    then record { field = x.field; claim = joined_claim x.claim y.claim }
-    else joined_with_any x ys
-
--- the fact that holds after two paths join: x holds on one, all of ys on the other
-abbrev pub joined_fact : Fact → List Fact → Fact
-joined_fact x ys = if claims_nothing x.claim then x else joined_with_any x ys
+-- the claim e is true of each number of which c or d is; and so of one that isn't captured
+abbrev pub JoinsClaims : Claim → Claim → Claim → Type 0
+JoinsClaims c d e = Implies c e × Implies d e
 
 -- whether two values of A are the same value of the packet; nothing is known of two that are
 -- `Unknown`
@@ -108,79 +65,18 @@ same_held _ _ = false
 abbrev pub common_header : Option ℕ → Option ℕ → Option ℕ
 common_header a b = if same_optional a b then a else None
 
--- The join of two states, k and `came`; h is the value of A in k. If that is `Unreached`, the join
--- is `came`. Else it joins the values of A, the headers of X, and each fact of k with those of
--- `came`.
-abbrev pub joined_by : Held → Known → Known → Known
-joined_by Held.Unreached k came = came
-joined_by h k came = record {
-  held = if same_held h came.held then h else Held.Unknown;
-  index = common_header k.index came.index;
-  facts = map (λ x. joined_fact x came.facts) k.facts;
-}
+-- the test whether a number is n has this outcome, if the claim is true of the number
+abbrev pub IsOutcome : Claim → ℕ → Bool → Type 0
+IsOutcome c n outcome = (number : ℕ) → allows c number ≡ true → (number == n) ≡ outcome
 
--- the join of two states: the state k at a place, changed so that it also holds in one more run,
--- which has the state `came`; if no run came before, it is `came`
-abbrev pub joined : Known → Known → Known
-joined k came = joined_by k.held k came
-
--- the outcome of the test `number = n`, by a claim about the number; None if the claim doesn't
--- decide it
-abbrev pub outcome_by_claim : Claim → ℕ → Option Bool
-outcome_by_claim (Is a) n = Some (a == n)
-outcome_by_claim c n = if allows c n then None else Some false
-
--- whether a claim says something of whether a number is n
-abbrev pub speaks_of : Claim → ℕ → Bool
-speaks_of Nothing n = false
-speaks_of (IsNot a) n = a == n
-speaks_of _ n = true
-
--- the claim of the first fact that says something of whether a field is n; `Nothing` if none does
-abbrev pub claim_about : List Fact → Field → ℕ → Claim
-claim_about [] f n = Nothing
-claim_about (x ∷ xs) f n =
-    if same_field x.field f && speaks_of x.claim n then x.claim else claim_about xs f n
-
--- the other one of two numbers, if the claim is that a number is one of them, and n is one
-abbrev pub other_by_claim : Claim → ℕ → Option ℕ
-other_by_claim (IsOneOf a b) n = if n == a then Some b else (if n == b then Some a else None)
-other_by_claim _ n = None
-
--- whether a new fact y may take the place of x without loss: x claims nothing, or follows from y
-abbrev pub gives_way : Fact → Fact → Bool
-gives_way x y = claims_nothing x.claim || (same_field x.field y.field && entails y.claim x.claim)
-
--- the index of the fact whose place y takes: the first one that y replaces without loss, or else
--- the last one
-abbrev pub place_for : List Fact → Fact → ℕ
-place_for [] y = 0
-place_for (x ∷ xs) y = if length xs == 0 || gives_way x y then 0 else suc (place_for xs y)
-
--- the state with one more fact, of this field with this claim, in the place of the first one that
--- it replaces without loss, or else of the last
-abbrev pub with_fact : Known → Field → Claim → Known
-with_fact k f c =
-    let y : Fact = record { field = f; claim = c } in
-    record k { facts = slice_set k.facts (place_for k.facts y) y }
-
--- whether a fact says that the bytes of a load are captured: any claim but `Nothing` does
-abbrev pub captures : Fact → ℕ → ℕ → Bool
-captures x code k = (x.field.code == code && x.field.k == k) && not (claims_nothing x.claim)
-
--- whether one of some facts says that the bytes of a load are captured
-abbrev pub any_captures : List Fact → ℕ → ℕ → Bool
-any_captures [] code k = false
-any_captures (x ∷ xs) code k = captures x code k || any_captures xs code k
+-- a number of which the claim is true is this other one, if it isn't n
+abbrev pub IsOther : Claim → ℕ → ℕ → Type 0
+IsOther c n other = (number : ℕ) → allows c number ≡ true → (number == n) ≡ false → number ≡ other
 
 -- whether A holds the field of a load, perhaps masked, so that its bytes are captured
 abbrev pub holds_field : Held → ℕ → ℕ → Bool
 holds_field (Held.Field f) code k = f.code == code && f.k == k
 holds_field _ code k = false
-
--- whether the bytes of a load are known to be captured, by the value of A or by a fact
-abbrev pub is_captured : Known → ℕ → ℕ → Bool
-is_captured known code k = holds_field known.held code k || any_captures known.facts code k
 
 -- the value of A after a mask m of the field f, which has this mask or none
 abbrev pub masked_by : Option ℕ → Field → ℕ → Held
@@ -220,28 +116,105 @@ known_after op k i = record {
   facts = k.facts;
 }
 
--- the claim about a field after the test `field = n` had this outcome; `other` is the number that
--- the field is known to be if it isn't n
-abbrev pub claim_after : Bool → ℕ → Option ℕ → Claim
-claim_after true n other = Is n
-claim_after false n None = IsNot n
-claim_after false n (Some m) = Is m
+-- the number that a load with this operation takes from a fixed place, or that is the packet's length
+abbrev pub loaded : Option Operation → List ℕ → ℕ → ℕ → Option ℕ
+loaded (Some (LoadAbsolute width)) p n k = field p k width
+loaded (Some (Load Accumulator Length)) p n k = Some n
+loaded _ p n k = None
 
--- the state after a test with this outcome: it has a new fact only if the test is for equality with
--- the constant n, and A holds a field (h)
-abbrev pub known_by_test : Option Operation → Held → Known → ℕ → Bool → Known
-known_by_test (Some (JumpIf Equal Constant)) (Held.Field f) k n outcome =
-    with_fact k f (claim_after outcome n (other_by_claim (claim_about k.facts f n) n))
-known_by_test _ h k n outcome = k
+-- the number that a load at X puts into A
+abbrev pub loaded_at : Option Operation → List ℕ → ℕ → ℕ → Option ℕ
+loaded_at (Some (LoadIndirect width)) p x k = field p ((x + k) % 2 ^ 32) width
+loaded_at _ p x k = None
 
--- the facts at a place; past the end of the code there are none
-abbrev pub known_at : List Known → ℕ → Known
-known_at seen place = slice_index_or seen place nothing_known
+-- a number, with only the bits of the mask if there is one
+abbrev pub masked : Option ℕ → Option ℕ → Option ℕ
+masked None number = number
+masked (Some m) number = option_map (λ n. bit_and n m) number
 
--- the facts after one more run, with the facts `k`, goes on at a place
-abbrev pub arrived : List Known → ℕ → Known → List Known
-arrived seen place k = slice_set seen place (joined (known_at seen place) k)
+-- the number that a field of the packet is; None if it isn't captured
+abbrev pub value_of : List ℕ → ℕ → Field → Option ℕ
+value_of p n f = masked f.mask (loaded (operation_of f.code) p n f.k)
 
--- the facts before code of a length is read: a run goes on at place 0, with no facts
-abbrev pub at_start : ℕ → List Known
-at_start len = arrived (replicate len unreached) 0 nothing_known
+-- the bytes that a load takes are captured
+abbrev pub IsThere : List ℕ → ℕ → ℕ → ℕ → Type 0
+IsThere p n code k = (number : ℕ) × (loaded (operation_of code) p n k ≡ Some number)
+
+-- whether a claim is true of a number, or of one that isn't captured
+abbrev pub is_said : Claim → Option ℕ → Bool
+is_said c None = claims_nothing c
+is_said c (Some n) = allows c n
+
+-- a fact is true of the packet
+abbrev pub Says : List ℕ → ℕ → Fact → Type 0
+Says p n x = is_said x.claim (value_of p n x.field) ≡ true
+
+-- A has the value that is known of it
+abbrev pub HeldHolds : List ℕ → ℕ → Held → State → Type 0
+HeldHolds p n Held.Unreached s = ⊥
+HeldHolds p n Held.Unknown s = Unit {0}
+HeldHolds p n (Held.Field f) s = value_of p n f ≡ Some s.accumulator
+HeldHolds p n (Held.AtIndex code k) s = loaded_at (operation_of code) p s.index k ≡ Some s.accumulator
+
+-- X, which is x, is the length of the header that begins at a byte, if that is known
+abbrev pub IndexHolds : List ℕ → Option ℕ → ℕ → Type 0
+IndexHolds p None x = Unit {0}
+IndexHolds p (Some k) x = option_map header_length (field p k Byte) ≡ Some x
+
+-- what is known is true
+pub record Holds (p : List ℕ) (n : ℕ) (k : Known) (s : State) : Type 0 where
+  pub a : HeldHolds p n k.held s
+  pub x : IndexHolds p k.index s.index
+  pub facts : All (Says p n) k.facts
+
+-- what is known at a place is true there; past the end nothing is known
+abbrev pub HoldsAt : List ℕ → ℕ → List Known → ℕ → State → Type 0
+HoldsAt p n seen place s = IfSome (slice_get seen place) (λ k. Holds p n k s)
+
+-- what is known is true of every packet and state
+abbrev pub IsAlwaysTrue : Known → Type 0
+IsAlwaysTrue k = (p : List ℕ) (n : ℕ) (s : State) → Holds p n k s
+
+-- z is true of a packet of which x is, or of which all of ys are
+abbrev pub JoinsFact : Fact → List Fact → Fact → Type 0
+JoinsFact x ys z = (p : List ℕ) (n : ℕ) → Says p n x ⊎ All (Says p n) ys → Says p n z
+
+-- all of zs are true of a packet of which all of xs are, or all of ys
+abbrev pub JoinsFacts : List Fact → List Fact → List Fact → Type 0
+JoinsFacts xs ys zs = (p : List ℕ) (n : ℕ) → All (Says p n) xs ⊎ All (Says p n) ys → All (Says p n) zs
+
+-- `new` joins the states k, in which A is h, and `came`
+abbrev pub JoinsBy : Held → Known → Known → Known → Type 0
+JoinsBy Held.Unreached k came new = new ≡ came
+JoinsBy h k came new =
+    (new.held ≡ (if same_held h came.held then h else Held.Unknown))
+    × (new.index ≡ common_header k.index came.index)
+    × JoinsFacts k.facts came.facts new.facts
+
+-- the claim is true of each field for which all facts are
+abbrev pub IsClaimAbout : List Fact → Field → Claim → Type 0
+IsClaimAbout xs f c = (p : List ℕ) (n number : ℕ)
+    → All (Says p n) xs → value_of p n f ≡ Some number → allows c number ≡ true
+
+-- the claim is true after the test whether a field is a number had this outcome
+abbrev pub IsClaimAfter : List Fact → Field → ℕ → Bool → Claim → Type 0
+IsClaimAfter xs f number outcome c = (p : List ℕ) (n v : ℕ)
+    → All (Says p n) xs → value_of p n f ≡ Some v → (v == number) ≡ outcome → allows c v ≡ true
+
+-- `new` is true where k is, if the field is as claimed
+abbrev pub AddsFact : Known → Field → Claim → Known → Type 0
+AddsFact k f c new = (p : List ℕ) (n : ℕ) (s : State)
+    → Holds p n k s → is_said c (value_of p n f) ≡ true → Holds p n new s
+
+-- `new` is true after a test that had this outcome, and before which k was
+abbrev pub Learns : Known → Insn → Bool → Known → Type 0
+Learns k i outcome new = (p : List ℕ) (n : ℕ) (s : State) (test : Test) (operand : Operand)
+    → operation_of i.code ≡ Some (JumpIf test operand)
+    → test_holds test s.accumulator (operand_value operand i.k s.index) ≡ outcome
+    → Holds p n k s → Holds p n new s
+
+-- what was known at each place is true still; at this one it is true in one more run, which comes
+-- with the state k
+pub record Arrives (k : Known) (place : ℕ) (old new : List Known) : Type 0 where
+  pub keeps : (p : List ℕ) (n q : ℕ) (s : State) → HoldsAt p n old q s → HoldsAt p n new q s
+  pub comes : (p : List ℕ) (n : ℕ) (s : State) → Holds p n k s → HoldsAt p n new place s

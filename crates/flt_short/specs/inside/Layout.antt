@@ -1,7 +1,7 @@
 -- Wide code laid out as instructions, from its end to its beginning. A place is the number of
 -- instructions from there to the end; `hit` and `miss` are the places where a test leads if it
 -- holds and if it doesn't, and `c` is the code that is laid out so far.
-use Rattle.std.specs.Prelude.{ℕ, ◌+◌, ◌-◌, nat_le, ◌==◌, ◌&&◌, if◌then◌else◌, List, [], ◌∷◌, length, take, replicate, slice_index, Option, Some}
+use Rattle.std.specs.Prelude.{ℕ, ◌+◌, ◌-◌, nat_le, nat_lt, ◌==◌, ◌&&◌, if◌then◌else◌, List, [], ◌∷◌, length, take, replicate, slice_index, Option, Some}
 use Rattle.flt_bpf.specs.Instructions.{operation_of}
 use Rattle.flt_bpf.specs.Layout.{JUMP, MOST_OFFSET}
 use Rattle.flt_bpf.specs.declared.insn.Insn.{Insn}
@@ -46,7 +46,7 @@ with_noted_jump to l =
 abbrev pub jump_near : List PlacedJump → ℕ → ℕ → ℕ
 jump_near [] to top = to
 jump_near (jump ∷ jumps) to top =
-    if jump.to == to && nat_le (top + 1 - jump.place) MOST_OFFSET then jump.place
+    if jump.to == to && nat_lt (top - jump.place) MOST_OFFSET then jump.place
     else jump_near jumps to top
 
 -- the place where a test that is put in front goes on to get to a place: this one if it is near,
@@ -60,8 +60,8 @@ near_place l to =
 abbrev pub test_reach : ℕ → ℕ → List Insn → Reach
 test_reach hit miss c =
     if nat_le (length c - hit) MOST_OFFSET && nat_le (length c - miss) MOST_OFFSET then Near
-    else (if nat_le (length c + 1 - miss) MOST_OFFSET then YesFar
-    else (if nat_le (length c + 1 - hit) MOST_OFFSET then NoFar else BothFar))
+    else (if nat_lt (length c - miss) MOST_OFFSET then YesFar
+    else (if nat_lt (length c - hit) MOST_OFFSET then NoFar else BothFar))
 
 -- a test in front that reaches its two places so
 abbrev pub with_test_by : Reach → Insn → ℕ → ℕ → PlacedCode → PlacedCode

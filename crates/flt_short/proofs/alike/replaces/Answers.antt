@@ -3,8 +3,8 @@ use Rattle.std.proofs.Common.{sym, ◌∙◌, arith}
 use Rattle.flt_short.proofs.Likeness.{replaced}
 use Rattle.flt_short.proofs.alike.replaces.Goals as goal
 
-pub returns-then-has_no_jump : goal.returns-then-has_no_jump
-returns-then-has_no_jump c = λ t.
+pub returns-then-are_faultless : goal.returns-then-are_faultless
+returns-then-are_faultless c = λ t.
     let few = c.if-count_tests.false in
     let new_tests = c.count_tests.ensures in
     let old_tests = c.count_tests-2.ensures in
@@ -14,5 +14,5 @@ returns-then-has_no_jump c = λ t.
     (sym c.begins.ensures ∙ c.if-not-begins.false)
     (sym c.are_alike.ensures ∙ c.if-not-are_alike.false)
     (omega arith)
-    (c.has_no_jump.ensures.0 c.if-has_no_jump.true)
-    (c.is_valid_unless_long.ensures t)
+    (c.has_no_jump.ensures c.if-not-has_no_jump.false)
+    (record { faultless = c.are_faultless.ensures c.if-are_faultless.true; ends = c.ends_in_return.ensures t })

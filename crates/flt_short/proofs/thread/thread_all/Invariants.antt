@@ -1,13 +1,13 @@
--- What is done so far, and what is left to do.
-use Rattle.std.proofs.Common.{◌≡◌, ◌-◌, ◌≤◌, ◌++◌, length, take, drop}
-use Rattle.flt_short.specs.inside.Threads.{flow}
+-- What is done so far.
+use Rattle.std.proofs.Common.{◌≡◌, ◌-◌, ◌≤◌, length}
+use Rattle.flt_short.proofs.Threading.{ThreadedSoFar}
 use Rattle.flt_short.proofs.thread.thread_all.Given as goal
 
 abbrev pub invariant-insns : goal.invariant-insns
 invariant-insns l = record {
   shape : length l.insns ≡ length l.initial.insns;
   within : l.at ≤ length l.insns;
-  rest : take l.at l.insns ++ flow l.at l.seen (drop l.at l.insns) ≡ flow 0 l.initial.seen l.initial.insns;
+  so_far : ThreadedSoFar l.initial.seen l.initial.insns l.seen l.insns l.at;
 }
 
 abbrev pub decreases-insns : goal.decreases-insns

@@ -1,0 +1,7 @@
+-- The new fact is true, and the others are.
+use Rattle.std.proofs.lemmas.List.Elements.{All-set}
+use Rattle.flt_short.specs.inside.Facts.{Says}
+use Rattle.flt_short.proofs.facts.add_fact.Goals as goal
+
+pub returns : goal.returns
+returns c = λ p n s h said. record { a = h.a; x = h.x; facts = All-set (Says p n) _ _ _ said h.facts }
