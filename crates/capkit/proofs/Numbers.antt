@@ -1,36 +1,35 @@
 -- What a text of digits parses to, and where a word has a hyphen.
-use Rattle.capkit.proofs.Common.{inl, inr, lit<, suc, ◌+◌, ◌≤◌, cond, ◌≡◌, ◌<◌, ◌^◌, ℕ, Bool, true, false, List, [], ◌∷◌, length, refl, subst, sym, ◌∙◌, rules, arith, IfSome, nat_lt, Result, Ok, Err, ◌||◌, not, if◌then◌else◌, Option, Some, None, is_ascii_digit, after_first, before_first, list_all, list_any, position_or_len, Bor, MatchOption, ParsesUnsigned, digits_value, and_parts, cases_lt, le-ltb, lt-ltb, ltb-true, IsDigitsTest, numerals_by_value, parse_digits, is_hyphen, range_number, is_decimal, sides_of}
-use Rattle.std.specs.Result.{OkIff}
+use Rattle.cap_octet.specs.Digits.{decimal_value, in_u64}
+use Rattle.std.specs.Char.{digit_value}
+use Rattle.capkit.proofs.Common.{◌&&◌, ap, IfNone, ◌==◌, lit<, suc, ◌+◌, ◌≤◌, cond, ◌≡◌, ◌<◌, ◌^◌, ℕ, Bool, true, false, List, [], ◌∷◌, length, refl, subst, sym, ◌∙◌, rules, arith, IfSome, nat_lt, ◌||◌, not, if◌then◌else◌, Option, Some, None, is_ascii_digit, after_first, before_first, list_all, list_any, position_or_len, Bor, MatchOption, digits_value, le-ltb, lt-ltb, IsDigitsTest, is_hyphen, range_number, sides_of}
 use Rattle.std.proofs.lemmas.{Bool.Decides.nat_tests, Str.Pattern.IsSplitOnceResult, Str.Pattern.split_once_first}
 
 pub test : IsDigitsTest (λ ds. list_all is_ascii_digit ds ≡ true)
 test = search rules
 
--- a text of digits alone parses to its number where that fits
-digits_parse : {E : Type 0} (text : List ℕ) (r : Result ℕ E) → ParsesUnsigned 64 10 text r → list_all is_ascii_digit text ≡ true
-    → OkIff r ((0 < length text) × (digits_value 10 text < 2 ^ 64)) (digits_value 10 text)
-digits_parse text r h digits = parse_digits (numerals_by_value _ test) 64 text r h digits
+same_digit : (byte : ℕ) → nat_lt (digit_value byte) 10 ≡ is_ascii_digit byte
+same_digit byte = grind (arith, nat_tests)
 
--- digits that don't parse write no number below 2^64
-pub not_parsed : {E : Type 0} (text : List ℕ) (e : E) (r : Result ℕ E) → ParsesUnsigned 64 10 text r → r ≡ Err e
-    → list_all is_ascii_digit text ≡ true → IfSome (range_number text) (λ n. 2 ^ 64 ≤ n)
-not_parsed {E} text e r h is digits = go r h is
+not_empty : (n : ℕ) → not (n == 0) ≡ nat_lt 0 n
+not_empty n = grind (arith, nat_tests)
+
+same_number : (text : List ℕ) → decimal_value text ≡ range_number text
+same_number text =
+    λ i. if not_empty (length text) i && list_all (λ byte. same_digit byte i) text then Some (digits_value 10 text) else None
+
+-- the number that is read of a text of digits alone, below 2^64
+pub is_read : (text : List ℕ) (r : Option ℕ) → r ≡ in_u64 (decimal_value text)
+    → IfSome r (λ n. range_number text ≡ Some n) × IfNone r (IfSome (range_number text) (λ n. 2 ^ 64 ≤ n))
+is_read text r is = go (range_number text) (is ∙ ap in_u64 (same_number text))
   where
-    value : (b : Bool) → (b ≡ true → 2 ^ 64 ≤ digits_value 10 text) → IfSome (if b then Some (digits_value 10 text) else None) (λ n. 2 ^ 64 ≤ n)
-    value true large = large refl
-    value false large = tt
+    fits : (n : ℕ) (b : Bool) → nat_lt n (2 ^ 64) ≡ b → r ≡ (if b then Some n else None)
+        → IfSome r (λ m. Some n ≡ Some m) × IfNone r (2 ^ 64 ≤ n)
+    fits n true small same = rw same (refl, tt)
+    fits n false large same = rw same (tt, grind (arith, nat_tests))
 
-    go : (q : Result ℕ E) → ParsesUnsigned 64 10 text q → q ≡ Err e → IfSome (range_number text) (λ n. 2 ^ 64 ≤ n)
-    go (Ok m) p same = cc
-    go (Err f) p same =
-        let read : Result ℕ E = Err f in
-        let none = digits_parse text read p digits in
-        value (is_decimal text) (λ all.
-        let some : 0 < length text = ltb-true 0 (length text) (and_parts _ _ all).0 in
-        elim (cases_lt (digits_value 10 text) (2 ^ 64)) [
-          | inl small ↦ absurd (none (some, small))
-          | inr large ↦ large
-        ])
+    go : (q : Option ℕ) → r ≡ in_u64 q → IfSome r (λ n. q ≡ Some n) × IfNone r (IfSome q (λ n. 2 ^ 64 ≤ n))
+    go None same = rw same (tt, tt)
+    go (Some n) same = fits n (nat_lt n (2 ^ 64)) refl same
 
 lt_both : (n k : ℕ) → nat_lt n k ≡ nat_lt (1 + n) (suc k)
 lt_both n k = grind (arith, nat_tests)

@@ -12,7 +12,7 @@ use crate::line::Line;
 use crate::names::uses_name_twice;
 use crate::range::range_in;
 use crate::usage::Usage;
-use crate::values::{duration, flag, format, number_u32, optional_text, text, texts, time};
+use crate::values::{duration, flag, format, is_given, number_u32, text, texts, time};
 use cap_command::{Command, Edit, LEAST_WINDOW, MOST_RANGES, MOST_WINDOW, Shift};
 use clap::ArgMatches;
 use std::alloc::Global;
@@ -43,14 +43,14 @@ fn ranges_in(alloc: Global, words: &[&str]) -> Result<Vec<(u64, u64)>, Usage>
 fn is_bad_time(matches: &ArgMatches<'_>, id: &str) -> bool
     ensures { result ≡ is_bad_time id.now (rows_of (found_of matches.now)) }
 {
-    optional_text(matches, id).is_some() && time(matches, id).is_none()
+    is_given(matches, id) && time(matches, id).is_none()
 }
 
 /// Whether the argument has a text that isn't a number of seconds; false if it isn't given.
 fn is_bad_duration(matches: &ArgMatches<'_>, id: &str) -> bool
     ensures { result ≡ is_bad_duration id.now (rows_of (found_of matches.now)) }
 {
-    optional_text(matches, id).is_some() && duration(matches, id).is_none()
+    is_given(matches, id) && duration(matches, id).is_none()
 }
 
 /// Whether one of the four arguments for times and durations has a text that isn't one.
@@ -68,7 +68,7 @@ fn has_bad_time(matches: &ArgMatches<'_>) -> bool
 fn has_two_shifts(matches: &ArgMatches<'_>) -> bool
     ensures { result ≡ has_two_shifts (rows_of (found_of matches.now)) }
 {
-    optional_text(matches, ids::LATER).is_some() && optional_text(matches, ids::EARLIER).is_some()
+    is_given(matches, ids::LATER) && is_given(matches, ids::EARLIER)
 }
 
 /// Checks the words of an edit besides its ranges. An error is the first of their faults: a bad

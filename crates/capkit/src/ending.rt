@@ -31,9 +31,10 @@ pub fn finish<'a, W: Write + Drop>(
     ensures exact { is_some target.cause ≡ true → IsOkAnd result (λ ended. 0 < ended) }
 {
     let (mut target, cause) = target.into_inner();
-    let flushed = flush_output(status, &mut target)
-        .err()
-        .map(|error| error.kind());
+    let flushed = match flush_output(status, &mut target) {
+        Ok(()) => None,
+        Err(error) => Some(error.kind()),
+    };
     let (messages, _) = messages.into_inner();
     let (mut errors, message) = messages.into_parts();
     let causes = (cause, flushed);
@@ -122,5 +123,8 @@ pub fn tell_end<'a, W: Write>(
     if !(is_broken_pipe(cause) || cause.is_some() && is_broken_pipe(flushed)) {
         tell_message(alloc, errors, message);
     }
-    status_after_writes(status, cause, flushed).ok_or(Stop::WriteFailed(output))
+    match status_after_writes(status, cause, flushed) {
+        Some(status) => Ok(status),
+        None => Err(Stop::WriteFailed(output)),
+    }
 }

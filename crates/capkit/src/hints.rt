@@ -2,17 +2,14 @@
 //! and what each command is for. It is found by the text of the refusal, as the version of clap
 //! that is built in writes it.
 
-use crate::command_of;
-use std::alloc::{AllocError, Global};
+use crate::options::COMMANDS;
+use std::alloc::AllocError;
 
 /// What clap's refusal of an option that it doesn't know begins with.
 const UNKNOWN: &str = "error: unexpected argument '";
 
 /// The text in front of the command's name in clap's usage line.
 const USAGE_OF: &str = "\nUsage: capkit ";
-
-/// The head of the list of commands in the help of the program.
-const COMMANDS: &str = "\nCommands:\n";
 
 /// The option in `HINTS` that is a number with a dash before it; for such a word clap shows the
 /// dash and the first digit.
@@ -73,18 +70,19 @@ print -Y: an expression is written after FILE, without -Y
 compile -d: a listing has the form of tcpdump -ddd
 compile -y: see --link";
 
-/// Whether an option, as clap shows it, is the one that a hint has as `name`; a digit after a dash
-/// (`-5`) is the option `NEGATIVE`.
-fn is_option_of_hint(option: &str, name: &str) -> bool {
-    let is_negative = matches!(option.as_bytes(), [b'-', b'0'..=b'9']);
-    option == name || is_negative && name == NEGATIVE
+/// The name in `HINTS` of an option as clap shows it: `NEGATIVE` of a digit after a dash, as `-5`.
+fn hinted_name(option: &str) -> &str {
+    match option.as_bytes() {
+        [b'-', b'0'..=b'9'] => NEGATIVE,
+        _ => option,
+    }
 }
 
 /// The hint of a line of `HINTS`, if it is that for this option of this command.
 fn hint_of_line<'a>(line: &'a str, command: &str, option: &str) -> Option<&'a str> {
     let (words, hint) = line.split_once(": ")?;
     let (place, name) = words.split_once(" ")?;
-    if place == command && is_option_of_hint(option, name) {
+    if place == command && name == option {
         return Some(hint);
     }
     None
@@ -106,28 +104,15 @@ pub(crate) fn hint_for_refusal(refusal: &str) -> Option<&'static str> {
     let (option, following) = refusal.strip_prefix(UNKNOWN)?.split_once("'")?;
     let (_, usage) = following.split_once(USAGE_OF)?;
     let (command, _) = usage.split_once(" ")?;
-    hint_for_option(command, option)
+    hint_for_option(command, hinted_name(option))
 }
 
-/// The help of the program, as `--help` prints it. An error means that memory ran out.
-fn help_text(alloc: Global) -> Result<String, AllocError> {
-    let mut words = Vec::new(alloc);
-    words.push(String::from_str(alloc, "--help")?)?;
-    match command_of(alloc, words) {
-        // Never so: what clap returns of a request for help is an error.
-        Ok(_) => Ok(String::new(alloc)),
-        Err(usage) => format!(in alloc; "{usage}"),
-    }
-}
-
-/// Adds to a text the list of the commands with what they do, as the help of the program has it;
-/// nothing if the help has no such list. An error means that memory ran out.
-pub(crate) fn add_commands(alloc: Global, text: &mut String) -> Result<(), AllocError> {
-    let help = help_text(alloc)?;
-    if let Some((_, list)) = help.split_once(COMMANDS)
-        && let Some((list, _)) = list.split_once("\n\n")
-    {
-        write!(text, "{COMMANDS}{list}\n")?;
+/// Adds to a text the list of the commands with what they do, as the help of the program has it. An
+/// error means that memory ran out.
+pub(crate) fn add_commands(text: &mut String) -> Result<(), AllocError> {
+    text.push_str("\nCommands:\n")?;
+    for row in &COMMANDS {
+        writeln!(text, "  {:<7}  {}", row.name, row.about)?;
     }
     Ok(())
 }

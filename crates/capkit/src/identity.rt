@@ -1,8 +1,7 @@
 //! Files as the system knows them, whatever their names.
 
 use crate::overwrites::{STANDARD_INPUT, STANDARD_OUTPUT};
-use std::fs::{self, Metadata};
-use std::io;
+use std::fs;
 use std::os::unix::fs::MetadataExt;
 
 /// What shows a file from all others on the machine, whatever its names: the numbers of its device
@@ -21,27 +20,45 @@ pub trait Identify {
     fn identity_of(&self, path: &str) -> Option<Identity>;
 }
 
-/// What the system shows of the file at this path; for a standard stream by `/proc` where `/dev`
-/// lacks it, as in a small container. The error is the system's.
-fn look_up(rt: &HostRuntime, path: &str) -> io::Result<Metadata> {
-    match fs::metadata(rt, path) {
-        Err(_) if path == STANDARD_INPUT => fs::metadata(rt, "/proc/self/fd/0"),
-        Err(_) if path == STANDARD_OUTPUT => fs::metadata(rt, "/proc/self/fd/1"),
-        found => found,
+/// What a path leads to, through links.
+#[derive(Clone, Copy)]
+pub(crate) enum Found {
+    /// A plain file, with its size in bytes.
+    File(Identity, u64),
+    /// A directory, a terminal, a pipe or another device.
+    Other,
+    /// Nothing that can be looked up.
+    Nothing,
+}
+
+/// What the system shows at this path.
+pub(crate) fn look_up(rt: &HostRuntime, path: &str) -> Found {
+    let Ok(metadata) = fs::metadata(rt, path) else {
+        return Found::Nothing;
+    };
+    if !metadata.is_file() {
+        return Found::Other;
     }
+    let identity = Identity {
+        device: metadata.dev(),
+        inode: metadata.ino(),
+    };
+    Found::File(identity, metadata.len())
 }
 
 impl Identify for HostRuntime {
-    /// By device and inode, as the system has them for the path.
+    /// By device and inode, as the system has them for the path; for a standard stream by `/proc`
+    /// where `/dev` lacks it, as in a small container.
     fn identity_of(&self, path: &str) -> Option<Identity> {
-        let metadata = look_up(self, path).ok()?;
-        if !metadata.is_file() {
-            return None;
+        let found = match look_up(self, path) {
+            Found::Nothing if path == STANDARD_INPUT => look_up(self, "/proc/self/fd/0"),
+            Found::Nothing if path == STANDARD_OUTPUT => look_up(self, "/proc/self/fd/1"),
+            found => found,
+        };
+        match found {
+            Found::File(identity, _) => Some(identity),
+            _ => None,
         }
-        Some(Identity {
-            device: metadata.dev(),
-            inode: metadata.ino(),
-        })
     }
 }
 

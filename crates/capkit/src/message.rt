@@ -37,18 +37,29 @@ fn is_mark(letter: char) -> bool {
     )
 }
 
+/// Writes a number in two hexadecimal digits or more, between two texts.
+fn write_number<W: fmt::Write>(
+    f: &mut fmt::Formatter<W>,
+    prefix: &str,
+    number: u32,
+    suffix: &str,
+) -> fmt::Result {
+    write!(f, "{prefix}{number:02x}{suffix}")
+}
+
 impl fmt::Display for Shown<'_> {
     /// Writes the text; each control character as `\x` and two hexadecimal digits, each mark
     /// (`is_mark`) as `\u{` and its digits.
     fn fmt<W: fmt::Write>(&self, f: &mut fmt::Formatter<W>) -> fmt::Result {
         for letter in self.text.chars() {
-            if letter.is_control() {
-                write!(f, "\\x{:02x}", u32::from(letter))?;
+            let written = if letter.is_control() {
+                write_number(f, "\\x", u32::from(letter), "")
             } else if is_mark(letter) {
-                write!(f, "\\u{{{:x}}}", u32::from(letter))?;
+                write_number(f, "\\u{", u32::from(letter), "}")
             } else {
-                f.write_char(letter)?;
-            }
+                f.write_char(letter)
+            };
+            written?;
         }
         Ok(())
     }
@@ -65,15 +76,10 @@ impl fmt::Display for ShownBytes<'_> {
     /// Writes what is UTF-8 as `Shown` does, and each other byte as `\x` and two digits.
     fn fmt<W: fmt::Write>(&self, f: &mut fmt::Formatter<W>) -> fmt::Result {
         for chunk in self.bytes.utf8_chunks() {
-            write!(
-                f,
-                "{}",
-                Shown {
-                    text: chunk.valid()
-                }
-            )?;
+            let text = chunk.valid();
+            Shown { text }.fmt(f)?;
             for byte in chunk.invalid() {
-                write!(f, "\\x{byte:02x}")?;
+                write_number(f, "\\x", u32::from(*byte), "")?;
             }
         }
         Ok(())
@@ -82,14 +88,9 @@ impl fmt::Display for ShownBytes<'_> {
 
 /// Adds a line of clap's refusal to a text: before the line of the usage the hint too, and in place
 /// of the line that only names the commands what each does. An error means that memory ran out.
-fn add_line(
-    alloc: Global,
-    text: &mut String,
-    line: &str,
-    hint: Option<&str>,
-) -> Result<(), AllocError> {
+fn add_line(text: &mut String, line: &str, hint: Option<&str>) -> Result<(), AllocError> {
     if line.starts_with(COMMAND_NAMES) {
-        return add_commands(alloc, text);
+        return add_commands(text);
     }
     if let Some(hint) = hint
         && line.starts_with(USAGE_LINE)
@@ -116,7 +117,7 @@ pub fn refusal_text(alloc: Global, error: &clap::Error) -> Result<String, AllocE
             continue;
         }
         is_after_blank = line.is_empty();
-        add_line(alloc, &mut text, line, hint)?;
+        add_line(&mut text, line, hint)?;
     }
     Ok(text)
 }

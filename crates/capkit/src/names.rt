@@ -18,7 +18,13 @@ fn is_among(names: &[&str], wanted: &str) -> bool
 fn standard_stream_count(names: &[&str]) -> usize
     ensures { result ≡ count_by is_standard (map (λ name. name.now) names.now) }
 {
-    names.iter().filter(|name| **name == STANDARD).count()
+    let mut count = 0;
+    for name in names {
+        if *name == STANDARD {
+            count += 1;
+        }
+    }
+    count
 }
 
 /// Whether the output, unless it is standard output, is an input too, or standard input is two

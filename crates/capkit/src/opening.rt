@@ -124,19 +124,17 @@ pub fn buffer_output<'a>(
     created: Created,
     may_wait: bool,
 ) -> Result<Target, Stop<'a>> {
-    let alloc = rt.alloc();
-    Ok(match buffering_of(created.is_terminal(), may_wait) {
-        Buffering::AtOnce => StdOutput::new(buffer_or_stop(BufWriter::with_capacity(
-            alloc, 0, created,
-        ))?),
-        Buffering::BeforeReads => {
-            let writer = BufWriter::with_capacity(alloc, AWAITED_BUFFER, created);
-            StdOutput::new_awaited(buffer_or_stop(writer)?)
-        }
-        Buffering::WhenFull => {
-            StdOutput::new(buffer_or_stop(BufWriter::with_capacity(alloc, BUFFER, created))?)
-        }
-    })
+    let (capacity, is_awaited) = match buffering_of(created.is_terminal(), may_wait) {
+        Buffering::AtOnce => (0, false),
+        Buffering::BeforeReads => (AWAITED_BUFFER, true),
+        Buffering::WhenFull => (BUFFER, false),
+    };
+    let writer = buffer_or_stop(BufWriter::with_capacity(rt.alloc(), capacity, created))?;
+    if is_awaited {
+        Ok(StdOutput::new_awaited(writer))
+    } else {
+        Ok(StdOutput::new(writer))
+    }
 }
 
 /// What a command is run over: its inputs, its output, and the messages' device.

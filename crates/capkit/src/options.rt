@@ -275,4 +275,4 @@ const COMPILE: CommandRow = CommandRow {
 };
 
 /// The subcommands, in the order in which help lists them.
-pub const COMMANDS: [CommandRow; 5] = [EDIT, MERGE, INFOS, PRINT, COMPILE];
+pub static COMMANDS: [CommandRow; 5] = [EDIT, MERGE, INFOS, PRINT, COMPILE];

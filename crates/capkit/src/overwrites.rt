@@ -23,11 +23,11 @@ pub(crate) fn input_path(name: &str) -> &str
 }
 
 /// The path of the output of this name; `/dev/stdout` for `-`, and if there is no name.
-pub(crate) fn output_path(name: Option<&str>) -> &str
-    ensures { result.now ≡ output_path (option_map (λ name. name.now) name.entry) }
+pub(crate) fn output_path(name: &Option<String>) -> &str
+    ensures { result.now ≡ output_path (option_map string_bytes name.now) }
 {
     match name {
-        Some(name) if name != STANDARD => name,
+        Some(name) if name.as_str() != STANDARD => name,
         _ => STANDARD_OUTPUT,
     }
 }
@@ -71,9 +71,5 @@ pub fn overwrites_input(files: &impl Identify, line: &Line) -> bool
     ensures unread { vec_len (line.now).inputs ≡ 0 → is_none (line.now).code ≡ true
         → result ≡ false }
 {
-    let name = match &line.output {
-        Some(name) => Some(name.as_str()),
-        None => None,
-    };
-    reads_file_at(files, line, output_path(name))
+    reads_file_at(files, line, output_path(&line.output))
 }

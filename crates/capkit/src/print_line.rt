@@ -17,7 +17,7 @@ use crate::ids;
 use crate::line::Line;
 use crate::names::uses_name_twice;
 use crate::usage::Usage;
-use crate::values::{flag, format, link, number, optional_text, text, texts};
+use crate::values::{flag, format, is_given, link, number, optional_text, text, texts};
 use cap_command::{Command, Compile, Print};
 use cap_octet::Format;
 use clap::ArgMatches;
@@ -61,22 +61,21 @@ fn print_uses_name_twice(input: &str, listing: Option<&str>, output: Option<&str
 fn has_two_filters(matches: &ArgMatches<'_>) -> bool
     ensures { result ≡ has_two_filters (rows_of (found_of matches.now)) }
 {
-    optional_text(matches, ids::LISTING).is_some() && !texts(matches, ids::WORD).is_empty()
+    is_given(matches, ids::LISTING) && !texts(matches, ids::WORD).is_empty()
 }
 
 /// Whether packets must be written to a capture and yet lines must have link headers or bytes.
 fn has_two_outputs(matches: &ArgMatches<'_>) -> bool
     ensures { result ≡ has_two_outputs (rows_of (found_of matches.now)) }
 {
-    optional_text(matches, ids::OUT).is_some()
-        && (flag(matches, ids::LINK_HEADER) || flag(matches, ids::BYTES))
+    is_given(matches, ids::OUT) && (flag(matches, ids::LINK_HEADER) || flag(matches, ids::BYTES))
 }
 
 /// Whether a format is given though no capture is written.
 fn has_idle_format(matches: &ArgMatches<'_>) -> bool
     ensures { result ≡ has_idle_format (rows_of (found_of matches.now)) }
 {
-    optional_text(matches, ids::FORMAT).is_some() && optional_text(matches, ids::OUT).is_none()
+    is_given(matches, ids::FORMAT) && !is_given(matches, ids::OUT)
 }
 
 /// Whether options are given that exclude each other: two filters, two outputs, or a format without
@@ -119,15 +118,6 @@ fn output_format(matches: &ArgMatches<'_>) -> Option<Format>
     }
 }
 
-/// After how many packets that match the print ends; `None` if it reads its capture to the end.
-fn packet_limit(matches: &ArgMatches<'_>) -> Option<u64>
-    ensures value { result ≡ argument_number 1 most_64 COUNT.now
-        (rows_of (found_of matches.now)) }
-    ensures bounds { IfSome result (λ n. (1 ≤ n) × (n ≤ most_64)) }
-{
-    number(matches, ids::COUNT, 1, u64::MAX)
-}
-
 /// The print of this expression, by its options; its listing is not yet read.
 fn print_of(matches: &ArgMatches<'_>, expr: String) -> Print
     ensures expr { result.expr ≡ expr }
@@ -142,7 +132,7 @@ fn print_of(matches: &ArgMatches<'_>, expr: String) -> Print
     Print {
         expr,
         code: None,
-        count: packet_limit(matches),
+        count: number(matches, ids::COUNT, 1, u64::MAX),
         link: flag(matches, ids::LINK_HEADER),
         bytes: flag(matches, ids::BYTES),
         write: output_format(matches),

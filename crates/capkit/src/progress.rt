@@ -2,6 +2,7 @@
 //! erased at the end.
 
 use crate::STANDARD;
+use crate::identity::{Found, look_up};
 use std::cell::Cell;
 use std::io::{self, IsTerminal, Read};
 use std::time::Instant;
@@ -18,10 +19,8 @@ const MIB: u64 = 1_048_576;
 pub fn total_size(rt: &HostRuntime, names: &[String]) -> u64 {
     let mut total: u64 = 0;
     for name in names {
-        match fs::metadata(rt, name) {
-            Ok(file) if file.is_file() && name.as_str() != STANDARD => {
-                total = total.saturating_add(file.len());
-            }
+        match look_up(rt, name) {
+            Found::File(_, size) if name.as_str() != STANDARD => total = total.saturating_add(size),
             _ => return 0,
         }
     }
@@ -31,13 +30,7 @@ pub fn total_size(rt: &HostRuntime, names: &[String]) -> u64 {
 /// Whether the output of this name is a file, or will be one that isn't there yet. Standard output
 /// is none: what goes there may reach the terminal, by a pipe too.
 fn is_file(rt: &HostRuntime, output: &str) -> bool {
-    if output == STANDARD {
-        return false;
-    }
-    match fs::metadata(rt, output) {
-        Ok(file) => file.is_file(),
-        Err(_) => true,
-    }
+    output != STANDARD && !matches!(look_up(rt, output), Found::Other)
 }
 
 /// Whether a line can be written over on standard error: it is a terminal, and its name, as `TERM`
@@ -178,10 +171,11 @@ impl<'a> Progress<'a> {
         let read = self.read.get();
         let mib = read / MIB;
         let rate = mib / seconds.max(1);
-        let _ = match self.share(read) {
-            Some(share) => terminal.eprint(format_args!("\r\x1b[K{share}% read, {rate} MiB/s")),
-            None => terminal.eprint(format_args!("\r\x1b[K{mib} MiB read, {rate} MiB/s")),
+        let (amount, unit) = match self.share(read) {
+            Some(share) => (share, "%"),
+            None => (u128::from(mib), " MiB"),
         };
+        let _ = terminal.eprint(format_args!("\r\x1b[K{amount}{unit} read, {rate} MiB/s"));
     }
 
     /// The share of the inputs that `read` bytes are, in percent, 100 at most. `None` if the

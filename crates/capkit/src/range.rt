@@ -1,31 +1,18 @@
 //! The ranges of packets that words name.
-ghost use Rattle.std.specs.{Char.is_ascii_digit, List.list_all};
 ghost use Rattle.std.specs.Prelude.{◌≡◌, ◌≤◌, ◌^◌, ℕ, IfSome, IfNone, Some};
 ghost use Rattle.capkit.specs.Range.{range_number, range_of, sides_of};
 ghost use Rattle.capkit.specs.inside.Range.{WritesRange};
 
 use cap_command::is_range;
-
-/// Whether a text has nothing but decimal digits; true of the empty one.
-fn has_digits_alone(text: &str) -> bool
-    ensures { result ≡ list_all is_ascii_digit text.now }
-{
-    text.bytes().all(|byte| byte.is_ascii_digit())
-}
+use cap_octet::digits::decimal_value;
 
 /// The number that a text of only decimal digits, one or more, writes, if it is below 2^64. Other
-/// texts have none: a plus sign, which `parse` would take, is refused before.
+/// texts have none: a plus sign, which `parse` would take, isn't a digit.
 fn number_in(text: &str) -> Option<u64>
     ensures number { IfSome result (λ n. range_number text.now ≡ Some n) }
     ensures none { IfNone result (IfSome (range_number text.now) (λ n. 2 ^ 64 ≤ n)) }
 {
-    if !has_digits_alone(text) {
-        return None;
-    }
-    match text.parse::<u64>() {
-        Ok(number) => Some(number),
-        Err(_) => None,
-    }
+    decimal_value(text.as_bytes())
 }
 
 /// The texts of a range's first and last number, before and after its first hyphen; without a

@@ -1,7 +1,7 @@
 //! The values that clap's matches have of an argument, by its id (`ids`): its
 //! flag, its texts, or what its text names.
-ghost use Rattle.std.specs.Prelude.{◌≡◌, ◌≤◌, ◌&&◌, IfSome, Some, None, map, nat_le, option_map};
-ghost use Rattle.std.specs.Prelude.{true, if◌then◌else◌};
+ghost use Rattle.std.specs.Prelude.{◌≡◌, ◌≤◌, ◌&&◌, IfSome, Some, None, is_some, map, nat_le};
+ghost use Rattle.std.specs.Prelude.{option_map, true, if◌then◌else◌};
 ghost use Rattle.std.specs.Option.{option_and_then, option_map_or};
 ghost use Rattle.cap_command.specs.Command.{is_time};
 ghost use Rattle.clap.specs.Words.{found_of, rows_of, first_of};
@@ -25,6 +25,13 @@ pub fn optional_text<'a>(matches: &ArgMatches<'a>, id: &str) -> Option<&'a str>
         ≡ first_of id.entry.now (rows_of (found_of matches.entry.now)) }
 {
     matches.get_str(id)
+}
+
+/// Whether the argument of this id has a value.
+pub fn is_given(matches: &ArgMatches<'_>, id: &str) -> bool
+    ensures { result ≡ is_some (first_of id.now (rows_of (found_of matches.now))) }
+{
+    optional_text(matches, id).is_some()
 }
 
 /// The first value of an argument that its command needs, so that clap has it; for another one the

@@ -90,7 +90,10 @@ pub fn run(rt: &HostRuntime, line: Line) -> u8
         code,
     } = line;
     let output = output_name(&output);
-    let listing = code.as_ref().map(|name| name.as_str());
+    let listing = match &code {
+        Some(name) => Some(name.as_str()),
+        None => None,
+    };
     let command = match with_listing(rt, command, listing) {
         Ok(command) => command,
         Err(stop) => return report_stop(rt, stop),

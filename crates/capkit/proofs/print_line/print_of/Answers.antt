@@ -3,4 +3,4 @@ use Rattle.capkit.proofs.OptionValues.{one_or_more}
 use Rattle.capkit.proofs.print_line.print_of.Goals as goal
 
 pub returns-clause-proper : goal.returns-clause-proper
-returns-clause-proper c = one_or_more most_64 _ c.packet_limit.ensures.bounds
+returns-clause-proper c = one_or_more most_64 _ c.number.ensures.bounds

@@ -1,5 +1,8 @@
-use Rattle.capkit.proofs.Numbers.{not_parsed}
+use Rattle.capkit.proofs.Numbers.{is_read}
 use Rattle.capkit.proofs.range.number_in.Goals as goal
 
-pub returns-in-Err-clause-none : goal.returns-in-Err-clause-none
-returns-in-Err-clause-none c = not_parsed c.args.text.now _ _ c.parse.ensures.value.0 c.in-Err.is (cc)
+pub returns-clause-number : goal.returns-clause-number
+returns-clause-number c = (is_read c.args.text.now _ (rw c.as_bytes.ensures.value at c.decimal_value.ensures)).0
+
+pub returns-clause-none : goal.returns-clause-none
+returns-clause-none c = (is_read c.args.text.now _ (rw c.as_bytes.ensures.value at c.decimal_value.ensures)).1
