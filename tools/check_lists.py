@@ -1,5 +1,5 @@
 #!/usr/bin/env python3
-"""Filters random packets by random lists of hosts, networks, ports, protocols and MAC addresses.
+"""Filters random packets by random lists of hosts, networks, ports, protocols, MAC addresses and bytes.
 
 usage: check_lists.py [--capkit PROGRAM] [COUNT [FIRST]]
 
@@ -26,7 +26,7 @@ FRAMES[1] |= {"ethernet": (-14, 0, 0, 0), "typed": (-14, 0, 0, 0)}
 FRAMES[113] |= {"typed": (-16, 0, 0, 0)}
 FRAMES[101] = {"ip": (0, 1, 0xF0, 0x40), "ip6": (0, 1, 0xF0, 0x60)}
 # Kinds of members: the bytes of a number, the protocols before it, the types of members of one list, and in each kind of
-# frame the places of the source and the destination, or of the only number. Ports of IPv4 count from the end of its header.
+# frame the places of the source and the destination, or of the only number. Ports and bytes count from the end of IPv4's header.
 KINDS = {
     "ip4": (4, ["", "", "", "ip", "ip", "ip", "arp", "rarp"], ["host", "net", "host net", "host net mask"],
             {"ip": (12, 16), "arp": (14, 24), "rarp": (14, 24)}),
@@ -35,6 +35,7 @@ KINDS = {
     "port": (2, ["", "", "tcp", "udp"], ["port", "portrange", "port portrange"], {"ip": (0, 2), "ip6": (40, 42)}),
     "proto": (1, ["", "ip", "ip6"], ["proto"], {"ip": (9,), "ip6": (6,)}),
     "type": (2, ["ether"], ["proto"], {"typed": (-2,)}),
+    "bytes": (2, ["tcp[0:2] =", "udp[0:2] ="], [""], {"ip": (0,)}),
 }
 DIRECTIONS = ["", "", "", "src or dst", "dst or src", "src", "dst", "src and dst"]
 
@@ -79,13 +80,13 @@ class Maker(random.Random):
         text += {"net": f"/{bits - free}", "mask": f" mask {ipaddress.ip_address(mask)}", "portrange": f"-{high}"}.get(what, "")
         words = " ".join(filter(None, (protocol, direction, what.replace("mask", "net"), text)))
         frames = [frame for frame in places if frame in FRAMES[self.link] and (protocol not in places or protocol == frame)]
-        carried = {"tcp": [6], "udp": [17]}.get(protocol, [6, 17])
+        carried = {"tcp": [6], "udp": [17]}.get(protocol[:3], [6, 17])
 
         def reads(data, frame):
             at, (place, *field) = self.start, FRAMES[self.link][frame]
             if not is_in(data, at + place, *field, field[-1]):
                 return False
-            if kind == "port":
+            if kind in ("port", "bytes"):
                 has_ports = any(is_in(data, at + {"ip": 9, "ip6": 6}[frame], 1, 0xFF, number, number) for number in carried)
                 if not has_ports or frame == "ip" and not is_in(data, at + 6, 2, 0x1FFF, 0, 0):
                     return False
@@ -112,8 +113,8 @@ class Maker(random.Random):
         while len(terms) < size:
             kind, left = self.choice(["ip4"] * 6 + ["port"] * 4 + [*KINDS]), size - len(terms)
             _, protocols, types, _ = KINDS[kind]
-            types, count = self.choice(types).split(), self.choice([left, self.randint(1, left)])
-            protocol, direction = self.choice(protocols), self.choice(DIRECTIONS) if types != ["proto"] else ""
+            types, count = self.choice(types).split() or [""], self.choice([left, self.randint(1, left)])
+            protocol, direction = self.choice(protocols), self.choice(DIRECTIONS) if kind not in ("proto", "type", "bytes") else ""
             made = [self.member(kind, protocol, direction, self.choice(types)) for _ in range(count)]
             terms += self.choice([made, sorted(made, key=lambda it: it[2]), sorted(made, key=lambda it: -it[2])])
         terms = self.sample(terms, size) if self.random() < 0.3 else terms
@@ -132,7 +133,7 @@ class Maker(random.Random):
         for kind, (size, _, _, places) in KINDS.items():
             for at in (*places.get(frame.replace("typed", "ip"), ()), *places.get("ethernet", ())):
                 number = self.choice([6, 17, 1, 58]) if kind == "proto" and self.random() < 0.8 else self.number(kind)
-                at += 16 + (4 * words if kind == "port" and frame == "ip" else 0)
+                at += 16 + (4 * words if kind in ("port", "bytes") and frame == "ip" else 0)
                 data[at : at + size] = number.to_bytes(size, "big")
                 cuts.append(at + self.randint(0, size))
         return bytes(data[16 - self.start : self.choice([96, self.choice(cuts), self.choice(cuts)])])

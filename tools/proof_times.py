@@ -14,10 +14,8 @@ import re
 import sys
 
 ROOT = pathlib.Path(__file__).resolve().parent.parent
-PARTS = (
-    "Answers Carried Code Given Goals Instances Invariants Key Kinds Layout Lts Met Named Proof "
-    "Reads Statement TheLaws TheLink Tie View"
-).split()
+PARTS = """Answers Carried Code Given Goals Instances Invariants Key Kinds Layout Lts Met Named Proof
+    Reads Statement TheLaws TheLink Tie View""".split()
 PROOF = re.compile(rf"\w+-proofs\.(.*)\.({'|'.join(PARTS)})\b")
 
 
