@@ -36,9 +36,7 @@ from built import built_program
 # 300 ports, six of them common, and 50 hosts, half of them common.
 chooser = random.Random(7)
 PORTS = sorted(chooser.sample(range(1, 65536), 294)) + [80, 443, 53, 22, 25, 8080]
-HOSTS = [f"10.0.0.{k}" for k in range(1, 26)] + [
-    ".".join(str(chooser.randrange(1, 224)) for _ in range(4)) for _ in range(25)
-]
+HOSTS = [f"10.0.0.{k}" for k in range(1, 26)] + [".".join(str(chooser.randrange(1, 224)) for _ in range(4)) for _ in range(25)]
 
 def network(prefix):
     """A network with a prefix of this length."""
@@ -62,6 +60,8 @@ EXPRESSIONS = {
     "hosts-2730": "ip src host " + " or ".join(network(32)[:-3] for _ in range(2730)),
     "macs-40": " or ".join("ether src 00" + "".join(f":{chooser.randrange(256):02x}" for _ in range(5)) for _ in range(40)),
     "ip6-256": " or ".join(f"src host 2001:db8::{k:x}" for k in range(256)),
+    "ip6-hosts-256": " or ".join(f"host 2001:db8::{k:x}" for k in range(256)),
+    "bytes-30": " or ".join(f"tcp[0:2] = {port}" for port in PORTS[::10]),
 }
 
 
