@@ -4,7 +4,7 @@ use Rattle.flt_words.specs.Spellings.{symbols}
 use Rattle.flt_words.specs.declared.token.Comparison.{Comparison}
 use Rattle.flt_explain.proofs.AddressTokens.{dotted_for, mac_for, ip6_for}
 use Rattle.flt_explain.proofs.WordTokens.{word_token, IsWordFor, keyword_for, name_for, number_for, range_for}
-use Rattle.std.proofs.lemmas.List.Sums.{sum_by-append}
+use Rattle.std.proofs.{Math.Bool.and-false, lemmas.List.Sums.sum_by-append}
 use Rattle.flt_words.specs.Tokens.TokensFrom.{at_end, blank, token as one_more}
 use Rattle.flt_words.specs.declared.token.TokenKind.TheVariants as token
 
@@ -52,13 +52,8 @@ unfolding two_test
 none_two b c either = none_of (look_up symbols (b ∷ c ∷ []))
     (λ kind found. clash (is_end true c) (is_alone b) either (found_passes (λ piece _. two_test piece) symbols (b ∷ c ∷ []) kind all_two found))
 
-and_false : (a b : Bool) → a && (b && false) ≡ false
-and_false true true = refl
-and_false true false = refl
-and_false false b = refl
-
 two_is : (inside : Bool) (b c : ℕ) → symbol_of inside (b ∷ c ∷ []) ≡ look_up symbols (b ∷ c ∷ [])
-two_is inside b c = rw (and_false inside (b == 58)) refl
+two_is inside b c = simp and-false refl
 
 no_two : (inside : Bool) (b : ℕ) (more : List ℕ) → Ends inside more ⊎ (is_alone b ≡ true) → 2 ≤ length (b ∷ more) → symbol_of inside (take 2 (b ∷ more)) ≡ None
 no_two inside b [] stops long = absurd (omega arith)
