@@ -4,7 +4,7 @@ use Rattle.std.proofs.Common.{length-append}
 use Rattle.std.proofs.lemmas.Bool.{and_parts, eqb-true}
 use Rattle.std.proofs.lemmas.List.{Elements.All-cons, Elements.All-nil, Elements.All-tail, Sums.sum_by-cons, Sorted.sum_by-IsPermutation}
 use Rattle.cap_inputs.specs.Queue.{Queue}
-use Rattle.cap_inputs.proofs.Common.{◌≡◌, ◌≢◌, ℕ, zero, suc, ◌+◌, ◌<◌, ◌≤◌, inl, inr, ◌&&◌, ◌||◌, Bool, true, false, IsTrue, if◌then◌else◌, List, [], ◌∷◌, ◌++◌, length, Option, None, Some, Result, Ok, Err, refl, sym, ◌∙◌, ap, map, arith, ◌==◌, nat_lt, add-zero, All, slice_set, nat_tests, Waiting, Schedule, Turn, Merge, NotAfter, Precedes, IsFirstWaiting, is_entered, Fault, EntersQueue, HasPlaceFor, HoldsQueue, IsQueued, Leaves, TakesFirst, is_merge, ordering_of, sum_waiting, InputView, IsInput, is_packet_found, key_of, NoneWaits, IsLeast, KeysFrom, IsNextIn, Next, order_of}
+use Rattle.cap_inputs.proofs.Common.{◌≡◌, ◌≢◌, ℕ, zero, suc, ◌+◌, ◌<◌, ◌≤◌, inl, inr, ◌&&◌, ◌||◌, Bool, true, false, IsTrue, if◌then◌else◌, List, [], ◌∷◌, ◌++◌, length, Option, None, Some, Result, Ok, refl, sym, ◌∙◌, ap, map, arith, ◌==◌, nat_lt, add-zero, All, slice_set, nat_tests, Waiting, Schedule, Turn, Merge, NotAfter, Precedes, IsFirstWaiting, is_entered, Fault, EntersQueue, HasPlaceFor, HoldsQueue, IsQueued, Leaves, TakesFirst, is_merge, ordering_of, sum_waiting, InputView, IsInput, is_packet_found, key_of, NoneWaits, IsLeast, KeysFrom, IsNextIn, Next, order_of}
 use Rattle.cap_inputs.proofs.Cursors.{set-among}
 
 -- ---- sums
@@ -87,8 +87,7 @@ pub queue-read : (schedule : Schedule) (cursors : List InputView) (i : ℕ) (h h
 queue-read (Turn turn) cursors i h h' r q q' a idle waits enters was = tt
 queue-read (Merge first last) cursors i h h' (Ok true) q q' a idle waits enters was =
     queued-with cursors i h h' q q' a (λ f. rw (idle, waits) (omega (arith, sum_by-IsPermutation f _ _ enters.0, sum_by-cons f (entry h' i) q.waiting))) enters.1 was
-queue-read (Merge first last) cursors i h h' (Ok false) q q' a idle waits enters was = queued-with cursors i h h' q q' a (λ f. rw (idle, waits, enters) refl) (rw enters (omega arith)) was
-queue-read (Merge first last) cursors i h h' (Err fault) q q' a idle waits enters was = queued-with cursors i h h' q q' a (λ f. rw (idle, waits, enters) refl) (rw enters (omega arith)) was
+queue-read (Merge first last) cursors i h h' _ q q' a idle waits enters was = queued-with cursors i h h' q q' a (λ f. rw (idle, waits, enters) refl) (rw enters (omega arith)) was
 
 -- ---- the least key
 

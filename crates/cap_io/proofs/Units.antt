@@ -11,12 +11,9 @@ use Rattle.cap_pcapng.proofs.Units as block
 -- The four bytes of a section header's type read as no magic number of pcap, in no order.
 not_swapped : (text : List ℕ) (resolution : Resolution) → 4 ≤ length text → u32_in Little text 0 ≡ section_type → u32_in Big text 0 ≡ magic resolution → ⊥
 unfolding number_in
-not_swapped [] resolution enough little big = absurd (omega arith)
-not_swapped (a ∷ []) resolution enough little big = absurd (omega arith)
-not_swapped (a ∷ b ∷ []) resolution enough little big = absurd (omega arith)
-not_swapped (a ∷ b ∷ c ∷ []) resolution enough little big = absurd (omega arith)
 not_swapped (a ∷ b ∷ c ∷ d ∷ text) Microseconds enough little big = absurd (omega (arith, little, big))
 not_swapped (a ∷ b ∷ c ∷ d ∷ text) Nanoseconds enough little big = absurd (omega (arith, little, big))
+not_swapped _ resolution enough little big = absurd (omega arith)
 
 some_form : {X : Type 0} (a b : Bool) (x y : X) → is_some (cond a (Some x) (cond b (Some y) None)) ≡ true → (a ≡ true) ⊎ (b ≡ true)
 some_form true b x y e = inl refl
@@ -173,7 +170,4 @@ one_unit_fits {room} {size} {b} {d} {u} unit whole fits =
 -- no more of a unit is held than it has
 pub held_length-le : (b c : Declared) (size : ℕ) → held_length b c size ≤ size
 held_length-le Nothing Nothing size = omega arith
-held_length-le Nothing (PcapFile head) size = omega arith
-held_length-le Nothing (PcapngFile first section) size = omega arith
-held_length-le (PcapFile head) c size = omega arith
-held_length-le (PcapngFile first section) c size = omega arith
+held_length-le _ c size = omega arith
