@@ -69,11 +69,8 @@ abbrev pub not_lower : ℕ → InputView → Bool
 not_lower key other = not other.waiting || nat_le key (key_of other)
 
 not-lower-where : (key : ℕ) (h : InputView) → (h.waiting ≡ true → key ≤ key_of h) → not_lower key h ≡ true
-not-lower-where key h over = by_waits h.waiting over
-  where
-    by_waits : (b : Bool) → (b ≡ true → key ≤ key_of h) → (not b || nat_le key (key_of h)) ≡ true
-    by_waits true over = let le = over refl in grind (arith, nat_tests, le)
-    by_waits false over = refl
+not-lower-where key h over =
+    elim h.waiting as (λ b. (b ≡ true → key ≤ key_of h) → (not b || nat_le key (key_of h)) ≡ true) [ true ↦ λ over. (let le = over refl in grind (arith, nat_tests, le)) | false ↦ λ over. refl ] over
 
 lower-where : (key : ℕ) (h : InputView) → h.waiting ≡ true → key_of h < key → not_lower key h ≡ false
 lower-where key h waits under = ap (λ (b : Bool). not b || nat_le key (key_of h)) waits ∙ grind (arith, nat_tests, under)
