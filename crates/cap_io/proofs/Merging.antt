@@ -56,11 +56,9 @@ sorted (e ∷ es) = sorted-insert e (sort_entries es) (sorted es)
 
 permuted-insert : (e : Entry) (es : List Entry) → IsPermutation (e ∷ es) (insert_entry e es)
 permuted-insert e [] = IsPermutation-refl (e ∷ [])
-permuted-insert e (x ∷ xs) = by_place (permuted-insert e xs) (comes_before x e)
-  where
-    by_place : IsPermutation (e ∷ xs) (insert_entry e xs) → (b : Bool) → IsPermutation (e ∷ x ∷ xs) (if b then x ∷ insert_entry e xs else e ∷ x ∷ xs)
-    by_place more true = IsPermutation-trans _ _ _ (IsPermutation-middle (e ∷ []) x xs) (IsPermutation-cons x _ _ more)
-    by_place more false = IsPermutation-refl (e ∷ x ∷ xs)
+permuted-insert e (x ∷ xs) =
+    let later : IsPermutation (e ∷ x ∷ xs) (x ∷ insert_entry e xs) = IsPermutation-trans _ _ _ (IsPermutation-middle (e ∷ []) x xs) (IsPermutation-cons x _ _ (permuted-insert e xs)) in
+    elim (comes_before x e) as (λ b. IsPermutation (e ∷ x ∷ xs) (if b then x ∷ insert_entry e xs else e ∷ x ∷ xs)) [ true ↦ later | false ↦ IsPermutation-refl (e ∷ x ∷ xs) ]
 
 permuted : (es : List Entry) → IsPermutation es (sort_entries es)
 permuted [] = IsPermutation-refl []
