@@ -1,5 +1,6 @@
 -- A unit and what a text begins with.
-use Rattle.cap_io.proofs.Common.{◌≡◌, ℕ, Bool, true, false, ◌||◌, ◌&&◌, cond, is_some, ◌⊎◌, inl, inr, ◌<◌, ◌≤◌, List, [], ◌∷◌, ◌++◌, length, take, drop, Option, None, Some, refl, sym, ◌∙◌, ap, arith, append-nil, length-append, length-take-le, take-append-drop, take_at, Captured, Fault, Head, Resolution, Microseconds, Nanoseconds, form_in, header_checks, header_fault, header_in, magic, IsHeader, record_fault, record_size, record_packet, IsRecord, header_fault-append, header_fault-none, header_in-append, IsRecord-front, IsRecord-take, ◌==◌, nat_le, le-leb, u32_in, Little, Big, all_met, frame_checks, is_section, section_type, IsBlock, Section, block_size, packets_in, unit_fault, Declared, Nothing, PcapFile, PcapngFile, IsUnit, a_pcap_header, a_pcap_record, a_first_block, a_block, file_after, is_pcapng, placed_at, AreUnits, no_unit, unit_then, Whole, front_of, subst, append_assoc, FitUnits, no_unit_fits, unit_fits, held_length}
+use Rattle.std.proofs.Math.Bool.{or-false}
+use Rattle.cap_io.proofs.Common.{◌≡◌, ℕ, Bool, true, false, ◌&&◌, cond, is_some, ◌⊎◌, inl, inr, ◌<◌, ◌≤◌, List, [], ◌∷◌, ◌++◌, length, take, drop, Option, None, Some, refl, sym, ◌∙◌, ap, arith, append-nil, length-append, length-take-le, take-append-drop, take_at, Captured, Fault, Head, Resolution, Microseconds, Nanoseconds, form_in, header_checks, header_fault, header_in, magic, IsHeader, record_fault, record_size, record_packet, IsRecord, header_fault-append, header_fault-none, header_in-append, IsRecord-front, IsRecord-take, ◌==◌, nat_le, le-leb, u32_in, Little, Big, all_met, frame_checks, is_section, section_type, IsBlock, Section, block_size, packets_in, unit_fault, Declared, Nothing, PcapFile, PcapngFile, IsUnit, a_pcap_header, a_pcap_record, a_first_block, a_block, file_after, is_pcapng, placed_at, AreUnits, no_unit, unit_then, Whole, front_of, subst, append_assoc, FitUnits, no_unit_fits, unit_fits, held_length}
 use Rattle.cap_io.proofs.Fronts.{block_unless, front_of_file, header_unless, record_unless, front_of-header, front_of-record, front_of-pcapng, front_of-following, front_of_block-whole}
 use Rattle.std.proofs.Common.{eqb-true}
 use Rattle.cap_pcap.proofs.Records.{passes}
@@ -40,11 +41,7 @@ pub first-section : (text : List ℕ) → unit_fault None text ≡ None → is_p
 first-section text none =
     let p = block.passes None text none in
     ap (λ (b : Bool). b && is_section text) (le-leb 4 (length text) (omega (arith, p.enough)))
-    ∙ both (is_section text) (all_met (frame_checks None text) p.framed).0
-  where
-    both : (b : Bool) → (b || false) ≡ true → b ≡ true
-    both true e = refl
-    both false e = e
+    ∙ sym (or-false (is_section text)) ∙ (all_met (frame_checks None text) p.framed).0
 
 other-header : (text : List ℕ) → header_fault text ≡ None → is_pcapng text ≡ false
 other-header text none = by_bool (is_pcapng text) refl

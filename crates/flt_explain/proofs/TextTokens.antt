@@ -157,11 +157,8 @@ inside_is opened closed d h = grind (arith, nat_tests)
 
 gap_is : (t : TokenKind) (rest : List TokenKind) → (gap t rest ≡ []) ⊎ (gap t rest ≡ 32 ∷ [])
 gap_is t [] = inl refl
-gap_is t (u ∷ rest) = which (joins_next t || joins_previous u)
-  where
-    which : (b : Bool) → ((if b then [] else codes " ") ≡ []) ⊎ ((if b then [] else codes " ") ≡ 32 ∷ [])
-    which true = inl refl
-    which false = inr refl
+gap_is t (u ∷ rest) =
+    elim (joins_next t || joins_previous u) as (λ b. ((if b then [] else codes " ") ≡ []) ⊎ ((if b then [] else codes " ") ≡ 32 ∷ [])) [ true ↦ inl refl | false ↦ inr refl ]
 
 gap_none : (c : ℕ) (g : List ℕ) → (g ≡ []) ⊎ (g ≡ 32 ∷ []) → (32 == c) ≡ false → count_by (λ b. b == c) g ≡ 0
 gap_none c g which other = ⊎_elim (λ e. ap (count_by (λ b. b == c)) e) (λ e. ap (count_by (λ b. b == c)) e ∙ rw other refl) which
