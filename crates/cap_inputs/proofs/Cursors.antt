@@ -1,5 +1,5 @@
 -- One input among others.
-use Rattle.cap_inputs.proofs.Common.{◌≡◌, ℕ, zero, suc, ◌+◌, ◌<◌, List, [], ◌∷◌, ◌++◌, length, max, Option, Some, refl, sym, ◌∙◌, ap, ap₂, subst, arith, get_or, Bool, true, false, Result, Ok, Err, append-nil, length-append, Placed, slice_set, Fault, Advances, slice_get, nat_lt, nat_tests, AllByRecursion, PacketOrder, SectionFits, TakesIfAtHand, SkipsUnits, Phase, Reading, Ended, Failed, SourceView, Steps, end_offset, phase_after, Schedule, Turn, Merge, ordering_of, schedule_after, schedule_after_decided, DeviceLimits, device_limits, limits_of, InputView, InputsView, InputPast, AreInputsAfter, KnowGreatest, IsInput, ReadsInput, ReadSteps, greatest_of, input_after, input_after_decided, packet_time, with_cursor, map, InTurn, ByTime, order_of, first_schedule, FreshInput, fresh_view, fresh_inputs}
+use Rattle.cap_inputs.proofs.Common.{◌≡◌, ℕ, zero, suc, ◌+◌, ◌<◌, List, [], ◌∷◌, ◌++◌, length, max, Option, Some, refl, sym, ◌∙◌, ap, ap₂, subst, arith, get_or, Bool, true, false, Result, Ok, append-nil, length-append, Placed, slice_set, Fault, Advances, slice_get, nat_lt, nat_tests, AllByRecursion, PacketOrder, SectionFits, TakesIfAtHand, SkipsUnits, Phase, Reading, SourceView, Steps, end_offset, phase_after, Schedule, Turn, Merge, ordering_of, schedule_after, schedule_after_decided, DeviceLimits, device_limits, limits_of, InputView, InputsView, InputPast, AreInputsAfter, KnowGreatest, IsInput, ReadsInput, ReadSteps, greatest_of, input_after, input_after_decided, packet_time, with_cursor, map, InTurn, ByTime, order_of, first_schedule, FreshInput, fresh_view, fresh_inputs}
 use Rattle.std.proofs.lemmas.Option.{slice_get_read}
 use Rattle.cap_octet.specs.Packet.{Captured}
 use Rattle.cap_io.specs.Position.{given_in_all}
@@ -47,10 +47,8 @@ set-among cursors i h h' a = ap (λ (l : List InputView). slice_set l i h') a.sp
 -- the order of the packets stays
 pub schedule-order : (schedule : Schedule) (i : ℕ) (r : Result Bool Fault) → ordering_of (schedule_after schedule i r) ≡ ordering_of schedule
 schedule-order (Turn turn) i (Ok true) = refl
-schedule-order (Turn turn) i (Ok false) = refl
-schedule-order (Turn turn) i (Err fault) = refl
 schedule-order (Merge next last) i (Ok found) = refl
-schedule-order (Merge next last) i (Err fault) = refl
+schedule-order _ i _ = refl
 
 pub following-order : (schedule : Schedule) (i : ℕ) → ordering_of (schedule_after_decided schedule i) ≡ ordering_of schedule
 following-order (Turn turn) i = refl
@@ -108,8 +106,7 @@ limits-by Reading old new false steps finds =
     let none : length new.block ≡ 0 = ap length finds.block in
     let over : length new.unread ≡ 0 = ap length finds.unread in
     same-limits old new steps.sure (skipped-in_all old new [] finds.passes (omega (arith, none, over)) steps.counted)
-limits-by Ended old new found steps advances = ap limits_of steps.1
-limits-by (Failed fault) old new found steps advances = ap limits_of steps.1
+limits-by _ old new found steps advances = ap limits_of steps.1
 
 pub limits-kept : (old new : SourceView) (found : Bool) → Steps old.phase old (Ok found) new → Advances old.phase old (Ok found) new → limits_of new ≡ limits_of old
 limits-kept old new found steps advances = limits-by old.phase old new found steps advances

@@ -4,7 +4,7 @@ use Rattle.std.proofs.Common.{length-append}
 use Rattle.std.proofs.lemmas.Bool.{and_parts, eqb-true}
 use Rattle.std.proofs.lemmas.List.{Elements.All-cons, Elements.All-nil, Elements.All-tail, Sums.sum_by-cons, Sorted.sum_by-IsPermutation}
 use Rattle.cap_inputs.specs.Queue.{Queue}
-use Rattle.cap_inputs.proofs.Common.{◌≡◌, ◌≢◌, ℕ, zero, suc, ◌+◌, ◌<◌, ◌≤◌, inl, inr, ◌&&◌, ◌||◌, Bool, true, false, IsTrue, if◌then◌else◌, List, [], ◌∷◌, ◌++◌, length, Option, None, Some, Result, Ok, Err, refl, sym, ◌∙◌, ap, map, arith, ◌==◌, nat_lt, add-zero, All, slice_set, nat_tests, Waiting, Schedule, Turn, Merge, NotAfter, Precedes, IsFirstWaiting, is_entered, Fault, EntersQueue, HasPlaceFor, HoldsQueue, IsQueued, Leaves, TakesFirst, is_merge, ordering_of, sum_waiting, InputView, IsInput, is_packet_found, key_of, NoneWaits, IsLeast, KeysFrom, IsNextIn, Next, order_of}
+use Rattle.cap_inputs.proofs.Common.{◌≡◌, ◌≢◌, ℕ, zero, suc, ◌+◌, ◌<◌, ◌≤◌, inl, inr, ◌&&◌, ◌||◌, Bool, true, false, IsTrue, if◌then◌else◌, List, [], ◌∷◌, ◌++◌, length, Option, None, Some, Result, Ok, refl, sym, ◌∙◌, ap, map, arith, ◌==◌, nat_lt, add-zero, All, slice_set, nat_tests, Waiting, Schedule, Turn, Merge, NotAfter, Precedes, IsFirstWaiting, is_entered, Fault, EntersQueue, HasPlaceFor, HoldsQueue, IsQueued, Leaves, TakesFirst, is_merge, ordering_of, sum_waiting, InputView, IsInput, is_packet_found, key_of, NoneWaits, IsLeast, KeysFrom, IsNextIn, Next, order_of}
 use Rattle.cap_inputs.proofs.Cursors.{set-among}
 
 -- ---- sums
@@ -27,11 +27,9 @@ counts (w ∷ ws) = omega (arith, sum_by-cons (λ (v : Waiting). 1) w ws, counts
 
 counts-most : (i : ℕ) (hs : List InputView) → sum_waiting (λ w. 1) i hs ≤ length hs
 counts-most i [] = omega arith
-counts-most i (h ∷ hs) = by_waits h.waiting (counts-most (i + 1) hs)
-  where
-    by_waits : (b : Bool) → sum_waiting (λ w. 1) (i + 1) hs ≤ length hs → (if b then 1 else 0) + sum_waiting (λ w. 1) (i + 1) hs ≤ suc (length hs)
-    by_waits true more = omega arith
-    by_waits false more = omega arith
+counts-most i (h ∷ hs) =
+    let more = counts-most (i + 1) hs in
+    elim h.waiting as (λ b. (if b then 1 else 0) + sum_waiting (λ w. 1) (i + 1) hs ≤ suc (length hs)) [ true ↦ omega (arith, more) | false ↦ omega (arith, more) ]
 
 -- ---- an input is read on
 
@@ -39,11 +37,7 @@ abbrev is_of : ℕ → Waiting → ℕ
 is_of n w = if w.input == n then 1 else 0
 
 none-apart : (h : InputView) (i n : ℕ) → i ≢ n → part (is_of n) h i ≡ 0
-none-apart h i n other = let apart : (i == n) ≡ false = grind (arith, nat_tests, other) in rw apart (by_waits h.waiting)
-  where
-    by_waits : (b : Bool) → ◌≡◌ {A = ℕ} (if b then 0 else 0) 0
-    by_waits true = refl
-    by_waits false = refl
+none-apart h i n other = let apart : (i == n) ≡ false = grind (arith, nat_tests, other) in rw apart (elim h.waiting as (λ b. ◌≡◌ {A = ℕ} (if b then 0 else 0) 0) [ true ↦ refl | false ↦ refl ])
 
 none-later : (n i : ℕ) (hs : List InputView) → n < i → sum_waiting (is_of n) i hs ≡ 0
 none-later n i [] later = refl
@@ -87,8 +81,7 @@ pub queue-read : (schedule : Schedule) (cursors : List InputView) (i : ℕ) (h h
 queue-read (Turn turn) cursors i h h' r q q' a idle waits enters was = tt
 queue-read (Merge first last) cursors i h h' (Ok true) q q' a idle waits enters was =
     queued-with cursors i h h' q q' a (λ f. rw (idle, waits) (omega (arith, sum_by-IsPermutation f _ _ enters.0, sum_by-cons f (entry h' i) q.waiting))) enters.1 was
-queue-read (Merge first last) cursors i h h' (Ok false) q q' a idle waits enters was = queued-with cursors i h h' q q' a (λ f. rw (idle, waits, enters) refl) (rw enters (omega arith)) was
-queue-read (Merge first last) cursors i h h' (Err fault) q q' a idle waits enters was = queued-with cursors i h h' q q' a (λ f. rw (idle, waits, enters) refl) (rw enters (omega arith)) was
+queue-read (Merge first last) cursors i h h' _ q q' a idle waits enters was = queued-with cursors i h h' q q' a (λ f. rw (idle, waits, enters) refl) (rw enters (omega arith)) was
 
 -- ---- the least key
 
@@ -180,11 +173,9 @@ first-least cursors q w was is =
 
 none-waits : (i : ℕ) (hs : List InputView) → sum_waiting (λ w. 1) i hs ≡ 0 → NoneWaits hs
 none-waits i [] none = tt
-none-waits i (h ∷ hs) none = (by_waits h.waiting (omega arith), none-waits (i + 1) hs (omega arith))
-  where
-    by_waits : (b : Bool) → ◌≡◌ {A = ℕ} (if b then 1 else 0) 0 → b ≡ false
-    by_waits true e = absurd (omega (arith, e))
-    by_waits false e = refl
+none-waits i (h ∷ hs) none =
+    let idle = elim h.waiting as (λ b. ◌≡◌ {A = ℕ} (if b then 1 else 0) 0 → b ≡ false) [ true ↦ λ e. absurd (omega (arith, e)) | false ↦ λ e. refl ] in
+    (idle (omega arith), none-waits (i + 1) hs (omega arith))
 
 pub empty-none : (cursors : List InputView) (q : Queue) → IsQueued cursors q → q.waiting ≡ [] → NoneWaits cursors
 empty-none cursors q was empty = none-waits 0 cursors (sym (was.entered (λ w. 1)) ∙ ap (sum_by (λ (w : Waiting). 1)) empty)

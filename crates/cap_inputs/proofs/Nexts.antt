@@ -1,6 +1,6 @@
 -- What is next of the inputs, as it is found out.
-use Rattle.std.proofs.{Math.Bool.or-true, lemmas.List.Elements.All-from_recursion, lemmas.List.Folds.list_all-append, lemmas.List.Folds.list_any-append, lemmas.List.Folds.list_any_none}
-use Rattle.cap_inputs.proofs.Common.{IsAtTurn, add-zero, append-nil, ◌≡◌, inl, inr, ◌&&◌, ◌||◌, if◌then◌else◌, ℕ, suc, ◌+◌, ◌<◌, ◌≤◌, Bool, true, false, not, cond, nat_le, List, [], ◌∷◌, ◌++◌, length, None, refl, sym, ◌∙◌, ap, ap₂, arith, list_all, list_any, position_or_len, slice_get, AllByRecursion, nat_tests, Phase, Reading, Ended, Failed, PacketOrder, InTurn, ByTime, Next, InputView, InputsView, IsInput, ended_count, has_least_key, is_open, is_unready, key_of, next_at, next_of, place_next, AllEnded, AllReady, IsNext, IsNextIn, IsOpen, IsReady, KeysFrom}
+use Rattle.std.proofs.{Math.Bool.or-true, lemmas.Bool.and_right, lemmas.List.Elements.All-from_recursion, lemmas.List.Folds.list_all-append, lemmas.List.Folds.list_any-append, lemmas.List.Folds.list_any_none}
+use Rattle.cap_inputs.proofs.Common.{IsAtTurn, add-zero, append-nil, ◌≡◌, inl, inr, ◌&&◌, ◌||◌, if◌then◌else◌, ℕ, suc, ◌+◌, ◌<◌, ◌≤◌, Bool, true, false, not, cond, nat_le, List, [], ◌∷◌, ◌++◌, length, refl, sym, ◌∙◌, ap, ap₂, arith, list_all, list_any, position_or_len, slice_get, slice_get_past, AllByRecursion, nat_tests, Phase, Ended, PacketOrder, InTurn, ByTime, Next, InputView, InputsView, IsInput, ended_count, has_least_key, is_open, is_unready, key_of, next_at, next_of, place_next, AllEnded, AllReady, IsNext, IsNextIn, IsOpen, IsReady, KeysFrom}
 use Rattle.cap_inputs.proofs.Cursors.{get-input, weaker}
 
 -- ---- the first input of which a test holds
@@ -29,37 +29,28 @@ any-here p xs ys h here = list_any-append p xs (h ∷ ys) ∙ ap (λ (b : Bool).
 any-none : (p : InputView → Bool) (xs : List InputView) → AllFail p xs → list_any p xs ≡ false
 any-none p xs fail = list_any_none p xs (All-from_recursion (λ x. p x ≡ false) xs fail)
 
-and-false : (b c : Bool) → c ≡ false → (b && c) ≡ false
-and-false true c is = is
-and-false false c is = refl
-
 all-fails : (p : InputView → Bool) (xs ys : List InputView) (h : InputView) → p h ≡ false → list_all p (xs ++ h ∷ ys) ≡ false
-all-fails p xs ys h here = list_all-append p xs (h ∷ ys) ∙ ap (λ (b : Bool). list_all p xs && (b && list_all p ys)) here ∙ and-false (list_all p xs) false refl
+all-fails p xs ys h here = list_all-append p xs (h ∷ ys) ∙ ap (λ (b : Bool). list_all p xs && (b && list_all p ys)) here ∙ and_right (list_all p xs) false refl
 
 -- ---- the input in a place
-
-get-past : (xs : List InputView) → slice_get xs (length xs) ≡ None
-get-past [] = refl
-get-past (x ∷ xs) = get-past xs
 
 at-here : (cursors : List InputView) (n i : ℕ) (h : InputView) → (a : IsInput cursors i h) → n ≡ length a.front → next_at n (slice_get cursors n) ≡ (if h.waiting then Next.Decide i else Next.Read i)
 at-here cursors n i h a is = ap (λ (m : ℕ). next_at m (slice_get cursors m)) (is ∙ a.place) ∙ ap (next_at i) (get-input cursors i h a)
 
 at-past : (cursors : List InputView) (n : ℕ) → n ≡ length cursors → next_at n (slice_get cursors n) ≡ Next.Finish
-at-past cursors n is = ap (λ (m : ℕ). next_at m (slice_get cursors m)) is ∙ ap (next_at (length cursors)) (get-past cursors)
+at-past cursors n is = ap (λ (m : ℕ). next_at m (slice_get cursors m)) is ∙ ap (next_at (length cursors)) (slice_get_past cursors (length cursors) (omega arith))
 
 -- ---- tests of one input
 
 is-open : (p : Phase) → (p ≡ Ended → ⊥) → is_open p ≡ true
-is-open Reading on = refl
 is-open Ended on = absurd (on refl)
-is-open (Failed fault) on = refl
+is-open _ on = refl
 
 is-unready : (h : InputView) → h.waiting ≡ false → IsOpen h → is_unready h ≡ true
 is-unready h waits on = ap (λ (b : Bool). is_open h.source.phase && not b) waits ∙ ap (λ (b : Bool). b && true) (is-open h.source.phase on)
 
 not-unready : (h : InputView) → IsReady h → is_unready h ≡ false
-not-unready h (inl waits) = ap (λ (b : Bool). is_open h.source.phase && not b) waits ∙ and-false (is_open h.source.phase) false refl
+not-unready h (inl waits) = ap (λ (b : Bool). is_open h.source.phase && not b) waits ∙ and_right (is_open h.source.phase) false refl
 not-unready h (inr ended) = ap (λ (p : Phase). is_open p && not h.waiting) ended
 
 -- ---- tests of all
@@ -78,11 +69,8 @@ abbrev pub not_lower : ℕ → InputView → Bool
 not_lower key other = not other.waiting || nat_le key (key_of other)
 
 not-lower-where : (key : ℕ) (h : InputView) → (h.waiting ≡ true → key ≤ key_of h) → not_lower key h ≡ true
-not-lower-where key h over = by_waits h.waiting over
-  where
-    by_waits : (b : Bool) → (b ≡ true → key ≤ key_of h) → (not b || nat_le key (key_of h)) ≡ true
-    by_waits true over = let le = over refl in grind (arith, nat_tests, le)
-    by_waits false over = refl
+not-lower-where key h over =
+    elim h.waiting as (λ b. (b ≡ true → key ≤ key_of h) → (not b || nat_le key (key_of h)) ≡ true) [ true ↦ λ over. (let le = over refl in grind (arith, nat_tests, le)) | false ↦ λ over. refl ] over
 
 lower-where : (key : ℕ) (h : InputView) → h.waiting ≡ true → key_of h < key → not_lower key h ≡ false
 lower-where key h waits under = ap (λ (b : Bool). not b || nat_le key (key_of h)) waits ∙ grind (arith, nat_tests, under)
@@ -104,7 +92,7 @@ greater-before : (xs ys zs : List InputView) (h : InputView) → h.waiting ≡ t
 greater-before xs ys zs h waits over = weaker _ _ (λ z less. by_waits z less z.waiting refl) zs over
   where
     by_waits : (z : InputView) → (z.waiting ≡ true → key_of h + 1 ≤ key_of z) → (b : Bool) → z.waiting ≡ b → has_least_key (xs ++ h ∷ ys) z ≡ false
-    by_waits z over true is = and-false z.waiting (list_all (not_lower (key_of z)) (xs ++ h ∷ ys)) (all-fails (not_lower (key_of z)) xs ys h (lower-where (key_of z) h waits (let less = over is in omega (arith, less))))
+    by_waits z over true is = and_right z.waiting (list_all (not_lower (key_of z)) (xs ++ h ∷ ys)) (all-fails (not_lower (key_of z)) xs ys h (lower-where (key_of z) h waits (let less = over is in omega (arith, less))))
     by_waits z over false is = waits-not (xs ++ h ∷ ys) z is
 
 least-here : (xs ys : List InputView) (h : InputView) → h.waiting ≡ true → KeysFrom (key_of h + 1) xs → KeysFrom (key_of h) ys → has_least_key (xs ++ h ∷ ys) h ≡ true

@@ -1,5 +1,6 @@
 -- A merge from the current packets gives the order of the whole.
-use Rattle.cap_inputs.proofs.Common.{AllByRecursion, ◌≡◌, ℕ, suc, ◌+◌, ◌<◌, ◌≤◌, true, false, if◌then◌else◌, max, List, [], ◌∷◌, ◌++◌, length, refl, sym, ◌∙◌, ap, arith, add-zero, subst, append_assoc, nat_tests, Fault, Placed, Items, Ending, Packet, SequenceEnd, Complete, FaultIn, with_front, InputItems, Entry, end_after, entries_of, all_entries, comes_before, insert_entry, sort_entries, sequence_of_entries, first_end, fault_without_packets, unless_fault, sequence_by_time}
+use Rattle.cap_inputs.proofs.Common.{AllByRecursion, ◌≡◌, ℕ, suc, ◌+◌, ◌<◌, ◌≤◌, true, false, max, List, [], ◌∷◌, ◌++◌, length, refl, sym, ◌∙◌, ap, arith, add-zero, subst, append_assoc, nat_tests, Fault, Placed, Items, Ending, Packet, SequenceEnd, Complete, FaultIn, with_front, InputItems, Entry, end_after, entries_of, all_entries, comes_before, insert_entry, sort_entries, sequence_of_entries, first_end, fault_without_packets, unless_fault, sequence_by_time}
+use Rattle.cap_io.proofs.Merging.{each-append, each-sorted}
 use Rattle.cap_inputs.proofs.Cursors.{weaker}
 
 -- what all entries and the fault of inputs without packets have of one input
@@ -9,26 +10,13 @@ input_entries input r = entries_of input r.items.ending r.greatest r.items.packe
 abbrev pub end_at : ℕ → InputItems → SequenceEnd
 end_at input r = end_after input r.items.ending r.items.packets
 
-Each-append : (P : Entry → Type 0) (xs ys : List Entry) → AllByRecursion P xs → AllByRecursion P ys → AllByRecursion P (xs ++ ys)
-Each-append P [] ys a b = b
-Each-append P (x ∷ xs) ys a b = (a.0, Each-append P xs ys a.1 b)
-
-put_in-Each : (P : Entry → Type 0) (e : Entry) (xs : List Entry) → P e → AllByRecursion P xs → AllByRecursion P (insert_entry e xs)
-put_in-Each P e [] p h = (p, tt)
-put_in-Each P e (x ∷ xs) p h =
-    elim (comes_before x e) as (λ b. AllByRecursion P (if b then x ∷ insert_entry e xs else e ∷ x ∷ xs)) [ true ↦ (h.0, put_in-Each P e xs p h.1) | false ↦ (p, h) ]
-
-sorted-Each : (P : Entry → Type 0) (xs : List Entry) → AllByRecursion P xs → AllByRecursion P (sort_entries xs)
-sorted-Each P [] h = tt
-sorted-Each P (x ∷ xs) h = put_in-Each P x (sort_entries xs) h.0 (sorted-Each P xs h.1)
-
 put_in-first : (e : Entry) (xs : List Entry) → AllByRecursion (λ x. comes_before x e ≡ false) xs → insert_entry e xs ≡ e ∷ xs
 put_in-first e [] h = refl
 put_in-first e (x ∷ xs) h = rw h.0 refl
 
 -- what comes before all others is first in the order
 pub sorted-first : (e : Entry) (xs ys : List Entry) → AllByRecursion (λ x. comes_before e x ≡ true) xs → AllByRecursion (λ y. comes_before y e ≡ false) ys → sort_entries (xs ++ e ∷ ys) ≡ e ∷ sort_entries (xs ++ ys)
-sorted-first e [] ys a b = put_in-first e (sort_entries ys) (sorted-Each (λ y. comes_before y e ≡ false) ys b)
+sorted-first e [] ys a b = put_in-first e (sort_entries ys) (each-sorted (λ y. comes_before y e ≡ false) ys b)
 sorted-first e (x ∷ xs) ys a b = ap (insert_entry x) (sorted-first e xs ys a.1 b) ∙ rw a.0 refl
 
 -- the keys of an input never fall
@@ -69,7 +57,7 @@ entries-each Q k input ending greatest (p ∷ ps) from each = (
 all-each : (Q : Entry → Type 0) (k input : ℕ) (rs : List InputItems) → AllFrom k rs → ((x : Entry) → k ≤ x.key → input ≤ x.input → Q x) → AllByRecursion Q (all_entries input rs)
 all-each Q k input [] from each = tt
 all-each Q k input (r ∷ rs) from each =
-    Each-append Q (input_entries input r) (all_entries (input + 1) rs) (entries-each Q k input r.items.ending r.greatest r.items.packets from.0 (λ x le is. each x le (omega (arith, is))))
+    each-append Q (input_entries input r) (all_entries (input + 1) rs) (entries-each Q k input r.items.ending r.greatest r.items.packets from.0 (λ x le is. each x le (omega (arith, is))))
     (all-each Q k (input + 1) rs from.1 (λ x le l. each x le (omega (arith, l))))
 
 all_entries-append : (input : ℕ) (xs ys : List InputItems) → all_entries input (xs ++ ys) ≡ all_entries input xs ++ all_entries (input + length xs) ys
@@ -118,7 +106,7 @@ merged-next xs ys g p items ps size is whole over from =
     let old : all_entries 0 (xs ++ r ∷ ys) ≡ all_entries 0 xs ++ e ∷ after_e = all_entries-append 0 xs (r ∷ ys) ∙ ap (λ (m : ℕ). all_entries 0 xs ++ all_entries m (r ∷ ys)) zero in
     let new : all_entries 0 (xs ++ r' ∷ ys) ≡ all_entries 0 xs ++ after_e = all_entries-append 0 xs (r' ∷ ys) ∙ ap (λ (m : ℕ). all_entries 0 xs ++ all_entries m (r' ∷ ys)) zero in
     let follows : AllByRecursion (λ x. comes_before x e ≡ false) after_e =
-    Each-append (λ x. comes_before x e ≡ false) (input_entries n r') (all_entries (n + 1) ys)
+    each-append (λ x. comes_before x e ≡ false) (input_entries n r') (all_entries (n + 1) ys)
     (weaker (FollowsIn n k) (λ x. comes_before x e ≡ false) (λ x h. later-own e x h) (input_entries n r') (entries-follow n items.ending k ps))
     (all-each (λ x. comes_before x e ≡ false) k (n + 1) ys from (λ x le l. later e x le l)) in
     let first : sort_entries (all_entries 0 (xs ++ r ∷ ys)) ≡ e ∷ sort_entries (all_entries 0 (xs ++ r' ∷ ys)) =

@@ -1,5 +1,5 @@
 -- What came of a block, from read to read.
-use Rattle.cap_io.proofs.Common.{◌≡◌, ℕ, true, ◌+◌, ◌<◌, ◌≤◌, ◌⊎◌, inl, inr, List, [], ◌∷◌, ◌++◌, length, take, drop, Option, Some, None, Result, Ok, Err, refl, sym, ap, ap₂, ◌∙◌, subst, arith, unwrap_or, option_to_list, append_assoc, length-append, length-take-le, drop_at, drop-drop, take-append-drop, checked, first_failing, Captured, Fault, NoMemory, ReadFailed, Order, checked_ok, checked_err, Parts, SectionParts, InterfaceParts, EnhancedParts, SimpleParts, SkippedParts, block_checks, parts_in, frame_checks, frame_fault, frame_in, most_block, Described, IsBlock, Section, block_size, checks_among, frame_after, interfaces_before, order_before, packet_by, packets_in, parts_after, section_after, section_by, unit_fault, passes, frame_checks-append, frame_in-append, unit_fault-frame, unit_fault-short, unit_fault-block, unit_fault-among, parts_in-append, block_checks-append, Frame, Enters, PacketIfAny, held_packet, section_of, AddsInterface, IsEntryFault, most_in_unit, block_length, RestMissing, span_bytes, is_interface, PacketSpans}
+use Rattle.cap_io.proofs.Common.{◌≡◌, ℕ, true, ◌+◌, ◌<◌, ◌≤◌, ◌⊎◌, inl, inr, List, [], ◌∷◌, ◌++◌, length, take, drop, Option, Some, None, Result, Ok, Err, refl, sym, ap, ap₂, ◌∙◌, subst, arith, unwrap_or, option_to_list, append_assoc, length-append, length-take-le, drop_at, drop-drop, take-append-drop, checked, first_failing, Captured, Fault, NoMemory, ReadFailed, Order, checked_ok, checked_err, Parts, SectionParts, block_checks, parts_in, frame_checks, frame_fault, frame_in, most_block, Described, IsBlock, Section, block_size, checks_among, frame_after, interfaces_before, order_before, packet_by, packets_in, parts_after, section_after, section_by, unit_fault, passes, frame_checks-append, frame_in-append, unit_fault-frame, unit_fault-short, unit_fault-block, unit_fault-among, parts_in-append, block_checks-append, Frame, Enters, PacketIfAny, held_packet, section_of, AddsInterface, IsEntryFault, most_in_unit, block_length, RestMissing, span_bytes, is_interface, PacketSpans}
 use Rattle.cap_io.proofs.Fronts.{decisive_block_length, length_by_header-whole}
 use Rattle.cap_io.proofs.OwnFaults.{entry-not_failed, own-frame, own-not_failed, own-not_memory}
 
@@ -222,10 +222,7 @@ adds-describes before section interfaces text unread' block buffer frame is same
 section_same : (before : Option Section) (order : Order) (interfaces : List Described) (parts : Parts) → interfaces_before before ≡ interfaces
     → section_by before order parts ≡ section_by (Some (section_of order interfaces)) order parts
 section_same before order interfaces SectionParts same = refl
-section_same before order interfaces (InterfaceParts link snap own options) same = rw same refl
-section_same before order interfaces (EnhancedParts number ticks captured orig own rest) same = rw same refl
-section_same before order interfaces (SimpleParts orig rest) same = rw same refl
-section_same before order interfaces SkippedParts same = rw same refl
+section_same before order interfaces _ same = rw same refl
 
 packet_if_any : (order : Order) (before : Option Section) (interfaces : List Described) (block : List ℕ) (parts : Parts) (spans : Option PacketSpans) → interfaces_before before ≡ interfaces → parts_after before block ≡ parts
     → PacketIfAny order interfaces parts block spans → BlockPacketIfAny order before block spans

@@ -1,7 +1,8 @@
 -- Units of a capture of any kind, as they came.
+use Rattle.std.proofs.lemmas.Bool.{cases_lt}
 use Rattle.cap_io.proofs.BlocksCame.{BlockCame, BlockMissing, Describes}
 use Rattle.cap_io.proofs.Came.{Taken-following, error_is, most_taken-file}
-use Rattle.cap_io.proofs.Common.{◌≡◌, ℕ, ◌+◌, ◌<◌, ◌≤◌, ◌^◌, IsTrue, Result, Ok, Err, inl, inr, Bool, true, false, List, [], ◌∷◌, ◌++◌, length, take, Option, Some, None, is_some, refl, sym, ap, ◌∙◌, subst, arith, unwrap_or, if◌then◌else◌, nat_le, nat_lt, ltb-false, ltb-true, slice_get, option_map, option_or, option_to_list, length-append, length-take-le, All-nil, Captured, Fault, Truncated, Order, Little, u32_in, Head, Parts, SectionParts, InterfaceParts, EnhancedParts, SimpleParts, SkippedParts, body_in, parts_in, parts_in_body, frame_in, is_section, magic_order, order_in, type_in, type_of_block, Described, FitSection, IsBlock, Section, frame_after, interfaces_before, order_before, packet_by, packets_in, parts_after, section_after, section_by, unit_fault, passes, unit_fault-few, Frame, PacketSpans, FileState, Enters, KnowsIfAny, held_packet, section_of, Declared, Nothing, PcapFile, PcapngFile, Front, IsUnit, a_pcap_header, a_first_block, a_block, file_after, first_link_after, front_of, is_pcapng, TakesMemory, declared_by, NoMemory, most_in_unit, read_failures, most_taken, packet_in_unit, decisive_length, block_length, BeginsBlock, FrontMissing, HasInterface, HeaderCame, IsSized, IsConsistent, PacketCame, ReadsUnit, NoUnitCame, RestMissing, UnitCame, UnitPassed, known_first_link, known_order, section_before, unit_size, span_bytes, is_interface}
+use Rattle.cap_io.proofs.Common.{◌≡◌, ℕ, ◌+◌, ◌<◌, ◌≤◌, ◌^◌, IsTrue, Result, Ok, Err, inl, inr, Bool, true, false, List, [], ◌∷◌, ◌++◌, length, take, Option, Some, None, is_some, refl, sym, ap, ◌∙◌, subst, arith, unwrap_or, if◌then◌else◌, nat_le, slice_get, option_map, option_or, option_to_list, length-append, length-take-le, All-nil, Captured, Fault, Truncated, Order, Little, u32_in, Head, Parts, SectionParts, EnhancedParts, SimpleParts, body_in, parts_in, parts_in_body, frame_in, is_section, magic_order, order_in, type_in, type_of_block, Described, FitSection, IsBlock, Section, frame_after, interfaces_before, order_before, packet_by, packets_in, parts_after, section_after, section_by, unit_fault, passes, unit_fault-few, Frame, PacketSpans, FileState, Enters, KnowsIfAny, held_packet, section_of, Declared, Nothing, PcapFile, PcapngFile, Front, IsUnit, a_pcap_header, a_first_block, a_block, file_after, first_link_after, front_of, is_pcapng, TakesMemory, declared_by, NoMemory, most_in_unit, read_failures, most_taken, packet_in_unit, decisive_length, block_length, BeginsBlock, FrontMissing, HasInterface, HeaderCame, IsSized, IsConsistent, PacketCame, ReadsUnit, NoUnitCame, RestMissing, UnitCame, UnitPassed, known_first_link, known_order, section_before, unit_size, span_bytes, is_interface}
 use Rattle.cap_io.proofs.Fronts.{block_unless, front_of-following, front_of-pcapng, front_of_block-none, is_pcapng-append, most_taken-block, decisive_length-pcapng, decisive_block_length, decisive_block_length-few, is_section-append}
 use Rattle.cap_io.proofs.Units.{and_second, first-section}
 use Rattle.cap_pcapng.specs.declared.frames.BlockType.{BlockType}
@@ -137,11 +138,9 @@ first-packets block is =
 -- a block with a packet leaves its section
 kept_by : (section : Section) (order : Order) (parts : Parts) (packet : Captured) → order ≡ section.order → option_to_list (packet_by section.interfaces parts) ≡ packet ∷ []
     → section_by (Some section) order parts ≡ section
-kept_by section order SectionParts packet same is = (cc)
-kept_by section order (InterfaceParts link snap own options) packet same is = (cc)
 kept_by section order (EnhancedParts number ticks captured orig own rest) packet same is = ap (λ o. section_of o section.interfaces) same
 kept_by section order (SimpleParts orig rest) packet same is = ap (λ o. section_of o section.interfaces) same
-kept_by section order SkippedParts packet same is = (cc)
+kept_by section order _ packet same is = (cc)
 
 pub section-kept : (section : Section) (block : List ℕ) (packet : Captured) → packets_in (Some section) block ≡ packet ∷ [] → section_after (Some section) block ≡ section
 section-kept section block packet is = by_kind (is_section block) refl
@@ -159,8 +158,7 @@ first-again link section = by_link link (option_map (λ (i : Described). i.link)
   where
     by_link : (a b : Option ℕ) → option_or (option_or a b) b ≡ option_or a b
     by_link None None = refl
-    by_link None (Some x) = refl
-    by_link (Some x) b = refl
+    by_link _ b = refl
 
 -- ---- a block as a unit
 
@@ -269,11 +267,8 @@ section-fits (state.Pcapng order first) interfaces front begins known = known.1
 
 -- the bytes that a device gave stay few after a block, though it be no longer than its front
 pub small-following : (before following front size : ℕ) → front ≡ 12 → following + front ≡ before + size → 12 ≤ size → (front < size → following < 2 ^ 63) → before < 2 ^ 63 → following < 2 ^ 63
-small-following before following front size twelve counted least longer small = by_size (nat_lt front size) refl
-  where
-    by_size : (b : Bool) → nat_lt front size ≡ b → following < 2 ^ 63
-    by_size true e = longer (ltb-true front size e)
-    by_size false e = let most = ltb-false front size e in omega (arith, twelve, counted, least, most, small)
+small-following before following front size twelve counted least longer small =
+    elim (cases_lt front size) [ inl less ↦ longer less | inr most ↦ omega (arith, twelve, counted, least, most, small) ]
 
 pub order-held : (file : FileState) (interfaces : List Described) → order_before (section_before file interfaces) ≡ known_order file
 order-held state.Unknown interfaces = refl
@@ -289,9 +284,8 @@ interfaces-held (state.Pcapng order first) interfaces front begins exact = refl
 
 pub begun-front : (file : FileState) (interfaces : List Described) (unread unread' : List ℕ) (fault : Fault) → IsTrue (is_some (known_order file)) → FrontMissing 12 unread unread' fault
     → NoUnitCame (declared_by file interfaces) unread unread' fault
-begun-front state.Unknown interfaces unread unread' fault begun m = absurd (cc)
-begun-front (state.Pcap head) interfaces unread unread' fault begun m = absurd (cc)
 begun-front (state.Pcapng order first) interfaces unread unread' fault begun m = block_front first (section_of order interfaces) unread unread' fault m
+begun-front _ interfaces unread unread' fault begun m = absurd (cc)
 
 -- no unit was read
 pub reads-no_unit : {I A : Type 0} (device : Ghosts I) (old : UnitReader I A) (front : List ℕ) (fault : Fault) (new : UnitReader I A) → Moves device old.input new.input (length front) (unit_size new.spans) most_in_unit (Err fault)

@@ -73,19 +73,13 @@ front_of_block-none first before text fault fails = ap (λ (f : Option Fault). b
 -- ---- how much is taken at most
 
 pub most_taken-header : (text : List ℕ) (count : ℕ) → is_pcapng text ≡ false → count ≤ 24 → count ≤ most_taken (front_of Nothing text)
-most_taken-header text count other upper_bound = let P : Front → Type 0 = λ f. count ≤ most_taken f in subst P (sym (front_of-pcap text other)) (by_fault (header_fault text) upper_bound)
-  where
-    by_fault : (fault : Option Fault) → count ≤ 24 → count ≤ most_taken (header_unless fault text)
-    by_fault None upper_bound = upper_bound
-    by_fault (Some fault) upper_bound = omega arith
+most_taken-header text count other upper_bound = let P : Front → Type 0 = λ f. count ≤ most_taken f in
+    subst P (sym (front_of-pcap text other)) (elim (header_fault text) as (λ fault. count ≤ most_taken (header_unless fault text)) [ None ↦ upper_bound | Some fault ↦ omega arith ])
 
 pub most_taken-record : (head : Head) (text : List ℕ) (count : ℕ) → count ≤ record_size head text → count ≤ most_in_unit → count ≤ most_taken (front_of (PcapFile head) text)
 most_taken-record head [] count within upper_bound = upper_bound
-most_taken-record head (b ∷ bytes) count within upper_bound = by_fault (record_fault head (b ∷ bytes))
-  where
-    by_fault : (fault : Option Fault) → count ≤ most_taken (record_unless fault head (b ∷ bytes))
-    by_fault None = within
-    by_fault (Some fault) = upper_bound
+most_taken-record head (b ∷ bytes) count within upper_bound =
+    elim (record_fault head (b ∷ bytes)) as (λ fault. count ≤ most_taken (record_unless fault head (b ∷ bytes))) [ None ↦ within | Some fault ↦ upper_bound ]
 
 -- in front of a record's data
 pub most_taken-front : (head : Head) (text : List ℕ) (count : ℕ) → count ≤ 16 → count ≤ most_taken (front_of (PcapFile head) text)
@@ -93,11 +87,8 @@ most_taken-front head text count upper_bound = most_taken-record head text count
 
 pub most_taken-block : (first : Option ℕ) (before : Option Section) (text : List ℕ) (count : ℕ) → (unit_fault before text ≡ None → count ≤ block_size before text)
     → count ≤ most_in_unit → count ≤ most_taken (block_unless (unit_fault before text) first before text)
-most_taken-block first before text count within upper_bound = by_fault (unit_fault before text) within
-  where
-    by_fault : (fault : Option Fault) → (fault ≡ None → count ≤ block_size before text) → count ≤ most_taken (block_unless fault first before text)
-    by_fault None within = within refl
-    by_fault (Some fault) within = upper_bound
+most_taken-block first before text count within upper_bound =
+    elim (unit_fault before text) as (λ fault. (fault ≡ None → count ≤ block_size before text) → count ≤ most_taken (block_unless fault first before text)) [ None ↦ λ within. within refl | Some fault ↦ λ within. upper_bound ] within
 
 -- ---- how many bytes decide it
 

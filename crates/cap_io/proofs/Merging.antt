@@ -1,7 +1,8 @@
 -- The order of a merge is sorted, has each packet once, and keeps those of each input in their
 -- places.
-use Rattle.cap_io.proofs.Common.{◌≡◌, inl, inr, ℕ, ◌+◌, ◌<◌, ◌≤◌, ◌&&◌, ◌||◌, Bool, true, false, if◌then◌else◌, max, List, [], ◌∷◌, ◌++◌, refl, sym, ◌∙◌, ap, arith, subst, nat_lt, nat_eq, IsPermutation, Placed, Ending}
-use Rattle.std.proofs.lemmas.Bool.Decides.{nat_tests}
+use Rattle.cap_io.proofs.Common.{◌≡◌, inl, inr, ℕ, ◌+◌, ◌<◌, ◌≤◌, Bool, true, false, if◌then◌else◌, max, List, [], ◌∷◌, ◌++◌, refl, sym, ◌∙◌, ap, arith, nat_eq, IsPermutation, Placed, Ending}
+use Rattle.std.proofs.lemmas.Bool.{cases_order, Decides.nat_tests}
+use Rattle.std.specs.List.{AllByRecursion}
 use Rattle.std.proofs.lemmas.List.Sorted.{IsPermutation-refl, IsPermutation-trans, IsPermutation-cons, IsPermutation-middle}
 use Rattle.cap_io.specs.Merging.{AreSorted, IsNoLater, IsNoLaterThan, MergesSort, events_of, of_input}
 use Rattle.cap_io.specs.Sequence.{Entry, Event, Packet, SequenceEnd, Complete, FaultIn, Sequence, InputItems, all_entries, comes_before, end_after, entries_of, fault_without_packets, insert_entry, sequence_of_entries, sort_entries, unless_fault, with_front}
@@ -9,29 +10,18 @@ use Rattle.cap_io.specs.Sequence.{Entry, Event, Packet, SequenceEnd, Complete, F
 -- ---- before and after
 
 before : (x y : Entry) → comes_before x y ≡ true → IsNoLater x y
-before x y is = by_less (nat_lt x.key y.key) refl
-  where
-    by_same : (b : Bool) → nat_eq x.key y.key ≡ b → (b && nat_lt x.input y.input) ≡ true → IsNoLater x y
-    by_same true same less = inr (grind (arith, nat_tests, same), grind (arith, nat_tests, less))
-    by_same false same less = (cc)
-
-    by_less : (b : Bool) → nat_lt x.key y.key ≡ b → IsNoLater x y
-    by_less true less = inl (grind (arith, nat_tests, less))
-    by_less false less =
-        by_same (nat_eq x.key y.key) refl (subst (λ (c : Bool). (c || (nat_eq x.key y.key && nat_lt x.input y.input)) ≡ true) less is)
+before x y is = elim (cases_order x.key y.key) [
+  | inl same ↦ inr (same, grind (arith, nat_tests, same, is))
+  | inr (inl less) ↦ inl less
+  | inr (inr more) ↦ absurd (grind (arith, nat_tests, more, is))
+]
 
 not-before : (x y : Entry) → comes_before x y ≡ false → IsNoLater y x
-not-before x y is = by_less (nat_lt x.key y.key) refl
-  where
-    by_same : (b : Bool) → nat_eq x.key y.key ≡ b → nat_lt x.key y.key ≡ false → (b && nat_lt x.input y.input) ≡ false → IsNoLater y x
-    by_same true same less later = inr (grind (arith, nat_tests, same), grind (arith, nat_tests, later))
-    by_same false same less later = inl (grind (arith, nat_tests, same, less))
-
-    by_less : (b : Bool) → nat_lt x.key y.key ≡ b → IsNoLater y x
-    by_less true less =
-        absurd (let contrary : true ≡ false = subst (λ (c : Bool). (c || (nat_eq x.key y.key && nat_lt x.input y.input)) ≡ false) less is in (cc))
-    by_less false less =
-        by_same (nat_eq x.key y.key) refl less (subst (λ (c : Bool). (c || (nat_eq x.key y.key && nat_lt x.input y.input)) ≡ false) less is)
+not-before x y is = elim (cases_order x.key y.key) [
+  | inl same ↦ inr (sym same, grind (arith, nat_tests, same, is))
+  | inr (inl less) ↦ absurd (grind (arith, nat_tests, less, is))
+  | inr (inr more) ↦ inl more
+]
 
 no-later-trans : (x y z : Entry) → IsNoLater x y → IsNoLater y z → IsNoLater x z
 no-later-trans x y z (inl a) (inl b) = inl (omega (arith, a, b))
@@ -47,11 +37,8 @@ no-later-all e x (y ∷ ys) first all = (no-later-trans e x y first all.0, no-la
 
 no-later-insert : (e x : Entry) (xs : List Entry) → IsNoLater e x → IsNoLaterThan e xs → IsNoLaterThan e (insert_entry x xs)
 no-later-insert e x [] first all = (first, tt)
-no-later-insert e x (y ∷ ys) first all = by_place (no-later-insert e x ys first all.1) (comes_before y x)
-  where
-    by_place : IsNoLaterThan e (insert_entry x ys) → (b : Bool) → IsNoLaterThan e (if b then y ∷ insert_entry x ys else x ∷ y ∷ ys)
-    by_place more true = (all.0, more)
-    by_place more false = (first, all)
+no-later-insert e x (y ∷ ys) first all =
+    elim (comes_before y x) as (λ b. IsNoLaterThan e (if b then y ∷ insert_entry x ys else x ∷ y ∷ ys)) [ true ↦ (all.0, no-later-insert e x ys first all.1) | false ↦ (first, all) ]
 
 sorted-insert : (e : Entry) (es : List Entry) → AreSorted es → AreSorted (insert_entry e es)
 sorted-insert e [] all = (tt, tt)
@@ -69,11 +56,9 @@ sorted (e ∷ es) = sorted-insert e (sort_entries es) (sorted es)
 
 permuted-insert : (e : Entry) (es : List Entry) → IsPermutation (e ∷ es) (insert_entry e es)
 permuted-insert e [] = IsPermutation-refl (e ∷ [])
-permuted-insert e (x ∷ xs) = by_place (permuted-insert e xs) (comes_before x e)
-  where
-    by_place : IsPermutation (e ∷ xs) (insert_entry e xs) → (b : Bool) → IsPermutation (e ∷ x ∷ xs) (if b then x ∷ insert_entry e xs else e ∷ x ∷ xs)
-    by_place more true = IsPermutation-trans _ _ _ (IsPermutation-middle (e ∷ []) x xs) (IsPermutation-cons x _ _ more)
-    by_place more false = IsPermutation-refl (e ∷ x ∷ xs)
+permuted-insert e (x ∷ xs) =
+    let later : IsPermutation (e ∷ x ∷ xs) (x ∷ insert_entry e xs) = IsPermutation-trans _ _ _ (IsPermutation-middle (e ∷ []) x xs) (IsPermutation-cons x _ _ (permuted-insert e xs)) in
+    elim (comes_before x e) as (λ b. IsPermutation (e ∷ x ∷ xs) (if b then x ∷ insert_entry e xs else e ∷ x ∷ xs)) [ true ↦ later | false ↦ IsPermutation-refl (e ∷ x ∷ xs) ]
 
 permuted : (es : List Entry) → IsPermutation es (sort_entries es)
 permuted [] = IsPermutation-refl []
@@ -81,18 +66,30 @@ permuted (e ∷ es) = IsPermutation-trans _ _ _ (IsPermutation-cons e _ _ (permu
 
 -- ---- in their places
 
+-- what holds of each entry still does in lists joined, with one entry more, and sorted
+pub each-append : (P : Entry → Type 0) (xs ys : List Entry) → AllByRecursion P xs → AllByRecursion P ys → AllByRecursion P (xs ++ ys)
+each-append P [] ys a b = b
+each-append P (x ∷ xs) ys a b = (a.0, each-append P xs ys a.1 b)
+
+each-insert : (P : Entry → Type 0) (e : Entry) (xs : List Entry) → P e → AllByRecursion P xs → AllByRecursion P (insert_entry e xs)
+each-insert P e [] p h = (p, tt)
+each-insert P e (x ∷ xs) p h =
+    elim (comes_before x e) as (λ b. AllByRecursion P (if b then x ∷ insert_entry e xs else e ∷ x ∷ xs)) [ true ↦ (h.0, each-insert P e xs p h.1) | false ↦ (p, h) ]
+
+pub each-sorted : (P : Entry → Type 0) (xs : List Entry) → AllByRecursion P xs → AllByRecursion P (sort_entries xs)
+each-sorted P [] h = tt
+each-sorted P (x ∷ xs) h = each-insert P x (sort_entries xs) h.0 (each-sorted P xs h.1)
+
 -- of those of its own input none has a lower greatest time
+abbrev IsLed : Entry → Entry → Type 0
+IsLed e x = x.input ≡ e.input → e.key ≤ x.key
+
 abbrev Leads : Entry → List Entry → Type 0
-Leads e [] = Unit {0}
-Leads e (x ∷ xs) = (x.input ≡ e.input → e.key ≤ x.key) × Leads e xs
+Leads e es = AllByRecursion (IsLed e) es
 
 abbrev EachLeads : List Entry → Type 0
 EachLeads [] = Unit {0}
 EachLeads (e ∷ es) = Leads e es × EachLeads es
-
-leads-append : (e : Entry) (xs ys : List Entry) → Leads e xs → Leads e ys → Leads e (xs ++ ys)
-leads-append e [] ys a b = b
-leads-append e (x ∷ xs) ys a b = (a.0, leads-append e xs ys a.1 b)
 
 leads-own : (e : Entry) (input : ℕ) (ending : Ending) (greatest : ℕ) (ps : List Placed) → e.key ≤ greatest → Leads e (entries_of input ending greatest ps)
 leads-own e input ending greatest [] less = tt
@@ -109,31 +106,19 @@ leads-other e input ending greatest (p ∷ ps) less =
 leads-others : (e : Entry) (input : ℕ) (rs : List InputItems) → e.input < input → Leads e (all_entries input rs)
 leads-others e input [] less = tt
 leads-others e input (r ∷ rs) less =
-    leads-append e (entries_of input r.items.ending r.greatest r.items.packets) (all_entries (input + 1) rs) (leads-other e input r.items.ending r.greatest r.items.packets less) (leads-others e (input + 1) rs (omega (arith, less)))
+    each-append (IsLed e) (entries_of input r.items.ending r.greatest r.items.packets) (all_entries (input + 1) rs) (leads-other e input r.items.ending r.greatest r.items.packets less) (leads-others e (input + 1) rs (omega (arith, less)))
 
 each-leads-own : (input : ℕ) (ending : Ending) (greatest : ℕ) (ps : List Placed) (rest : List Entry) → ((e : Entry) → e.input ≡ input → Leads e rest) → EachLeads rest → EachLeads (entries_of input ending greatest ps ++ rest)
 each-leads-own input ending greatest [] rest others each = each
 each-leads-own input ending greatest (p ∷ ps) rest others each =
     let e : Entry = record { key = max greatest p.packet.time; input = input; p = p; end = end_after input ending ps } in
     let same : max greatest p.packet.time ≤ max greatest p.packet.time = omega arith in
-    (leads-append e (entries_of input ending (max greatest p.packet.time) ps) rest (leads-own e input ending (max greatest p.packet.time) ps same) (others e refl), each-leads-own input ending (max greatest p.packet.time) ps rest others each)
+    (each-append (IsLed e) (entries_of input ending (max greatest p.packet.time) ps) rest (leads-own e input ending (max greatest p.packet.time) ps same) (others e refl), each-leads-own input ending (max greatest p.packet.time) ps rest others each)
 
 each-leads : (input : ℕ) (rs : List InputItems) → EachLeads (all_entries input rs)
 each-leads input [] = tt
 each-leads input (r ∷ rs) =
     each-leads-own input r.items.ending r.greatest r.items.packets (all_entries (input + 1) rs) (λ e is. leads-others e (input + 1) rs (omega (arith, is))) (each-leads (input + 1) rs)
-
-leads-insert : (e x : Entry) (xs : List Entry) → (x.input ≡ e.input → e.key ≤ x.key) → Leads e xs → Leads e (insert_entry x xs)
-leads-insert e x [] first all = (first, tt)
-leads-insert e x (y ∷ ys) first all = by_place (leads-insert e x ys first all.1) (comes_before y x)
-  where
-    by_place : Leads e (insert_entry x ys) → (b : Bool) → Leads e (if b then y ∷ insert_entry x ys else x ∷ y ∷ ys)
-    by_place more true = (all.0, more)
-    by_place more false = (first, all)
-
-leads-sorted : (e : Entry) (es : List Entry) → Leads e es → Leads e (sort_entries es)
-leads-sorted e [] all = tt
-leads-sorted e (x ∷ xs) all = leads-insert e x (sort_entries xs) all.0 (leads-sorted e xs all.1)
 
 abbrev if_of : ℕ → Entry → List Entry → List Entry
 if_of input e es = if nat_eq e.input input then e ∷ es else es
@@ -145,26 +130,14 @@ exchanged input e x es other = by_both (nat_eq x.input input) (nat_eq e.input in
     by_both : (a b : Bool) → nat_eq x.input input ≡ a → nat_eq e.input input ≡ b
         → (if a then x ∷ (if b then e ∷ es else es) else (if b then e ∷ es else es)) ≡ (if b then e ∷ (if a then x ∷ es else es) else (if a then x ∷ es else es))
     by_both true true a b = absurd (other (grind (arith, nat_tests, a, b)))
-    by_both true false a b = refl
-    by_both false true a b = refl
-    by_both false false a b = refl
+    by_both _ _ a b = refl
 
 -- what comes before an entry that leads is of another input
 is-other : (e x : Entry) → (x.input ≡ e.input → e.key ≤ x.key) → comes_before x e ≡ true → e.input ≡ x.input → ⊥
 is-other e x leads is same =
     let least : e.key ≤ x.key = leads (sym same) in
-    elim (before x e is) [
-      | inl less ↦ omega (arith, less, least)
-      | inr equal ↦
-          let key : nat_lt x.key e.key ≡ false = grind (arith, nat_tests, least) in
-          let input : nat_lt x.input e.input ≡ false = grind (arith, nat_tests, same) in
-          let contrary : (false || (nat_eq x.key e.key && false)) ≡ true = subst (λ (c : Bool). (false || (nat_eq x.key e.key && c)) ≡ true) input (subst (λ (c : Bool). (c || (nat_eq x.key e.key && nat_lt x.input e.input)) ≡ true) key is) in
-          never (nat_eq x.key e.key) contrary
-    ]
-  where
-    never : (b : Bool) → (false || (b && false)) ≡ true → ⊥
-    never true contrary = (cc)
-    never false contrary = (cc)
+    let apart : comes_before x e ≡ false = grind (arith, nat_tests, least, same) in
+    cc (is, apart)
 
 places-insert : (input : ℕ) (e : Entry) (es : List Entry) → Leads e es → of_input input (insert_entry e es) ≡ of_input input (e ∷ es)
 places-insert input e [] leads = refl
@@ -176,7 +149,7 @@ places-insert input e (x ∷ xs) leads = by_place (places-insert input e xs lead
 
 places : (input : ℕ) (es : List Entry) → EachLeads es → of_input input (sort_entries es) ≡ of_input input es
 places input [] each = refl
-places input (e ∷ es) each = places-insert input e (sort_entries es) (leads-sorted e es each.0) ∙ ap (if_of input e) (places input es each.1)
+places input (e ∷ es) each = places-insert input e (sort_entries es) (each-sorted (IsLed e) es each.0) ∙ ap (if_of input e) (places input es each.1)
 
 -- ---- those that come
 

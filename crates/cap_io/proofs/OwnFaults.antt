@@ -33,11 +33,8 @@ own_among interfaces SkippedParts = tt
 
 own_body : (kind : BlockType) (order : Order) (body : List ℕ) → AreOwn (body_checks kind order body)
 own_body BlockType.Section order body = (refl, (refl, tt))
-own_body BlockType.Interface order body = (refl, tt)
-own_body BlockType.ObsoletePacket order body = (refl, tt)
-own_body BlockType.SimplePacket order body = (refl, tt)
-own_body BlockType.EnhancedPacket order body = (refl, tt)
 own_body BlockType.Other order body = tt
+own_body _ order body = (refl, tt)
 
 own-block : (frame : Frame) (block : List ℕ) (fault : Fault) → first_failing (block_checks frame block) ≡ Some fault → IsOwn fault
 own-block frame block fault fails = all_failing IsOwn (block_checks frame block) fault (refl, own_body frame.block_type frame.order (body_in frame block)) fails

@@ -185,5 +185,4 @@ stage_between Stage.Current spans buffer phase none holds =
     absurd (omega (arith, holds.some, holds.there, sym (length-take-le spans.size buffer holds.there) ∙ ap length none))
 stage_between Stage.Lent spans buffer phase none holds =
     absurd (omega (arith, holds.some, holds.there, sym (length-take-le spans.size buffer holds.there) ∙ ap length none))
-stage_between Stage.Ended spans buffer phase none holds = (cc)
-stage_between (Stage.Failed fault) spans buffer phase none holds = (cc)
+stage_between _ spans buffer phase none holds = (cc)

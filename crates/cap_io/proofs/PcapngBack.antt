@@ -1,6 +1,6 @@
 -- What is written in pcapng reads back.
 use Rattle.cap_io.proofs.Backs.{Holds, each-following, holds-none, holds-unit, reads-back}
-use Rattle.cap_io.proofs.Common.{◌≡◌, ℕ, ◌+◌, suc, ◌||◌, ◌<◌, ◌≤◌, Bool, true, false, List, [], ◌∷◌, ◌++◌, length, map, not, cond, if◌then◌else◌, Option, None, Some, refl, sym, ap, subst, ◌∙◌, arith, AllByRecursion, flat_map, fold, slice_get, option_map, fold-append, append_assoc, append-nil, length-map, map-append, slice_get-map, slice_get_within, first_failing, Captured, Pcapng, all_met, none_failing, Described, most_interfaces, Section, packets_in, Nothing, PcapngFile, IsUnit, a_first_block, a_block, first_link_after, Back, InRange, IsCarried, ReadsBack, Interface, checks_in, interface_of, interfaces_after_packet, is_among, is_same, kept_interfaces, new_among, number_among, state_after}
+use Rattle.cap_io.proofs.Common.{◌≡◌, ℕ, ◌<◌, ◌≤◌, Bool, true, false, List, [], ◌∷◌, ◌++◌, length, map, if◌then◌else◌, Option, None, Some, refl, sym, ap, subst, ◌∙◌, arith, AllByRecursion, flat_map, fold, slice_get, option_map, fold-append, append_assoc, append-nil, length-map, map-append, slice_get-map, slice_get_within, first_failing, Captured, Pcapng, all_met, none_failing, Described, most_interfaces, Section, packets_in, Nothing, PcapngFile, IsUnit, a_first_block, a_block, first_link_after, Back, InRange, IsCarried, ReadsBack, Interface, checks_in, interface_of, interfaces_after_packet, is_among, kept_interfaces, new_among, number_among, state_after}
 use Rattle.cap_io.proofs.Interfaces.{found, kept-grows, kept-push}
 use Rattle.cap_io.proofs.Texts.{bare_text, text-start}
 use Rattle.std.proofs.Common.{length-append}

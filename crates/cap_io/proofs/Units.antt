@@ -1,5 +1,6 @@
 -- A unit and what a text begins with.
-use Rattle.cap_io.proofs.Common.{◌≡◌, ℕ, Bool, true, false, ◌||◌, ◌&&◌, cond, is_some, ◌⊎◌, inl, inr, ◌<◌, ◌≤◌, List, [], ◌∷◌, ◌++◌, length, take, drop, Option, None, Some, refl, sym, ◌∙◌, ap, arith, append-nil, length-append, length-take-le, take-append-drop, take_at, Captured, Fault, Head, Resolution, Microseconds, Nanoseconds, form_in, header_checks, header_fault, header_in, magic, IsHeader, record_fault, record_size, record_packet, IsRecord, header_fault-append, header_fault-none, header_in-append, IsRecord-front, IsRecord-take, ◌==◌, nat_le, le-leb, u32_in, Little, Big, all_met, frame_checks, is_section, section_type, IsBlock, Section, block_size, packets_in, unit_fault, Declared, Nothing, PcapFile, PcapngFile, IsUnit, a_pcap_header, a_pcap_record, a_first_block, a_block, file_after, is_pcapng, placed_at, AreUnits, no_unit, unit_then, Whole, front_of, subst, append_assoc, FitUnits, no_unit_fits, unit_fits, held_length}
+use Rattle.std.proofs.Math.Bool.{or-false}
+use Rattle.cap_io.proofs.Common.{◌≡◌, ℕ, Bool, true, false, ◌&&◌, cond, is_some, ◌⊎◌, inl, inr, ◌<◌, ◌≤◌, List, [], ◌∷◌, ◌++◌, length, take, drop, Option, None, Some, refl, sym, ◌∙◌, ap, arith, append-nil, length-append, length-take-le, take-append-drop, take_at, Captured, Fault, Head, Resolution, Microseconds, Nanoseconds, form_in, header_checks, header_fault, header_in, magic, IsHeader, record_fault, record_size, record_packet, IsRecord, header_fault-append, header_fault-none, header_in-append, IsRecord-front, IsRecord-take, ◌==◌, nat_le, le-leb, u32_in, Little, Big, all_met, frame_checks, is_section, section_type, IsBlock, Section, block_size, packets_in, unit_fault, Declared, Nothing, PcapFile, PcapngFile, IsUnit, a_pcap_header, a_pcap_record, a_first_block, a_block, file_after, is_pcapng, placed_at, AreUnits, no_unit, unit_then, Whole, front_of, subst, append_assoc, FitUnits, no_unit_fits, unit_fits, held_length}
 use Rattle.cap_io.proofs.Fronts.{block_unless, front_of_file, header_unless, record_unless, front_of-header, front_of-record, front_of-pcapng, front_of-following, front_of_block-whole}
 use Rattle.std.proofs.Common.{eqb-true}
 use Rattle.cap_pcap.proofs.Records.{passes}
@@ -11,12 +12,9 @@ use Rattle.cap_pcapng.proofs.Units as block
 -- The four bytes of a section header's type read as no magic number of pcap, in no order.
 not_swapped : (text : List ℕ) (resolution : Resolution) → 4 ≤ length text → u32_in Little text 0 ≡ section_type → u32_in Big text 0 ≡ magic resolution → ⊥
 unfolding number_in
-not_swapped [] resolution enough little big = absurd (omega arith)
-not_swapped (a ∷ []) resolution enough little big = absurd (omega arith)
-not_swapped (a ∷ b ∷ []) resolution enough little big = absurd (omega arith)
-not_swapped (a ∷ b ∷ c ∷ []) resolution enough little big = absurd (omega arith)
 not_swapped (a ∷ b ∷ c ∷ d ∷ text) Microseconds enough little big = absurd (omega (arith, little, big))
 not_swapped (a ∷ b ∷ c ∷ d ∷ text) Nanoseconds enough little big = absurd (omega (arith, little, big))
+not_swapped _ resolution enough little big = absurd (omega arith)
 
 some_form : {X : Type 0} (a b : Bool) (x y : X) → is_some (cond a (Some x) (cond b (Some y) None)) ≡ true → (a ≡ true) ⊎ (b ≡ true)
 some_form true b x y e = inl refl
@@ -43,11 +41,7 @@ pub first-section : (text : List ℕ) → unit_fault None text ≡ None → is_p
 first-section text none =
     let p = block.passes None text none in
     ap (λ (b : Bool). b && is_section text) (le-leb 4 (length text) (omega (arith, p.enough)))
-    ∙ both (is_section text) (all_met (frame_checks None text) p.framed).0
-  where
-    both : (b : Bool) → (b || false) ≡ true → b ≡ true
-    both true e = refl
-    both false e = e
+    ∙ sym (or-false (is_section text)) ∙ (all_met (frame_checks None text) p.framed).0
 
 other-header : (text : List ℕ) → header_fault text ≡ None → is_pcapng text ≡ false
 other-header text none = by_bool (is_pcapng text) refl
@@ -173,7 +167,4 @@ one_unit_fits {room} {size} {b} {d} {u} unit whole fits =
 -- no more of a unit is held than it has
 pub held_length-le : (b c : Declared) (size : ℕ) → held_length b c size ≤ size
 held_length-le Nothing Nothing size = omega arith
-held_length-le Nothing (PcapFile head) size = omega arith
-held_length-le Nothing (PcapngFile first section) size = omega arith
-held_length-le (PcapFile head) c size = omega arith
-held_length-le (PcapngFile first section) c size = omega arith
+held_length-le _ c size = omega arith

@@ -194,11 +194,8 @@ Stays fault = (interfaces : List Described) → fault_among interfaces fault ≡
 body_stays : (kind : BlockType) (order : Order) (body : List ℕ) → AllByRecursion (λ row. Stays row.1) (body_checks kind order body)
 unfolding Stays
 body_stays BlockType.Section order body = (λ i. refl, (λ i. refl, tt))
-body_stays BlockType.Interface order body = (λ i. refl, tt)
-body_stays BlockType.ObsoletePacket order body = (λ i. refl, tt)
-body_stays BlockType.SimplePacket order body = (λ i. refl, tt)
-body_stays BlockType.EnhancedPacket order body = (λ i. refl, tt)
 body_stays BlockType.Other order body = tt
+body_stays _ order body = (λ i. refl, tt)
 
 block_stays : (frame : Frame) (block : List ℕ) (fault : Fault) → first_failing (block_checks frame block) ≡ Some fault → (interfaces : List Described) → fault_among interfaces fault ≡ fault
 unfolding Stays

@@ -21,9 +21,8 @@ after_shorter order text room = rw length-drop (omega arith)
 
 same_by : (ends fits : Bool) (o : CodedValue) (r s e : List (Result CodedValue Fault)) → (ends ≡ false → r ≡ s)
     → cond ends [] (cond fits (Ok o ∷ r) e) ≡ cond ends [] (cond fits (Ok o ∷ s) e)
-same_by true fits o r s e same = refl
 same_by false true o r s e same = ap (λ t. Ok o ∷ t) (same refl)
-same_by false false o r s e same = refl
+same_by _ _ o r s e same = refl
 
 -- it doesn't matter how many options are allowed, where they are enough
 enough : (n m : ℕ) (order : Order) (text : List ℕ) → length text ≤ n → length text ≤ m → options_within n order text ≡ options_within m order text

@@ -30,8 +30,6 @@ awaiting_append mask ms ls heads newest m l i =
 awaiting_keep : (k : ℕ) (mask : ℕ) (ms : List Mark) (ls : List Links) (heads : List ℕ) (newest : ℕ) (m : Mark) → k ≤ 1 → k < length ms
     → IsAwaiting mask ms ls heads newest m → IsAwaiting mask (drop k ms) (drop k ls) heads newest m
 awaiting_keep zero mask ms ls heads newest m upper_bound some a = a
-awaiting_keep (suc (suc k)) mask ms ls heads newest m upper_bound some a = absurd (omega arith)
-awaiting_keep (suc zero) mask [] ls heads newest m upper_bound some a = absurd (omega arith)
 awaiting_keep (suc zero) mask (first ∷ ms) [] heads newest m upper_bound some a = absurd (omega (arith, a.long))
 awaiting_keep (suc zero) mask (first ∷ ms) (l ∷ ls) heads newest m upper_bound some a = record {
   long = omega (arith, a.long);
@@ -39,6 +37,7 @@ awaiting_keep (suc zero) mask (first ∷ ms) (l ∷ ls) heads newest m upper_bou
   there = (let same : suc (length ms - 1) ≡ length (first ∷ ms) - 1 = omega arith in ap (mark_at (first ∷ ms)) same ∙ a.there);
   trees = λ e. dropped (length ms - 1) (omega arith) (a.trees e);
 }
+awaiting_keep _ mask _ ls heads newest m upper_bound some a = absurd (omega arith)
 
 hash_fits : (mask : ℕ) (m : Mark) (heads : List ℕ) → length heads ≡ mask + 1 → hash_of mask m < length heads
 hash_fits mask m heads wide = omega (arith, wide, and_le_r (from_le_bytes w32 (take 4 m.digest)) mask)

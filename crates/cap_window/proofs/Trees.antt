@@ -129,11 +129,7 @@ module _ {mask : ℕ} {ms : List Mark} {start now : List Links} {newest depth pl
   pub placing_end : place < d → place < length now → l.zeros ≡ d → l.ones ≡ d → IsPutOnTop mask ms start (set now place l) newest
   placing_end past within zeros ones =
       p.finish (set now place l) outside_set
-      (λ e agrees. Ends (rw (set_same now place l within) (far (mark_bit e depth))) (ended (p.tree e agrees) past))
-    where
-      far : (bit : Bool) → place < link_by_bit l bit
-      far true = omega arith
-      far false = omega arith
+      (λ e agrees. Ends (rw (set_same now place l within) (elim (mark_bit e depth) as (λ bit. place < link_by_bit l bit) [ true ↦ omega arith | false ↦ omega arith ])) (ended (p.tree e agrees) past))
 
   -- the tree of one bit below the top becomes one below the mark that takes its place, if the top is none of it
   moved : {e : Mark} (done : List Links) (d' : ℕ) → HasTop mask ms now e depth place (place - d) → d ≤ place → place + 1 < 2 ^ 32

@@ -1,5 +1,5 @@
 -- The names that most proofs here cite, passed on from one place. Declares nothing.
-pub use Rattle.std.proofs.Common.{◌≡◌, ℕ, suc, zero, ◌+◌, ◌*◌, ◌/◌, ◌%◌, ◌^◌, ◌<◌, ◌≤◌, List, [], ◌∷◌, ◌++◌, length, refl, arith, Bool, true, false, ◌==◌, cond, lit<, lit≤, append_assoc, pow-suc, sym, subst, Option, Some, None, ap, ◌&&◌, ◌||◌, not, is_some, get_or, take, ◌∙◌, ◌⊎◌, inl, inr, ⊎_elim, drop, count_by, nat_lt, codes, if◌then◌else◌, Ok, append-nil, length-append, ◌-◌, map, Result, Err, replicate}
+pub use Rattle.std.proofs.Common.{◌≡◌, ℕ, suc, zero, ◌+◌, ◌*◌, ◌/◌, ◌%◌, ◌^◌, ◌<◌, ◌≤◌, List, [], ◌∷◌, ◌++◌, length, refl, arith, rules, Bool, true, false, ◌==◌, cond, lit<, lit≤, append_assoc, pow-suc, sym, subst, Option, Some, None, ap, ◌&&◌, ◌||◌, not, is_some, get_or, take, ◌∙◌, ◌⊎◌, inl, inr, ⊎_elim, drop, count_by, nat_lt, codes, if◌then◌else◌, Ok, append-nil, length-append, ◌-◌, map, Result, Err, replicate}
 pub use Rattle.std.proofs.lemmas.Bool.Decides.{nat_tests}
 pub use Rattle.std.proofs.lemmas.Fmt.{digits_is_IsNumeral, decimal_digit, decimal_is_IsNumeral, first_decimal}
 pub use Rattle.std.proofs.lemmas.List.{drop_at, get_or_at, take_at, get_or-append-add, get_or_append_left, length-map, drop_more, length-drop}

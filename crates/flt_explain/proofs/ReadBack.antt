@@ -164,14 +164,12 @@ reread_tokens (truth a) w r = record {
 
 -- the tokens of a number, at any depth of brackets
 number_spelled : (a : NumberTree) (d : ℕ) (rest : List TokenKind) → IsWritableNumber a → AreSpelled d rest → AreSpelled d (number_tokens a rest)
-number_spelled (literal n) d rest w s = (w, tt, s)
-number_spelled len d rest w s = (tt, tt, s)
-number_spelled (named n) d rest w s = (w, tt, s)
 number_spelled (load p z a) d rest w s =
     (tt, tt, (tt, tt, number_spelled a (suc d) _ w.2 (tt, omega arith, (w.1, tt, (tt, omega arith, s)))))
 number_spelled (negated a) d rest w s = (tt, tt, (tt, tt, number_spelled a d _ w (tt, tt, s)))
 number_spelled (applied o a b) d rest w s =
     (tt, tt, number_spelled a d _ w.0 (tt, tt, number_spelled b d _ w.1 (tt, tt, s)))
+number_spelled _ d rest w s = (w, tt, s)
 
 -- of a value, outside brackets
 mask_spelled : (m : NetMask) (rest : List TokenKind) → IsWritableMask m → AreSpelled 0 rest → AreSpelled 0 (mask_tokens m rest)
@@ -182,10 +180,9 @@ mask_spelled (mask.Mask d) rest w s = (tt, tt, (w, tt, s))
 value_spelled : (v : Value) (rest : List TokenKind) → IsWritableValue v → AreSpelled 0 rest → AreSpelled 0 (value_tokens v rest)
 value_spelled (value.Number n m) rest w s = (w.0, tt, mask_spelled m rest w.1 s)
 value_spelled (value.Dotted d m) rest w s = (w.0, tt, mask_spelled m rest w.1 s)
-value_spelled (value.Ip6 a None) rest w s = (w, refl, s)
 value_spelled (value.Ip6 a (Some n)) rest w s = (w.0, refl, (tt, tt, (w.1, tt, s)))
-value_spelled (value.Mac a) rest w s = (w, refl, s)
 value_spelled (value.Range a b) rest w s = (w, tt, s)
+value_spelled _ rest w s = (w, refl, s)
 
 protocol_spelled : (p : Option Protocol) (rest : List TokenKind) → AreSpelled 0 rest → AreSpelled 0 (protocol_tokens p rest)
 protocol_spelled None rest s = s

@@ -4,7 +4,7 @@ use Rattle.flt_words.specs.Spellings.{symbols}
 use Rattle.flt_words.specs.declared.token.Comparison.{Comparison}
 use Rattle.flt_explain.proofs.AddressTokens.{dotted_for, mac_for, ip6_for}
 use Rattle.flt_explain.proofs.WordTokens.{word_token, IsWordFor, keyword_for, name_for, number_for, range_for}
-use Rattle.std.proofs.lemmas.List.Sums.{sum_by-append}
+use Rattle.std.proofs.{Math.Bool.and-false, lemmas.List.Sums.sum_by-append}
 use Rattle.flt_words.specs.Tokens.TokensFrom.{at_end, blank, token as one_more}
 use Rattle.flt_words.specs.declared.token.TokenKind.TheVariants as token
 
@@ -52,13 +52,8 @@ unfolding two_test
 none_two b c either = none_of (look_up symbols (b ∷ c ∷ []))
     (λ kind found. clash (is_end true c) (is_alone b) either (found_passes (λ piece _. two_test piece) symbols (b ∷ c ∷ []) kind all_two found))
 
-and_false : (a b : Bool) → a && (b && false) ≡ false
-and_false true true = refl
-and_false true false = refl
-and_false false b = refl
-
 two_is : (inside : Bool) (b c : ℕ) → symbol_of inside (b ∷ c ∷ []) ≡ look_up symbols (b ∷ c ∷ [])
-two_is inside b c = rw (and_false inside (b == 58)) refl
+two_is inside b c = simp and-false refl
 
 no_two : (inside : Bool) (b : ℕ) (more : List ℕ) → Ends inside more ⊎ (is_alone b ≡ true) → 2 ≤ length (b ∷ more) → symbol_of inside (take 2 (b ∷ more)) ≡ None
 no_two inside b [] stops long = absurd (omega arith)
@@ -162,11 +157,8 @@ inside_is opened closed d h = grind (arith, nat_tests)
 
 gap_is : (t : TokenKind) (rest : List TokenKind) → (gap t rest ≡ []) ⊎ (gap t rest ≡ 32 ∷ [])
 gap_is t [] = inl refl
-gap_is t (u ∷ rest) = which (joins_next t || joins_previous u)
-  where
-    which : (b : Bool) → ((if b then [] else codes " ") ≡ []) ⊎ ((if b then [] else codes " ") ≡ 32 ∷ [])
-    which true = inl refl
-    which false = inr refl
+gap_is t (u ∷ rest) =
+    elim (joins_next t || joins_previous u) as (λ b. ((if b then [] else codes " ") ≡ []) ⊎ ((if b then [] else codes " ") ≡ 32 ∷ [])) [ true ↦ inl refl | false ↦ inr refl ]
 
 gap_none : (c : ℕ) (g : List ℕ) → (g ≡ []) ⊎ (g ≡ 32 ∷ []) → (32 == c) ≡ false → count_by (λ b. b == c) g ≡ 0
 gap_none c g which other = ⊎_elim (λ e. ap (count_by (λ b. b == c)) e) (λ e. ap (count_by (λ b. b == c)) e ∙ rw other refl) which

@@ -1,5 +1,5 @@
 -- Each tree that is read of a text is writable.
-use Rattle.flt_explain.proofs.Common.{◌≡◌, ℕ, ◌^◌, ◌<◌, List, refl, arith, Bool, true, false, Result, Ok, Err, AllByRecursion, list_all, Token, TokenKind, IsDotted, IsIp6, shortened, whole, is_word_sized, PieceMeans, Tokens, TokensFrom, before, symbol_meaning, word_meaning, short, too_long, Spells, fits, keyword, mac, ip6, known, found_passes, kinds_of, IsDottedAddress, has_name, IsSpellable, and_parts, ltb-true, symbol_passes}
+use Rattle.flt_explain.proofs.Common.{◌≡◌, ℕ, ◌^◌, ◌<◌, List, refl, arith, rules, Bool, true, false, Result, Ok, Err, AllByRecursion, list_all, Token, TokenKind, IsDotted, IsIp6, shortened, whole, is_word_sized, PieceMeans, Tokens, TokensFrom, before, symbol_meaning, word_meaning, short, too_long, Spells, fits, keyword, mac, ip6, known, found_passes, kinds_of, IsDottedAddress, has_name, IsSpellable, and_parts, ltb-true, symbol_passes}
 use Rattle.flt_words.specs.Spellings.{keywords, symbols}
 use Rattle.flt_words.specs.Tokens.TokensFrom.{at_end, blank, refused, token as one_more}
 use Rattle.flt_words.specs.Words.Spells.{number, dotted, range}
@@ -27,13 +27,8 @@ all_symbols = refl
 
 from_table : (kind : TokenKind) → table_test kind ≡ true → IsSpellable kind
 unfolding table_test
-from_table (token.Number n) h = cc
 from_table (token.Name n) h = h
-from_table (token.Dotted a p) h = cc
-from_table (token.Range a b) h = cc
-from_table (token.Mac a) h = cc
-from_table (token.Ip6 a) h = cc
-from_table _ h = tt
+from_table _ h = search rules
 
 -- addresses
 dotted_small : {word : List ℕ} {a p : ℕ} → IsDotted word a p → IsDottedAddress a p

@@ -1,16 +1,12 @@
 -- What is read of writable tokens is writable, and stays so as it is resolved.
-use Rattle.flt_explain.proofs.Common.{ℕ, List, Option, Ok, lit<, AllByRecursion, Protocol, Token, TokenKind, ValueType, Tokens, Direction, Qualifiers, NetMask, Value, NumberTree, TruthTree, denied, joined, Expression, empty, truth, latest, with_inherited, complete, only_host, fill_expression, ReadsProtocol, no_protocol, protocol, ReadsDirection, no_direction, one_side, source_first, destination_first, ReadsType, no_type, of_type, ReadsQualifiers, qualifiers, ReadsMask, no_mask, prefix, dotted_mask, ReadsValue, number, dotted, ip6_prefix, range, Number, of_literal, of_len, of_name, enclosed, of_load, of_sized_load, minus, single, chain, Truth, of_check, of_cast, of_protocol_cast, of_sized, of_valued, of_bare, relation, denial, enclosed_truth, term, terms, IsReadAs, no_tokens, all_tokens, kinds_of, IsWritable, IsWritableMask, IsWritableNumber, IsWritableTruth, IsWritableValue, IsSpellable}
+use Rattle.flt_explain.proofs.Common.{ℕ, List, Option, Ok, lit<, AllByRecursion, Protocol, Token, TokenKind, ValueType, Tokens, Direction, Qualifiers, NetMask, Value, NumberTree, TruthTree, denied, joined, Expression, empty, truth, latest, with_inherited, complete, only_host, fill_expression, ReadsProtocol, no_protocol, protocol, ReadsDirection, no_direction, one_side, ReadsType, no_type, of_type, ReadsQualifiers, qualifiers, ReadsMask, no_mask, ReadsValue, number, dotted, ip6_prefix, Number, enclosed, of_load, of_sized_load, minus, single, chain, Truth, of_check, of_cast, of_protocol_cast, of_sized, of_valued, of_bare, relation, denial, enclosed_truth, term, terms, IsReadAs, no_tokens, all_tokens, kinds_of, IsWritable, IsWritableMask, IsWritableNumber, IsWritableTruth, IsWritableValue, IsSpellable}
 use Rattle.flt_explain.proofs.WritableTokens.{all_spellable}
-use Rattle.flt_lang.specs.Values.{ip6, mac}
 
 abbrev All : List TokenKind → Type 0
 All kinds = AllByRecursion IsSpellable kinds
 
 -- a number, and what is left after it
 from_number : {k : ℕ} {ts rest : List TokenKind} {a : NumberTree} → Number k ts a rest → All ts → IsWritableNumber a × All rest
-from_number of_literal s = (s.0, s.1)
-from_number of_len s = (tt, s.1)
-from_number of_name s = (s.0, s.1)
 from_number (enclosed inner) s =
     let read = from_number inner s.1 in
     (read.0, read.1.1)
@@ -26,12 +22,12 @@ from_number (chain left level right) s =
     let first = from_number left s in
     let second = from_number right first.1.1 in
     ((first.0, second.0), second.1)
+from_number _ s = (s.0, s.1)
 
 -- a value
 from_mask : {ts rest : List TokenKind} {m : NetMask} → ReadsMask ts m rest → All ts → IsWritableMask m × All rest
 from_mask no_mask s = (tt, s)
-from_mask prefix s = (s.1.0, s.1.1)
-from_mask dotted_mask s = (s.1.0, s.1.1)
+from_mask _ s = (s.1.0, s.1.1)
 
 from_value : {ts rest : List TokenKind} {v : Value} → ReadsValue ts v rest → All ts → IsWritableValue v × All rest
 from_value (number m) s =
@@ -40,10 +36,8 @@ from_value (number m) s =
 from_value (dotted m) s =
     let read = from_mask m s.1 in
     ((s.0, read.0), read.1)
-from_value ip6 s = (s.0, s.1)
 from_value ip6_prefix s = ((s.0, s.1.1.0), s.1.1.1)
-from_value mac s = (s.0, s.1)
-from_value range s = (s.0, s.1)
+from_value _ s = (s.0, s.1)
 
 past_protocol : {ts rest : List TokenKind} {p : Option Protocol} → ReadsProtocol ts p rest → All ts → All rest
 past_protocol no_protocol s = s
@@ -52,8 +46,7 @@ past_protocol protocol s = s.1
 past_direction : {ts rest : List TokenKind} {d : Option Direction} → ReadsDirection ts d rest → All ts → All rest
 past_direction no_direction s = s
 past_direction one_side s = s.1
-past_direction source_first s = s.1.1.1
-past_direction destination_first s = s.1.1.1
+past_direction _ s = s.1.1.1
 
 past_type : {ts rest : List TokenKind} {k : Option ValueType} → ReadsType ts k rest → All ts → All rest
 past_type no_type s = s

@@ -1,5 +1,5 @@
 -- What the grammar reads, the machine reads.
-use Rattle.flt_lang.proofs.Common.{◌≡◌, ◌≢◌, ℕ, ◌+◌, ◌<◌, ◌≤◌, List, [], ◌∷◌, refl, sym, ap, ◌∙◌, subst, ◌⊎◌, inl, inr, ⊎_elim, arith, Option, Some, None, true, lit≤, Protocol, Operator, Divide, Join, TokenKind, Value, Node, Frame, Operand, NumberTree, literal, TruthTree, bare, Expression, no_mask, prefix, dotted_mask, ReadsValue, number, dotted, ip6, ip6_prefix, mac, range, level, is_accessor, stands_alone, has_casts, Number, of_literal, of_len, of_name, enclosed, of_load, of_sized_load, minus, single, chain, Truth, of_check, of_cast, of_protocol_cast, of_sized, of_valued, of_bare, relation, denial, enclosed_truth, term, terms, IsReadAs, no_tokens, all_tokens, ◌>>=◌, precedence, operand_precedence, token_precedence, next_precedence, as_number, as_truth, as_sort, fill_frame, run, nodes_of_tokens, enclosed_operand, number_with_prefix, next_of, after_operand, IsLoose, number_onto, truth_onto, expr_onto}
+use Rattle.flt_lang.proofs.Common.{◌≡◌, ◌≢◌, ℕ, ◌+◌, ◌<◌, ◌≤◌, List, [], ◌∷◌, refl, sym, ap, ◌∙◌, subst, ◌⊎◌, inl, inr, ⊎_elim, arith, Option, Some, None, true, lit≤, Protocol, Operator, Divide, Join, TokenKind, Value, Node, Frame, Operand, NumberTree, literal, TruthTree, bare, Expression, no_mask, prefix, ReadsValue, number, level, is_accessor, stands_alone, has_casts, Number, of_literal, of_len, of_name, enclosed, of_load, of_sized_load, minus, single, chain, Truth, of_check, of_cast, of_protocol_cast, of_sized, of_valued, of_bare, relation, denial, enclosed_truth, term, terms, IsReadAs, no_tokens, all_tokens, ◌>>=◌, precedence, operand_precedence, token_precedence, next_precedence, as_number, as_truth, as_sort, fill_frame, run, nodes_of_tokens, enclosed_operand, number_with_prefix, next_of, after_operand, IsLoose, number_onto, truth_onto, expr_onto}
 use Rattle.flt_lang.proofs.Reducing.{le_true, le_false, reduce_stays}
 use Rattle.flt_lang.proofs.Valued.{IsNoMask, no_mask_at, plain_runs, value_runs, valued_runs}
 use Rattle.flt_lang.proofs.ValuesBack.{level_small}
@@ -95,9 +95,7 @@ record IsPrefix (o : Operator) (ts : List TokenKind) (x : Operand) : Type 0 wher
 prefix_or_not : (o : Operator) (ts : List TokenKind) (x : Operand) → IsPrefix o ts x ⊎ (number_with_prefix x (token.Operator o ∷ ts) ≡ None)
 prefix_or_not Divide (token.Number m ∷ ts) (operand.Plain n) = inl (record { number = n; len_of = m; rest = ts; divides = refl; tokens = refl; plain = refl })
 prefix_or_not _ _ (operand.Plain n) = inr refl
-prefix_or_not _ _ operand.Truth = inr refl
-prefix_or_not _ _ operand.Number = inr refl
-prefix_or_not _ _ (operand.Either n m) = inr refl
+prefix_or_not _ _ _ = inr refl
 
 -- a unary that begins with a number is that number
 record IsLiteral (m : ℕ) (b : NumberTree) (rest here : List TokenKind) : Type 0 where
@@ -181,12 +179,7 @@ whole_truth runs = record { operand = operand.Truth; nodes = _; runs = runs; val
 reads_bare : {ts rest : List TokenKind} {v : Value} → ReadsValue ts v rest → (fs : List Frame) (d : List Node) → 6 ≤ operand_precedence fs → 6 ≤ next_precedence rest → Reaches Sort.Truth ts fs d (truth_onto (bare v) d) rest
 reads_bare (number {n = n} {rest = rest} no_mask) fs d roomy reaches = record { operand = operand.Plain n; nodes = d; runs = plain_runs n rest fs d (no_mask_at rest (omega arith)); value = refl }
 reads_bare (number {n = n} {rest = rest} (prefix {m = m})) fs d roomy reaches = record { operand = operand.Either n (Some m); nodes = d; runs = prefix_step n m rest fs d (omega arith); value = refl }
-reads_bare (number dotted_mask) fs d roomy reaches = whole_truth (value_runs (number dotted_mask) refl fs d reaches)
-reads_bare (dotted m) fs d roomy reaches = whole_truth (value_runs (dotted m) refl fs d reaches)
-reads_bare ip6 fs d roomy reaches = whole_truth (value_runs ip6 refl fs d reaches)
-reads_bare ip6_prefix fs d roomy reaches = whole_truth (value_runs ip6_prefix refl fs d reaches)
-reads_bare mac fs d roomy reaches = whole_truth (value_runs mac refl fs d reaches)
-reads_bare range fs d roomy reaches = whole_truth (value_runs range refl fs d reaches)
+reads_bare v fs d roomy reaches = whole_truth (value_runs v refl fs d reaches)
 
 reads_truth : {k : ℕ} {ts rest : List TokenKind} {a : TruthTree} → Truth k ts a rest → (fs : List Frame) (d : List Node) → k + 6 ≤ operand_precedence fs → k + 6 ≤ next_precedence rest → Reaches Sort.Truth ts fs d (truth_onto a d) rest
 reads_truth (of_check {p = p} {rest = rest} is) fs d roomy reaches = whole_truth (check_runs p rest fs d is reaches)

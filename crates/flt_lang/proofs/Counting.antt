@@ -1,5 +1,5 @@
 -- Counts over the nodes are counts over the tree; and a division by 0 stands right after the 0.
-use Rattle.flt_lang.proofs.Common.{◌≡◌, ℕ, ◌+◌, ◌≤◌, List, [], ◌∷◌, refl, sym, ap, ◌∙◌, arith, sum_by, fold, max, lit≤, Node, NumberTree, literal, len, named, load, negated, applied, TruthTree, check, cast, sized, bare, valued, qualified, compared, denied, joined, Expression, empty, truth, number_nodes, truth_nodes, expr_nodes, tree_of, IsTree, number_tests, truth_tests, tests_of, number_size, truth_size, nodes_of, number_words, truth_words, words_of, node_tests, node_size, climb, Bool, false, ◌||◌, any_primitive, some_primitive, some_zero_divisor}
+use Rattle.flt_lang.proofs.Common.{◌≡◌, ℕ, ◌+◌, ◌≤◌, List, [], ◌∷◌, refl, sym, ap, ◌∙◌, arith, sum_by, fold, max, lit≤, Node, NumberTree, load, negated, applied, TruthTree, compared, denied, joined, Expression, empty, truth, number_nodes, truth_nodes, expr_nodes, tree_of, IsTree, number_tests, truth_tests, tests_of, number_size, truth_size, nodes_of, number_words, truth_words, words_of, node_tests, node_size, climb, Bool, false, ◌||◌, any_primitive, some_primitive, some_zero_divisor}
 use Rattle.std.proofs.{Math.Bool.or_assoc, Math.Bool.or-false, lemmas.List.Sums.sum_by-cons}
 use Rattle.flt_ast.specs.Checks.{is_zero, has_zero_divisor, divides_by_zero}
 use Rattle.flt_ast.specs.declared.node.Node.TheVariants as node
@@ -8,20 +8,13 @@ sum_number_tests : (a : NumberTree) (rest : List Node) → sum_by node_tests (nu
 sum_number_tests (load p s a) rest = omega (arith, sum_number_tests a (node.Load p s ∷ rest), sum_by-cons node_tests (node.Load p s) rest)
 sum_number_tests (negated a) rest = omega (arith, sum_number_tests a (node.Negate ∷ rest), sum_by-cons node_tests node.Negate rest)
 sum_number_tests (applied o a b) rest = omega (arith, sum_number_tests a (number_nodes b (node.Apply o ∷ rest)), sum_number_tests b (node.Apply o ∷ rest), sum_by-cons node_tests (node.Apply o) rest)
-sum_number_tests (literal n) rest = sum_by-cons node_tests (node.Literal n) rest
-sum_number_tests len rest = sum_by-cons node_tests node.Len rest
-sum_number_tests (named n) rest = sum_by-cons node_tests (node.Named n) rest
+sum_number_tests _ rest = rw sum_by-cons (omega arith)
 
 sum_truth_tests : (a : TruthTree) (rest : List Node) → sum_by node_tests (truth_nodes a rest) ≡ truth_tests a + sum_by node_tests rest
 sum_truth_tests (compared c a b) rest = omega (arith, sum_number_tests a (number_nodes b (node.Compare c ∷ rest)), sum_number_tests b (node.Compare c ∷ rest), sum_by-cons node_tests (node.Compare c) rest)
 sum_truth_tests (denied a) rest = omega (arith, sum_truth_tests a (node.Not ∷ rest), sum_by-cons node_tests node.Not rest)
 sum_truth_tests (joined j a b) rest = omega (arith, sum_truth_tests a (truth_nodes b (node.Join j ∷ rest)), sum_truth_tests b (node.Join j ∷ rest), sum_by-cons node_tests (node.Join j) rest)
-sum_truth_tests (check p) rest = sum_by-cons node_tests (node.Check p) rest
-sum_truth_tests (cast p c) rest = sum_by-cons node_tests (node.Cast p c) rest
-sum_truth_tests (sized z n) rest = sum_by-cons node_tests (node.Sized z n) rest
-sum_truth_tests (bare v) rest = sum_by-cons node_tests (node.Bare v) rest
-sum_truth_tests (valued q v) rest = sum_by-cons node_tests (node.Valued q v) rest
-sum_truth_tests (qualified q v) rest = sum_by-cons node_tests (node.Qualified q v) rest
+sum_truth_tests _ rest = rw sum_by-cons (omega arith)
 
 sum_expr_tests : (e : Expression) → sum_by node_tests (expr_nodes e) ≡ tests_of e
 sum_expr_tests empty = refl
@@ -34,20 +27,13 @@ sum_number_sizes : (a : NumberTree) (rest : List Node) → sum_by node_size (num
 sum_number_sizes (load p s a) rest = omega (arith, sum_number_sizes a (node.Load p s ∷ rest), sum_by-cons node_size (node.Load p s) rest)
 sum_number_sizes (negated a) rest = omega (arith, sum_number_sizes a (node.Negate ∷ rest), sum_by-cons node_size node.Negate rest)
 sum_number_sizes (applied o a b) rest = omega (arith, sum_number_sizes a (number_nodes b (node.Apply o ∷ rest)), sum_number_sizes b (node.Apply o ∷ rest), sum_by-cons node_size (node.Apply o) rest)
-sum_number_sizes (literal n) rest = sum_by-cons node_size (node.Literal n) rest
-sum_number_sizes len rest = sum_by-cons node_size node.Len rest
-sum_number_sizes (named n) rest = sum_by-cons node_size (node.Named n) rest
+sum_number_sizes _ rest = rw sum_by-cons (omega arith)
 
 sum_truth_sizes : (a : TruthTree) (rest : List Node) → sum_by node_size (truth_nodes a rest) ≡ truth_size a + sum_by node_size rest
 sum_truth_sizes (compared c a b) rest = omega (arith, sum_number_sizes a (number_nodes b (node.Compare c ∷ rest)), sum_number_sizes b (node.Compare c ∷ rest), sum_by-cons node_size (node.Compare c) rest)
 sum_truth_sizes (denied a) rest = omega (arith, sum_truth_sizes a (node.Not ∷ rest), sum_by-cons node_size node.Not rest)
 sum_truth_sizes (joined j a b) rest = omega (arith, sum_truth_sizes a (truth_nodes b (node.Join j ∷ rest)), sum_truth_sizes b (node.Join j ∷ rest), sum_by-cons node_size (node.Join j) rest)
-sum_truth_sizes (check p) rest = sum_by-cons node_size (node.Check p) rest
-sum_truth_sizes (cast p c) rest = sum_by-cons node_size (node.Cast p c) rest
-sum_truth_sizes (sized z n) rest = sum_by-cons node_size (node.Sized z n) rest
-sum_truth_sizes (bare v) rest = sum_by-cons node_size (node.Bare v) rest
-sum_truth_sizes (valued q v) rest = sum_by-cons node_size (node.Valued q v) rest
-sum_truth_sizes (qualified q v) rest = sum_by-cons node_size (node.Qualified q v) rest
+sum_truth_sizes _ rest = rw sum_by-cons (omega arith)
 
 sum_expr_sizes : (e : Expression) → sum_by node_size (expr_nodes e) ≡ nodes_of e
 sum_expr_sizes empty = refl

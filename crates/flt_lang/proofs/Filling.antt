@@ -1,6 +1,6 @@
 -- A fault of some node is a fault of some primitive; and the nodes and faults of a tree whose
 -- values inherit, and of one that is completed.
-use Rattle.flt_lang.proofs.Common.{◌≡◌, ℕ, List, [], ◌∷◌, refl, sym, ap, ◌∙◌, Bool, true, false, not, ◌||◌, list_any, Protocol, Operator, Node, NumberTree, literal, len, named, load, negated, applied, TruthTree, check, cast, sized, bare, valued, qualified, compared, denied, joined, Expression, empty, truth, number_nodes, truth_nodes, expr_nodes, is_size, has_wrong_size, is_misfit, is_out_of_range, has_bits_past_mask, any_primitive, some_primitive, tree_fault, is_misfit_node, is_out_of_range_node, has_bits_past_mask_node, nodes_fault, map, Qualifiers, tree_of, tree_back, IsTree, latest, with_inherited, complete, only_host, expr_inherited, fill_expression, completed_node, inherited_nodes, ◌&&◌, is_some, Option, Some, None, unwrap_or, Direction, Value, fit_of, is_misfit_fit, is_proto, is_either, type_or_host, completed_qualifiers, is_unfilled, first_fault, fill_fault, IsResolved, or_parts, or_from, Join}
+use Rattle.flt_lang.proofs.Common.{◌≡◌, ℕ, List, [], ◌∷◌, refl, sym, ap, ◌∙◌, Bool, true, false, not, ◌||◌, list_any, Protocol, Operator, Node, NumberTree, literal, len, named, load, negated, applied, TruthTree, valued, qualified, compared, denied, joined, Expression, empty, truth, number_nodes, truth_nodes, expr_nodes, is_size, has_wrong_size, is_misfit, is_out_of_range, has_bits_past_mask, any_primitive, some_primitive, tree_fault, is_misfit_node, is_out_of_range_node, has_bits_past_mask_node, nodes_fault, map, Qualifiers, tree_of, tree_back, IsTree, latest, with_inherited, complete, only_host, expr_inherited, fill_expression, completed_node, inherited_nodes, ◌&&◌, is_some, Option, Some, None, unwrap_or, Direction, Value, fit_of, is_misfit_fit, is_proto, is_either, type_or_host, completed_qualifiers, is_unfilled, first_fault, fill_fault, IsResolved, or_parts, or_from, Join}
 use Rattle.std.proofs.Math.Bool.{or_assoc, or-false}
 use Rattle.flt_ast.specs.declared.node.Node.TheVariants as node
 use Rattle.flt_ast.specs.declared.qualifiers.Direction.TheVariants as direction
@@ -18,16 +18,10 @@ record Agrees (g : Node → Bool) (f : TruthTree → Bool) : Type 0 where
   joins : (j : Join) → g (node.Join j) ≡ false
 
 any_nodes : (g : Node → Bool) (f : TruthTree → Bool) → Agrees g f → (a : TruthTree) (rest : List Node) → list_any g (truth_nodes a rest) ≡ (any_primitive f a || list_any g rest)
-any_nodes g f s (check p) rest = s.primitives (check p) rest refl
-any_nodes g f s (cast p c) rest = s.primitives (cast p c) rest refl
-any_nodes g f s (sized z n) rest = s.primitives (sized z n) rest refl
-any_nodes g f s (bare v) rest = s.primitives (bare v) rest refl
-any_nodes g f s (valued q v) rest = s.primitives (valued q v) rest refl
-any_nodes g f s (qualified q v) rest = s.primitives (qualified q v) rest refl
-any_nodes g f s (compared c a b) rest = s.primitives (compared c a b) rest refl
 any_nodes g f s (denied a) rest = any_nodes g f s a (node.Not ∷ rest) ∙ rw s.denials refl
 any_nodes g f s (joined j a b) rest =
     any_nodes g f s a (truth_nodes b (node.Join j ∷ rest)) ∙ ap (λ r. any_primitive f a || r) (any_nodes g f s b (node.Join j ∷ rest) ∙ rw (s.joins j) refl) ∙ sym (or_assoc (any_primitive f a) (any_primitive f b) (list_any g rest))
+any_nodes g f s a rest = s.primitives a rest refl
 
 some_node : (g : Node → Bool) (f : TruthTree → Bool) → Agrees g f → (e : Expression) → list_any g (expr_nodes e) ≡ some_primitive f e
 some_node g f s empty = refl

@@ -162,9 +162,7 @@ go_on_sound (token.Operator Divide) (token.Number m ∷ ts) fs (operand.Plain n)
     go true roomy h = begun (token.Number m ∷ ts) start (1, (fs, Some (operand.Either n (Some m)), d)) r (prefix_sound n m ts fs d start (leb-true _ _ roomy) b) h
     go false tight h = next_sound (token.Operator Divide) (token.Number m ∷ ts) fs (operand.Plain n) d start r b h
 go_on_sound t ts fs (operand.Plain n) d start r b h = next_sound t ts fs (operand.Plain n) d start r b h
-go_on_sound t ts fs operand.Truth d start r b h = next_sound t ts fs operand.Truth d start r b h
-go_on_sound t ts fs operand.Number d start r b h = next_sound t ts fs operand.Number d start r b h
-go_on_sound t ts fs (operand.Either n m) d start r b h = next_sound t ts fs (operand.Either n m) d start r b h
+go_on_sound t ts fs x d start r b h = next_sound t ts fs x d start r b h
 
 -- the tokens are read as a tree with these nodes
 abbrev pub Found : List TokenKind → List Node → Type 0

@@ -1,6 +1,6 @@
 -- A value, with what stands before it or with nothing, as tokens and as the machine reads it. A
 -- number alone waits, since it may be arithmetic.
-use Rattle.flt_lang.proofs.Common.{◌≡◌, ℕ, suc, zero, ◌+◌, ◌-◌, ◌<◌, ◌≤◌, List, [], ◌∷◌, length, drop, refl, sym, ap, ◌∙◌, subst, arith, is_some, ◌||◌, Option, Some, None, Bool, true, false, drop-drop, Protocol, Divide, Side, Source, Destination, ValueType, TokenKind, Direction, Qualifiers, NetMask, Value, Node, Frame, Operand, ReadsProtocol, no_protocol, protocol, ReadsDirection, no_direction, one_side, source_first, destination_first, ReadsType, no_type, of_type, ReadsQualifiers, qualifiers, is_written, ReadsMask, no_mask, prefix, dotted_mask, ReadsValue, number, dotted, ip6, ip6_prefix, mac, range, starts_value, protocol_of, direction_of, type_of, qualifiers_of, mask_of, value_of, ◌>>=◌, next_precedence, State, begin, run, valued_of, valued_or, primitive, with_frames, bare_of}
+use Rattle.flt_lang.proofs.Common.{◌≡◌, ℕ, suc, zero, ◌+◌, ◌-◌, ◌<◌, ◌≤◌, List, [], ◌∷◌, length, drop, refl, sym, ap, ◌∙◌, arith, is_some, ◌||◌, Option, Some, None, Bool, true, false, drop-drop, Protocol, Divide, Side, Source, Destination, ValueType, TokenKind, Direction, Qualifiers, NetMask, Value, Node, Frame, Operand, ReadsProtocol, no_protocol, protocol, ReadsDirection, no_direction, one_side, source_first, destination_first, ReadsType, no_type, of_type, ReadsQualifiers, qualifiers, is_written, ReadsMask, no_mask, prefix, dotted_mask, ReadsValue, number, dotted, ip6, ip6_prefix, mac, range, starts_value, protocol_of, direction_of, type_of, qualifiers_of, mask_of, value_of, ◌>>=◌, next_precedence, State, begin, run, valued_of, valued_or, primitive, with_frames, bare_of}
 use Rattle.flt_lang.proofs.ValuesBack.{carried, type_back, direction_back, qualifiers_back, ends_protocol, value_back}
 use Rattle.flt_words.specs.declared.token.TokenKind.TheVariants as token
 use Rattle.flt_ast.specs.declared.value.Value.TheVariants as value
@@ -27,7 +27,6 @@ protocol_suffix protocol = record { used = 1; drops = refl; long = omega arith }
 direction_suffix : {ts rest : List TokenKind} {d : Option Direction} → ReadsDirection ts d rest → IsSuffix ts rest
 direction_suffix no_direction = record { used = 0; drops = refl; long = omega arith }
 direction_suffix one_side = record { used = 1; drops = refl; long = omega arith }
-direction_suffix source_first = record { used = 3; drops = refl; long = omega arith }
 direction_suffix _ = record { used = 3; drops = refl; long = omega arith }
 
 type_suffix : {ts rest : List TokenKind} {k : Option ValueType} → ReadsType ts k rest → IsSuffix ts rest
@@ -36,7 +35,6 @@ type_suffix of_type = record { used = 1; drops = refl; long = omega arith }
 
 mask_suffix : {ts rest : List TokenKind} {m : NetMask} → ReadsMask ts m rest → IsSuffix ts rest
 mask_suffix no_mask = record { used = 0; drops = refl; long = omega arith }
-mask_suffix prefix = record { used = 2; drops = refl; long = omega arith }
 mask_suffix _ = record { used = 2; drops = refl; long = omega arith }
 
 one_more : {t : TokenKind} {ts rest : List TokenKind} → IsSuffix ts rest → IsSuffix (t ∷ ts) rest
@@ -66,9 +64,7 @@ front : {ts mid : List TokenKind} {q : Qualifiers} → ReadsQualifiers ts q mid 
 front (qualifiers protocol d k) w h = (direction_back d (type_back k h).1).1
 front (qualifiers no_protocol no_direction no_type) w h = cc
 front (qualifiers no_protocol no_direction of_type) w h = refl
-front (qualifiers no_protocol one_side k) w h = refl
-front (qualifiers no_protocol source_first k) w h = refl
-front (qualifiers no_protocol destination_first k) w h = refl
+front (qualifiers no_protocol _ k) w h = refl
 
 begin_with_protocol : (p : Protocol) (ts : List TokenKind) (fs : List Frame) (d : List Node) → ends_protocol ts ≡ true → begin (token.Protocol p ∷ ts) fs d ≡ with_frames fs (primitive (token.Protocol p ∷ ts) d)
 begin_with_protocol p (token.OpenBracket ∷ ts) fs d h = cc
@@ -77,14 +73,11 @@ begin_with_protocol p _ fs d h = refl
 
 begin_front : (ts : List TokenKind) (fs : List Frame) (d : List Node) → is_front ts ≡ true → begin ts fs d ≡ with_frames fs (primitive ts d)
 begin_front (token.Protocol p ∷ ts) fs d h = begin_with_protocol p ts fs d h
-begin_front (token.Side s ∷ ts) fs d h = refl
-begin_front (token.ValueType k ∷ ts) fs d h = refl
 begin_front _ fs d h = cc
 
 pub run_skip : (ts : List TokenKind) (k : ℕ) (fs : List Frame) (x : Option Operand) (d : List Node) → run ts k fs x d ≡ run (drop k ts) 0 fs x d
-run_skip [] zero fs x d = refl
+run_skip _ zero fs x d = refl
 run_skip [] (suc k) fs x d = refl
-run_skip (t ∷ ts) zero fs x d = refl
 run_skip (t ∷ ts) (suc k) fs x d = run_skip ts k fs x d
 
 pub run_begins : (ts : List TokenKind) (fs : List Frame) (d : List Node) (k : ℕ) (s : State) → 0 < length ts → begin ts fs d ≡ Some (k, s) → run ts 0 fs None d ≡ run (drop (suc k) ts) 0 s.0 s.1 s.2
@@ -96,18 +89,23 @@ value_some (number m) = omega (arith, (mask_suffix m).long)
 value_some (dotted m) = omega (arith, (mask_suffix m).long)
 value_some _ = omega arith
 
+whole_some : {ts mid rest : List TokenKind} {q : Qualifiers} {v : Value} → ReadsQualifiers ts q mid → ReadsValue mid v rest → length rest < length ts
+whole_some qs vs = omega (arith, (qualifiers_suffix qs).long, value_some vs)
+
+used_is : {ts rest : List TokenKind} (s : IsSuffix ts rest) → length rest < length ts → suc (length ts - length rest - 1) ≡ s.used
+used_is s shorter = omega (arith, s.long, shorter)
+
+-- what begins with all that stands before the rest goes on there
+runs_past : {ts rest : List TokenKind} → IsSuffix ts rest → length rest < length ts → (fs : List Frame) (d e : List Node) (x : Option Operand) → begin ts fs d ≡ Some (length ts - length rest - 1, (fs, x, e)) → run ts 0 fs None d ≡ run rest 0 fs x e
+runs_past {ts} {rest} s shorter fs d e x begun = run_begins ts fs d _ _ (omega (arith, shorter)) begun ∙ rw (used_is s shorter, s.drops) refl
+
 pub valued_runs : {ts mid rest : List TokenKind} {q : Qualifiers} {v : Value} → ReadsQualifiers ts q mid → is_written q ≡ true → ReadsValue mid v rest → (fs : List Frame) (d : List Node) → 6 ≤ next_precedence rest → run ts 0 fs None d ≡ run rest 0 fs (Some operand.Truth) (node.Valued q v ∷ d)
 valued_runs {ts = ts} {mid = mid} {rest = rest} {q = q} {v = v} qs w vs fs d h =
     let value_is = value_back vs h in
     let qualifiers_are = qualifiers_back qs value_is.1 in
     let found : valued_of ts ≡ Some (q, v, length ts - length rest - 1) = ap (λ r. value_of r.1 >>= λ x. Some (r.0, x.0, length ts - length x.1 - 1)) qualifiers_are ∙ ap (λ o. o >>= λ x. Some (q, x.0, length ts - length x.1 - 1)) value_is.0 in
     let begun : begin ts fs d ≡ Some (length ts - length rest - 1, (fs, Some operand.Truth, node.Valued q v ∷ d)) = begin_front ts fs d (front qs w value_is.1) ∙ ap (λ o. with_frames fs (valued_or o ts d)) found in
-    let suffix = whole_suffix qs vs in
-    let front_suffix = qualifiers_suffix qs in
-    let shorter = value_some vs in
-    let some : 0 < length ts = omega (arith, front_suffix.long, shorter) in
-    let index : suc (length ts - length rest - 1) ≡ suffix.used = omega (arith, suffix.long, front_suffix.long, shorter) in
-    run_begins ts fs d _ _ some begun ∙ rw (index, suffix.drops) refl
+    runs_past (whole_suffix qs vs) (whole_some qs vs) fs d _ _ begun
 
 protocol_sound : (ts : List TokenKind) → ReadsProtocol ts (protocol_of ts).0 (protocol_of ts).1
 protocol_sound (token.Protocol p ∷ ts) = protocol
@@ -157,10 +155,7 @@ side_written s ts = ap (λ b. b || is_some (type_of (direction_of (token.Side s 
 pub left_after : (t : TokenKind) (ts mid rest : List TokenKind) (q : Qualifiers) (v : Value) → ReadsQualifiers (t ∷ ts) q mid → ReadsValue mid v rest → drop (length (t ∷ ts) - length rest - 1) ts ≡ rest
 left_after t ts mid rest q v qs vs =
     let suffix = whole_suffix qs vs in
-    let front_suffix = qualifiers_suffix qs in
-    let shorter = value_some vs in
-    let index : suc (length (t ∷ ts) - length rest - 1) ≡ suffix.used = omega (arith, suffix.long, front_suffix.long, shorter) in
-    ap (λ k. drop k (t ∷ ts)) index ∙ suffix.drops
+    ap (λ k. drop k (t ∷ ts)) (used_is suffix (whole_some qs vs)) ∙ suffix.drops
 
 -- a value with nothing before it
 -- the tokens where a value is read at once
@@ -174,10 +169,6 @@ is_value_front _ = false
 
 begin_value : (ts : List TokenKind) (fs : List Frame) (d : List Node) → is_value_front ts ≡ true → begin ts fs d ≡ with_frames fs (bare_of ts d)
 begin_value (token.Number n ∷ token.Mask ∷ token.Dotted a p ∷ ts) fs d h = refl
-begin_value (token.Dotted a p ∷ ts) fs d h = refl
-begin_value (token.Ip6 a ∷ ts) fs d h = refl
-begin_value (token.Mac a ∷ ts) fs d h = refl
-begin_value (token.Range a b ∷ ts) fs d h = refl
 begin_value _ fs d h = cc
 
 -- such a value is read
@@ -185,11 +176,7 @@ pub value_runs : {ts rest : List TokenKind} {v : Value} → ReadsValue ts v rest
 value_runs {ts = ts} {rest = rest} {v = v} vs is fs d h =
     let found : bare_of ts d ≡ Some (length ts - length rest - 1, Some operand.Truth, node.Bare v ∷ d) = ap (λ o. o >>= λ r. Some (length ts - length r.1 - 1, Some operand.Truth, node.Bare r.0 ∷ d)) (value_back vs h).0 in
     let begun : begin ts fs d ≡ Some (length ts - length rest - 1, (fs, Some operand.Truth, node.Bare v ∷ d)) = begin_value ts fs d is ∙ ap (λ o. with_frames fs o) found in
-    let suffix = value_suffix vs in
-    let shorter = value_some vs in
-    let some : 0 < length ts = omega (arith, suffix.long, shorter) in
-    let index : suc (length ts - length rest - 1) ≡ suffix.used = omega (arith, suffix.long, shorter) in
-    run_begins ts fs d _ _ some begun ∙ rw (index, suffix.drops) refl
+    runs_past (value_suffix vs) (value_some vs) fs d _ _ begun
 
 -- no mask stands here
 abbrev pub IsNoMask : List TokenKind → Type 0
@@ -209,6 +196,4 @@ plain_runs n _ fs d h = refl
 pub value_left : (t : TokenKind) (ts rest : List TokenKind) (v : Value) → ReadsValue (t ∷ ts) v rest → drop (length (t ∷ ts) - length rest - 1) ts ≡ rest
 value_left t ts rest v vs =
     let suffix = value_suffix vs in
-    let shorter = value_some vs in
-    let index : suc (length (t ∷ ts) - length rest - 1) ≡ suffix.used = omega (arith, suffix.long, shorter) in
-    ap (λ k. drop k (t ∷ ts)) index ∙ suffix.drops
+    ap (λ k. drop k (t ∷ ts)) (used_is suffix (value_some vs)) ∙ suffix.drops

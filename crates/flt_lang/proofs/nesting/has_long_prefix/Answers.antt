@@ -1,5 +1,5 @@
 -- A long prefix begins at some token, or at none.
-use Rattle.flt_lang.proofs.Common.{◌≡◌, arith, refl, below_more, drop, length, sym, ◌∙◌, true, false, false≢true, length-drop, take_rest, BeginsWithLongPrefix}
+use Rattle.flt_lang.proofs.Common.{arith, refl, below_more, drop, sym, ◌∙◌, false≢true, length-drop, take_rest, BeginsWithLongPrefix}
 use Rattle.flt_lang.proofs.nesting.has_long_prefix.Goals as goal
 
 pub returns-then-begins_with_long_prefix : goal.returns-then-begins_with_long_prefix
