@@ -350,21 +350,11 @@ impl<A: Allocator> Code<A> {
         let found = self.emit_decision(MOST_DECISIONS, link, side, 3, cases, to)?;
         let other = self.emit_tests(false, &destination[..3], Targets { yes: found, no })?;
         let asked = self.emit_tests(false, &destination, Targets { yes, no: yes })?;
-        let first = self.emit_tests(false, &source[3..], Targets { yes, no: asked })?;
-        let to = Targets {
-            yes: first,
-            no: other,
-        };
+        let yes = self.emit_tests(false, &source[3..], Targets { yes, no: asked })?;
         let side = Direction::One(Side::Source);
-        let found = self.emit_decision(MOST_DECISIONS, link, side, 3, cases, to)?;
-        self.emit_tests(
-            false,
-            &source[..3],
-            Targets {
-                yes: found,
-                no: other,
-            },
-        )
+        let to = Targets { yes, no: other };
+        let yes = self.emit_decision(MOST_DECISIONS, link, side, 3, cases, to)?;
+        self.emit_tests(false, &source[..3], Targets { yes, no: other })
     }
 
     /// Emits cases with the words of one; `key` is that of the first in the expression.

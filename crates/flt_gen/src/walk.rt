@@ -23,7 +23,7 @@ ghost use Rattle.std.specs.Prelude.{◌≡◌, true, Some, None, if◌then◌els
 ghost use Rattle.flt_gen.specs.inside.Walk.{start_walk, insns_of, emit_nodes, emit_both_nodes};
 ghost use Rattle.flt_gen.specs.inside.Walk.{emit_load_at, emit_operator_with, emit_comparison_with};
 ghost use Rattle.flt_gen.specs.inside.Walk.{emit_node, emit_join, emit_entry, emit_truth_node};
-ghost use Rattle.flt_gen.specs.inside.Walk.{emit_apart, is_truth_node, begin_right, flush_group};
+ghost use Rattle.flt_gen.specs.inside.Walk.{emit_apart, is_truth_node, begin_left, begin_right, flush_group};
 ghost use Rattle.flt_gen.specs.inside.Walk.{finish_formula, finish_truth, is_number_node};
 ghost use Rattle.flt_gen.specs.inside.Walk.{emit_leaf, begin_operands, finish_number};
 ghost use Rattle.flt_gen.specs.inside.{Code.block, Walk.finish_relation, Group.entry_formula};
@@ -239,8 +239,7 @@ impl<A: Allocator + Clone> Walk<A> {
             }
             Join::And => {
                 self.flush_group(link)?;
-                let to = self.to;
-                self.truths.push(LeftTruth { join, to })
+                self.begin_left(Join::And)
             }
         }
     }
@@ -327,11 +326,18 @@ impl<A: Allocator + Clone> Walk<A> {
         match self.pending {
             Pending::Nothing => Ok(()),
             Pending::Or => {
-                let to = self.to;
                 self.pending = Pending::Nothing;
-                self.truths.push(LeftTruth { join: Join::Or, to })
+                self.begin_left(Join::Or)
             }
         }
+    }
+
+    /// The left operand waits for the right one of a join, which is next.
+    fn begin_left(&mut self, join: Join) -> Result<(), AllocError>
+        ensures { OnOk result (self.new ≡ begin_left join self.old) }
+    {
+        let to = self.to;
+        self.truths.push(LeftTruth { join, to })
     }
 
     /// Emits the code of the group that waits, if it has members: another operand of an `or` stands
@@ -346,8 +352,7 @@ impl<A: Allocator + Clone> Walk<A> {
             self.group.clear();
             return Ok(());
         }
-        let to = self.to;
-        self.truths.push(LeftTruth { join: Join::Or, to })?;
+        self.begin_left(Join::Or)?;
         self.emit_group(link)
     }
 

@@ -1,6 +1,6 @@
 -- A decision by its parts.
-use Rattle.flt_gen.proofs.Common.{◌≡◌, ◌+◌, ◌-◌, ◌∙◌, take, drop, take_rest, sym, ap, subst, arith, true, false, Formula, Block}
-use Rattle.flt_gen.proofs.Decision.{decision_chain, decision_untold, decision_last, decision_both, decision_halves}
+use Rattle.flt_gen.proofs.Common.{◌≡◌, ◌+◌, ◌-◌, ◌∙◌, take, drop, take_rest, sym, ap, subst, arith, None, true, false, Formula, Block}
+use Rattle.flt_gen.proofs.Decision.{decision_chain, decision_same, decision_told, decision_halves}
 use Rattle.std.specs.Prelude.{is_none}
 use Rattle.std.proofs.Common.{rules, inl, inr}
 use Rattle.flt_gen.specs.{Formula.Split, declared.cases.Bound.TheVariants.Exactly}
@@ -31,7 +31,7 @@ returns-in_default g t c =
     let no = c.if-most-eq0.false in
     let lots = c.if-cases-le-FEW_CASES.false in
     ap (λ (x : Formula). emit_formula a.link x a.to.yes a.to.no a.self.now)
-    (sym (decision_untold a.most by a.word a.cases.now (omega arith) (omega arith) (sym c.in_default.is ∙ c.test_at-test.ensures)
+    (sym (decision_same a.most by a.word a.cases.now (omega arith) (omega arith) None (sym c.in_default.is ∙ c.test_at-test.ensures)
     (sym c.if-all_keep.true ∙ c.all_keep.ensures ∙ ap (λ n. all_keep by a.word (Exactly n) a.cases.now) (c.lowest.ensures ∙ ap lowest c.in_default.is))))
 
 pub returns-then-is_none : goal.returns-then-is_none
@@ -43,7 +43,7 @@ returns-then-is_none g t c =
     let lots = c.if-cases-le-FEW_CASES.false in
     let last : is_none (test_at by (a.word + 1) a.cases.now 0) ≡ true = search rules in
     subst (λ (x : Formula). Emits r.result (emit_formula a.link x a.to.yes a.to.no a.self.now) r.new.self)
-    (decision_last a.most by a.word a.cases.now (omega arith) (omega arith) c.in-Some.test (sym c.in-Some.is ∙ c.test_at-test.ensures) last
+    (decision_told a.most by a.word a.cases.now (omega arith) (omega arith) c.in-Some.test true (sym c.in-Some.is ∙ c.test_at-test.ensures) last
     (sym c.if-all_keep.true ∙ c.all_keep.ensures ∙ ap (λ n. all_keep by a.word (Exactly n) a.cases.now) (c.lowest.ensures ∙ ap lowest c.in-Some.is)))
     r.ensures
 
@@ -57,7 +57,7 @@ returns-then-all_keep g t c =
     let more : is_none (test_at by (a.word + 1) a.cases.now 0) ≡ false = search rules in
     subst (λ (e : Block). Emits r.result e r.new.self)
     (sym (ap (λ (x : Formula). emit_formula a.link x a.to.yes a.to.no a.self.now)
-    (sym (decision_both a.most by a.word a.cases.now (omega arith) (omega arith) c.in-Some.test (sym c.in-Some.is ∙ c.test_at-test.ensures) more
+    (sym (decision_told a.most by a.word a.cases.now (omega arith) (omega arith) c.in-Some.test false (sym c.in-Some.is ∙ c.test_at-test.ensures) more
     (sym c.if-all_keep.true ∙ c.all_keep.ensures ∙ ap (λ n. all_keep by a.word (Exactly n) a.cases.now) (c.lowest.ensures ∙ ap lowest c.in-Some.is))))
     ∙ ap (λ (e : Block). emit_elementary c.in-Some.test e.entry a.to.no e.code) c.in_ok-yes.ensures))
     r.ensures
