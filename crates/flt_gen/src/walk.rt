@@ -252,7 +252,7 @@ impl<A: Allocator + Clone> Walk<A> {
         ensures { OnOk result (self.new ≡ emit_entry link entry self.old
             (larger_group entry self.old.group)) }
     {
-        if self.group.add(entry)? {
+        if self.add(entry)? {
             if let Pending::Or = self.pending {
                 self.pending = Pending::Nothing;
                 return Ok(());
@@ -264,6 +264,16 @@ impl<A: Allocator + Clone> Walk<A> {
         self.emit_apart(link, pending, entry)
     }
 
+    /// Adds an entry to the group, if it goes with the members. Returns `false` if it isn't added.
+    fn add(&mut self, entry: Entry) -> Result<bool, AllocError>
+        ensures taken { IfOk result (λ taken. larger_group entry self.old.group
+            ≡ (if taken then Some self.new.group else None)) }
+        ensures same { IfOk result (λ taken. self.new
+            ≡ (if taken then record self.old { group = self.new.group } else self.old)) }
+    {
+        self.group.add(entry)
+    }
+
     /// Emits a value or a relation that doesn't go with the group after it, whose code is emitted by
     /// now.
     fn emit_apart(&mut self, link: Link, pending: Pending, entry: Entry) -> Result<(), AllocError>
@@ -273,7 +283,7 @@ impl<A: Allocator + Clone> Walk<A> {
         match pending {
             Pending::Nothing => self.emit_alone(link, entry),
             Pending::Or => {
-                if !self.group.add(entry)? {
+                if !self.add(entry)? {
                     return self.emit_alone(link, entry);
                 }
                 // The left operand, which `flush_group` made wait, may be a member too.
