@@ -57,6 +57,6 @@ pub relation_put : (link : Link) (ns : List Node) (j : ℕ) (w : Walk) (e : Entr
 relation_put link ns j w e some within is =
     let other = node.Check Ether in
     let four =
-        two_put ns j (j - 1) (j - 2) other (omega arith) (omega arith) within
-        ∙ ap (λ xs. get_or ns (j - 1) other ∷ get_or ns (j - 2) other ∷ xs) (two_put ns (j - 2) (j - 3) (j - 4) other (omega arith) (omega arith) (omega arith)) in
+    two_put ns j (j - 1) (j - 2) other (omega arith) (omega arith) within
+    ∙ ap (λ xs. get_or ns (j - 1) other ∷ get_or ns (j - 2) other ∷ xs) (two_put ns (j - 2) (j - 3) (j - 4) other (omega arith) (omega arith) (omega arith)) in
     sym (ap (emit_nodes link w) four ∙ relation_walked link w _ _ _ _ (reverse (take (j - 4) ns)) e (ap relation_in (sym four) ∙ is))

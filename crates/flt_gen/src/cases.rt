@@ -302,10 +302,7 @@ impl<A: Allocator> Code<A> {
             (emit_formula link (decision most (case_tests link direction) word cases.now)
             to.yes to.no self.old) self.new }
     {
-        if most == 0 {
-            return self.emit_cases_in_turn(link, direction, word, cases, to);
-        }
-        if cases.len() <= FEW_CASES {
+        if most == 0 || cases.len() <= FEW_CASES {
             return self.emit_cases_in_turn(link, direction, word, cases, to);
         }
         let test = test_at(link, direction, word, cases, 0);

@@ -461,10 +461,8 @@ impl<A: Allocator + Clone> Walk<A> {
     fn finish_relation(&mut self, link: Link) -> Result<(), AllocError>
         ensures { OnOk result (self.new ≡ finish_relation link self.old) }
     {
-        let to = Targets {
-            yes: self.code.top(),
-            no: self.to.no,
-        };
+        let yes = self.code.top();
+        let to = Targets { yes, ..self.to };
         let entry = emit_accessor_tests(&mut self.code, link, self.accessors.entries(), to)?;
         self.accessors.clear();
         self.finish_truth(entry);

@@ -7,22 +7,19 @@ use Rattle.flt_gen.specs.{Formula.Split, declared.cases.Bound.TheVariants.Exactl
 use Rattle.flt_gen.specs.inside.Cases.{case_tests, all_keep, is_parted, test_at, lowest, from_test, decision}
 use Rattle.flt_gen.specs.inside.{Code.emit_formula, Code.emit_elementary, Emits.Emits}
 use Rattle.flt_gen.proofs.code.Code.+emit_decision.Goals as goal
+use Rattle.flt_gen.proofs.code.Code.+emit_decision.Goals.{then-most-eq0-via-then-most-eq0, then-most-eq0-via-else-most-eq0+then-cases-le-FEW_CASES}
 
 pub returns-then-most-eq0 : goal.returns-then-most-eq0
 returns-then-most-eq0 g t c =
     let a = c.args in
     let r = c.emit_cases_in_turn in
-    let none = c.if-most-eq0.true in
     subst (λ (x : Formula). Emits r.result (emit_formula a.link x a.to.yes a.to.no a.self.now) r.new.self)
-    (sym (decision_chain a.most (case_tests a.link a.direction) a.word a.cases.now (inl (omega arith)))) r.ensures
-
-pub returns-then-cases-le-FEW_CASES : goal.returns-then-cases-le-FEW_CASES
-returns-then-cases-le-FEW_CASES g t c =
-    let a = c.args in
-    let r = c.emit_cases_in_turn-then-cases-le-FEW_CASES in
-    let few = c.if-cases-le-FEW_CASES.true in
-    subst (λ (x : Formula). Emits r.result (emit_formula a.link x a.to.yes a.to.no a.self.now) r.new.self)
-    (sym (decision_chain a.most (case_tests a.link a.direction) a.word a.cases.now (inr (omega arith)))) r.ensures
+    (sym (decision_chain a.most (case_tests a.link a.direction) a.word a.cases.now
+    (elim c.then-most-eq0.branch [
+      | then-most-eq0-via-then-most-eq0 w ↦ inl (let none = w.if-most-eq0.true in omega arith)
+      | then-most-eq0-via-else-most-eq0+then-cases-le-FEW_CASES w ↦ inr (let few = w.if-cases-le-FEW_CASES.true in omega arith)
+    ])))
+    r.ensures
 
 pub returns-in_default : goal.returns-in_default
 returns-in_default g t c =
