@@ -1,5 +1,5 @@
 -- The walk over the nodes of an expression makes its program.
-use Rattle.flt_gen.proofs.Common.{◌≡◌, ℕ, ◌-◌, List, [], ◌∷◌, length, drop, take, get_or, zero, suc, ◌<◌, ◌≤◌, Option, Some, None, Entry, Equal, Ether, refl, sym, ap, ◌∙◌, arith, reverse, take-suc, reverse-append, Node, Expression, expr_onto, Link, expression_code, program_code, Walk, emit_node, emit_both_nodes, or_walk, emit_nodes, start_walk, insns_of}
+use Rattle.flt_gen.proofs.Common.{◌≡◌, ℕ, ◌-◌, List, [], ◌∷◌, length, drop, take, get_or, suc, ◌≤◌, Some, None, Entry, Equal, Ether, refl, sym, ap, ◌∙◌, arith, reverse, take-suc, reverse-append, Node, Expression, expr_onto, Link, expression_code, program_code, Walk, emit_node, emit_both_nodes, or_walk, emit_nodes, start_walk, insns_of}
 use Rattle.flt_gen.proofs.Walking.{expression_walked}
 use Rattle.flt_gen.specs.inside.{Relations.relation, Relations.relation_in, Walk.emit_member}
 use Rattle.flt_ast.specs.declared.node.Node.TheVariants as node
