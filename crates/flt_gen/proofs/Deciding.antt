@@ -2,7 +2,6 @@
 use Rattle.flt_gen.proofs.Ascending.{if_case, each_is}
 use Rattle.flt_gen.proofs.Common.{◌≡◌, ℕ, zero, suc, ◌+◌, ◌-◌, ◌*◌, ◌^◌, ◌<◌, ◌≤◌, List, [], ◌∷◌, ◌++◌, length, map, take, drop, Bool, true, false, Option, Some, None, refl, sym, ap, ap₂, ◌∙◌, subst, arith, add-one, ◌==◌, ◌&&◌, nat_lt, nat_le, bit_and, nat_tests, and_parts, pow_pos, and_le_r, Tcp, Direction, Link, first_bits, Word, HalfWord, Byte, Width, Offset, Fixed, Equal, Elementary, Field, MatchResult, Yes, No, Rejected, reading_of, with, field_at, under_mask, compares, elementary_reads, network_offset, Formula, both, either, all_of, reads, partial_mask}
 use Rattle.flt_gen.proofs.Counted.{Bare, bare_within, bare_all, bare_one, bare_some, bare_both, bare_either, bare_split}
-use Rattle.flt_gen.proofs.Decision.{decision_none, decision_next}
 use Rattle.flt_gen.proofs.Exclusive.{both_either, or_no, either_assoc, and_yes}
 use Rattle.flt_gen.proofs.{Needed.all_put, Once.equal_are, Together.word_small}
 use Rattle.std.specs.{List.list_all, List.insert, Prelude.slice_get}
@@ -68,8 +67,6 @@ both_tests _ = 0
 
 pub some_fields : (link : Link) (d : Direction) (c : Case) → 0 < length (fields_of link d c)
 some_fields link d (Mac a) = omega arith
-some_fields link d (Ip6 n a) = omega arith
-some_fields link d (EitherIp6 a) = omega arith
 some_fields link d _ = omega arith
 
 -- relations of one accessor
@@ -170,14 +167,10 @@ shapes_rest f fs [] h = tt
 shapes_rest f fs ((Field t ∷ ts) ∷ rs) h = ((h.0).4, shapes_rest f fs rs h.1)
 shapes_rest f fs (_ ∷ rs) h = absurd h.0
 
-shapes_take : (fs : List (Offset × Width)) (by : Case → List Elementary) (w at : ℕ) (cs : List Case) → Shapes fs (rows by w cs) → Shapes fs (rows by w (take at cs))
-shapes_take fs by w (suc at) (c ∷ cs) h = (h.0, shapes_take fs by w at cs h.1)
-shapes_take fs by w _ _ h = tt
-
-shapes_drop : (fs : List (Offset × Width)) (by : Case → List Elementary) (w at : ℕ) (cs : List Case) → Shapes fs (rows by w cs) → Shapes fs (rows by w (drop at cs))
-shapes_drop fs by w zero cs h = h
-shapes_drop fs by w (suc at) [] h = tt
-shapes_drop fs by w (suc at) (c ∷ cs) h = shapes_drop fs by w at cs h.1
+shapes_parts : (fs : List (Offset × Width)) (by : Case → List Elementary) (w at : ℕ) (cs : List Case) → Shapes fs (rows by w cs) → Shapes fs (rows by w (take at cs)) × Shapes fs (rows by w (drop at cs))
+shapes_parts fs by w zero cs h = (tt, h)
+shapes_parts fs by w (suc at) [] h = (tt, tt)
+shapes_parts fs by w (suc at) (c ∷ cs) h = let parts = shapes_parts fs by w at cs h.1 in ((h.0, parts.0), parts.1)
 
 rows_parts : (by : Case → List Elementary) (w at : ℕ) (cs : List Case) → rows by w (take at cs) ++ rows by w (drop at cs) ≡ rows by w cs
 rows_parts by w at cs = sym (map-append (λ (c : Case). drop w (by c)) (take at cs) (drop at cs)) ∙ ap (rows by w) (take-append-drop at cs)
@@ -406,17 +399,17 @@ module _ (link : Link) where
           let k = lowest (test_at by w (d ∷ ds) (suc at)) in
           let b = and_parts (nat_lt (suc at) (length (d ∷ ds))) _ (and_parts (nat_lt 0 (suc at)) _ e).1 in
           let c = and_parts (all_keep by w (Below k) (d ∷ take at ds)) (all_keep by w (From k) (drop at ds)) b.1 in
-          let low = shapes_take fs by w (suc at) (d ∷ ds) h in
-          let high = shapes_drop fs by w at ds h.1 in
+          let shapes = shapes_parts fs by w (suc at) (d ∷ ds) h in
           let some : suc at < length (d ∷ ds) = (let t = b.0 in grind (arith, nat_tests)) in
           subst (λ rs. Good fs rs (Split (from_test (word_test by w d) k) (next w (drop at ds)) (next w (d ∷ take at ds)))) (rows_parts by w (suc at) (d ∷ ds))
           (subst (λ t. Good fs (rows by w (d ∷ take at ds) ++ rows by w (drop at ds)) (Split (from_test t k) (next w (drop at ds)) (next w (d ∷ take at ds)))) (sym (first_is (by d) w))
-          (parted_good fs k (drop w (by d)) (rows by w (take at ds)) (rows by w (drop at ds)) (next w (d ∷ take at ds)) (next w (drop at ds)) low high (sym (kept_rows by w (Below k) (d ∷ take at ds)) ∙ c.0) (sym (kept_rows by w (From k) (drop at ds)) ∙ c.1)
-          (ok w fs (d ∷ take at ds) low) (ok w fs (drop at ds) high) (omega (arith, length-map (drop at ds) (λ (c : Case). drop w (by c)), length-drop at ds))))
+          (parted_good fs k (drop w (by d)) (rows by w (take at ds)) (rows by w (drop at ds)) (next w (d ∷ take at ds)) (next w (drop at ds)) shapes.0 shapes.1 (sym (kept_rows by w (Below k) (d ∷ take at ds)) ∙ c.0) (sym (kept_rows by w (From k) (drop at ds)) ∙ c.1)
+          (ok w fs (d ∷ take at ds) shapes.0) (ok w fs (drop at ds) shapes.1) (omega (arith, length-map (drop at ds) (λ (c : Case). drop w (by c)), length-drop at ds))))
 
   pub decision_good : (by : Case → List Elementary) (k w : ℕ) (fs : List (Offset × Width)) (cs : List Case) → Shapes fs (rows by w cs) → Good fs (rows by w cs) (decision k by w cs)
-  decision_good by zero w fs cs h = subst (Good fs (rows by w cs)) (sym (decision_none 0 by w cs refl)) (chain_good by w fs cs h)
-  decision_good by (suc k) w fs cs h = subst (Good fs (rows by w cs)) (sym (decision_next k by w cs)) (decided_good by (decision k by) (decision_good by k) w fs cs h)
+  unfolding decision
+  decision_good by zero w fs cs h = chain_good by w fs cs h
+  decision_good by (suc k) w fs cs h = decided_good by (decision k by) (decision_good by k) w fs cs h
 
 -- ---- cases that have the words of one
 
@@ -460,12 +453,10 @@ sizes_put by c (suc i) [] = refl
 sizes_put by c (suc i) (d ∷ ds) = let h = sizes_put by c i ds in omega arith
 
 pub length_put : (c : Case) (i : ℕ) (cs : List Case) → length (insert cs i c) ≡ length cs + 1
-length_put c zero cs = omega arith
-length_put c (suc i) [] = refl
-length_put c (suc i) (d ∷ ds) = let h = length_put c i ds in omega arith
+length_put c i cs = omega (arith, length-append (take i cs) (c ∷ drop i cs), length-append (take i cs) (drop i cs), ap length (take-append-drop i cs))
 
 pub read_put : (link : Link) (p : List ℕ) (n w : ℕ) (by : Case → List Elementary) (fs : List (Offset × Width)) (c : Case) (i : ℕ) (cs : List Case) → Shape fs (drop w (by c)) → Shapes fs (rows by w cs) → read_all link p n (rows by w (insert cs i c)) ≡ either (reads link (all_of (drop w (by c))) p n) (read_all link p n (rows by w cs))
 read_put link p n w by fs c i cs h k =
     ap (read_all link p n) (map-append (λ (c : Case). drop w (by c)) (take i cs) (c ∷ drop i cs))
-    ∙ read_inserted link p n fs (drop w (by c)) (rows by w (take i cs)) (rows by w (drop i cs)) h (shapes_take fs by w i cs k)
+    ∙ read_inserted link p n fs (drop w (by c)) (rows by w (take i cs)) (rows by w (drop i cs)) h (shapes_parts fs by w i cs k).0
     ∙ ap (λ rs. either (reads link (all_of (drop w (by c))) p n) (read_all link p n rs)) (rows_parts by w i cs)

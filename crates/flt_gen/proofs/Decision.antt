@@ -5,7 +5,7 @@ use Rattle.std.specs.Prelude.{slice_get, is_none, if◌then◌else◌, Result}
 use Rattle.std.specs.declared.alloc.AllocError.{AllocError}
 use Rattle.flt_gen.specs.Formula.{Formula, Single, Both, Split, all_of, guarded_formula}
 use Rattle.flt_gen.specs.{Primitives.ip6_tests, declared.cases.Bound.TheVariants.Exactly, declared.cases.Case.Case}
-use Rattle.flt_gen.specs.declared.elementary.Elementary.{Elementary, TheVariants.Outcome}
+use Rattle.flt_gen.specs.declared.elementary.Elementary.{Elementary}
 use Rattle.flt_gen.specs.inside.Cases.{case_front, case_tests, cases_formula, sides_decision, either_ip6, MOST_DECISIONS, chain, decided, decision, all_keep, is_parted, middle, test_at, lowest, from_test, same_word, FEW_CASES}
 use Rattle.flt_gen.specs.inside.{Code.Block, Code.emit_all, Code.emit_elementary, Code.emit_formula, Emits.Emits}
 use Rattle.flt_gen.proofs.Ascending.{if_case}
@@ -15,22 +15,15 @@ use Rattle.flt_ast.specs.declared.qualifiers.Direction.TheVariants as direction
 use Rattle.flt_words.specs.declared.token.Side.TheVariants.{Source, Destination}
 use Rattle.cap_octet.specs.{Link.network_offset, declared.link.Link.Link}
 
-pub decision_none : (k : ℕ) (tests : Case → List Elementary) (word : ℕ) (cs : List Case) → k ≡ 0 → decision k tests word cs ≡ chain tests word cs
+decision_put : (k : ℕ) (tests : Case → List Elementary) (word : ℕ) (cs : List Case) → 0 < k → decision k tests word cs ≡ decided (decision (k - 1) tests) tests word cs
 unfolding decision
-decision_none k tests word cs e = ap (λ j. decision j tests word cs) e
-
-pub decision_next : (k : ℕ) (tests : Case → List Elementary) (word : ℕ) (cs : List Case) → decision (suc k) tests word cs ≡ decided (decision k tests) tests word cs
-unfolding decision
-decision_next k tests word cs = refl
-
-pub decision_put : (k : ℕ) (tests : Case → List Elementary) (word : ℕ) (cs : List Case) → 0 < k → decision k tests word cs ≡ decided (decision (k - 1) tests) tests word cs
 decision_put zero tests word cs l = absurd (omega arith)
-decision_put (suc k) tests word cs l = decision_next k tests word cs ∙ ap (λ j. decided (decision j tests) tests word cs) (let e : k ≡ suc k - 1 = omega arith in e)
+decision_put (suc k) tests word cs l = ap (λ j. decided (decision j tests) tests word cs) (let e : k ≡ suc k - 1 = omega arith in e)
 
 pub decision_chain : (k : ℕ) (tests : Case → List Elementary) (word : ℕ) (cs : List Case) → (k ≡ 0) ⊎ (length cs ≤ FEW_CASES) → decision k tests word cs ≡ chain tests word cs
 unfolding decision
-decision_chain k tests word cs (inl e) = decision_none k tests word cs e
-decision_chain zero tests word cs (inr l) = refl
+decision_chain zero tests word cs h = refl
+decision_chain (suc k) tests word cs (inl e) = absurd (omega arith)
 decision_chain (suc k) tests word cs (inr l) =
     if_case (λ (f : Formula). f ≡ chain tests word cs) (nat_le (length cs) FEW_CASES) _ _ (λ e. refl) (λ e. absurd (let no : FEW_CASES < length cs = grind (arith, nat_tests) in omega arith))
 
@@ -87,10 +80,6 @@ tests_from [] (suc word) t e = cc
 tests_from (u ∷ ts) zero t e = (let same : u ≡ t = cc in ap (λ (x : Elementary). x ∷ ts) same)
 tests_from (u ∷ ts) (suc word) t e = (let next : suc word + 1 ≡ suc (word + 1) = omega arith in tests_from ts word t e ∙ ap (λ k. t ∷ drop k (u ∷ ts)) (sym next))
 
-word_put : (o : Elementary) (u : Option Elementary) (f : Formula) → (if is_none u then Single o else Both (Single o) f) ≡ same_word (Some o) u f
-word_put o None f = refl
-word_put o (Some u) f = refl
-
 -- the parts of a decision
 module _ (k : ℕ) (by : Case → List Elementary) (w : ℕ) (cs : List Case) (some : 0 < k) (many : FEW_CASES < length cs) where
   abbrev t : Option Elementary
@@ -109,19 +98,13 @@ module _ (k : ℕ) (by : Case → List Elementary) (w : ℕ) (cs : List Case) (s
   put : decision k by w cs ≡ parts (all_keep by w (Exactly (lowest t)) cs) (is_parted by w cs (middle by w cs))
   put = decision_put k by w cs some ∙ (let few : nat_le (length cs) FEW_CASES ≡ false = grind (arith, nat_tests) in ap (λ b. if b then chain by w cs else parts (all_keep by w (Exactly (lowest t)) cs) (is_parted by w cs (middle by w cs))) few)
 
-  same_put : (o : Option Elementary) → o ≡ t → true ≡ all_keep by w (Exactly (lowest o)) cs → same_word o (test_at by (w + 1) cs 0) (next (w + 1) cs) ≡ decision k by w cs
-  same_put o e a =
+  pub decision_same : (o : Option Elementary) → o ≡ t → true ≡ all_keep by w (Exactly (lowest o)) cs → same_word o (test_at by (w + 1) cs 0) (next (w + 1) cs) ≡ decision k by w cs
+  decision_same o e a =
       ap (λ x. same_word x (test_at by (w + 1) cs 0) (next (w + 1) cs)) e
       ∙ sym (put ∙ ap (λ b. parts b (is_parted by w cs (middle by w cs))) (sym (a ∙ ap (λ x. all_keep by w (Exactly (lowest x)) cs) e)))
 
-  pub decision_untold : None ≡ t → true ≡ all_keep by w (Exactly 0) cs → Single (Outcome false) ≡ decision k by w cs
-  decision_untold e a = same_put None e a
-
-  pub decision_last : (o : Elementary) → Some o ≡ t → is_none (test_at by (w + 1) cs 0) ≡ true → true ≡ all_keep by w (Exactly (lowest (Some o))) cs → Single o ≡ decision k by w cs
-  decision_last o e n a = ap (λ b. if b then Single o else Both (Single o) (next (w + 1) cs)) (sym n) ∙ word_put o (test_at by (w + 1) cs 0) (next (w + 1) cs) ∙ same_put (Some o) e a
-
-  pub decision_both : (o : Elementary) → Some o ≡ t → is_none (test_at by (w + 1) cs 0) ≡ false → true ≡ all_keep by w (Exactly (lowest (Some o))) cs → Both (Single o) (next (w + 1) cs) ≡ decision k by w cs
-  decision_both o e n a = ap (λ b. if b then Single o else Both (Single o) (next (w + 1) cs)) (sym n) ∙ word_put o (test_at by (w + 1) cs 0) (next (w + 1) cs) ∙ same_put (Some o) e a
+  pub decision_told : (o : Elementary) (b : Bool) → Some o ≡ t → is_none (test_at by (w + 1) cs 0) ≡ b → true ≡ all_keep by w (Exactly (lowest (Some o))) cs → (if b then Single o else Both (Single o) (next (w + 1) cs)) ≡ decision k by w cs
+  decision_told o b e n a = ap (λ c. if c then Single o else Both (Single o) (next (w + 1) cs)) (sym n) ∙ decision_same (Some o) e a
 
   pub decision_halves : (o : Option Elementary) (at : ℕ) (b : Bool) → o ≡ t → at ≡ middle by w cs → false ≡ all_keep by w (Exactly (lowest o)) cs → b ≡ is_parted by w cs at → (if b then Split (from_test o (lowest (test_at by w cs at))) (next w (drop at cs)) (next w (take at cs)) else chain by w cs) ≡ decision k by w cs
   decision_halves o at b e f a g =

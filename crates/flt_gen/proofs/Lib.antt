@@ -24,7 +24,6 @@ pub mod Grouping
 pub mod Relations
 pub mod Turned
 pub mod Masks
-pub mod Flushed
 pub mod Whole
 pub mod Deciding
 pub mod EitherSide

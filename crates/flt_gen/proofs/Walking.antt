@@ -3,7 +3,7 @@ use Rattle.flt_gen.proofs.Common.{◌+◌, if◌then◌else◌, ◌≡◌, ℕ, 
 use Rattle.flt_ast.specs.declared.node.Node.TheVariants.{Compare}
 use Rattle.flt_gen.specs.Formula.{Formula, Both, Either, Except, Compare as compare, checked_formula}
 use Rattle.flt_gen.proofs.Decision.{guarded_emitted}
-use Rattle.flt_gen.specs.inside.Group.{entry_formula, entry_of, leaf_formula}
+use Rattle.flt_gen.specs.inside.Group.{is_empty, entry_formula, entry_of, leaf_formula}
 use Rattle.flt_gen.specs.inside.Relations.{relation_of}
 use Rattle.flt_gen.specs.inside.Walk.{others, emit_entry, emit_member, emit_apart}
 use Rattle.flt_gen.specs.declared.{code.Targets.Targets, waiting.LeftTruth.LeftTruth, waiting.Pending.Pending}
@@ -53,12 +53,12 @@ abbrev emit_of : Link → Formula → List Insn → Targets → List LeftTruth �
 emit_of link f c to ts = finish_truth (emit_formula link f to.yes to.no c) (between c to ts)
 
 -- what comes in front of the group that waits, which is emitted first
-settled : (link : Link) (group : Group) (p : Pending) (ts : List LeftTruth) (f : Formula) (d : List Node) (go : Walk → Walk) → ((c : List Insn) (to : Targets) → go (state p c to ts no_group) ≡ emit_nodes link (emit_of link f c to ts) d) → (c : List Insn) (to : Targets) (bs : List Entry) → go (flush_members link (state p c to ts group) bs) ≡ emit_nodes link (emit_of link (or_any f (group_formula link group) bs) c to ts) d
+settled : (link : Link) (group : Group) (p : Pending) (ts : List LeftTruth) (f : Formula) (d : List Node) (go : Walk → Walk) → ((c : List Insn) (to : Targets) → go (state p c to ts no_group) ≡ emit_nodes link (emit_of link f c to ts) d) → (c : List Insn) (to : Targets) (bs : List Entry) → go (flush_members link (state p c to ts group) (is_empty bs)) ≡ emit_nodes link (emit_of link (or_any f (group_formula link group) bs) c to ts) d
 settled link group p ts f d go h c to [] = h c to
 settled link group p ts f d go h c to (b ∷ bs) =
     let e = emit_formula link (group_formula link group) to.yes to.no c in h e.code (targets to.yes e.entry)
 
-leaf_walked : (link : Link) (f : Formula) (group : Group) (c : List Insn) (to : Targets) (ts : List LeftTruth) (d : List Node) → emit_nodes link (finish_formula link f (flush_members link (waiting c to ts group) group.entries)) d ≡ emit_nodes link (emit_of link (or_group link f group) c to ts) d
+leaf_walked : (link : Link) (f : Formula) (group : Group) (c : List Insn) (to : Targets) (ts : List LeftTruth) (d : List Node) → emit_nodes link (finish_formula link f (flush_members link (waiting c to ts group) (is_empty group.entries))) d ≡ emit_nodes link (emit_of link (or_group link f group) c to ts) d
 leaf_walked link f group c to ts d = settled link group Pending.Nothing ts f d (λ w. emit_nodes link (finish_formula link f w) d) (λ c to. refl) c to group.entries
 
 entry_walked : (link : Link) (e : Entry) (group : Group) (o : Option Group) (c : List Insn) (to : Targets) (ts : List LeftTruth) (d : List Node) → emit_nodes link (emit_entry link e (waiting c to ts group) o) d ≡ emit_nodes link (emit_of link (choice o (group_formula link) (or_group link (entry_formula link e) group)) c to ts) d
@@ -121,9 +121,9 @@ both_walked link a b ha hb c to ts d =
     hb c to (record { join = And; to = to } ∷ ts) (truth_onto a d) ∙ ha e.code (targets e.entry to.no) ts d
 
 -- the group that waited is empty once its code is emitted
-flushed_group : (link : Link) (w : Walk) (bs : List Entry) → (flush_members link w bs).group ≡ no_group
-flushed_group link w [] = refl
-flushed_group link w (b ∷ bs) = refl
+flushed_group : (link : Link) (w : Walk) (none : Bool) → (flush_members link w none).group ≡ no_group
+flushed_group link w true = refl
+flushed_group link w false = refl
 
 -- either of two truths, of which the second one may join the group after it, or begin another one
 module _ (link : Link) (a b : TruthTree) (ha : (more : Group) → Walks link a more) (hb : (more : Group) → Walks link b more) (ts : List LeftTruth) (d : List Node) where
@@ -135,15 +135,15 @@ module _ (link : Link) (a b : TruthTree) (ha : (more : Group) → Walks link a m
       let x = emit_formula link (grouped_formula link group b) to.yes to.no c in
       hb group c to (left_after_or to ∷ ts) (truth_onto a d) ∙ ha no_group x.code (targets to.yes x.entry) ts d
 
-  new_begins : (new group : Group) (c : List Insn) (to : Targets) (bs : List Entry) → (let v = flush_members link (waiting c to (left_after_or to ∷ ts) group) bs in emit_nodes link (record v { truths = others v.truths; group = new }) (truth_onto a d)) ≡ emit_nodes link (emit_of link (or_any (grouped_formula link new a) (group_formula link group) bs) c to ts) d
+  new_begins : (new group : Group) (c : List Insn) (to : Targets) (bs : List Entry) → (let v = flush_members link (waiting c to (left_after_or to ∷ ts) group) (is_empty bs) in emit_nodes link (record v { truths = others v.truths; group = new }) (truth_onto a d)) ≡ emit_nodes link (emit_of link (or_any (grouped_formula link new a) (group_formula link group) bs) c to ts) d
   new_begins new group c to [] = ha new c to ts d
   new_begins new group c to (x ∷ xs) =
       let e = emit_formula link (group_formula link group) to.yes to.no c in ha new e.code (targets to.yes e.entry) ts d
 
-  apart : (e : Entry) (group : Group) (c : List Insn) (to : Targets) (p : Option Group) → larger_group e no_group ≡ p → emit_nodes link (emit_entry link e (after_or c to ts group) None) (truth_onto a d) ≡ emit_nodes link (emit_apart link e (flush_members link (waiting c to (left_after_or to ∷ ts) group) group.entries) Pending.Or p) (truth_onto a d)
+  apart : (e : Entry) (group : Group) (c : List Insn) (to : Targets) (p : Option Group) → larger_group e no_group ≡ p → emit_nodes link (emit_entry link e (after_or c to ts group) None) (truth_onto a d) ≡ emit_nodes link (emit_apart link e (flush_members link (waiting c to (left_after_or to ∷ ts) group) (is_empty group.entries)) Pending.Or p) (truth_onto a d)
   apart e group c to p is =
-      let flushed = flush_members link (waiting c to (left_after_or to ∷ ts) group) group.entries in
-      ap (λ o. emit_nodes link (emit_apart link e flushed Pending.Or o) (truth_onto a d)) (ap (larger_group e) (flushed_group link (waiting c to (left_after_or to ∷ ts) group) group.entries) ∙ is)
+      let flushed = flush_members link (waiting c to (left_after_or to ∷ ts) group) (is_empty group.entries) in
+      ap (λ o. emit_nodes link (emit_apart link e flushed Pending.Or o) (truth_onto a d)) (ap (larger_group e) (flushed_group link (waiting c to (left_after_or to ∷ ts) group) (is_empty group.entries)) ∙ is)
 
   or_member : (e : Entry) (group : Group) (c : List Insn) (to : Targets) → entry_of b ≡ Some e → (o p : Option Group) → larger_group e group ≡ o → larger_group e no_group ≡ p → emit_nodes link (emit_entry link e (after_or c to ts group) o) (truth_onto a d) ≡ emit_nodes link (emit_of link (either group o p) c to ts) d
   or_member e group c to is None None none alone =

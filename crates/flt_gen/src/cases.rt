@@ -126,21 +126,16 @@ fn word_test(link: Link, direction: Direction, case: Case, word: usize) -> Optio
     ensures { result ≡ word_test (case_tests link direction) word case }
 {
     let is_source = matches!(direction, Direction::One(Side::Source));
+    // The addresses stand at bytes 8 and 24 of the IPv6 header (RFC 8200, section 3).
+    let ip6_at = network_offset(link) + if is_source { 8 } else { 24 };
     match (case, word) {
         (Case::Mac(address), 0 | 1) => {
             // The source is at byte 6 of a frame, the destination at byte 0.
             let at = if is_source { 6 } else { 0 };
             Some(mac_tests(at, address)[word])
         }
-        (Case::Ip6(prefix, address), 0..=3) => {
-            // The addresses stand at bytes 8 and 24 of the header (RFC 8200, section 3).
-            let at = network_offset(link) + if is_source { 8 } else { 24 };
-            Some(ip6_test(prefix, address, at, word as u32))
-        }
-        (Case::EitherIp6(address), 0..=3) => {
-            let at = network_offset(link) + if is_source { 8 } else { 24 };
-            Some(ip6_test(None, address, at, word as u32))
-        }
+        (Case::Ip6(prefix, address), 0..=3) => Some(ip6_test(prefix, address, ip6_at, word as u32)),
+        (Case::EitherIp6(address), 0..=3) => Some(ip6_test(None, address, ip6_at, word as u32)),
         (Case::IpProto(number), 0) => Some(has_ip_proto(link, number)),
         (Case::Ip6Proto(number), 0) => Some(has_ip6_proto(link, number)),
         (Case::Relation(relation), 0) => Some(relation_test(link, relation)),
@@ -302,10 +297,7 @@ impl<A: Allocator> Code<A> {
             (emit_formula link (decision most (case_tests link direction) word cases.now)
             to.yes to.no self.old) self.new }
     {
-        if most == 0 {
-            return self.emit_cases_in_turn(link, direction, word, cases, to);
-        }
-        if cases.len() <= FEW_CASES {
+        if most == 0 || cases.len() <= FEW_CASES {
             return self.emit_cases_in_turn(link, direction, word, cases, to);
         }
         let test = test_at(link, direction, word, cases, 0);
@@ -350,21 +342,11 @@ impl<A: Allocator> Code<A> {
         let found = self.emit_decision(MOST_DECISIONS, link, side, 3, cases, to)?;
         let other = self.emit_tests(false, &destination[..3], Targets { yes: found, no })?;
         let asked = self.emit_tests(false, &destination, Targets { yes, no: yes })?;
-        let first = self.emit_tests(false, &source[3..], Targets { yes, no: asked })?;
-        let to = Targets {
-            yes: first,
-            no: other,
-        };
+        let yes = self.emit_tests(false, &source[3..], Targets { yes, no: asked })?;
         let side = Direction::One(Side::Source);
-        let found = self.emit_decision(MOST_DECISIONS, link, side, 3, cases, to)?;
-        self.emit_tests(
-            false,
-            &source[..3],
-            Targets {
-                yes: found,
-                no: other,
-            },
-        )
+        let to = Targets { yes, no: other };
+        let yes = self.emit_decision(MOST_DECISIONS, link, side, 3, cases, to)?;
+        self.emit_tests(false, &source[..3], Targets { yes, no: other })
     }
 
     /// Emits cases with the words of one; `key` is that of the first in the expression.

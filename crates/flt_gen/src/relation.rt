@@ -26,22 +26,14 @@ pub fn last_relation(nodes: &[Node]) -> Option<Entry>
     ensures is { result ≡ relation_in (reverse nodes.now) }
     ensures four { IfSome result (λ r. 4 ≤ length nodes.now) }
 {
-    let end = nodes.len();
-    if end < 4 {
-        return None;
-    }
-    match (
-        nodes[end - 1],
-        nodes[end - 2],
-        nodes[end - 3],
-        nodes[end - 4],
-    ) {
-        (
-            Node::Compare(Comparison::Equal),
-            Node::Literal(number),
-            Node::Load(protocol, size),
+    match *nodes {
+        [
+            ..,
             Node::Literal(index),
-        ) => Some(Entry::Relation(Relation {
+            Node::Load(protocol, size),
+            Node::Literal(number),
+            Node::Compare(Comparison::Equal),
+        ] => Some(Entry::Relation(Relation {
             protocol,
             size,
             index,

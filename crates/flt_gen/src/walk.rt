@@ -23,7 +23,7 @@ ghost use Rattle.std.specs.Prelude.{◌≡◌, true, Some, None, if◌then◌els
 ghost use Rattle.flt_gen.specs.inside.Walk.{start_walk, insns_of, emit_nodes, emit_both_nodes};
 ghost use Rattle.flt_gen.specs.inside.Walk.{emit_load_at, emit_operator_with, emit_comparison_with};
 ghost use Rattle.flt_gen.specs.inside.Walk.{emit_node, emit_join, emit_entry, emit_truth_node};
-ghost use Rattle.flt_gen.specs.inside.Walk.{emit_apart, is_truth_node, begin_right, flush_group};
+ghost use Rattle.flt_gen.specs.inside.Walk.{emit_apart, is_truth_node, begin_left, begin_right, flush_group};
 ghost use Rattle.flt_gen.specs.inside.Walk.{finish_formula, finish_truth, is_number_node};
 ghost use Rattle.flt_gen.specs.inside.Walk.{emit_leaf, begin_operands, finish_number};
 ghost use Rattle.flt_gen.specs.inside.{Code.block, Walk.finish_relation, Group.entry_formula};
@@ -239,8 +239,7 @@ impl<A: Allocator + Clone> Walk<A> {
             }
             Join::And => {
                 self.flush_group(link)?;
-                let to = self.to;
-                self.truths.push(LeftTruth { join, to })
+                self.begin_left(Join::And)
             }
         }
     }
@@ -253,7 +252,7 @@ impl<A: Allocator + Clone> Walk<A> {
         ensures { OnOk result (self.new ≡ emit_entry link entry self.old
             (larger_group entry self.old.group)) }
     {
-        if self.group.add(entry)? {
+        if self.add(entry)? {
             if let Pending::Or = self.pending {
                 self.pending = Pending::Nothing;
                 return Ok(());
@@ -265,6 +264,16 @@ impl<A: Allocator + Clone> Walk<A> {
         self.emit_apart(link, pending, entry)
     }
 
+    /// Adds an entry to the group, if it goes with the members. Returns `false` if it isn't added.
+    fn add(&mut self, entry: Entry) -> Result<bool, AllocError>
+        ensures taken { IfOk result (λ taken. larger_group entry self.old.group
+            ≡ (if taken then Some self.new.group else None)) }
+        ensures same { IfOk result (λ taken. self.new
+            ≡ (if taken then record self.old { group = self.new.group } else self.old)) }
+    {
+        self.group.add(entry)
+    }
+
     /// Emits a value or a relation that doesn't go with the group after it, whose code is emitted by
     /// now.
     fn emit_apart(&mut self, link: Link, pending: Pending, entry: Entry) -> Result<(), AllocError>
@@ -274,7 +283,7 @@ impl<A: Allocator + Clone> Walk<A> {
         match pending {
             Pending::Nothing => self.emit_alone(link, entry),
             Pending::Or => {
-                if !self.group.add(entry)? {
+                if !self.add(entry)? {
                     return self.emit_alone(link, entry);
                 }
                 // The left operand, which `flush_group` made wait, may be a member too.
@@ -327,11 +336,18 @@ impl<A: Allocator + Clone> Walk<A> {
         match self.pending {
             Pending::Nothing => Ok(()),
             Pending::Or => {
-                let to = self.to;
                 self.pending = Pending::Nothing;
-                self.truths.push(LeftTruth { join: Join::Or, to })
+                self.begin_left(Join::Or)
             }
         }
+    }
+
+    /// The left operand waits for the right one of a join, which is next.
+    fn begin_left(&mut self, join: Join) -> Result<(), AllocError>
+        ensures { OnOk result (self.new ≡ begin_left join self.old) }
+    {
+        let to = self.to;
+        self.truths.push(LeftTruth { join, to })
     }
 
     /// Emits the code of the group that waits, if it has members: another operand of an `or` stands
@@ -346,8 +362,7 @@ impl<A: Allocator + Clone> Walk<A> {
             self.group.clear();
             return Ok(());
         }
-        let to = self.to;
-        self.truths.push(LeftTruth { join: Join::Or, to })?;
+        self.begin_left(Join::Or)?;
         self.emit_group(link)
     }
 
@@ -446,10 +461,8 @@ impl<A: Allocator + Clone> Walk<A> {
     fn finish_relation(&mut self, link: Link) -> Result<(), AllocError>
         ensures { OnOk result (self.new ≡ finish_relation link self.old) }
     {
-        let to = Targets {
-            yes: self.code.top(),
-            no: self.to.no,
-        };
+        let yes = self.code.top();
+        let to = Targets { yes, ..self.to };
         let entry = emit_accessor_tests(&mut self.code, link, self.accessors.entries(), to)?;
         self.accessors.clear();
         self.finish_truth(entry);

@@ -3,7 +3,7 @@
 -- of those that are left. Hosts of IPv6 on either side that differ only in the last word are a tree
 -- for each side.
 use Rattle.std.specs.List.{list_all, insert}
-use Rattle.std.specs.Prelude.{ℕ, zero, suc, ◌+◌, ◌-◌, ◌/◌, ◌^◌, ◌==◌, ◌&&◌, nat_lt, nat_le, Bool, true, false, if◌then◌else◌, List, [], ◌∷◌, length, take, drop, slice_get, count_by, Option, Some, None}
+use Rattle.std.specs.Prelude.{ℕ, zero, suc, ◌+◌, ◌-◌, ◌/◌, ◌^◌, ◌==◌, ◌&&◌, nat_lt, nat_le, Bool, true, false, if◌then◌else◌, List, [], ◌∷◌, length, take, drop, slice_get, count_by, is_none, Option, Some, None}
 use Rattle.flt_words.specs.declared.token.{Comparison.TheVariants.AtLeast, Protocol.Protocol}
 use Rattle.flt_words.specs.declared.token.{Join.TheVariants.Or, ValueType.ValueType}
 use Rattle.flt_words.specs.declared.token.Side.TheVariants.{Source, Destination}
@@ -154,8 +154,7 @@ FEW_CASES = 2
 -- all cases have a test, if there is one, and then what follows it, if they have another test
 abbrev pub same_word : Option Elementary → Option Elementary → Formula → Formula
 same_word None u following = Single (Outcome false)
-same_word (Some t) None following = Single t
-same_word (Some t) (Some u) following = Both (Single t) following
+same_word (Some t) u following = if is_none u then Single t else Both (Single t) following
 
 -- cases by halves, or by the word that all have; `next` decides the parts
 abbrev pub decided : (ℕ → List Case → Formula) → (Case → List Elementary) → ℕ → List Case → Formula

@@ -63,13 +63,11 @@ is_empty (e ∷ es) = false
 
 -- a group with one more member in front, which has these qualifiers and looks for these numbers
 abbrev pub with_member : CompleteQualifiers → Value → Interval → Group → Group
-with_member q v i group = record {
+with_member q v i group = record group {
   qualifiers = q;
   is_plain = i.low == i.high && group.is_plain;
   first = i;
   all = insert_ascending i group.all;
-  cases = group.cases;
-  first_key = group.first_key;
   entries = entry q v ∷ group.entries;
 }
 

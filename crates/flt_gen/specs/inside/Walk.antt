@@ -16,7 +16,7 @@ use Rattle.flt_gen.specs.declared.waiting.{LeftTruth.LeftTruth, Pending.Pending,
 use Rattle.flt_gen.specs.declared.waiting.Waiting.TheVariants.{Index, Left}
 use Rattle.flt_gen.specs.inside.Code.{plain, emit_comparison, emit_field, accessor_offset, emit_accessor, computation, takes_constant, emit_operands, Block, block, emit_formula}
 use Rattle.flt_gen.specs.inside.Emitted.{with_accessor}
-use Rattle.flt_gen.specs.inside.Group.{Group, no_group, entry, entry_formula, larger_group, group_formula}
+use Rattle.flt_gen.specs.inside.Group.{Group, no_group, is_empty, entry, entry_formula, larger_group, group_formula}
 use Rattle.flt_gen.specs.inside.ProgramCode.{emit_accessor_tests, returns_code}
 use Rattle.flt_gen.specs.inside.Relations.{relation}
 
@@ -97,25 +97,26 @@ begin_operands slot c w = record w {
 abbrev pub finish_formula : Link → Formula → Walk → Walk
 finish_formula link f w = finish_truth (emit_formula link f w.to.yes w.to.no w.code) w
 
+-- the left operand of a join waits for the right one, which is next
+abbrev pub begin_left : Join → Walk → Walk
+begin_left join w = record w { truths = record { join = join; to = w.to } ∷ w.truths }
+
 -- if an or was the last node, its right operand is on its own: the left one waits for it
 abbrev pub begin_right : Pending → Walk → Walk
 begin_right Pending.Nothing w = w
-begin_right Pending.Or w = record w {
-  truths = record { join = Or; to = w.to } ∷ w.truths;
-  pending = Pending.Nothing;
-}
+begin_right Pending.Or w = record (begin_left Or w) { pending = Pending.Nothing }
 
--- the code of the group is emitted, if it has members, as the right operand of an or
-abbrev pub flush_members : Link → Walk → List Entry → Walk
-flush_members link w [] = record w { group = no_group }
-flush_members link w (m ∷ ms) =
-    let e = emit_formula link (group_formula link w.group) w.to.yes w.to.no w.code in
-    record w { code = e.code; to = targets w.to.yes e.entry; group = no_group }
+-- the code of the group is emitted, unless it has no member, as the right operand of an or
+abbrev pub flush_members : Link → Walk → Bool → Walk
+flush_members link w none =
+    let v = record w { group = no_group } in
+    if none then v else finish_formula link (group_formula link w.group) (begin_left Or v)
 
 -- the code of the group that waits is emitted, if it has members, and the group is empty then; if
 -- an or was the last node, its left operand waits
 abbrev pub flush_group : Link → Walk → Walk
-flush_group link w = flush_members link (begin_right w.pending w) w.group.entries
+flush_group link w =
+    let v = begin_right w.pending w in flush_members link v (is_empty v.group.entries)
 
 -- a member and those after it: they wait for one more if it is the right operand of an or
 abbrev pub finish_group : Link → Walk → Group → Pending → Walk
@@ -144,8 +145,7 @@ emit_member link e w = emit_entry link e w (larger_group e w.group)
 -- the right one is known to be no member of the group
 abbrev pub emit_join : Link → Join → Walk → Walk
 emit_join link Or w = record (begin_right w.pending w) { pending = Pending.Or }
-emit_join link And w =
-    let v = flush_group link w in record v { truths = record { join = And; to = v.to } ∷ v.truths }
+emit_join link And w = begin_left And (flush_group link w)
 
 -- a primitive or a negation
 abbrev pub emit_truth_node : Link → Walk → Node → Walk

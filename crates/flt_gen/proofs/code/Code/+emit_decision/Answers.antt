@@ -1,28 +1,25 @@
 -- A decision by its parts.
-use Rattle.flt_gen.proofs.Common.{◌≡◌, ◌+◌, ◌-◌, ◌∙◌, take, drop, take_rest, sym, ap, subst, arith, true, false, Formula, Block}
-use Rattle.flt_gen.proofs.Decision.{decision_chain, decision_untold, decision_last, decision_both, decision_halves}
+use Rattle.flt_gen.proofs.Common.{◌≡◌, ◌+◌, ◌-◌, ◌∙◌, take, drop, take_rest, sym, ap, subst, arith, None, true, false, Formula, Block}
+use Rattle.flt_gen.proofs.Decision.{decision_chain, decision_same, decision_told, decision_halves}
 use Rattle.std.specs.Prelude.{is_none}
 use Rattle.std.proofs.Common.{rules, inl, inr}
 use Rattle.flt_gen.specs.{Formula.Split, declared.cases.Bound.TheVariants.Exactly}
 use Rattle.flt_gen.specs.inside.Cases.{case_tests, all_keep, is_parted, test_at, lowest, from_test, decision}
 use Rattle.flt_gen.specs.inside.{Code.emit_formula, Code.emit_elementary, Emits.Emits}
 use Rattle.flt_gen.proofs.code.Code.+emit_decision.Goals as goal
+use Rattle.flt_gen.proofs.code.Code.+emit_decision.Goals.{then-most-eq0-via-then-most-eq0, then-most-eq0-via-else-most-eq0+then-cases-le-FEW_CASES}
 
 pub returns-then-most-eq0 : goal.returns-then-most-eq0
 returns-then-most-eq0 g t c =
     let a = c.args in
     let r = c.emit_cases_in_turn in
-    let none = c.if-most-eq0.true in
     subst (λ (x : Formula). Emits r.result (emit_formula a.link x a.to.yes a.to.no a.self.now) r.new.self)
-    (sym (decision_chain a.most (case_tests a.link a.direction) a.word a.cases.now (inl (omega arith)))) r.ensures
-
-pub returns-then-cases-le-FEW_CASES : goal.returns-then-cases-le-FEW_CASES
-returns-then-cases-le-FEW_CASES g t c =
-    let a = c.args in
-    let r = c.emit_cases_in_turn-then-cases-le-FEW_CASES in
-    let few = c.if-cases-le-FEW_CASES.true in
-    subst (λ (x : Formula). Emits r.result (emit_formula a.link x a.to.yes a.to.no a.self.now) r.new.self)
-    (sym (decision_chain a.most (case_tests a.link a.direction) a.word a.cases.now (inr (omega arith)))) r.ensures
+    (sym (decision_chain a.most (case_tests a.link a.direction) a.word a.cases.now
+    (elim c.then-most-eq0.branch [
+      | then-most-eq0-via-then-most-eq0 w ↦ inl (let none = w.if-most-eq0.true in omega arith)
+      | then-most-eq0-via-else-most-eq0+then-cases-le-FEW_CASES w ↦ inr (let few = w.if-cases-le-FEW_CASES.true in omega arith)
+    ])))
+    r.ensures
 
 pub returns-in_default : goal.returns-in_default
 returns-in_default g t c =
@@ -31,7 +28,7 @@ returns-in_default g t c =
     let no = c.if-most-eq0.false in
     let lots = c.if-cases-le-FEW_CASES.false in
     ap (λ (x : Formula). emit_formula a.link x a.to.yes a.to.no a.self.now)
-    (sym (decision_untold a.most by a.word a.cases.now (omega arith) (omega arith) (sym c.in_default.is ∙ c.test_at-test.ensures)
+    (sym (decision_same a.most by a.word a.cases.now (omega arith) (omega arith) None (sym c.in_default.is ∙ c.test_at-test.ensures)
     (sym c.if-all_keep.true ∙ c.all_keep.ensures ∙ ap (λ n. all_keep by a.word (Exactly n) a.cases.now) (c.lowest.ensures ∙ ap lowest c.in_default.is))))
 
 pub returns-then-is_none : goal.returns-then-is_none
@@ -43,7 +40,7 @@ returns-then-is_none g t c =
     let lots = c.if-cases-le-FEW_CASES.false in
     let last : is_none (test_at by (a.word + 1) a.cases.now 0) ≡ true = search rules in
     subst (λ (x : Formula). Emits r.result (emit_formula a.link x a.to.yes a.to.no a.self.now) r.new.self)
-    (decision_last a.most by a.word a.cases.now (omega arith) (omega arith) c.in-Some.test (sym c.in-Some.is ∙ c.test_at-test.ensures) last
+    (decision_told a.most by a.word a.cases.now (omega arith) (omega arith) c.in-Some.test true (sym c.in-Some.is ∙ c.test_at-test.ensures) last
     (sym c.if-all_keep.true ∙ c.all_keep.ensures ∙ ap (λ n. all_keep by a.word (Exactly n) a.cases.now) (c.lowest.ensures ∙ ap lowest c.in-Some.is)))
     r.ensures
 
@@ -57,7 +54,7 @@ returns-then-all_keep g t c =
     let more : is_none (test_at by (a.word + 1) a.cases.now 0) ≡ false = search rules in
     subst (λ (e : Block). Emits r.result e r.new.self)
     (sym (ap (λ (x : Formula). emit_formula a.link x a.to.yes a.to.no a.self.now)
-    (sym (decision_both a.most by a.word a.cases.now (omega arith) (omega arith) c.in-Some.test (sym c.in-Some.is ∙ c.test_at-test.ensures) more
+    (sym (decision_told a.most by a.word a.cases.now (omega arith) (omega arith) c.in-Some.test false (sym c.in-Some.is ∙ c.test_at-test.ensures) more
     (sym c.if-all_keep.true ∙ c.all_keep.ensures ∙ ap (λ n. all_keep by a.word (Exactly n) a.cases.now) (c.lowest.ensures ∙ ap lowest c.in-Some.is))))
     ∙ ap (λ (e : Block). emit_elementary c.in-Some.test e.entry a.to.no e.code) c.in_ok-yes.ensures))
     r.ensures

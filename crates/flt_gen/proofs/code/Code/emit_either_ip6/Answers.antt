@@ -14,7 +14,7 @@ returns g c =
     (sym (either_emitted a.link a.address a.cases.now a.to.yes a.to.no a.self.now _ _ _ _ _ c.in_ok-found.ensures
     (ap (λ ts. emit_all (take 3 ts) c.in_ok-found.found a.to.no c.emit_decision.new.self) (sym d) ∙ c.in_ok-other.ensures)
     (ap (λ ts. emit_all ts a.to.yes a.to.yes c.emit_tests.new.self) (sym d) ∙ c.in_ok-asked.ensures)
-    (ap (λ ts. emit_all (take 1 (drop 3 ts)) a.to.yes c.in_ok-asked.asked c.emit_tests-2.new.self) (sym s) ∙ c.in_ok-first.ensures)
-    c.in_ok-found-2.ensures
-    ∙ ap (λ ts. emit_all (take 3 ts) c.in_ok-found-2.found c.in_ok-other.other c.emit_decision-2.new.self) (sym s)))
+    (ap (λ ts. emit_all (take 1 (drop 3 ts)) a.to.yes c.in_ok-asked.asked c.emit_tests-2.new.self) (sym s) ∙ c.in_ok-yes.ensures)
+    c.in_ok-yes-2.ensures
+    ∙ ap (λ ts. emit_all (take 3 ts) c.in_ok-yes-2.yes c.in_ok-other.other c.emit_decision-2.new.self) (sym s)))
     r.ensures

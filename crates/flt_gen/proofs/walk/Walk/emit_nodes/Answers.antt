@@ -1,6 +1,6 @@
 -- Each node leaves the same walk to do.
 use Rattle.flt_gen.proofs.Common.{◌≡◌, ◌-◌, ◌<◌, ◌≤◌, Some, None, zero, suc, ℕ, List, ◌∙◌, refl, sym, ap, length, length-take, take, get_or, arith, if◌then◌else◌, reverse, Link, Ether, Node, Check, Walk, emit_node, emit_both_nodes, emit_nodes}
-use Rattle.flt_gen.proofs.Turned.{relation_put, last_is, last_both, last_node}
+use Rattle.flt_gen.proofs.Turned.{both_walked, one_walked, last_walked, one_put, two_put, relation_put}
 use Rattle.flt_gen.specs.inside.Relations.{relation_in}
 use Rattle.flt_gen.proofs.walk.Walk.emit_nodes.Goals as goal
 
@@ -9,18 +9,20 @@ abbrev left_walk : Link → List Node → ℕ → Walk → Walk
 left_walk link ns k w = emit_nodes link w (reverse (take k ns))
 
 first_put : (link : Link) (ns : List Node) (left : ℕ) (w : Walk) → 0 < left → left ≤ length ns → left - 1 ≡ 0 → left_walk link ns (left - 1) (emit_node link w (get_or ns (left - 1) (Check Ether))) ≡ left_walk link ns left w
-first_put link ns (suc zero) w some within first = sym (last_node link ns zero (Check Ether) w (omega arith) refl)
+first_put link ns (suc zero) w some within first =
+    sym (ap (emit_nodes link w) (one_put ns (suc zero) zero (Check Ether) refl within) ∙ last_walked link w (get_or ns zero (Check Ether)))
 first_put link ns _ w some within first = absurd (omega arith)
 
 node_put : (link : Link) (ns : List Node) (left : ℕ) (w : Walk) → 0 < left - 1 → left ≤ length ns → emit_both_nodes link w (get_or ns (left - 1) (Check Ether)) (get_or ns (left - 1 - 1) (Check Ether)) ≡ None → left_walk link ns (left - 1) (emit_node link w (get_or ns (left - 1) (Check Ether))) ≡ left_walk link ns left w
 node_put link ns left w some within none =
-    let up : suc (left - 1) ≡ left = omega arith in
-    sym (last_node link ns (left - 1) (Check Ether) w (omega arith) (last_is link ns (left - 1) (Check Ether) w some ∙ none)) ∙ ap (λ k. left_walk link ns k w) up
+    let one = one_put ns (left - 1) (left - 1 - 1) (Check Ether) (omega arith) (omega arith) in
+    let two = two_put ns left (left - 1) (left - 1 - 1) (Check Ether) (omega arith) (omega arith) within in
+    sym (ap (emit_nodes link w) two ∙ one_walked link w (get_or ns (left - 1) (Check Ether)) (get_or ns (left - 1 - 1) (Check Ether)) (reverse (take (left - 1 - 1) ns)) none ∙ ap (emit_nodes link (emit_node link w (get_or ns (left - 1) (Check Ether)))) (sym one))
 
 both_put : (link : Link) (ns : List Node) (left : ℕ) (w v : Walk) → 0 < left - 1 → left ≤ length ns → relation_in (reverse (take left ns)) ≡ None → emit_both_nodes link w (get_or ns (left - 1) (Check Ether)) (get_or ns (left - 1 - 1) (Check Ether)) ≡ Some v → left_walk link ns (left - 1 - 1) v ≡ left_walk link ns left w
 both_put link ns left w v some within none both =
-    let up : suc (left - 1) ≡ left = omega arith in
-    sym (last_both link ns (left - 1) (Check Ether) w v (omega arith) (ap (λ k. relation_in (reverse (take k ns))) up ∙ none) (last_is link ns (left - 1) (Check Ether) w some ∙ both)) ∙ ap (λ k. left_walk link ns k w) up
+    let two = two_put ns left (left - 1) (left - 1 - 1) (Check Ether) (omega arith) (omega arith) within in
+    sym (ap (emit_nodes link w) two ∙ both_walked link w v (get_or ns (left - 1) (Check Ether)) (get_or ns (left - 1 - 1) (Check Ether)) (reverse (take (left - 1 - 1) ns)) (ap relation_in (sym two) ∙ none) both)
 
 pub nodes-preserved-in-Some : goal.nodes-preserved-in-Some
 nodes-preserved-in-Some g c =
