@@ -8,8 +8,8 @@ ghost use Rattle.flt_bpf.specs.{Machine.start, Answer.answer_of, Check.IsValidUn
 ghost use Rattle.flt_bpf.specs.{Instructions.operation_of, Valid.MOST_INSTRUCTIONS, Valid.IsValid};
 ghost use Rattle.flt_bpf.specs.Layout.{is_branch, HasNoJump, JumpsAreNeeded, IsShort};
 ghost use Rattle.flt_short.specs.inside.Layout.{place_at, with_offsets, emitted, with_noted_jump};
-ghost use Rattle.flt_short.specs.inside.Layout.{jump_near, near_place, test_reach, with_test};
-ghost use Rattle.flt_short.specs.inside.Layout.{with_place, put, placed_code};
+ghost use Rattle.flt_short.specs.inside.Layout.{jump_near, near_place, is_near, with_way, way};
+ghost use Rattle.flt_short.specs.inside.Layout.{with_test, with_place, put, placed_code};
 
 use flt_bpf::insn::Insn;
 use flt_bpf::operation::{Operation, decode};
@@ -19,21 +19,6 @@ use std::marker::Model;
 
 /// The most instructions that a conditional jump skips, since `jt` and `jf` are a byte each.
 const MOST_OFFSET: usize = 255;
-
-/// How a test reaches its two targets: one that is too far for an offset by a jump (`ja`) right
-/// after the test.
-///
-///     Near       test
-///     YesFar     test (jt 0), ja yes
-///     NoFar      test (jf 0), ja no
-///     BothFar    test (jt 0, jf 1), ja yes, ja no
-#[derive(Clone, Copy)]
-pub enum Reach {
-    Near,
-    YesFar,
-    NoFar,
-    BothFar,
-}
 
 /// A jump that is laid out: its place, and the place where it leads.
 #[derive(Clone, Copy)]
@@ -182,46 +167,37 @@ impl<A: Allocator> Layout<A> {
         }
     }
 
-    /// Which of its two places a test that is put in front needs a jump for: as few as possible. A
-    /// jump for one makes the other one farther by an instruction.
-    fn test_reach(&self, yes: usize, no: usize) -> Reach
-        ensures { result ≡ test_reach yes no self.now.code }
+    /// The place where a test that is put in front goes on to get to `to`: this one if the test
+    /// skips at most `most` instructions, else that of a jump (`ja`) that this puts in front.
+    fn reach(&mut self, to: usize, most: usize) -> Result<usize, AllocError>
+        requires { length self.old.code < 2 ^ 32 }
+        ensures code { OnOk result (self.new ≡ with_way (is_near self.old to most) to self.old) }
+        ensures place { IfOk result (λ place. place ≡ way (is_near self.old to most) to self.old) }
     {
-        if self.distance(yes) <= MOST_OFFSET && self.distance(no) <= MOST_OFFSET {
-            Reach::Near
-        } else if self.distance(no) < MOST_OFFSET {
-            Reach::YesFar
-        } else if self.distance(yes) < MOST_OFFSET {
-            Reach::NoFar
-        } else {
-            Reach::BothFar
+        if self.distance(to) <= most {
+            return Ok(to);
         }
+        self.emit_jump(to)?;
+        Ok(self.top())
     }
 
     /// Puts a test in front that goes on at one of two places, and right after it the jumps that it
-    /// needs: three instructions at most, which fit 32 bits by the clause.
+    /// needs, as few as possible: three instructions at most, which fit 32 bits by the clause. A
+    /// jump for one place makes the other one farther by an instruction.
     #[tactic(auto, unfolding(crate::specs::inside::Layout::with_test))]
     fn emit_test(&mut self, insn: Wide, yes: usize, no: usize) -> Result<(), AllocError>
         requires { length self.old.code + 3 < 2 ^ 32 }
         ensures { OnOk result (self.new ≡ with_test insn yes no self.old) }
     {
-        let (jt, jf) = match self.test_reach(yes, no) {
-            Reach::Near => (self.distance(yes), self.distance(no)),
-            Reach::YesFar => {
-                self.emit_jump(yes)?;
-                (0, self.distance(no))
-            }
-            Reach::NoFar => {
-                self.emit_jump(no)?;
-                (self.distance(yes), 0)
-            }
-            // The code grows from its end, so the jump that comes last is put first.
-            Reach::BothFar => {
-                self.emit_jump(no)?;
-                self.emit_jump(yes)?;
-                (0, 1)
-            }
+        let is_yes_near = self.distance(yes) <= MOST_OFFSET;
+        let most = if is_yes_near {
+            MOST_OFFSET
+        } else {
+            MOST_OFFSET - 1
         };
+        let no = self.reach(no, most)?;
+        let yes = self.reach(yes, MOST_OFFSET)?;
+        let (jt, jf) = (self.distance(yes), self.distance(no));
         self.emit(with_offsets(insn, jt as u8, jf as u8))
     }
 
