@@ -37,15 +37,7 @@ at_most (i ∷ is) =
 pub threefold : (wide : List Insn) → length (laid_out wide) ≤ 3 * length wide
 threefold wide = omega (arith, at_most wide, count_by-le-length (λ i. is_branch (operation_of i.code)) wide)
 
--- in short code all targets are near
-near_test : (i : Insn) (hit miss : ℕ) (l : PlacedCode) → length l.code ≤ 255 → with_test i hit miss l ≡ emitted (with_offsets i (length l.code - hit) (length l.code - miss)) l
-unfolding with_test
-near_test i hit miss l short =
-    let h : nat_le (length l.code - hit) MOST_OFFSET ≡ true = grind (arith, nat_tests) in
-    let m : nat_le (length l.code - miss) MOST_OFFSET ≡ true = grind (arith, nat_tests) in
-    simp (h, m)
-
--- one instruction more, and no jump
+-- in short code all targets are near: one instruction more, and no jump
 record IsPlain (c d : List Insn) : Type 0 where
   none : HasNoJump d
   one : length d ≡ length c + 1
@@ -54,8 +46,10 @@ plain_put : (i : Insn) (c : List Insn) → i.code ≢ JUMP → HasNoJump c → I
 plain_put i c other none = record { none = All-cons (λ j. j.code ≢ JUMP) i c other none; one = omega arith }
 
 emitted_plain : (op : Option Operation) (i : Insn) (l : PlacedCode) → operation_of i.code ≡ op → i.code ≢ JUMP → HasNoJump l.code → length l.code ≤ 255 → IsPlain l.code (with_insn op i l).code
+unfolding with_test
 emitted_plain (Some (JumpIf t o)) i l e other none short =
-    subst (λ (m : PlacedCode). IsPlain l.code m.code) (sym (near_test i (near_place l (place_at l i.jt)) (near_place l (place_at l i.jf)) l short)) (plain_put _ l.code other none)
+    let near : (to : ℕ) → nat_le (length l.code - to) MOST_OFFSET ≡ true = λ to. grind (arith, nat_tests) in
+    simp near (plain_put _ l.code other none)
 emitted_plain (Some Jump) i l e other none short = absurd (other (sym (back_of_code i.code Jump e)))
 emitted_plain _ i l e other none short = plain_put _ l.code other none
 

@@ -9,7 +9,7 @@ ghost use Rattle.flt_bpf.specs.{Instructions.operation_of, Valid.MOST_INSTRUCTIO
 ghost use Rattle.flt_bpf.specs.Layout.{is_branch, HasNoJump, JumpsAreNeeded, IsShort};
 ghost use Rattle.flt_short.specs.inside.Layout.{place_at, with_offsets, emitted, with_noted_jump};
 ghost use Rattle.flt_short.specs.inside.Layout.{jump_near, near_place, is_near, with_way, way};
-ghost use Rattle.flt_short.specs.inside.Layout.{with_test, with_place, put, placed_code};
+ghost use Rattle.flt_short.specs.inside.Layout.{with_test, put, placed_code};
 
 use flt_bpf::insn::Insn;
 use flt_bpf::operation::{Operation, decode};
@@ -88,17 +88,6 @@ fn with_offsets(insn: Wide, jt: u8, jf: u8) -> Insn
 }
 
 impl<A: Allocator> Layout<A> {
-    /// A layout of nothing yet. Its code and its places have an allocator each.
-    fn new(code_alloc: A, place_alloc: A) -> Self
-        ensures { result ≡ placed_code [] }
-    {
-        Layout {
-            backwards: Vec::new(code_alloc),
-            places: Vec::new(place_alloc),
-            jumps: [PlacedJump { place: 0, to: 0 }; 4],
-        }
-    }
-
     /// The place of the instruction that is first in the code so far: how many there are.
     fn top(&self) -> usize
         ensures { result ≡ length self.now.code }
@@ -201,16 +190,6 @@ impl<A: Allocator> Layout<A> {
         self.emit(with_offsets(insn, jt as u8, jf as u8))
     }
 
-    /// Notes the place of the wide instruction that was laid out last: the beginning of the code
-    /// now.
-    fn push_place(&mut self) -> Result<(), AllocError>
-        ensures { OnOk result (self.new ≡ with_place self.old) }
-    {
-        let top = self.top();
-        self.places.push(top)?;
-        Ok(())
-    }
-
     /// Lays out one more wide instruction in front, and notes its place: a test or a jump with new
     /// offsets to the places of its targets, another one with the offsets 0, which it doesn't use.
     fn lay_insn(&mut self, insn: Wide) -> Result<(), AllocError>
@@ -228,18 +207,16 @@ impl<A: Allocator> Layout<A> {
             }
             _ => self.emit(with_offsets(insn, 0, 0))?,
         }
-        self.push_place()
+        let top = self.top();
+        self.places.push(top)?;
+        Ok(())
     }
 
     /// The instructions, from the first to the last.
     fn into_insns(self) -> Vec<Insn, A>
         ensures { result.items ≡ self.code }
     {
-        let Layout {
-            mut backwards,
-            places: _,
-            jumps: _,
-        } = self;
+        let Layout { mut backwards, .. } = self;
         backwards.reverse();
         backwards
     }
@@ -253,7 +230,11 @@ impl<A: Allocator + Clone> Layout<A> {
         requires { length wide.now < 2 ^ 30 }
         ensures { IfOk result (λ layout. layout ≡ placed_code wide.now) }
     {
-        let mut layout = Layout::new(alloc.clone()?, alloc);
+        let mut layout = Layout {
+            backwards: Vec::new(alloc.clone()?),
+            places: Vec::new(alloc),
+            jumps: [PlacedJump { place: 0, to: 0 }; 4],
+        };
         for at in (0..wide.len()).rev() {
             layout.lay_insn(wide[at])?;
         }

@@ -87,13 +87,11 @@ with_insn (Some (JumpIf test operand)) i l =
 with_insn (Some Jump) i l = with_noted_jump (place_at l i.k) l
 with_insn _ i l = emitted (with_offsets i 0 0) l
 
--- the place of a wide instruction is the beginning of the code
-abbrev pub with_place : PlacedCode → PlacedCode
-with_place l = record l { places = length l.code ∷ l.places }
-
--- one more wide instruction laid out in front, with its place noted
+-- one more wide instruction laid out in front, with its place noted: the beginning of the code
 abbrev pub put : Insn → PlacedCode → PlacedCode
-put i l = with_place (with_insn (operation_of i.code) i l)
+put i l =
+    let m = with_insn (operation_of i.code) i l in
+    record m { places = length m.code ∷ m.places }
 
 -- wide code, laid out from its last instruction to its first
 abbrev pub placed_code : List Insn → PlacedCode

@@ -1,5 +1,5 @@
 -- By what was tested the code replaces the old code.
-use Rattle.std.proofs.Common.{sym, ◌∙◌, arith}
+use Rattle.flt_short.proofs.Common.{sym, ◌∙◌, arith}
 use Rattle.flt_short.proofs.Likeness.{replaced}
 use Rattle.flt_short.proofs.alike.replaces.Goals as goal
 
@@ -8,10 +8,12 @@ returns-then-are_faultless c = λ t.
     let few = c.if-count_tests.false in
     let new_tests = c.count_tests.ensures in
     let old_tests = c.count_tests-2.ensures in
-    replaced c.args.code.now c.args.old.now c.args.landings.now
+    replaced c.args.code.now c.args.old.now c.args.landings.now _
     c.if-code-old.false
     c.if-landings-old.false
-    (sym c.begins.ensures ∙ c.if-not-begins.false)
+    (omega arith)
+    (omega arith)
+    c.if-first-code.false
     (sym c.are_alike.ensures ∙ c.if-not-are_alike.false)
     (omega arith)
     (c.has_no_jump.ensures c.if-not-has_no_jump.false)
