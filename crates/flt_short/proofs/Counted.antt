@@ -1,9 +1,9 @@
 -- How many instructions are laid out; a jump stands only for a target that is too far for its test.
-use Rattle.flt_short.proofs.LayoutNames.{◌≡◌, ℕ, ◌+◌, ◌-◌, ◌*◌, ◌<◌, ◌≤◌, List, [], ◌∷◌, length, true, cond, Option, Some, refl, sym, subst, arith, ◌≢◌, nat_le, count_by, nat_tests, All-cons, All-head, All-tail, Insn, Operation, Jump, JumpIf, is_branch, JUMP, MOST_OFFSET, HasNoJump, IsShort, back_of_code, PlacedCode, place_at, emitted, with_offsets, with_test_by, with_insn, placed_code, laid_out, zero, suc, Bool, false, ap, ◌∙◌, inl, inr, ◌⊎◌, slice_get, if◌then◌else◌, IsNeeded, JumpsAreNeeded, with_jump, is_near, with_way, way}
+use Rattle.flt_short.proofs.LayoutNames.{◌≡◌, ℕ, ◌+◌, ◌-◌, ◌*◌, ◌<◌, ◌≤◌, List, [], ◌∷◌, length, true, cond, Option, Some, refl, sym, arith, ◌≢◌, nat_le, count_by, nat_tests, All-cons, All-head, All-tail, Insn, Operation, Jump, JumpIf, is_branch, JUMP, MOST_OFFSET, HasNoJump, IsShort, back_of_code, PlacedCode, with_offsets, with_test_by, with_insn, placed_code, laid_out, zero, suc, Bool, false, ap, ◌∙◌, inl, inr, ◌⊎◌, slice_get, if◌then◌else◌, IsNeeded, JumpsAreNeeded, with_jump, is_near, with_way, way}
 use Rattle.std.proofs.lemmas.List.Sums.{count_by-le-length, sum_by-cons}
 use Rattle.flt_bpf.proofs.Jumps.{jump_later, needed_put}
 use Rattle.flt_bpf.specs.Instructions.{operation_of}
-use Rattle.flt_short.specs.inside.Layout.{near_place, with_test}
+use Rattle.flt_short.specs.inside.Layout.{with_test}
 
 -- code with at least one and at most a given number of instructions more
 pub record Grows (c d : List Insn) (most : ℕ) : Type 0 where

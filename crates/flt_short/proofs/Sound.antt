@@ -1,7 +1,8 @@
 -- Code without a fault stays so.
 use Rattle.flt_short.proofs.LayoutNames.{◌≡◌, ℕ, ◌-◌, ◌<◌, ◌≤◌, List, [], ◌∷◌, length, true, Option, Some, None, refl, ap, ◌∙◌, arith, nat_lt, ◌&&◌, nat_tests, Insn, Operation, Load, Compute, Jump, JumpIf, ReturnConstant, ReturnAccumulator, Memory, Test, Operand, unless, fault_if_known, is_return, ends_in_return, IsFaultless, IsValidUnlessLong, PlacedCode, place_at, with_offsets, with_jump, with_test_by, with_insn, placed_code, laid_out, Bool, false, with_way}
-use Rattle.flt_short.proofs.Counted.{at_least}
-use Rattle.flt_short.proofs.Leads.{Lays, lays, near, emitted_more, way_more, test_leads}
+use Rattle.flt_short.proofs.Counted.{at_least, at_most, short_stays, laid_needed}
+use Rattle.flt_short.proofs.Leads.{Lays, lays, same_answers, near, emitted_more, way_more, test_leads}
+use Rattle.flt_bpf.proofs.Suffix.{valid_if_short}
 use Rattle.flt_bpf.specs.{Check.fault_of, Instructions.operation_of}
 use Rattle.flt_bpf.specs.declared.{fault.CheckFault.TheVariants.JumpOut, operation.Operand.TheVariants.Constant}
 use Rattle.flt_short.specs.inside.Layout.{near_place, with_test}
@@ -81,3 +82,6 @@ ends_laid (i ∷ j ∷ is) e =
 
 pub sound_laid : (wide : List Insn) → IsValidUnlessLong wide → IsValidUnlessLong (laid_out wide)
 sound_laid wide h = record { faultless = faultless_laid wide h.faultless; ends = ends_laid wide h.ends }
+
+-- what the layout's contract says
+pub ruleset layout_facts = (same_answers, at_least, at_most, short_stays, laid_needed, sound_laid, valid_if_short)

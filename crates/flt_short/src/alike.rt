@@ -381,6 +381,7 @@ fn has_no_jump(code: &[Wide]) -> bool
 /// Whether a program is proved to replace an old one: its landings show that it does the same, it
 /// has no more instructions and no more tests, it has no jump, and it breaks no rule except perhaps
 /// that on the length. `false` doesn't mean that the programs differ.
+#[tactic(auto, using(crate::proofs::Likeness::replaced))]
 pub fn replaces(code: &[Wide], old: &[Wide], landings: &[Landing]) -> bool
     ensures { IsTrue result → Shortens code.now old.now }
 {
