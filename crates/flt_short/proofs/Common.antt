@@ -18,6 +18,6 @@ pub use Rattle.flt_bpf.specs.inside.Flow.{goes_on_or_rejects}
 pub use Rattle.flt_bpf.proofs.Both.{known_step, into_both, word_both, stored_both, plain_both}
 pub use Rattle.flt_bpf.proofs.Checking.{parts, last_returns}
 pub use Rattle.flt_short.specs.declared.facts.{Field.Field, Held.Held, Known.Known}
-pub use Rattle.flt_short.specs.inside.Alike.{goes_on, rejects, is_sure, same_target, goes_on_alike, are_copies, lands_at_if, lands_at, code_from, stands_at, stands, are_alike, begins}
+pub use Rattle.flt_short.specs.inside.Alike.{goes_on, rejects, is_sure, goes_on_alike, are_copies, lands_at_if, lands_at, code_from, stands_at, stands, are_alike}
 pub use Rattle.flt_short.specs.inside.Facts.{same_optional, same_field, claims_nothing, allows, Implies, JoinsClaims, same_held, common_header, IsOutcome, holds_field, masked_by, masked_held, held_after, known_after, loaded, loaded_at, masked, value_of, IsThere, is_said, Says, HeldHolds, IndexHolds, Holds, HoldsAt, JoinsBy, JoinsFact, JoinsFacts, IsClaimAbout, Learns, Arrives}
 pub use Rattle.flt_short.specs.inside.Threads.{with_a, Passes, is_free_by, is_free, LeadsTo, Moves, Alike, IsThreaded, AreThreaded}

@@ -1,22 +1,23 @@
 -- How many instructions are laid out; a jump stands only for a target that is too far for its test.
-use Rattle.flt_short.proofs.LayoutNames.{◌≡◌, ℕ, ◌+◌, ◌-◌, ◌*◌, ◌<◌, ◌≤◌, List, [], ◌∷◌, length, true, cond, Option, Some, refl, sym, subst, arith, ◌≢◌, nat_le, nat_lt, count_by, nat_tests, All-cons, All-head, All-tail, Insn, Operation, Jump, JumpIf, is_branch, JUMP, MOST_OFFSET, HasNoJump, IsShort, back_of_code, Reach, Near, PlacedCode, place_at, emitted, with_offsets, with_test_by, with_insn, placed_code, laid_out, zero, suc, Bool, false, ap, ◌∙◌, inl, inr, ◌⊎◌, slice_get, ◌&&◌, if◌then◌else◌, IsNeeded, JumpsAreNeeded, YesFar, NoFar, BothFar, with_jump}
+use Rattle.flt_short.proofs.LayoutNames.{◌≡◌, ℕ, ◌+◌, ◌-◌, ◌*◌, ◌<◌, ◌≤◌, List, [], ◌∷◌, length, true, cond, Option, Some, refl, sym, arith, ◌≢◌, nat_le, count_by, nat_tests, All-cons, All-head, All-tail, Insn, Operation, Jump, JumpIf, is_branch, JUMP, MOST_OFFSET, HasNoJump, IsShort, back_of_code, PlacedCode, with_offsets, with_test_by, with_insn, placed_code, laid_out, zero, suc, Bool, false, ap, ◌∙◌, inl, inr, ◌⊎◌, slice_get, if◌then◌else◌, IsNeeded, JumpsAreNeeded, with_jump, is_near, with_way, way}
 use Rattle.std.proofs.lemmas.List.Sums.{count_by-le-length, sum_by-cons}
 use Rattle.flt_bpf.proofs.Jumps.{jump_later, needed_put}
 use Rattle.flt_bpf.specs.Instructions.{operation_of}
-use Rattle.flt_short.specs.inside.Layout.{near_place, with_test}
+use Rattle.flt_short.specs.inside.Layout.{with_test}
 
 -- code with at least one and at most a given number of instructions more
-record Grows (c d : List Insn) (most : ℕ) : Type 0 where
-  more : length c < length d
+pub record Grows (c d : List Insn) (most : ℕ) : Type 0 where
+  pub more : length c < length d
   few : length d ≤ length c + most
 
-test_grows : (r : Reach) (i : Insn) (hit miss : ℕ) (l : PlacedCode) → Grows l.code (with_test_by r i hit miss l).code 3
-test_grows Near i hit miss l = record { more = omega arith; few = omega arith }
-test_grows _ i hit miss l = record { more = omega arith; few = omega arith }
+test_grows : (a b : Bool) (i : Insn) (hit miss : ℕ) (l : PlacedCode) → Grows l.code (with_test_by a b i hit miss l).code 3
+test_grows true true i hit miss l = record { more = omega arith; few = omega arith }
+test_grows false false i hit miss l = record { more = omega arith; few = omega arith }
+test_grows _ _ i hit miss l = record { more = omega arith; few = omega arith }
 
-emitted_grows : (op : Option Operation) (i : Insn) (l : PlacedCode) → Grows l.code (with_insn op i l).code (1 + 2 * cond (is_branch op) 1 0)
+pub emitted_grows : (op : Option Operation) (i : Insn) (l : PlacedCode) → Grows l.code (with_insn op i l).code (1 + 2 * cond (is_branch op) 1 0)
 unfolding with_test
-emitted_grows (Some (JumpIf t o)) i l = test_grows _ i _ _ l
+emitted_grows (Some (JumpIf t o)) i l = test_grows _ _ i _ _ l
 emitted_grows _ i l = record { more = omega arith; few = omega arith }
 
 pub at_least : (wide : List Insn) → length wide ≤ length (laid_out wide)
@@ -36,15 +37,7 @@ at_most (i ∷ is) =
 pub threefold : (wide : List Insn) → length (laid_out wide) ≤ 3 * length wide
 threefold wide = omega (arith, at_most wide, count_by-le-length (λ i. is_branch (operation_of i.code)) wide)
 
--- in short code all targets are near
-near_test : (i : Insn) (hit miss : ℕ) (l : PlacedCode) → length l.code ≤ 255 → with_test i hit miss l ≡ emitted (with_offsets i (length l.code - hit) (length l.code - miss)) l
-unfolding with_test
-near_test i hit miss l short =
-    let h : nat_le (length l.code - hit) MOST_OFFSET ≡ true = grind (arith, nat_tests) in
-    let m : nat_le (length l.code - miss) MOST_OFFSET ≡ true = grind (arith, nat_tests) in
-    rw (h, m) refl
-
--- one instruction more, and no jump
+-- in short code all targets are near: one instruction more, and no jump
 record IsPlain (c d : List Insn) : Type 0 where
   none : HasNoJump d
   one : length d ≡ length c + 1
@@ -53,8 +46,10 @@ plain_put : (i : Insn) (c : List Insn) → i.code ≢ JUMP → HasNoJump c → I
 plain_put i c other none = record { none = All-cons (λ j. j.code ≢ JUMP) i c other none; one = omega arith }
 
 emitted_plain : (op : Option Operation) (i : Insn) (l : PlacedCode) → operation_of i.code ≡ op → i.code ≢ JUMP → HasNoJump l.code → length l.code ≤ 255 → IsPlain l.code (with_insn op i l).code
+unfolding with_test
 emitted_plain (Some (JumpIf t o)) i l e other none short =
-    subst (λ (m : PlacedCode). IsPlain l.code m.code) (sym (near_test i (near_place l (place_at l i.jt)) (near_place l (place_at l i.jf)) l short)) (plain_put _ l.code other none)
+    let near : (to : ℕ) → nat_le (length l.code - to) MOST_OFFSET ≡ true = λ to. grind (arith, nat_tests) in
+    simp near (plain_put _ l.code other none)
 emitted_plain (Some Jump) i l e other none short = absurd (other (sym (back_of_code i.code Jump e)))
 emitted_plain _ i l e other none short = plain_put _ l.code other none
 
@@ -96,42 +91,47 @@ needed_one c i jt jf to other branches way far h = record { each = at }
     at (suc (suc place)) jump g e = jump_later (with_jump to c) _ (suc place) jump (jump_later c _ place jump (h.each place jump g e))
 
 -- a test and a jump for each of its ways
-needed_two : (c : List Insn) (i : Insn) (hit miss : ℕ) → i.code ≢ JUMP → is_branch (operation_of i.code) ≡ true → MOST_OFFSET < length c + 1 - hit → MOST_OFFSET < length c + 1 - miss → JumpsAreNeeded c → JumpsAreNeeded (with_offsets i 0 1 ∷ with_jump hit (with_jump miss c))
-needed_two c i hit miss other branches far_hit far_miss h = record { each = at }
+needed_two : (c : List Insn) (i : Insn) (jt jf hit miss : ℕ) → i.code ≢ JUMP → is_branch (operation_of i.code) ≡ true → jt ≡ 0 → jf ≡ 1 → MOST_OFFSET < length c + 1 - hit → MOST_OFFSET < length c + 1 - miss → JumpsAreNeeded c → JumpsAreNeeded (with_offsets i jt jf ∷ with_jump hit (with_jump miss c))
+needed_two c i jt jf hit miss other branches zero_jt one_jf far_hit far_miss h = record { each = at }
   where
     all : List Insn
-    all = with_offsets i 0 1 ∷ with_jump hit (with_jump miss c)
+    all = with_offsets i jt jf ∷ with_jump hit (with_jump miss c)
 
     at : (place : ℕ) (jump : Insn) → slice_get all place ≡ Some jump → jump.code ≡ JUMP → IsNeeded all place jump
-    at zero jump g e = let same : with_offsets i 0 1 ≡ jump = cc in absurd (other (ap (λ j. j.code) same ∙ e))
+    at zero jump g e = let same : with_offsets i jt jf ≡ jump = cc in absurd (other (ap (λ j. j.code) same ∙ e))
     at (suc zero) jump g e =
         let first : Insn = record { code = JUMP; jt = 0; jf = 0; k = length (with_jump miss c) - hit } in
         let same : first ≡ jump = cc in
         let offset : length (with_jump miss c) - hit ≡ jump.k = ap (λ j. j.k) same in
-        record { from = 0; branch = with_offsets i 0 1; there = refl; branches = branches; leads = inl refl; far = omega arith }
+        record { from = 0; branch = with_offsets i jt jf; there = refl; branches = branches; leads = inl (omega arith); far = omega arith }
     at (suc (suc zero)) jump g e =
         let second : Insn = record { code = JUMP; jt = 0; jf = 0; k = length c - miss } in
         let same : second ≡ jump = cc in
         let offset : length c - miss ≡ jump.k = ap (λ j. j.k) same in
-        record { from = 0; branch = with_offsets i 0 1; there = refl; branches = branches; leads = inr refl; far = omega arith }
+        record { from = 0; branch = with_offsets i jt jf; there = refl; branches = branches; leads = inr (omega arith); far = omega arith }
     at (suc (suc (suc place))) jump g e = jump_later _ _ (suc (suc place)) jump (jump_later _ _ (suc place) jump (jump_later c _ place jump (h.each place jump g e)))
 
-needed_choice : (i : Insn) (hit miss : ℕ) (l : PlacedCode) → i.code ≢ JUMP → is_branch (operation_of i.code) ≡ true → JumpsAreNeeded l.code → (a b d : Bool) → a ≡ (nat_le (length l.code - hit) MOST_OFFSET && nat_le (length l.code - miss) MOST_OFFSET) → b ≡ nat_lt (length l.code - miss) MOST_OFFSET → d ≡ nat_lt (length l.code - hit) MOST_OFFSET → JumpsAreNeeded (with_test_by (if a then Near else (if b then YesFar else (if d then NoFar else BothFar))) i hit miss l).code
-needed_choice i hit miss l other branches h true b d ea eb ed = needed_put l.code _ other h
-needed_choice i hit miss l other branches h false true d ea eb ed =
+needed_test : (i : Insn) (hit miss : ℕ) (l : PlacedCode) → i.code ≢ JUMP → is_branch (operation_of i.code) ≡ true → JumpsAreNeeded l.code → (a b d : Bool) → d ≡ is_near l hit MOST_OFFSET → b ≡ is_near l miss (if d then MOST_OFFSET else MOST_OFFSET - 1) → a ≡ is_near (with_way b miss l) hit MOST_OFFSET → JumpsAreNeeded (with_test_by a b i hit miss l).code
+needed_test i hit miss l other branches h true true d ed eb ea = needed_put l.code _ other h
+needed_test i hit miss l other branches h false true d ed eb ea =
     let far : MOST_OFFSET < length l.code - hit = grind (arith, nat_tests) in
-    needed_one l.code i 0 _ hit other branches (inl refl) far h
-needed_choice i hit miss l other branches h false false true ea eb ed =
+    needed_one l.code i _ _ hit other branches (inl (omega arith)) far h
+needed_test i hit miss l other branches h true false true ed eb ea =
     let far : MOST_OFFSET < length l.code - miss = grind (arith, nat_tests) in
-    needed_one l.code i _ 0 miss other branches (inr refl) far h
-needed_choice i hit miss l other branches h false false false ea eb ed =
+    needed_one l.code i _ _ miss other branches (inr (omega arith)) far h
+needed_test i hit miss l other branches h true false false ed eb ea = absurd (grind (arith, nat_tests))
+needed_test i hit miss l other branches h false false d ed eb ea =
     let far_hit : MOST_OFFSET < length l.code + 1 - hit = grind (arith, nat_tests) in
-    let far_miss : MOST_OFFSET < length l.code + 1 - miss = grind (arith, nat_tests) in
-    needed_two l.code i hit miss other branches far_hit far_miss h
+    let far_miss : MOST_OFFSET < length l.code + 1 - miss = by d eb in
+    needed_two l.code i _ _ hit miss other branches (omega arith) (omega arith) far_hit far_miss h
+  where
+    by : (d : Bool) → false ≡ is_near l miss (if d then MOST_OFFSET else MOST_OFFSET - 1) → MOST_OFFSET < length l.code + 1 - miss
+    by true e = grind (arith, nat_tests)
+    by false e = grind (arith, nat_tests)
 
 emitted_needed : (op : Option Operation) (i : Insn) (l : PlacedCode) → operation_of i.code ≡ op → i.code ≢ JUMP → JumpsAreNeeded l.code → JumpsAreNeeded (with_insn op i l).code
 unfolding with_test
-emitted_needed (Some (JumpIf t o)) i l e other h = needed_choice i _ _ l other (ap is_branch e) h _ _ _ refl refl refl
+emitted_needed (Some (JumpIf t o)) i l e other h = needed_test i _ _ l other (ap is_branch e) h _ _ _ refl refl refl
 emitted_needed (Some Jump) i l e other h = absurd (other (sym (back_of_code i.code Jump e)))
 emitted_needed _ i l e other h = needed_put l.code _ other h
 

@@ -11,6 +11,4 @@ pub use Rattle.flt_bpf.specs.declared.operation.{Operand.Operand, Operation.Oper
 pub use Rattle.flt_bpf.specs.declared.operation.Operation.TheVariants.{Jump, JumpIf, LoadAbsolute, LoadIndirect, Load, LoadHeaderLength, Store, Compute, ReturnConstant, ReturnAccumulator}
 pub use Rattle.flt_bpf.specs.declared.operation.{Source.TheVariants.Memory, Test.Test}
 pub use Rattle.flt_bpf.proofs.Codes.{back_of_code}
-pub use Rattle.flt_short.specs.declared.layout.Reach.{Reach}
-pub use Rattle.flt_short.specs.declared.layout.Reach.TheVariants.{Near, YesFar, NoFar, BothFar}
-pub use Rattle.flt_short.specs.inside.Layout.{PlacedCode, place_at, with_offsets, with_test_by, with_insn, placed_code, laid_out, emitted, with_jump, with_noted_jump, jump_near, test_reach}
+pub use Rattle.flt_short.specs.inside.Layout.{PlacedCode, place_at, with_offsets, with_test_by, with_insn, placed_code, laid_out, emitted, with_jump, with_noted_jump, jump_near, is_near, with_way, way}

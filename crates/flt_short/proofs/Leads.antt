@@ -1,64 +1,11 @@
--- What is laid out first stays at the end of the code, where its place says; from a jump a run goes on where
+-- What is laid out first stays where its place says; from a jump a run goes on where
 -- the jump leads; so the code that is laid out gives the answers of the wide code.
-use Rattle.flt_short.proofs.LayoutNames.{◌≡◌, ℕ, zero, suc, ◌≤◌, List, [], ◌∷◌, ◌++◌, length, drop, Option, Some, refl, sym, ap, ◌∙◌, arith, append_assoc, length-append, Insn, Operation, JumpIf, Reach, Near, BothFar, PlacedCode, place_at, with_test_by, with_insn, placed_code, laid_out, ◌+◌, ◌-◌, ◌<◌, Bool, true, false, subst, ◌==◌, ◌&&◌, nat_le, nat_lt, if◌then◌else◌, All, nat_tests, All-cons, All-head, All-tail, All-take, All-replicate, State, Jump, answer_of, MOST_OFFSET, YesFar, NoFar, emitted, with_jump, with_noted_jump, jump_near, None, ReturnConstant, ReturnAccumulator, Test, Operand, does_if_known, test_holds, operand_value, answer_after, with_offsets}
-use Rattle.std.proofs.Common.{add-one}
+use Rattle.flt_short.proofs.LayoutNames.{◌≡◌, ℕ, zero, suc, ◌≤◌, List, [], ◌∷◌, length, Option, Some, refl, sym, ap, ◌∙◌, arith, Insn, Operation, JumpIf, PlacedCode, place_at, with_test_by, with_insn, placed_code, laid_out, ◌-◌, ◌<◌, Bool, true, false, subst, ◌==◌, ◌&&◌, nat_le, nat_lt, if◌then◌else◌, All, nat_tests, All-cons, All-head, All-tail, All-take, All-replicate, State, Jump, answer_of, MOST_OFFSET, emitted, with_jump, with_noted_jump, jump_near, None, ReturnConstant, ReturnAccumulator, Test, Operand, does_if_known, test_holds, operand_value, answer_after, with_offsets, with_way, way, ends_in_return}
+use Rattle.flt_short.proofs.Counted.{emitted_grows}
 use Rattle.std.specs.Prelude.{slice_index}
 use Rattle.flt_bpf.proofs.Both.{plain_both}
 use Rattle.flt_bpf.specs.{Instructions.operation_of, Machine.step}
-use Rattle.flt_short.specs.{declared.layout.PlacedJump.PlacedJump, inside.Layout.with_test, inside.Layout.near_place}
-
--- code with more in front
-pub record IsEndOf (c d : List Insn) : Type 0 where
-  pub front : List Insn
-  pub parts : d ≡ front ++ c
-
-end_same : (c : List Insn) → IsEndOf c c
-end_same c = record { front = []; parts = refl }
-
-pub end_put : {c d : List Insn} (i : Insn) → IsEndOf c d → IsEndOf c (i ∷ d)
-end_put i h = record { front = i ∷ h.front; parts = ap (λ e. i ∷ e) h.parts }
-
-end_more : {c d e : List Insn} → IsEndOf c d → IsEndOf d e → IsEndOf c e
-end_more {c} {d} {e} h g =
-    record { front = g.front ++ h.front; parts = g.parts ∙ ap (λ x. g.front ++ x) h.parts ∙ sym (append_assoc g.front h.front c) }
-
-pub end_length : {c d : List Insn} → IsEndOf c d → length c ≤ length d
-end_length {c} {d} h = omega (arith, ap length h.parts, length-append h.front c)
-
-test_end : (r : Reach) (i : Insn) (hit miss : ℕ) (l : PlacedCode) → IsEndOf l.code (with_test_by r i hit miss l).code
-test_end Near i hit miss l = end_put _ (end_same l.code)
-test_end BothFar i hit miss l = end_put _ (end_put _ (end_put _ (end_same l.code)))
-test_end _ i hit miss l = end_put _ (end_put _ (end_same l.code))
-
-pub emitted_end : (o : Option Operation) (i : Insn) (l : PlacedCode) → IsEndOf l.code (with_insn o i l).code
-unfolding with_test
-emitted_end (Some (JumpIf test operand)) i l = test_end _ i _ _ l
-emitted_end _ i l = end_put _ (end_same l.code)
-
--- and the places stay
-test_places : (r : Reach) (i : Insn) (hit miss : ℕ) (l : PlacedCode) → (with_test_by r i hit miss l).places ≡ l.places
-test_places Near i hit miss l = refl
-test_places _ i hit miss l = refl
-
-emitted_places : (o : Option Operation) (i : Insn) (l : PlacedCode) → (with_insn o i l).places ≡ l.places
-unfolding with_test
-emitted_places (Some (JumpIf test operand)) i l = test_places _ i _ _ l
-emitted_places _ i l = refl
-
--- the code of what is left of wide code is at the end
-pub rest_end : (wide : List Insn) (k : ℕ) → IsEndOf (laid_out (drop k wide)) (laid_out wide)
-rest_end (i ∷ is) (suc k) = end_more (rest_end is k) (emitted_end (operation_of i.code) i (placed_code is))
-rest_end _ zero = end_same _
-rest_end _ _ = end_same _
-
--- a place is where that code begins
-pub target_is : (wide : List Insn) (k : ℕ) → place_at (placed_code wide) k ≡ length (laid_out (drop k wide))
-target_is (i ∷ is) (suc k) = ap (λ ps. slice_index ps k) (emitted_places (operation_of i.code) i (placed_code is)) ∙ target_is is k
-target_is _ zero = refl
-target_is _ _ = refl
-
-pub target_inside : (wide : List Insn) (k : ℕ) → place_at (placed_code wide) k ≤ length (laid_out wide)
-target_inside wide k = omega (arith, target_is wide k, end_length (rest_end wide k))
+use Rattle.flt_short.specs.{declared.layout.PlacedJump.PlacedJump, inside.Layout.with_test, inside.Layout.near_place, inside.Layout.put}
 
 pub jumps : (to : ℕ) (c : List Insn) (p : List ℕ) (n : ℕ) (s : State) → answer_of (with_jump to c) p n 0 s ≡ answer_of c p n (length c - to) s
 unfolding step operation_of
@@ -79,22 +26,48 @@ pub record GoesTo (c : List Insn) (place to : ℕ) : Type 0 where
 stays : (c : List Insn) (to : ℕ) → to ≤ length c → GoesTo c to to
 stays c to l = record { within = l; some = λ h. h; same = λ p n s. refl }
 
+-- more in front of a layout: from each place of it a run goes on as before
+pub record Extends (l m : PlacedCode) : Type 0 where
+  pub more : length l.code ≤ length m.code
+  pub places : m.places ≡ l.places
+  pub same : (to : ℕ) (p : List ℕ) (n : ℕ) (s : State) → to ≤ length l.code → answer_of m.code p n (length m.code - to) s ≡ answer_of l.code p n (length l.code - to) s
+  pub ends : 0 < length l.code → ends_in_return m.code ≡ ends_in_return l.code
+
+one_more : (i : Insn) (l : PlacedCode) (noted : List PlacedJump) → Extends l (record { code = i ∷ l.code; places = l.places; jumps = noted })
+one_more i l noted = record { more = omega arith; places = refl; same = λ to p n s b. later _ i l.code to p n s refl b; ends = by l.code }
+  where
+    by : (c : List Insn) → 0 < length c → ends_in_return (i ∷ c) ≡ ends_in_return c
+    by [] some = absurd (omega arith)
+    by (j ∷ c) some = refl
+
+both_more : {l m o : PlacedCode} → Extends l m → Extends m o → Extends l o
+both_more h g = record { more = omega (arith, h.more, g.more); places = g.places ∙ h.places; same = λ to p n s b. g.same to p n s (omega (arith, b, h.more)) ∙ h.same to p n s b; ends = λ some. g.ends (omega (arith, some, h.more)) ∙ h.ends some }
+
+pub way_more : (near : Bool) (to : ℕ) (l : PlacedCode) → Extends l (with_way near to l)
+way_more true to l = record { more = omega arith; places = refl; same = λ to p n s b. refl; ends = λ some. refl }
+way_more false to l = one_more _ l _
+
+pub emitted_more : (o : Option Operation) (i : Insn) (l : PlacedCode) → Extends l (with_insn o i l)
+unfolding with_test
+emitted_more (Some (JumpIf test operand)) i l = both_more (both_more (way_more _ _ l) (way_more _ _ (with_way _ _ l))) (one_more _ _ _)
+emitted_more _ i l = one_more _ l _
+
 -- so it is at a jump, which leads no farther than the end
 pub record Leads (c : List Insn) (j : PlacedJump) : Type 0 where
   pub goes : GoesTo c j.place j.to
   pub inside : j.to ≤ length c
 
-leads_put : (i : Insn) (c : List Insn) (j : PlacedJump) → Leads c j → Leads (i ∷ c) j
-leads_put i c j h =
+keeps : {l m : PlacedCode} → Extends l m → (j : PlacedJump) → Leads l.code j → Leads m.code j
+keeps e j h =
     let within = h.goes.within in
     let inside = h.inside in
     record {
       goes = record {
-        within = omega arith;
+        within = omega (arith, e.more);
         some = h.goes.some;
-        same = λ p n s. later _ i c j.place p n s refl within ∙ h.goes.same p n s ∙ sym (later _ i c j.to p n s refl inside);
+        same = λ p n s. e.same j.place p n s within ∙ h.goes.same p n s ∙ sym (e.same j.to p n s inside);
       };
-      inside = omega arith;
+      inside = omega (arith, e.more);
     }
 
 -- all that are noted lead so
@@ -102,21 +75,23 @@ abbrev pub AllLead : PlacedCode → Type 0
 AllLead l = All (Leads l.code) l.jumps
 
 all_put : (i : Insn) (l : PlacedCode) → AllLead l → AllLead (emitted i l)
-all_put i l h k j b = leads_put i l.code _ (h k j b)
+all_put i l h k j b = keeps (one_more i l l.jumps) _ (h k j b)
 
-all_jump : (to : ℕ) (l : PlacedCode) → to ≤ length l.code → AllLead l → AllLead (with_noted_jump to l)
-all_jump to l b h =
+jump_leads : (to : ℕ) (l : PlacedCode) → to ≤ length l.code → Leads (with_jump to l.code) (record { place = length (with_jump to l.code); to = to })
+jump_leads to l b =
     let c = with_jump to l.code in
     let start : length c - length c ≡ 0 = omega arith in
-    let first : Leads c (record { place = length c; to = to }) = record {
+    record {
       goes = record {
         within = omega arith;
-        some = λ h'. omega arith;
+        some = λ h. omega arith;
         same = λ p n s. ap (λ k. answer_of c p n k s) start ∙ jumps to l.code p n s ∙ sym (later _ _ l.code to p n s refl b);
       };
       inside = omega arith;
-    } in
-    All-cons (Leads c) _ _ first (All-take (Leads c) 3 l.jumps (all_put _ l h))
+    }
+
+all_jump : (to : ℕ) (l : PlacedCode) → to ≤ length l.code → AllLead l → AllLead (with_noted_jump to l)
+all_jump to l b h = All-cons (Leads (with_jump to l.code)) _ _ (jump_leads to l b) (All-take (Leads (with_jump to l.code)) 3 l.jumps (all_put _ l h))
 
 -- the place that is chosen for a test
 near_jump : (c : List Insn) (js : List PlacedJump) (to : ℕ) → to ≤ length c → All (Leads c) js → GoesTo c (jump_near js to (length c)) to
@@ -139,102 +114,119 @@ near_goes l to inside h = choice (nat_le (length l.code - to) MOST_OFFSET)
     choice false = near_jump l.code l.jumps to inside h
 
 -- what is laid out in front of jumps that lead so
-all_test : (r : Reach) (i : Insn) (hit miss : ℕ) (l : PlacedCode) → hit ≤ length l.code → miss ≤ length l.code → AllLead l → AllLead (with_test_by r i hit miss l)
-all_test Near i hit miss l lh lm h = all_put _ l h
-all_test YesFar i hit miss l lh lm h = all_put _ (with_noted_jump hit l) (all_jump hit l lh h)
-all_test NoFar i hit miss l lh lm h = all_put _ (with_noted_jump miss l) (all_jump miss l lm h)
-all_test BothFar i hit miss l lh lm h =
-    let after = with_noted_jump miss l in
-    all_put _ (with_noted_jump hit after) (all_jump hit after (omega arith) (all_jump miss l lm h))
+all_way : (near : Bool) (to : ℕ) (l : PlacedCode) → to ≤ length l.code → AllLead l → AllLead (with_way near to l)
+all_way true to l b h = h
+all_way false to l b h = all_jump to l b h
+
+all_test : (a b : Bool) (i : Insn) (hit miss : ℕ) (l : PlacedCode) → hit ≤ length l.code → miss ≤ length l.code → AllLead l → AllLead (with_test_by a b i hit miss l)
+all_test a b i hit miss l lh lm h =
+    all_put _ (with_way a hit _) (all_way a hit _ (omega (arith, lh, (way_more b miss l).more)) (all_way b miss l lm h))
 
 all_emitted : (op : Option Operation) (i : Insn) (l : PlacedCode) → ((k : ℕ) → place_at l k ≤ length l.code) → AllLead l → AllLead (with_insn op i l)
 unfolding with_test
 all_emitted (Some (JumpIf t o)) i l inside h =
-    all_test _ i _ _ l (near_goes l _ (inside i.jt) h).within (near_goes l _ (inside i.jf) h).within h
+    all_test _ _ i _ _ l (near_goes l _ (inside i.jt) h).within (near_goes l _ (inside i.jf) h).within h
 all_emitted (Some Jump) i l inside h = all_jump _ l (inside i.k) h
 all_emitted _ i l inside h = all_put _ l h
 
-pub all_lead : (wide : List Insn) → AllLead (placed_code wide)
-all_lead [] = All-replicate (Leads []) 4 _ (record { goes = stays [] 0 (omega arith); inside = omega arith })
-all_lead (i ∷ is) = all_emitted (operation_of i.code) i (placed_code is) (target_inside is) (all_lead is)
+way_leads : (near : Bool) (to : ℕ) (l : PlacedCode) → to ≤ length l.code → Leads (with_way near to l).code (record { place = way near to l; to = to })
+way_leads true to l b = record { goes = stays l.code to b; inside = b }
+way_leads false to l b = jump_leads to l b
 
-front_passed : (front c : List Insn) (p : List ℕ) (n : ℕ) (s : State) → answer_of (front ++ c) p n (length front) s ≡ answer_of c p n 0 s
-front_passed [] c p n s = refl
-front_passed (i ∷ front) c p n s = front_passed front c p n s
+-- a test's two places lead where they should
+pub test_leads : (a b : Bool) (hit miss : ℕ) (l : PlacedCode) → hit ≤ length l.code → miss ≤ length l.code → (let m = with_way b miss l in let c = (with_way a hit m).code in GoesTo c (way a hit m) hit × GoesTo c (way b miss l) miss)
+test_leads a b hit miss l lh lm =
+    let m = with_way b miss l in
+    ((way_leads a hit m (omega (arith, lh, (way_more b miss l).more))).goes, (keeps (way_more a hit m) _ (way_leads b miss l lm)).goes)
 
--- the answer from a place on
-end_answer : {c d : List Insn} (h : IsEndOf c d) (p : List ℕ) (n : ℕ) (s : State) → answer_of d p n (length d - length c) s ≡ answer_of c p n 0 s
-end_answer {c} {d} h p n s =
-    let m : length d - length c ≡ length h.front = omega (arith, ap length h.parts, length-append h.front c) in
-    ap (λ k. answer_of d p n k s) m ∙ ap (λ e. answer_of e p n (length h.front) s) h.parts ∙ front_passed h.front c p n s
+-- the layout of wide code: from the place of each instruction a run goes on as in the wide code
+pub record Lays (l : PlacedCode) (wide : List Insn) : Type 0 where
+  pub leads : AllLead l
+  pub inside : (k : ℕ) → place_at l k ≤ length l.code
+  pub some : (k : ℕ) → k < length wide → 0 < place_at l k
+  pub next : (p : List ℕ) (n : ℕ) (s : State) → answer_of l.code p n 0 s ≡ answer_of wide p n 0 s
+  pub arrives : (p : List ℕ) (n k : ℕ) (s : State) → answer_of l.code p n (length l.code - place_at l k) s ≡ answer_of wide p n k s
+
+pub near : {l : PlacedCode} {is : List Insn} → Lays l is → (k : ℕ) → GoesTo l.code (near_place l (place_at l k)) (place_at l k)
+near {l} h k = near_goes l _ (h.inside k) h.leads
 
 -- where a test goes on
 abbrev goes : Bool → ℕ → ℕ → ℕ
 goes b k m = if b then k else m
-
-yes_far : (b : Bool) (hit miss : ℕ) (c : List Insn) (p : List ℕ) (n : ℕ) (s : State) → miss ≤ length c → answer_of (with_jump hit c) p n (goes b 0 (length c + 1 - miss)) s ≡ answer_of c p n (goes b (length c - hit) (length c - miss)) s
-yes_far true hit miss c p n s l = jumps hit c p n s
-yes_far false hit miss c p n s l = later _ _ c miss p n s (add-one (length c)) l
-
-no_far : (b : Bool) (hit miss : ℕ) (c : List Insn) (p : List ℕ) (n : ℕ) (s : State) → hit ≤ length c → answer_of (with_jump miss c) p n (goes b (length c + 1 - hit) 0) s ≡ answer_of c p n (goes b (length c - hit) (length c - miss)) s
-no_far true hit miss c p n s l = later _ _ c hit p n s (add-one (length c)) l
-no_far false hit miss c p n s l = jumps miss c p n s
-
-both_far : (b : Bool) (hit miss : ℕ) (c : List Insn) (p : List ℕ) (n : ℕ) (s : State) → hit ≤ length c → answer_of (with_jump hit (with_jump miss c)) p n (goes b 0 1) s ≡ answer_of c p n (goes b (length c - hit) (length c - miss)) s
-both_far true hit miss c p n s l = jumps hit (with_jump miss c) p n s ∙ later _ _ c hit p n s refl l
-both_far false hit miss c p n s l = jumps miss c p n s
 
 tests : (i : Insn) (t : Test) (o : Operand) (jt jf : ℕ) (c : List Insn) (p : List ℕ) (n : ℕ) (s : State) → operation_of i.code ≡ Some (JumpIf t o) → answer_of (with_offsets i jt jf ∷ c) p n 0 s ≡ answer_of c p n (goes (test_holds t s.accumulator (operand_value o i.k s.index)) jt jf) s
 unfolding step
 tests i t o jt jf c p n s e = ap (λ op. answer_after (answer_of c p n) (does_if_known op (with_offsets i jt jf) p n s)) e
 
 -- a test goes on at its places, however they are reached
-test_goes : (r : Reach) (i : Insn) (t : Test) (o : Operand) (hit miss : ℕ) (l : PlacedCode) (p : List ℕ) (n : ℕ) (s : State) → operation_of i.code ≡ Some (JumpIf t o) → hit ≤ length l.code → miss ≤ length l.code → answer_of (with_test_by r i hit miss l).code p n 0 s ≡ answer_of l.code p n (goes (test_holds t s.accumulator (operand_value o i.k s.index)) (length l.code - hit) (length l.code - miss)) s
-test_goes Near i t o hit miss l p n s e lh lm = tests i t o _ _ l.code p n s e
-test_goes YesFar i t o hit miss l p n s e lh lm = tests i t o _ _ (with_jump hit l.code) p n s e ∙ yes_far _ hit miss l.code p n s lm
-test_goes NoFar i t o hit miss l p n s e lh lm = tests i t o _ _ (with_jump miss l.code) p n s e ∙ no_far _ hit miss l.code p n s lh
-test_goes BothFar i t o hit miss l p n s e lh lm = tests i t o _ _ (with_jump hit (with_jump miss l.code)) p n s e ∙ both_far _ hit miss l.code p n s lh
+test_same : (a b : Bool) (i : Insn) (t : Test) (o : Operand) (l : PlacedCode) (is : List Insn) (p : List ℕ) (n : ℕ) (s : State) → operation_of i.code ≡ Some (JumpIf t o) → Lays l is → answer_of (with_test_by a b i (near_place l (place_at l i.jt)) (near_place l (place_at l i.jf)) l).code p n 0 s ≡ answer_of is p n (goes (test_holds t s.accumulator (operand_value o i.k s.index)) i.jt i.jf) s
+test_same a b i t o l is p n s e h = tests i t o _ _ c.code p n s e ∙ by (test_holds t s.accumulator (operand_value o i.k s.index))
+  where
+    hit : ℕ
+    hit = near_place l (place_at l i.jt)
 
--- code that goes on as other code does
-record GoesOn (l : PlacedCode) (is : List Insn) (p : List ℕ) (n : ℕ) : Type 0 where
-  next : (s : State) → answer_of l.code p n 0 s ≡ answer_of is p n 0 s
-  inside : (k : ℕ) → place_at l k ≤ length l.code
-  arrives : (k : ℕ) (s : State) → answer_of l.code p n (length l.code - place_at l k) s ≡ answer_of is p n k s
-  near : (k : ℕ) → GoesTo l.code (near_place l (place_at l k)) (place_at l k)
+    miss : ℕ
+    miss = near_place l (place_at l i.jf)
 
-by_way : (b : Bool) (l : PlacedCode) (is : List Insn) (p : List ℕ) (n yes_k no_k : ℕ) (s : State) → GoesOn l is p n → answer_of l.code p n (goes b (length l.code - near_place l (place_at l yes_k)) (length l.code - near_place l (place_at l no_k))) s ≡ answer_of is p n (goes b yes_k no_k) s
-by_way true l is p n yes_k no_k s h = (h.near yes_k).same p n s ∙ h.arrives yes_k s
-by_way false l is p n yes_k no_k s h = (h.near no_k).same p n s ∙ h.arrives no_k s
+    c : PlacedCode
+    c = with_way a hit (with_way b miss l)
+
+    led : (place k : ℕ) → GoesTo c.code place (near_place l (place_at l k)) → answer_of c.code p n (length c.code - place) s ≡ answer_of is p n k s
+    led place k g = g.same p n s ∙ (both_more (way_more b miss l) (way_more a hit (with_way b miss l))).same _ p n s (near h k).within ∙ (near h k).same p n s ∙ h.arrives p n k s
+
+    by : (d : Bool) → answer_of c.code p n (goes d (length c.code - way a hit (with_way b miss l)) (length c.code - way b miss l)) s ≡ answer_of is p n (goes d i.jt i.jf) s
+    by true = led _ i.jt (test_leads a b hit miss l (near h i.jt).within (near h i.jf).within).0
+    by false = led _ i.jf (test_leads a b hit miss l (near h i.jt).within (near h i.jf).within).1
 
 plain : (op : Option Operation) (i : Insn) (c : List Insn) (p : List ℕ) (n : ℕ) (s : State) → operation_of i.code ≡ op → answer_of (with_offsets i 0 0 ∷ c) p n 0 s ≡ answer_after (answer_of c p n) (does_if_known op (with_offsets i 0 0) p n s)
 unfolding step
 plain op i c p n s e = ap (λ o. answer_after (answer_of c p n) (does_if_known o (with_offsets i 0 0) p n s)) e
 
 -- a wide instruction that is laid out does what it does in the wide code
-emitted_same : (op : Option Operation) (i : Insn) (l : PlacedCode) (is : List Insn) (p : List ℕ) (n : ℕ) (s : State) → operation_of i.code ≡ op → GoesOn l is p n → answer_of (with_insn op i l).code p n 0 s ≡ answer_after (answer_of is p n) (does_if_known op i p n s)
+emitted_same : (op : Option Operation) (i : Insn) (l : PlacedCode) (is : List Insn) (p : List ℕ) (n : ℕ) (s : State) → operation_of i.code ≡ op → Lays l is → answer_of (with_insn op i l).code p n 0 s ≡ answer_after (answer_of is p n) (does_if_known op i p n s)
 unfolding with_test
 emitted_same None i l is p n s e h = plain None i l.code p n s e
-emitted_same (Some Jump) i l is p n s e h = jumps _ l.code p n s ∙ h.arrives i.k s
-emitted_same (Some (JumpIf t o)) i l is p n s e h =
-    test_goes _ i t o _ _ l p n s e (h.near i.jt).within (h.near i.jf).within ∙ by_way _ l is p n i.jt i.jf s h
+emitted_same (Some Jump) i l is p n s e h = jumps _ l.code p n s ∙ h.arrives p n i.k s
+emitted_same (Some (JumpIf t o)) i l is p n s e h = test_same _ _ i t o l is p n s e h
 emitted_same (Some ReturnConstant) i l is p n s e h = plain _ i l.code p n s e
 emitted_same (Some ReturnAccumulator) i l is p n s e h = plain _ i l.code p n s e
 emitted_same (Some op) i l is p n s e h =
-    plain _ i l.code p n s e ∙ plain_both p n (λ u v. answer_after (answer_of l.code p n) u ≡ answer_after (answer_of is p n) v) refl refl op (with_offsets i 0 0) i s refl (λ t. h.next t)
+    plain _ i l.code p n s e ∙ plain_both p n (λ u v. answer_after (answer_of l.code p n) u ≡ answer_after (answer_of is p n) v) refl refl op (with_offsets i 0 0) i s refl (λ t. h.next p n t)
 
--- the same answer from each wide instruction on
-same_from : (wide : List Insn) (p : List ℕ) (n k : ℕ) (s : State) → answer_of (laid_out (drop k wide)) p n 0 s ≡ answer_of wide p n k s
+lays_put : (i : Insn) (l : PlacedCode) (is : List Insn) → Lays l is → Lays (put i l) (i ∷ is)
 unfolding step
-same_from [] p n zero s = refl
-same_from [] p n (suc k) s = refl
-same_from (i ∷ is) p n (suc k) s = same_from is p n k s
-same_from (i ∷ is) p n zero s =
-    emitted_same (operation_of i.code) i (placed_code is) is p n s refl (record {
-      next = λ s'. same_from is p n 0 s';
-      inside = target_inside is;
-      arrives = λ k s'. ap (λ to. answer_of (laid_out is) p n (length (laid_out is) - to) s') (target_is is k) ∙ end_answer (rest_end is k) p n s' ∙ same_from is p n k s';
-      near = λ k. near_goes (placed_code is) _ (target_inside is k) (all_lead is);
-    })
+lays_put i l is h = record { leads = all_emitted op i l h.inside h.leads; inside = inside; some = some; next = next; arrives = arrives }
+  where
+    op : Option Operation
+    op = operation_of i.code
+
+    m : PlacedCode
+    m = with_insn op i l
+
+    more : Extends l m
+    more = emitted_more op i l
+
+    kept : (k : ℕ) → slice_index m.places k ≡ place_at l k
+    kept k = ap (λ ps. slice_index ps k) more.places
+
+    inside : (k : ℕ) → place_at (put i l) k ≤ length m.code
+    inside zero = omega arith
+    inside (suc k) = omega (arith, kept k, h.inside k, more.more)
+
+    some : (k : ℕ) → k < length (i ∷ is) → 0 < place_at (put i l) k
+    some zero b = omega (arith, (emitted_grows op i l).more)
+    some (suc k) b = omega (arith, kept k, h.some k (omega arith))
+
+    next : (p : List ℕ) (n : ℕ) (s : State) → answer_of m.code p n 0 s ≡ answer_of (i ∷ is) p n 0 s
+    next p n s = emitted_same op i l is p n s refl h
+
+    arrives : (p : List ℕ) (n k : ℕ) (s : State) → answer_of m.code p n (length m.code - place_at (put i l) k) s ≡ answer_of (i ∷ is) p n k s
+    arrives p n zero s = let none : length m.code - length m.code ≡ 0 = omega arith in ap (λ k. answer_of m.code p n k s) none ∙ next p n s
+    arrives p n (suc k) s = ap (λ to. answer_of m.code p n (length m.code - to) s) (kept k) ∙ more.same _ p n s (h.inside k) ∙ h.arrives p n k s
+
+pub lays : (wide : List Insn) → Lays (placed_code wide) wide
+lays [] = record { leads = All-replicate (Leads []) 4 _ (record { goes = stays [] 0 (omega arith); inside = omega arith }); inside = λ k. omega arith; some = λ k b. absurd (omega arith); next = λ p n s. refl; arrives = λ p n k s. refl }
+lays (i ∷ is) = lays_put i (placed_code is) is (lays is)
 
 pub same_answers : (wide : List Insn) (p : List ℕ) (n : ℕ) (s : State) → answer_of (laid_out wide) p n 0 s ≡ answer_of wide p n 0 s
-same_answers wide p n s = same_from wide p n 0 s
+same_answers wide p n s = (lays wide).next p n s

@@ -1,5 +1,5 @@
 -- Code that is alike has the answers of the old code, and a run of it meets no more instructions.
-use Rattle.flt_short.proofs.Common.{◌≡◌, inl, inr, ℕ, zero, suc, ◌+◌, ◌-◌, ◌%◌, ◌^◌, ◌<◌, ◌≤◌, List, [], ◌∷◌, length, drop, length-drop, Bool, true, false, Option, Some, None, refl, sym, ap, ◌∙◌, subst, arith, ◌≢◌, All, count_by, ◌==◌, nat_lt, ◌&&◌, ◌||◌, not, if◌then◌else◌, slice_get, slice_set, bit_and, option_map, and_parts, or_cases, nat_tests, slice_get_within, get_or_from_slice_get, Insn, State, Operation, LoadAbsolute, LoadIndirect, Load, LoadHeaderLength, Store, Compute, Negate, Jump, JumpIf, ReturnConstant, ReturnAccumulator, CopyToIndex, CopyToAccumulator, Accumulator, Index, Immediate, Memory, Length, Constant, IndexRegister, Byte, code_of, Next, Goes, Ends, Lost, does, does_if_known, into, into_word, operand_value, test_holds, field, compute, header_length, Answered, run_from, progress_after, step_if_there, machine, start, IsValidUnlessLong, JUMP, is_branch, goes_on, rejects, is_sure, goes_on_or_rejects, same_target, goes_on_alike, are_copies, lands_at_if, lands_at, code_from, stands_at, stands, are_alike, begins, answer_of, answer_after, parts, known_step, into_both, word_both, stored_both, plain_both}
+use Rattle.flt_short.proofs.Common.{◌≡◌, inl, inr, ℕ, zero, suc, ◌+◌, ◌-◌, ◌%◌, ◌^◌, ◌<◌, ◌≤◌, List, [], ◌∷◌, length, drop, length-drop, Bool, true, false, Option, Some, None, refl, sym, ap, ◌∙◌, subst, arith, ◌≢◌, All, count_by, ◌==◌, nat_lt, ◌&&◌, ◌||◌, not, if◌then◌else◌, slice_get, slice_set, bit_and, option_map, and_parts, or_cases, nat_tests, slice_get_within, get_or_from_slice_get, Insn, State, Operation, LoadAbsolute, LoadIndirect, Load, LoadHeaderLength, Store, Compute, Negate, Jump, JumpIf, ReturnConstant, ReturnAccumulator, CopyToIndex, CopyToAccumulator, Accumulator, Index, Immediate, Memory, Length, Constant, IndexRegister, Byte, code_of, Next, Goes, Ends, Lost, does, does_if_known, into, into_word, operand_value, test_holds, field, compute, header_length, Answered, run_from, progress_after, step_if_there, machine, start, IsValidUnlessLong, JUMP, is_branch, goes_on, rejects, is_sure, goes_on_or_rejects, goes_on_alike, are_copies, lands_at_if, lands_at, code_from, stands_at, stands, are_alike, answer_of, answer_after, get_or, parts, known_step, into_both, word_both, stored_both, plain_both}
 use Rattle.std.proofs.{Math.Seq.drop-nil, Math.Seq.drop-cons, lemmas.List.drop-drop}
 use Rattle.flt_bpf.specs.{Instructions.operation_of, Machine.step}
 use Rattle.flt_bpf.specs.Registers.{reads_accumulator, reads_index, sets_accumulator, sets_index}
@@ -132,7 +132,7 @@ module _ (p : List ℕ) (n : ℕ) where
       let q : (i.code ≡ j.code) × (i.k ≡ j.k) × (goes_on_alike op i (length is) j (length js) (are_copies is js) ≡ true) = grind (arith, nat_tests) in
       let is_at = sym (drop_after c x i is (sym d)) in
       let js_at = sym (drop_after c y j js (sym e)) in
-      let targets : (far near : ℕ) → same_target far (length is) near (length js) ≡ true → drop far is ≡ drop near js = λ far near t.
+      let targets : (far near : ℕ) → (length is - far == length js - near) ≡ true → drop far is ≡ drop near js = λ far near t.
       (let t1 = t in
       let same : length is - far ≡ length js - near = grind (arith, nat_tests) in
       let one_is : drop far is ≡ drop (suc x + far) c = ap (drop far) is_at ∙ drop-drop far (suc x) c in
@@ -142,7 +142,7 @@ module _ (p : List ℕ) (n : ℕ) where
       (subst (λ m. Follows js is p n (does_if_known op (record j { k = m }) p n s) (does_if_known op i p n s)) q.1
       (alike op (λ h t. copies_good c is js (suc x) (suc y) is_at js_at h t) targets q.2))
     where
-      alike : (op : Option Operation) → (are_copies is js ≡ true → (t : State) → AsGood js is p n 0 0 t t) → ((far near : ℕ) → same_target far (length is) near (length js) ≡ true → drop far is ≡ drop near js) → goes_on_alike op i (length is) j (length js) (are_copies is js) ≡ true → Follows js is p n (does_if_known op (record j { k = i.k }) p n s) (does_if_known op i p n s)
+      alike : (op : Option Operation) → (are_copies is js ≡ true → (t : State) → AsGood js is p n 0 0 t t) → ((far near : ℕ) → (length is - far == length js - near) ≡ true → drop far is ≡ drop near js) → goes_on_alike op i (length is) j (length js) (are_copies is js) ≡ true → Follows js is p n (does_if_known op (record j { k = i.k }) p n s) (does_if_known op i p n s)
       alike None rest to h = cc
       alike (Some Jump) rest to h = cc
       alike (Some ReturnConstant) rest to h = (λ b eb. eb, omega arith)
@@ -150,8 +150,8 @@ module _ (p : List ℕ) (n : ℕ) where
       alike (Some (JumpIf t o)) rest to h = ways (test_holds t s.accumulator (operand_value o i.k s.index))
         where
           ways : (b : Bool) → AsGood js is p n (if b then j.jt else j.jf) (if b then i.jt else i.jf) s s
-          ways true = led is js s i.jt j.jt (to i.jt j.jt (and_parts (same_target i.jt (length is) j.jt (length js)) _ h).0)
-          ways false = led is js s i.jf j.jf (to i.jf j.jf (and_parts (same_target i.jt (length is) j.jt (length js)) _ h).1)
+          ways true = led is js s i.jt j.jt (to i.jt j.jt (and_parts (length is - i.jt == length js - j.jt) _ h).0)
+          ways false = led is js s i.jf j.jf (to i.jf j.jf (and_parts (length is - i.jt == length js - j.jt) _ h).1)
       alike (Some op) rest to h = plain_both p n (Follows js is p n) (ends js is) (lost js is) op j i s refl (rest h)
   copies_good c _ _ x y d e f s = cc
 
@@ -413,13 +413,10 @@ module _ (p : List ℕ) (n : ℕ) where
       record { count = m.met; answered = m.answered; upper_bound = omega arith; inside = omega arith }
 
   -- the new code gives the old one's answer in no more instructions
-  pub shortened : (new old : List Insn) (ls : List Landing) (answer count : ℕ) → length ls ≡ length old → begins ls (length new) ≡ true → are_alike new old ls ≡ true → machine old p n (length old) ≡ Answered answer count → Comes new p n answer count
-  shortened new old [] answer count same b e m = cc
-  shortened new old (l ∷ ls) answer count same b e m =
-      let q : (0 < l.place) × (l.place ≡ length new) = grind (arith, nat_tests) in
-      let top = q.1 in
-      let all = all_land new old (l ∷ ls) same e in
-      let good = all 0 l refl q.0 start 0 0 (λ z. refl) (λ z. refl) in
+  pub shortened : (new old : List Insn) (ls : List Landing) (d : Landing) (answer count : ℕ) → length ls ≡ length old → 0 < length ls → 0 < (get_or ls 0 d).place → (get_or ls 0 d).place ≡ length new → are_alike new old ls ≡ true → machine old p n (length old) ≡ Answered answer count → Comes new p n answer count
+  shortened new old [] d answer count same any some top e m = absurd (omega arith)
+  shortened new old (l ∷ ls) d answer count same any some top e m =
+      let good = all_land new old (l ∷ ls) same e 0 l refl some start 0 0 (λ z. refl) (λ z. refl) in
       let none : length new - l.place ≡ 0 = omega arith in
       let whole : code_from new l.place ≡ new = ap (λ k. drop k new) none in
       let was = met_of old (length old) 0 0 start answer count m in
@@ -429,13 +426,13 @@ module _ (p : List ℕ) (n : ℕ) where
       let old_steps = was.steps in
       comes_of new answer count a (omega arith)
 
-pub replaced : (new old : List Insn) (ls : List Landing) → length new ≤ length old → length ls ≡ length old → begins ls (length new) ≡ true → are_alike new old ls ≡ true → count_by (λ i. is_branch (operation_of i.code)) new ≤ count_by (λ i. is_branch (operation_of i.code)) old → All (λ i. i.code ≢ JUMP) new → IsValidUnlessLong new → Shortens new old
-replaced new old ls short same b e few free valid =
+pub replaced : (new old : List Insn) (ls : List Landing) (d : Landing) → length new ≤ length old → length ls ≡ length old → 0 < length ls → 0 < (get_or ls 0 d).place → (get_or ls 0 d).place ≡ length new → are_alike new old ls ≡ true → count_by (λ i. is_branch (operation_of i.code)) new ≤ count_by (λ i. is_branch (operation_of i.code)) old → All (λ i. i.code ≢ JUMP) new → IsValidUnlessLong new → Shortens new old
+replaced new old ls d short same any some top e few free valid =
     record {
       shorter = short;
       fewer = few;
       valid = λ v. valid_if_short new valid (omega (arith, short, (parts old v).short));
-      runs = λ p n answer count m. shortened p n new old ls answer count same b e m;
+      runs = λ p n answer count m. shortened p n new old ls d answer count same any some top e m;
       needed = λ h. record { each = λ place jump g j. absurd (free place jump (slice_get_within new place jump g) (ap (λ i. i.code) (get_or_from_slice_get new place jump jump g) ∙ j)) };
       no_jump = λ h. free;
     }

@@ -1,7 +1,8 @@
 -- Code without a fault stays so.
-use Rattle.flt_short.proofs.LayoutNames.{◌≡◌, ℕ, ◌-◌, ◌<◌, ◌≤◌, List, [], ◌∷◌, ◌++◌, length, drop, true, Option, Some, None, refl, ap, ◌∙◌, arith, length-drop, nat_lt, ◌&&◌, nat_tests, Insn, Operation, Load, Compute, Jump, JumpIf, ReturnConstant, ReturnAccumulator, Memory, Test, Operand, unless, fault_if_known, is_return, ends_in_return, IsFaultless, IsValidUnlessLong, Reach, Near, YesFar, NoFar, BothFar, PlacedCode, place_at, with_offsets, with_jump, with_test_by, with_insn, placed_code, laid_out}
-use Rattle.flt_short.proofs.Counted.{at_least}
-use Rattle.flt_short.proofs.Leads.{GoesTo, near_goes, all_lead, emitted_end, target_is, target_inside}
+use Rattle.flt_short.proofs.LayoutNames.{◌≡◌, ℕ, ◌-◌, ◌<◌, ◌≤◌, List, [], ◌∷◌, length, true, Option, Some, None, refl, ap, ◌∙◌, arith, nat_lt, ◌&&◌, nat_tests, Insn, Operation, Load, Compute, Jump, JumpIf, ReturnConstant, ReturnAccumulator, Memory, Test, Operand, unless, fault_if_known, is_return, ends_in_return, IsFaultless, IsValidUnlessLong, PlacedCode, place_at, with_offsets, with_jump, with_test_by, with_insn, placed_code, laid_out, Bool, false, with_way}
+use Rattle.flt_short.proofs.Counted.{at_least, at_most, short_stays, laid_needed}
+use Rattle.flt_short.proofs.Leads.{Lays, lays, same_answers, near, emitted_more, way_more, test_leads}
+use Rattle.flt_bpf.proofs.Suffix.{valid_if_short}
 use Rattle.flt_bpf.specs.{Check.fault_of, Instructions.operation_of}
 use Rattle.flt_bpf.specs.declared.{fault.CheckFault.TheVariants.JumpOut, operation.Operand.TheVariants.Constant}
 use Rattle.flt_short.specs.inside.Layout.{near_place, with_test}
@@ -25,68 +26,49 @@ test_sound i t o jt jf c e yes_in no_in sound =
     let both : (nat_lt jt (length c) && nat_lt jf (length c)) ≡ true = rw (a, b) refl in
     (ap (λ op. fault_if_known op (with_offsets i jt jf) (length c)) e ∙ ap (λ d. unless d JumpOut) both, sound)
 
-reached_sound : (r : Reach) (i : Insn) (t : Test) (o : Operand) (hit miss : ℕ) (l : PlacedCode) → operation_of i.code ≡ Some (JumpIf t o) → IsInside hit l.code → IsInside miss l.code → IsFaultless l.code → IsFaultless (with_test_by r i hit miss l).code
-reached_sound Near i t o hit miss l e h m sound =
-    test_sound i t o _ _ l.code e (omega (arith, h.some, h.within)) (omega (arith, m.some, m.within)) sound
-reached_sound YesFar i t o hit miss l e h m sound =
-    test_sound i t o _ _ (with_jump hit l.code) e (omega arith) (omega (arith, m.some, m.within)) (jump_sound hit l.code h sound)
-reached_sound NoFar i t o hit miss l e h m sound =
-    test_sound i t o _ _ (with_jump miss l.code) e (omega (arith, h.some, h.within)) (omega arith) (jump_sound miss l.code m sound)
-reached_sound BothFar i t o hit miss l e h m sound =
-    let after = with_jump miss l.code in
-    let later : IsInside hit after = record { some = h.some; within = omega (arith, h.within) } in
-    test_sound i t o _ _ (with_jump hit after) e (omega arith) (omega arith) (jump_sound hit after later (jump_sound miss l.code m sound))
+way_sound : (near : Bool) (to : ℕ) (l : PlacedCode) → IsInside to l.code → IsFaultless l.code → IsFaultless (with_way near to l).code
+way_sound true to l h sound = sound
+way_sound false to l h sound = jump_sound to l.code h sound
+
+reached_sound : (a b : Bool) (i : Insn) (t : Test) (o : Operand) (hit miss : ℕ) (l : PlacedCode) → operation_of i.code ≡ Some (JumpIf t o) → IsInside hit l.code → IsInside miss l.code → IsFaultless l.code → IsFaultless (with_test_by a b i hit miss l).code
+reached_sound a b i t o hit miss l e h m sound =
+    let q = test_leads a b hit miss l h.within m.within in
+    let inside : IsInside hit (with_way b miss l).code = record { some = h.some; within = omega (arith, h.within, (way_more b miss l).more) } in
+    test_sound i t o _ _ _ e (omega (arith, q.0.some h.some, q.0.within)) (omega (arith, q.1.some m.some, q.1.within)) (way_sound a hit _ inside (way_sound b miss l m sound))
 
 plain_sound : (op : Option Operation) (i : Insn) (c : List Insn) → operation_of i.code ≡ op → fault_if_known op (with_offsets i 0 0) (length c) ≡ None → IsFaultless c → IsFaultless (with_offsets i 0 0 ∷ c)
 unfolding fault_of
 plain_sound op i c e none sound = (ap (λ o. fault_if_known o (with_offsets i 0 0) (length c)) e ∙ none, sound)
 
--- the targets of an instruction with that many after it
-record HasTargets (l : PlacedCode) (following : ℕ) : Type 0 where
-  inside : (k : ℕ) → k < following → IsInside (place_at l k) l.code
-  near : (k : ℕ) → GoesTo l.code (near_place l (place_at l k)) (place_at l k)
-
-near_inside : (l : PlacedCode) (following k : ℕ) → HasTargets l following → k < following → IsInside (near_place l (place_at l k)) l.code
-near_inside l following k h inside = record { some = (h.near k).some (h.inside k inside).some; within = (h.near k).within }
+near_inside : (l : PlacedCode) (is : List Insn) (k : ℕ) → Lays l is → k < length is → IsInside (near_place l (place_at l k)) l.code
+near_inside l is k h inside = record { some = (near h k).some (h.some k inside); within = (near h k).within }
 
 within_if : (k following : ℕ) → unless (nat_lt k following) JumpOut ≡ None → k < following
 within_if k following e = grind (arith, nat_tests)
 
-emitted_sound : (op : Option Operation) (i : Insn) (l : PlacedCode) (following : ℕ) → operation_of i.code ≡ op → fault_if_known op i following ≡ None → HasTargets l following → IsFaultless l.code → IsFaultless (with_insn op i l).code
+emitted_sound : (op : Option Operation) (i : Insn) (l : PlacedCode) (is : List Insn) → operation_of i.code ≡ op → fault_if_known op i (length is) ≡ None → Lays l is → IsFaultless l.code → IsFaultless (with_insn op i l).code
 unfolding with_test
-emitted_sound None i l following e none h sound = cc
-emitted_sound (Some (Load register Memory)) i l following e none h sound = plain_sound _ i l.code e none sound
-emitted_sound (Some (Compute operator Constant)) i l following e none h sound = plain_sound _ i l.code e none sound
-emitted_sound (Some Jump) i l following e none h sound = jump_sound _ l.code (h.inside i.k (within_if i.k following none)) sound
-emitted_sound (Some (JumpIf t o)) i l following e none h sound = tests (nat_lt i.jt following) (nat_lt i.jf following) refl refl none
+emitted_sound None i l is e none h sound = cc
+emitted_sound (Some (Load register Memory)) i l is e none h sound = plain_sound _ i l.code e none sound
+emitted_sound (Some (Compute operator Constant)) i l is e none h sound = plain_sound _ i l.code e none sound
+emitted_sound (Some Jump) i l is e none h sound = jump_sound _ l.code (record { some = h.some i.k (within_if i.k (length is) none); within = h.inside i.k }) sound
+emitted_sound (Some (JumpIf t o)) i l is e none h sound = tests (nat_lt i.jt (length is)) (nat_lt i.jf (length is)) refl refl none
   where
-    tests : (a b : _) → a ≡ nat_lt i.jt following → b ≡ nat_lt i.jf following → unless (a && b) JumpOut ≡ None → IsFaultless (with_insn (Some (JumpIf t o)) i l).code
+    tests : (a b : _) → a ≡ nat_lt i.jt (length is) → b ≡ nat_lt i.jf (length is) → unless (a && b) JumpOut ≡ None → IsFaultless (with_insn (Some (JumpIf t o)) i l).code
     tests true true ea eb none' =
-        let yes_in : i.jt < following = grind (arith, nat_tests) in
-        let no_in : i.jf < following = grind (arith, nat_tests) in
-        reached_sound _ i t o _ _ l e (near_inside l following i.jt h yes_in) (near_inside l following i.jf h no_in) sound
+        let yes_in : i.jt < length is = grind (arith, nat_tests) in
+        let no_in : i.jf < length is = grind (arith, nat_tests) in
+        reached_sound _ _ i t o _ _ l e (near_inside l is i.jt h yes_in) (near_inside l is i.jf h no_in) sound
     tests _ _ ea eb none' = cc
-emitted_sound _ i l following e none h sound = plain_sound _ i l.code e none sound
-
-targets_of : (wide : List Insn) → HasTargets (placed_code wide) (length wide)
-targets_of wide = record {
-  inside = λ k l. record { some = omega (arith, target_is wide k, at_least (drop k wide), length-drop k wide); within = target_inside wide k };
-  near = λ k. near_goes (placed_code wide) _ (target_inside wide k) (all_lead wide);
-}
+emitted_sound _ i l is e none h sound = plain_sound _ i l.code e none sound
 
 faultless_laid : (wide : List Insn) → IsFaultless wide → IsFaultless (laid_out wide)
 unfolding fault_of
 faultless_laid [] h = tt
 faultless_laid (i ∷ is) h =
-    emitted_sound (operation_of i.code) i (placed_code is) (length is) refl h.0 (targets_of is) (faultless_laid is h.1)
+    emitted_sound (operation_of i.code) i (placed_code is) is refl h.0 (lays is) (faultless_laid is h.1)
 
 -- the end of code
-ends_after : (front c : List Insn) → 0 < length c → ends_in_return (front ++ c) ≡ ends_in_return c
-ends_after [] c some = refl
-ends_after (i ∷ []) [] some = absurd (omega arith)
-ends_after (i ∷ []) (j ∷ c) some = refl
-ends_after (i ∷ h ∷ front) c some = ends_after (h ∷ front) c some
-
 last_end : (op : Option Operation) (i : Insn) → operation_of i.code ≡ op → is_return op ≡ true → ends_in_return (with_insn op i (placed_code [])).code ≡ true
 last_end (Some ReturnConstant) i e r = ap is_return e
 last_end (Some ReturnAccumulator) i e r = ap is_return e
@@ -96,9 +78,10 @@ ends_laid : (wide : List Insn) → ends_in_return wide ≡ true → ends_in_retu
 ends_laid [] e = e
 ends_laid (i ∷ []) e = last_end (operation_of i.code) i refl e
 ends_laid (i ∷ j ∷ is) e =
-    let h = emitted_end (operation_of i.code) i (placed_code (j ∷ is)) in
-    let some : 0 < length (laid_out (j ∷ is)) = omega (arith, at_least (j ∷ is)) in
-    ap ends_in_return h.parts ∙ ends_after h.front (laid_out (j ∷ is)) some ∙ ends_laid (j ∷ is) e
+    (emitted_more (operation_of i.code) i (placed_code (j ∷ is))).ends (omega (arith, at_least (j ∷ is))) ∙ ends_laid (j ∷ is) e
 
 pub sound_laid : (wide : List Insn) → IsValidUnlessLong wide → IsValidUnlessLong (laid_out wide)
 sound_laid wide h = record { faultless = faultless_laid wide h.faultless; ends = ends_laid wide h.ends }
+
+-- what the layout's contract says
+pub ruleset layout_facts = (same_answers, at_least, at_most, short_stays, laid_needed, sound_laid, valid_if_short)

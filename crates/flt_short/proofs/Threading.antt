@@ -277,3 +277,6 @@ threads new old seen begins t =
 -- code stays as it is
 pub threads_itself : (c : List Insn) → Threads c c
 threads_itself c = record { same_length = refl; branches = refl; sound = λ v. v; runs = λ p n. refl; no_jump = λ h. h }
+
+-- what a walk passes, by its operation
+pub ruleset walk_steps = (passes_load, passes_load_at, passes_header, passes_length, passes_mask)

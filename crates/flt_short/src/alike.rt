@@ -16,7 +16,7 @@ ghost use Rattle.flt_bpf.specs.{Layout.JUMP, Layout.is_branch, Instructions.oper
 ghost use Rattle.flt_bpf.specs.inside.Flow.{goes_on_or_rejects};
 ghost use Rattle.flt_bpf.specs.Check.{fault_of, ends_in_return, IsFaultless};
 ghost use Rattle.flt_short.specs.inside.Alike.{goes_on, same_step, is_masked_test, one_test};
-ghost use Rattle.flt_short.specs.inside.Alike.{rejects, is_sure, begins, code_from, are_copies};
+ghost use Rattle.flt_short.specs.inside.Alike.{rejects, is_sure, code_from, are_copies};
 ghost use Rattle.flt_short.specs.Alike.{Shortens};
 ghost use Rattle.flt_short.specs.inside.Alike.{lands_at, left_out, stands, are_alike};
 
@@ -303,17 +303,6 @@ fn are_alike(code: &[Wide], old: &[Wide], landings: &[Landing]) -> bool
     true
 }
 
-/// Whether the first instruction of the old code lands at the start of the new code, which has
-/// `len` instructions. Code without instructions has no start.
-fn begins(landings: &[Landing], len: usize) -> bool
-    ensures { result ≡ begins landings.now len }
-{
-    match landings {
-        [] => false,
-        [first, ..] => 0 < first.place && first.place == len,
-    }
-}
-
 /// Whether an instruction that has `following` others after it breaks no rule.
 #[tactic(auto, unfolding(flt_bpf::specs::Check::fault_of))]
 fn is_faultless(insn: Wide, following: usize) -> bool
@@ -392,13 +381,16 @@ fn has_no_jump(code: &[Wide]) -> bool
 /// Whether a program is proved to replace an old one: its landings show that it does the same, it
 /// has no more instructions and no more tests, it has no jump, and it breaks no rule except perhaps
 /// that on the length. `false` doesn't mean that the programs differ.
+#[tactic(auto, using(crate::proofs::Likeness::replaced))]
 pub fn replaces(code: &[Wide], old: &[Wide], landings: &[Landing]) -> bool
     ensures { IsTrue result → Shortens code.now old.now }
 {
-    if code.len() > old.len() || landings.len() != old.len() {
+    if code.len() > old.len() || landings.len() != old.len() || landings.is_empty() {
         return false;
     }
-    if !begins(landings, code.len()) || !are_alike(code, old, landings) {
+    // The old code's first instruction must land at the start of the new code.
+    let first = landings[0];
+    if first.place == 0 || first.place != code.len() || !are_alike(code, old, landings) {
         return false;
     }
     if count_tests(code) > count_tests(old) || !has_no_jump(code) {

@@ -166,6 +166,7 @@ fn joined_claim(claim: Claim, other: Claim) -> Claim
 
 /// The fact that holds where two paths meet: this one holds on one of them, and all of `others`
 /// hold on the other. The first of these with which a claim about its field is left decides.
+#[tactic(auto, using(crate::proofs::Knowing::joined_one))]
 fn joined_fact(fact: Fact, others: &[Fact]) -> Fact
     ensures { JoinsFact fact others.now result }
 {
@@ -381,6 +382,7 @@ pub fn pass_insn(known: &mut Known, insn: Wide)
 
 /// The claim about a field after the test whether it is a number had this outcome. If the field is
 /// known to be one of two numbers, and isn't this one, it is the other one.
+#[tactic(auto, using(crate::proofs::Knowing::same_number))]
 fn claim_by_outcome(facts: &[Fact], field: Field, number: u32, outcome: bool) -> Claim
     ensures { IsClaimAfter facts.now field number outcome result }
 {
@@ -422,6 +424,7 @@ pub fn known_at(seen: &[Known], place: usize) -> Known
 }
 
 /// Joins the state of one more run into the state at a place.
+#[tactic(auto, using(crate::proofs::Knowing::arrives, crate::proofs::Knowing::arrives_nowhere))]
 pub fn arrive(seen: &mut [Known], place: usize, known: &Known)
     ensures { Arrives known.now place seen.old seen.new }
 {

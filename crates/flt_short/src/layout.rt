@@ -8,8 +8,8 @@ ghost use Rattle.flt_bpf.specs.{Machine.start, Answer.answer_of, Check.IsValidUn
 ghost use Rattle.flt_bpf.specs.{Instructions.operation_of, Valid.MOST_INSTRUCTIONS, Valid.IsValid};
 ghost use Rattle.flt_bpf.specs.Layout.{is_branch, HasNoJump, JumpsAreNeeded, IsShort};
 ghost use Rattle.flt_short.specs.inside.Layout.{place_at, with_offsets, emitted, with_noted_jump};
-ghost use Rattle.flt_short.specs.inside.Layout.{jump_near, near_place, test_reach, with_test};
-ghost use Rattle.flt_short.specs.inside.Layout.{with_place, put, placed_code};
+ghost use Rattle.flt_short.specs.inside.Layout.{jump_near, near_place, is_near, with_way, way};
+ghost use Rattle.flt_short.specs.inside.Layout.{with_test, put, placed_code};
 
 use flt_bpf::insn::Insn;
 use flt_bpf::operation::{Operation, decode};
@@ -19,21 +19,6 @@ use std::marker::Model;
 
 /// The most instructions that a conditional jump skips, since `jt` and `jf` are a byte each.
 const MOST_OFFSET: usize = 255;
-
-/// How a test reaches its two targets: one that is too far for an offset by a jump (`ja`) right
-/// after the test.
-///
-///     Near       test
-///     YesFar     test (jt 0), ja yes
-///     NoFar      test (jf 0), ja no
-///     BothFar    test (jt 0, jf 1), ja yes, ja no
-#[derive(Clone, Copy)]
-pub enum Reach {
-    Near,
-    YesFar,
-    NoFar,
-    BothFar,
-}
 
 /// A jump that is laid out: its place, and the place where it leads.
 #[derive(Clone, Copy)]
@@ -103,17 +88,6 @@ fn with_offsets(insn: Wide, jt: u8, jf: u8) -> Insn
 }
 
 impl<A: Allocator> Layout<A> {
-    /// A layout of nothing yet. Its code and its places have an allocator each.
-    fn new(code_alloc: A, place_alloc: A) -> Self
-        ensures { result ≡ placed_code [] }
-    {
-        Layout {
-            backwards: Vec::new(code_alloc),
-            places: Vec::new(place_alloc),
-            jumps: [PlacedJump { place: 0, to: 0 }; 4],
-        }
-    }
-
     /// The place of the instruction that is first in the code so far: how many there are.
     fn top(&self) -> usize
         ensures { result ≡ length self.now.code }
@@ -182,57 +156,38 @@ impl<A: Allocator> Layout<A> {
         }
     }
 
-    /// Which of its two places a test that is put in front needs a jump for: as few as possible. A
-    /// jump for one makes the other one farther by an instruction.
-    fn test_reach(&self, yes: usize, no: usize) -> Reach
-        ensures { result ≡ test_reach yes no self.now.code }
+    /// The place where a test that is put in front goes on to get to `to`: this one if the test
+    /// skips at most `most` instructions, else that of a jump (`ja`) that this puts in front.
+    fn reach(&mut self, to: usize, most: usize) -> Result<usize, AllocError>
+        requires { length self.old.code < 2 ^ 32 }
+        ensures code { OnOk result (self.new ≡ with_way (is_near self.old to most) to self.old) }
+        ensures place { IfOk result (λ place. place ≡ way (is_near self.old to most) to self.old) }
     {
-        if self.distance(yes) <= MOST_OFFSET && self.distance(no) <= MOST_OFFSET {
-            Reach::Near
-        } else if self.distance(no) < MOST_OFFSET {
-            Reach::YesFar
-        } else if self.distance(yes) < MOST_OFFSET {
-            Reach::NoFar
-        } else {
-            Reach::BothFar
+        if self.distance(to) <= most {
+            return Ok(to);
         }
+        self.emit_jump(to)?;
+        Ok(self.top())
     }
 
     /// Puts a test in front that goes on at one of two places, and right after it the jumps that it
-    /// needs: three instructions at most, which fit 32 bits by the clause.
+    /// needs, as few as possible: three instructions at most, which fit 32 bits by the clause. A
+    /// jump for one place makes the other one farther by an instruction.
     #[tactic(auto, unfolding(crate::specs::inside::Layout::with_test))]
     fn emit_test(&mut self, insn: Wide, yes: usize, no: usize) -> Result<(), AllocError>
         requires { length self.old.code + 3 < 2 ^ 32 }
         ensures { OnOk result (self.new ≡ with_test insn yes no self.old) }
     {
-        let (jt, jf) = match self.test_reach(yes, no) {
-            Reach::Near => (self.distance(yes), self.distance(no)),
-            Reach::YesFar => {
-                self.emit_jump(yes)?;
-                (0, self.distance(no))
-            }
-            Reach::NoFar => {
-                self.emit_jump(no)?;
-                (self.distance(yes), 0)
-            }
-            // The code grows from its end, so the jump that comes last is put first.
-            Reach::BothFar => {
-                self.emit_jump(no)?;
-                self.emit_jump(yes)?;
-                (0, 1)
-            }
+        let is_yes_near = self.distance(yes) <= MOST_OFFSET;
+        let most = if is_yes_near {
+            MOST_OFFSET
+        } else {
+            MOST_OFFSET - 1
         };
+        let no = self.reach(no, most)?;
+        let yes = self.reach(yes, MOST_OFFSET)?;
+        let (jt, jf) = (self.distance(yes), self.distance(no));
         self.emit(with_offsets(insn, jt as u8, jf as u8))
-    }
-
-    /// Notes the place of the wide instruction that was laid out last: the beginning of the code
-    /// now.
-    fn push_place(&mut self) -> Result<(), AllocError>
-        ensures { OnOk result (self.new ≡ with_place self.old) }
-    {
-        let top = self.top();
-        self.places.push(top)?;
-        Ok(())
     }
 
     /// Lays out one more wide instruction in front, and notes its place: a test or a jump with new
@@ -252,18 +207,16 @@ impl<A: Allocator> Layout<A> {
             }
             _ => self.emit(with_offsets(insn, 0, 0))?,
         }
-        self.push_place()
+        let top = self.top();
+        self.places.push(top)?;
+        Ok(())
     }
 
     /// The instructions, from the first to the last.
     fn into_insns(self) -> Vec<Insn, A>
         ensures { result.items ≡ self.code }
     {
-        let Layout {
-            mut backwards,
-            places: _,
-            jumps: _,
-        } = self;
+        let Layout { mut backwards, .. } = self;
         backwards.reverse();
         backwards
     }
@@ -277,7 +230,11 @@ impl<A: Allocator + Clone> Layout<A> {
         requires { length wide.now < 2 ^ 30 }
         ensures { IfOk result (λ layout. layout ≡ placed_code wide.now) }
     {
-        let mut layout = Layout::new(alloc.clone()?, alloc);
+        let mut layout = Layout {
+            backwards: Vec::new(alloc.clone()?),
+            places: Vec::new(alloc),
+            jumps: [PlacedJump { place: 0, to: 0 }; 4],
+        };
         for at in (0..wide.len()).rev() {
             layout.lay_insn(wide[at])?;
         }
@@ -292,6 +249,7 @@ impl<A: Allocator + Clone> Layout<A> {
 /// except that on the length: it may have grown.
 ///
 /// An error is a failed allocation, or an allocator that cannot be cloned.
+#[tactic(auto, using(crate::proofs::Sound::layout_facts))]
 pub fn laid_out<A: Allocator + Clone>(alloc: A, wide: &[Wide]) -> Result<Vec<Insn, A>, AllocError>
     requires { length wide.now < 2 ^ 30 }
     ensures answers { IfOk result (λ code. (p : List ℕ) (n : ℕ)

@@ -62,6 +62,7 @@ fn skipped_by_test(known: &Known, insn: Wide, held: Held) -> Option<u32>
 /// How many instructions a walk skips after this one, before which A would be `held`; `None` if the
 /// walk ends before it. A walk passes only tests that the facts decide, and instructions that
 /// change nothing but A and go on at the next one on each packet with this state.
+#[tactic(auto, using(crate::proofs::Threading::walk_steps))]
 fn skipped_after(known: &Known, insn: Wide, held: Held) -> Option<u32>
     ensures { IfSome result (λ skipped. Passes known.now insn held skipped) }
 {

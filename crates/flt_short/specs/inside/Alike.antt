@@ -19,11 +19,6 @@ use Rattle.flt_short.specs.declared.alike.Landing.{Landing}
 abbrev pub code_from : List Insn → ℕ → List Insn
 code_from c place = drop (length c - place) c
 
--- two tests lead to the same place, which is counted from the end: what each skips, of the
--- instructions that follow it
-abbrev pub same_target : ℕ → ℕ → ℕ → ℕ → Bool
-same_target far len other_far other_len = len - far == other_len - other_far
-
 -- two instructions with this operation go on the same way: they return, or lead to the same places,
 -- or what follows both is the same
 abbrev pub goes_on_alike : Option Operation → Insn → ℕ → Insn → ℕ → Bool → Bool
@@ -32,7 +27,7 @@ goes_on_alike (Some Jump) i len j other_len rest = false
 goes_on_alike (Some ReturnConstant) i len j other_len rest = true
 goes_on_alike (Some ReturnAccumulator) i len j other_len rest = true
 goes_on_alike (Some (JumpIf test operand)) i len j other_len rest =
-    same_target i.jt len j.jt other_len && same_target i.jf len j.jf other_len
+    len - i.jt == other_len - j.jt && len - i.jf == other_len - j.jf
 goes_on_alike (Some op) i len j other_len rest = rest
 
 -- two ends of the same code begin with the same instructions, up to a return, or to a test with the
@@ -144,9 +139,3 @@ abbrev pub are_alike : List Insn → List Insn → List Landing → Bool
 are_alike c [] ls = true
 are_alike c (i ∷ is) [] = false
 are_alike c (i ∷ is) (l ∷ ls) = stands c l i is ls && are_alike c is ls
-
--- the first instruction of the old code lands at the start of the new code, of this length; code
--- without instructions has no beginning
-abbrev pub begins : List Landing → ℕ → Bool
-begins [] len = false
-begins (l ∷ ls) len = nat_lt 0 l.place && l.place == len

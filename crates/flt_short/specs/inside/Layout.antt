@@ -1,15 +1,13 @@
 -- Wide code laid out as instructions, from its end to its beginning. A place is the number of
 -- instructions from there to the end; `hit` and `miss` are the places where a test leads if it
 -- holds and if it doesn't, and `c` is the code that is laid out so far.
-use Rattle.std.specs.Prelude.{ℕ, ◌+◌, ◌-◌, nat_le, nat_lt, ◌==◌, ◌&&◌, if◌then◌else◌, List, [], ◌∷◌, length, take, replicate, slice_index, Option, Some}
+use Rattle.std.specs.Prelude.{ℕ, ◌-◌, nat_le, nat_lt, Bool, ◌==◌, ◌&&◌, if◌then◌else◌, List, [], ◌∷◌, length, take, replicate, slice_index, Option, Some}
 use Rattle.flt_bpf.specs.Instructions.{operation_of}
 use Rattle.flt_bpf.specs.Layout.{JUMP, MOST_OFFSET}
 use Rattle.flt_bpf.specs.declared.insn.Insn.{Insn}
 use Rattle.flt_bpf.specs.declared.operation.Operation.{Operation}
 use Rattle.flt_bpf.specs.declared.operation.Operation.TheVariants.{Jump, JumpIf}
 use Rattle.flt_short.specs.declared.layout.PlacedJump.{PlacedJump}
-use Rattle.flt_short.specs.declared.layout.Reach.{Reach}
-use Rattle.flt_short.specs.declared.layout.Reach.TheVariants.{Near, YesFar, NoFar, BothFar}
 
 -- what is laid out so far: the code, the place of each instruction of the wide code, from the first
 -- to the last, and the four jumps that were laid out last, the last one first
@@ -55,28 +53,32 @@ unfoldable pub near_place : PlacedCode → ℕ → ℕ
 near_place l to =
     if nat_le (length l.code - to) MOST_OFFSET then to else jump_near l.jumps to (length l.code)
 
--- how a test that is put in front reaches its two places: one that is too far for an offset by a
--- jump right after the test, as few as possible
-abbrev pub test_reach : ℕ → ℕ → List Insn → Reach
-test_reach hit miss c =
-    if nat_le (length c - hit) MOST_OFFSET && nat_le (length c - miss) MOST_OFFSET then Near
-    else (if nat_lt (length c - miss) MOST_OFFSET then YesFar
-    else (if nat_lt (length c - hit) MOST_OFFSET then NoFar else BothFar))
+-- an instruction in front gets to a place by an offset of at most this
+abbrev pub is_near : PlacedCode → ℕ → ℕ → Bool
+is_near l to most = nat_le (length l.code - to) most
 
--- a test in front that reaches its two places so
-abbrev pub with_test_by : Reach → Insn → ℕ → ℕ → PlacedCode → PlacedCode
-with_test_by Near i hit miss l =
-    emitted (with_offsets i (length l.code - hit) (length l.code - miss)) l
-with_test_by YesFar i hit miss l =
-    emitted (with_offsets i 0 (length l.code + 1 - miss)) (with_noted_jump hit l)
-with_test_by NoFar i hit miss l =
-    emitted (with_offsets i (length l.code + 1 - hit) 0) (with_noted_jump miss l)
-with_test_by BothFar i hit miss l =
-    emitted (with_offsets i 0 1) (with_noted_jump hit (with_noted_jump miss l))
+-- the way from a test in front to a place: a jump is put between, unless the place is near; and the
+-- place where the test goes on
+abbrev pub with_way : Bool → ℕ → PlacedCode → PlacedCode
+with_way near to l = if near then l else with_noted_jump to l
 
--- a test in front that goes on at one of two places, and the jumps that it needs right after it
+abbrev pub way : Bool → ℕ → PlacedCode → ℕ
+way near to l = if near then to else length (with_noted_jump to l).code
+
+-- a test in front that goes on at one of two places, of which these are near
+abbrev pub with_test_by : Bool → Bool → Insn → ℕ → ℕ → PlacedCode → PlacedCode
+with_test_by yes_near no_near i hit miss l =
+    let between = with_way no_near miss l in
+    let c = with_way yes_near hit between in
+    let offset = λ (place : ℕ). length c.code - place in
+    emitted (with_offsets i (offset (way yes_near hit between)) (offset (way no_near miss l))) c
+
+-- the same with as few jumps as possible: one for a place makes the other one farther by one
 unfoldable pub with_test : Insn → ℕ → ℕ → PlacedCode → PlacedCode
-with_test i hit miss l = with_test_by (test_reach hit miss l.code) i hit miss l
+with_test i hit miss l =
+    let most = if is_near l hit MOST_OFFSET then MOST_OFFSET else MOST_OFFSET - 1 in
+    let near = is_near l miss most in
+    with_test_by (is_near (with_way near miss l) hit MOST_OFFSET) near i hit miss l
 
 -- a wide instruction, which has this operation, laid out in front
 abbrev pub with_insn : Option Operation → Insn → PlacedCode → PlacedCode
@@ -85,13 +87,11 @@ with_insn (Some (JumpIf test operand)) i l =
 with_insn (Some Jump) i l = with_noted_jump (place_at l i.k) l
 with_insn _ i l = emitted (with_offsets i 0 0) l
 
--- the place of a wide instruction is the beginning of the code
-abbrev pub with_place : PlacedCode → PlacedCode
-with_place l = record l { places = length l.code ∷ l.places }
-
--- one more wide instruction laid out in front, with its place noted
+-- one more wide instruction laid out in front, with its place noted: the beginning of the code
 abbrev pub put : Insn → PlacedCode → PlacedCode
-put i l = with_place (with_insn (operation_of i.code) i l)
+put i l =
+    let m = with_insn (operation_of i.code) i l in
+    record m { places = length m.code ∷ m.places }
 
 -- wide code, laid out from its last instruction to its first
 abbrev pub placed_code : List Insn → PlacedCode
