@@ -321,7 +321,7 @@ impl<A: Allocator> Code<A> {
         self.emit_elementary(from_test(test, number), Targets { yes, no })
     }
 
-    /// Emits whether either side is one of some hosts of IPv6 that differ only in the last word; the
+    /// Emits if either side is one of some hosts of IPv6 that differ only in the last word. The
     /// first in the expression is `address`. If the source is another one, the words of the
     /// destination are asked for, as a test of the first one would: the packet is rejected if
     /// one of them isn't captured.
@@ -374,7 +374,7 @@ impl<A: Allocator> Code<A> {
         }
     }
 
-    /// Emits the tests in front of cases with the words of this one: the frames in which they may be,
+    /// Emits the tests in front of cases with the words of this one: the frames that they may be in,
     /// or the tests that an accessor needs.
     fn emit_front(&mut self, link: Link, case: Case, to: Targets) -> Result<usize, AllocError>
         ensures { Emits result (emit_all (case_front link case) to.yes to.no self.old) self.new }
@@ -390,8 +390,8 @@ impl<A: Allocator> Code<A> {
         self.emit_elementary(kind_test(link, kind), to)
     }
 
-    /// Emits cases that look for a value, after the tests in front of them; `key` is that of the first
-    /// in the expression. Returns the place where the code begins.
+    /// Emits cases that look for a value, after the tests in front of them. `key` is the first's in
+    /// the expression. Returns the place where the code begins.
     pub fn emit_cases(
         &mut self,
         link: Link,

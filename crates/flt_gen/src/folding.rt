@@ -1,6 +1,6 @@
 //! Simplifies the nodes of an expression before code is emitted for them. Names and arithmetic on
-//! constants become one number, unless it divides by 0; and `not a and not b` becomes `not (a or b)`, so
-//! that `a` and `b` can be looked for together.
+//! constants become one number, unless it divides by 0; and `not a and not b` becomes
+//! `not (a or b)`, so that `a` and `b` can be looked for together.
 
 ghost use Rattle.std.specs.Option.{IfSome};
 ghost use Rattle.std.specs.Prelude.{◌≡◌, [], fold, reverse, OnOk, IfOk};

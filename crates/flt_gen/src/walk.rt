@@ -246,7 +246,7 @@ impl<A: Allocator + Clone> Walk<A> {
 
     /// Emits a value or a relation. One that goes with the group of those after it joins it: as the
     /// right operand of an `or` it waits there for one more; else the group is emitted. Any other
-    /// comes after the group that waits: as the right operand of an `or` it begins a new group if it
+    /// comes after the group that waits: as the right operand of an `or` it begins a new one if it
     /// may be a member, and else it is emitted by itself.
     fn emit_entry(&mut self, link: Link, entry: Entry) -> Result<(), AllocError>
         ensures { OnOk result (self.new ≡ emit_entry link entry self.old
@@ -274,8 +274,8 @@ impl<A: Allocator + Clone> Walk<A> {
         self.group.add(entry)
     }
 
-    /// Emits a value or a relation that doesn't go with the group after it, whose code is emitted by
-    /// now.
+    /// Emits a value or a relation that doesn't go with the group after it, whose code is complete
+    /// by now.
     fn emit_apart(&mut self, link: Link, pending: Pending, entry: Entry) -> Result<(), AllocError>
         ensures { OnOk result (self.new ≡ emit_apart link entry self.old pending
             (larger_group entry self.old.group)) }
