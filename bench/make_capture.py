@@ -116,6 +116,6 @@ def write_capture(path, packets):
 
 
 if __name__ == "__main__":
-    if len(sys.argv) not in (2, 3):
+    if len(sys.argv) not in (2, 3) or sys.argv[1].startswith("-"):
         sys.exit(__doc__)
     write_capture(sys.argv[1], traffic(int(sys.argv[2]) if len(sys.argv) > 2 else 1_000_000))
