@@ -15,7 +15,7 @@ pub use denote.Steps.{nothing, opens, closes}
 pub use denote.Triple.Walked.{Stays, walk_of, says, stay_ref, Goes-ref, ends_at}
 pub use mir.Val.{vunit, Val, vstruct, vcons, vnil}
 pub use Rattle.cap_octet.specs.Date.{NANOS_PER_SECOND}
-pub use Rattle.cap_octet.specs.Device.{TakesSome, Reads, Takes, TakesFull, TakesFront, Stops, WritesAll}
+pub use Rattle.cap_octet.specs.Device.{TakesSome, Reads, Takes, TakesFull, Stops, WritesAll}
 pub use Rattle.cap_octet.specs.Digits.{are_digits, decimal_value, in_u64}
 pub use Rattle.cap_octet.specs.Seconds.{duration_of_parts, fraction_nanoseconds}
 pub use Rattle.cap_octet.specs.Timestamp.{day_number, number_at}

@@ -1,5 +1,5 @@
 -- One read after another, and one write after another.
-use Rattle.cap_octet.proofs.Common.{◌≡◌, ℕ, ◌+◌, ◌-◌, ◌<◌, ◌≤◌, min, Bool, true, false, if◌then◌else◌, List, [], ◌++◌, length, take, drop, sym, ◌∙◌, ap, arith, subst, Option, None, Some, length-take, drop-drop, drop_at, take_at, append-nil, append_assoc, take-take, take_all, drop-append-le, take-append-drop, take-add, Takes, TakesSome, TakesFull, TakesFront}
+use Rattle.cap_octet.proofs.Common.{◌≡◌, ℕ, ◌+◌, ◌-◌, ◌<◌, ◌≤◌, Bool, true, false, if◌then◌else◌, List, [], ◌++◌, length, take, drop, sym, ◌∙◌, ap, arith, subst, Option, None, Some, length-take, drop-drop, drop_at, take_at, append-nil, append_assoc, take-take, take_all, drop-append-le, take-append-drop, take-add, Takes, TakesSome, TakesFull}
 use Rattle.std.specs.Io.{BufRead.DropsConsumable, KnownBytes.Consumes, KnownBytes.prepend_known}
 use Rattle.std.proofs.{Math.ListN.drop_of_length-le, lemmas.List.length-drop}
 use borrow.Rule.Slice.PartMut.{put_mid, mid_of}
@@ -26,29 +26,6 @@ Takes-following u b u1 b1 c k n u2 p first next e h =
       there = let r : n ≤ length u1 = next.there in let q : length u1 ≡ length u - c = ap length first.rest ∙ length-drop c u in omega (arith, first.there);
       bytes = rw (next.bytes, first.rest, first.bytes) (joined u b c k n first.there l);
       rest = next.rest ∙ ap (λ (x : List ℕ). drop n x) first.rest ∙ drop-drop n c u;
-    }
-
--- a first read, and then reads until the rest is full or the end is met
-pub full-following : (u b u1 b1 : List ℕ) (c k n : ℕ) (u2 p : List ℕ) → Takes u b c u1 b1 → TakesFull u1 (mid_of c k b1) n u2 p
-    → c + k ≡ length b → c ≤ length b → length b1 ≡ length b → TakesFull u b (c + n) u2 (put_mid c k b1 p)
-full-following u b u1 b1 c k n u2 p first next e h same =
-    let mid : length (mid_of c k b1) ≡ k = length-take k (drop c b1) ∙ (simp length-drop (omega arith)) in
-    let q : length u1 ≡ length u - c = ap length first.rest ∙ length-drop c u in
-    record {
-      taken = Takes-following u b u1 b1 c k n u2 p first next.taken e h;
-      full = let f : n ≡ min (length (mid_of c k b1)) (length u1) = next.full in omega (arith, first.there, mid, q);
-    }
-
--- the same where the device failed
-pub front-following : (u b u1 b1 : List ℕ) (c k given : ℕ) (u2 p : List ℕ) (given1 given2 : ℕ) → Takes u b c u1 b1 → TakesFront u1 (mid_of c k b1) given1 u2 p given2
-    → c + k ≡ length b → c ≤ length b → length b1 ≡ length b → given1 ≡ given + c → TakesFront u b given u2 (put_mid c k b1 p) given2
-front-following u b u1 b1 c k given u2 p given1 given2 first next e h same counts =
-    let mid : length (mid_of c k b1) ≡ k = length-take k (drop c b1) ∙ (simp length-drop (omega arith)) in
-    record {
-      k = c + next.k;
-      short = omega (arith, mid, next.short);
-      counted = omega (arith, next.counted);
-      taken = Takes-following u b u1 b1 c k next.k u2 p first next.taken e h;
     }
 
 -- the end of a full read: the buffer is full, or nothing came

@@ -7,7 +7,7 @@ ghost use Rattle.cap_octet.specs.Device.{AppendsOrStops, HasGiven, Passes, Reads
 ghost use Rattle.cap_octet.specs.Device.{WritesAll, count_of, failures_of};
 
 /// The device failed in this call.
-#[derive(Clone, Copy, Debug, PartialEq, Eq)]
+#[derive(Clone, Copy, PartialEq, Eq)]
 pub struct DeviceFault;
 
 /// A writer stopped after the first `written` bytes of what it was given.
@@ -133,43 +133,7 @@ pub trait Output {
 /// Fills the buffer from its start and returns how many bytes came: fewer than it has room for only
 /// at the end. An error is a failure of the device in this call, after fewer bytes than the buffer
 /// has room for; these are at its start.
-// The first read mostly fills it. If this is inlined, no loop is left then, and the size of a
-// fixed buffer is known.
-#[inline(always)]
 pub fn read_full<I: Input>(input: &mut I, buf: &mut [u8]) -> Result<usize, DeviceFault>
-    ensures within { IfOk result (λ n. n ≤ length buf.old) }
-    ensures counted { IfOk result (λ n. I.given input.new ≡ I.given input.old + n) }
-    ensures grown { I.given input.old ≤ I.given input.new }
-    ensures bounded { IfOk result (λ n. 0 < n → I.given input.new < 2 ^ 63) }
-    ensures stopped { IfErr result (λ _. I.given input.new < 2 ^ 63) }
-    ensures upper_bound { IfErr result (λ _. I.given input.new < I.given input.old
-        + length buf.old) }
-    ensures failed { I.failures input.new ≡ I.failures input.old + failures_of result }
-    ensures sure { I.sure input.new ≡ I.sure input.old }
-    ensures told { IsTrue I.tells → I.given input.new + length (I.unread input.new)
-        ≡ I.given input.old + length (I.unread input.old) }
-    ensures exact { IsTrue I.tells
-        → Fills (I.unread input.old) buf.old (I.given input.old) result (I.unread input.new) buf.new
-        (I.given input.new) }
-{
-    if buf.is_empty() {
-        return Ok(0);
-    }
-    let count = input.read(buf)?;
-    if count == 0 || count == buf.len() {
-        return Ok(count);
-    }
-    match read_repeatedly(input, &mut buf[count..]) {
-        Ok(more) => Ok(count + more),
-        Err(fault) => Err(fault),
-    }
-}
-
-/// Fills the buffer as `read_full` does, read by read. It is out of line since mostly one read
-/// fills it.
-#[cold]
-#[inline(never)]
-fn read_repeatedly<I: Input>(input: &mut I, buf: &mut [u8]) -> Result<usize, DeviceFault>
     ensures within { IfOk result (λ n. n ≤ length buf.old) }
     ensures counted { IfOk result (λ n. I.given input.new ≡ I.given input.old + n) }
     ensures grown { I.given input.old ≤ I.given input.new }

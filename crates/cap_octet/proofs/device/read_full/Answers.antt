@@ -1,13 +1,17 @@
-use Rattle.std.proofs.Common.{arith}
-use Rattle.cap_octet.proofs.Reading.{full-following, front-following}
+use Rattle.std.proofs.Common.{rules, ◌∙◌, arith}
+use Rattle.cap_octet.proofs.Reading.{Takes-following, Takes-nothing, told-again}
 use Rattle.cap_octet.proofs.device.read_full.Goals as goal
 
-pub returns-in-Ok-clause-exact : goal.returns-in-Ok-clause-exact
-returns-in-Ok-clause-exact g c = λ tells.
-    let first = c.in_ok-count.ensures.exact tells in
-    full-following _ _ _ _ c.in_ok-count.count _ c.in-Ok.more _ _ first.taken (c.in-Ok.ensures.exact tells) (omega (arith, c.in_ok-count.ensures.within)) (omega (arith, c.in_ok-count.ensures.within)) (omega arith)
+pub loop-count-preserved : goal.loop-count-preserved
+loop-count-preserved g c = record {
+  within = search rules;
+  counted = search rules;
+  bounded = search rules;
+  failed = search rules;
+  told = λ exact. told-again _ _ _ _ _ c.in_ok-n.n _ _ (c.in_ok-n.ensures.exact exact) c.in_ok-n.ensures.counted (c.loop-count.invariant.told exact);
+  sure = c.in_ok-n.ensures.sure ∙ c.loop-count.invariant.sure;
+  exact = λ exact. Takes-following _ _ _ _ c.loop-count.count _ c.in_ok-n.n _ _ (c.loop-count.invariant.exact exact) (c.in_ok-n.ensures.exact exact).taken (omega arith) (omega arith);
+}
 
-pub returns-in-Err-clause-exact : goal.returns-in-Err-clause-exact
-returns-in-Err-clause-exact g c = λ tells.
-    let first = c.in_ok-count.ensures.exact tells in
-    front-following _ _ _ _ c.in_ok-count.count _ _ _ _ _ _ first.taken (c.in-Err.ensures.exact tells) (omega (arith, c.in_ok-count.ensures.within)) (omega (arith, c.in_ok-count.ensures.within)) (omega arith) c.in_ok-count.ensures.counted
+pub returns-then-n-eq0-clause-exact : goal.returns-then-n-eq0-clause-exact
+returns-then-n-eq0-clause-exact g c = λ exact. Takes-nothing _ _ _ _ c.loop-count.count _ c.in_ok-n.n _ _ (c.loop-count.invariant.exact exact) (c.in_ok-n.ensures.exact exact) (omega arith) (omega arith) c.if-n-eq0.true (omega arith)

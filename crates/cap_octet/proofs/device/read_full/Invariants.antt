@@ -1,6 +1,6 @@
 use Rattle.std.proofs.Common.{length, ◌-◌, ◌≡◌, ◌+◌, ◌^◌, ◌<◌, ◌≤◌, IsTrue}
 use Rattle.cap_octet.specs.Device.{Takes}
-use Rattle.cap_octet.proofs.device.read_repeatedly.Given as goal
+use Rattle.cap_octet.proofs.device.read_full.Given as goal
 
 abbrev pub invariant-loop-count : goal.invariant-loop-count
 invariant-loop-count g l = record {
