@@ -1,5 +1,5 @@
 -- The listing that is written of instructions is a listing of them.
-use Rattle.flt_bpf.proofs.Common.{◌≡◌, ℕ, suc, ◌*◌, ◌^◌, ◌<◌, ◌≤◌, List, [], ◌∷◌, ◌++◌, length, length-append, append_assoc, false, refl, sym, ap, subst, arith, common_steps, ◌==◌, All, decimal, slice_split, AllZip, length-decimal-le, All-append, All-cons, slice_split_at, Insn, BLANK, LINE_FEED, insn_line, insn_lines, listing, AreNumbers, HasFieldsInRange, IsInsnLine, lines_of, AreListingLines, IsListing}
+use Rattle.flt_bpf.proofs.Common.{◌≡◌, ℕ, suc, ◌*◌, ◌^◌, ◌<◌, ◌≤◌, List, [], ◌∷◌, ◌++◌, length, length-append, append_assoc, false, refl, sym, subst, arith, common_steps, ◌==◌, All, decimal, AllZip, length-decimal-le, All-append, All-cons, slice_split_at, Insn, BLANK, LINE_FEED, insn_line, insn_lines, listing, AreNumbers, HasFieldsInRange, IsInsnLine, lines_of, AreListingLines, IsListing}
 use Rattle.flt_bpf.proofs.{Digits.decimal_number, Digits.field_lengths, Digits.number_lacks, LineByLine.line_more}
 
 -- a number, one blank, and a rest

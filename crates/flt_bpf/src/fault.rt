@@ -4,7 +4,6 @@ ghost use Rattle.std.specs.Prelude.{◌≡◌, Some};
 ghost use Rattle.flt_bpf.specs.Message.{check_text, has_index, listing_text, wrong_line};
 ghost use Rattle.flt_bpf.specs.Message.{listing_message};
 
-use std::alloc::AllocFailed;
 use std::error::Error;
 use std::fmt;
 
@@ -122,15 +121,3 @@ impl fmt::Display for ListingFault {
 }
 
 impl Error for ListingFault {}
-
-/// For `?`: an allocation that fails is `Memory`.
-impl<T: Drop> From<AllocFailed<T>> for ListingFault {
-    ghost use Rattle.std.specs.Prelude.{◌≡◌};
-    ghost use Rattle.flt_bpf.specs.declared.fault.ListingFault.TheVariants.{Memory};
-
-    ghost from_gives = { λ _ e. e ≡ Memory };
-
-    fn from(_error: AllocFailed<T>) -> Self {
-        ListingFault::Memory
-    }
-}

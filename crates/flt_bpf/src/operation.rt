@@ -14,7 +14,7 @@ pub enum Register {
 }
 
 /// How many bytes of the packet a load takes: 4, 2 or 1.
-#[derive(Clone, Copy, PartialEq, Eq)]
+#[derive(Clone, Copy)]
 pub enum Width {
     Word,
     HalfWord,

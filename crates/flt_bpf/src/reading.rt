@@ -86,9 +86,10 @@ fn first_number(line: &[u8]) -> Option<(u64, &[u8])>
     ensures last { OnNone result (HasAtMostOne (line_numbers line.now)) }
 {
     let cut = split_at_first(line, BLANK);
-    let number = parse_number(cut.piece)?;
-    let rest = after_blanks(cut.rest?);
-    Some((number, rest))
+    let (Some(number), Some(rest)) = (parse_number(cut.piece), cut.rest) else {
+        return None;
+    };
+    Some((number, after_blanks(rest)))
 }
 
 /// The value of a line that is one number; `None` for any other line.

@@ -14,8 +14,9 @@ use std::alloc::Allocator;
 /// The most bytes of a line: numbers of 5, 3, 3 and 10 digits, and a byte after each.
 const MOST_LINE_BYTES: usize = 25;
 
-/// Writes the listing of a program, and takes no memory. An error is a failure of the output in
-/// this call, and reports how many bytes, fewer than all, were written before it.
+/// Writes the listing of a program: the line of its length, and one line for each instruction. It
+/// takes no memory. An error is a failure of the output in this call, and reports how many bytes,
+/// fewer than all, were written before it.
 #[tactic(auto, using(crate::proofs::Checking::parts))]
 pub fn write_listing<A: Allocator, O: Output>(
     program: &Program<A>,
@@ -27,19 +28,7 @@ pub fn write_listing<A: Allocator, O: Output>(
     ensures exact { IsTrue O.tells → WritesAll (O.written output.old)
         (listing program.now.insns) result (O.written output.new) }
 {
-    write_insns(program.insns(), output)
-}
-
-/// Writes the listing of instructions that are few enough for a program: the line of their count,
-/// and one line each. Errors are as in `write_listing`.
-fn write_insns<O: Output>(insns: &[Insn], output: &mut O) -> Result<(), Stopped>
-    requires { length insns.now ≤ 32768 }
-    ensures front { IfErr result (λ stopped. stopped.written < length (listing insns.now)) }
-    ensures failed { O.failures output.new ≡ O.failures output.old + failures_of result }
-    ensures room { O.room output.new ≡ O.room output.old }
-    ensures exact { IsTrue O.tells → WritesAll (O.written output.old)
-        (listing insns.now) result (O.written output.new) }
-{
+    let insns = program.insns();
     let mut line = [0; MOST_LINE_BYTES];
     let start = put_number(&mut line, MOST_LINE_BYTES, insns.len() as u64, LINE_FEED);
     write_all(output, &line[start..])?;

@@ -1,10 +1,8 @@
 //! Gives values their qualifiers: those of an earlier value, and the defaults of what is left out.
 
-ghost use Rattle.std.specs.List.{list_any};
 ghost use Rattle.std.specs.Prelude.{◌≡◌, map, IfOk, IfErr, Some, None};
 ghost use Rattle.flt_ast.specs.Filled.{fill_expression, completed_node, only_host};
-ghost use Rattle.flt_ast.specs.Resolved.{fill_fault, IsResolved, is_misfit_node};
-ghost use Rattle.flt_ast.specs.Resolved.{is_out_of_range_node, has_bits_past_mask_node};
+ghost use Rattle.flt_ast.specs.Resolved.{fill_fault, IsResolved};
 ghost use Rattle.flt_ast.specs.inside.{Filled.inherited_nodes, Resolved.nodes_fault};
 
 use flt_ast::{Expr, Node, Qualifiers};
@@ -57,36 +55,22 @@ fn inherit_qualifiers<A: Allocator>(nodes: &mut Vec<Node, A>)
 fn nodes_fault(nodes: &[Node]) -> Option<ExprFault>
     ensures { result ≡ nodes_fault nodes.now }
 {
-    if has_misfit(nodes) {
-        Some(ExprFault::QualifiersDoNotFit)
-    } else if has_out_of_range(nodes) {
+    let mut is_out_of_range = false;
+    let mut has_bits_past_mask = false;
+    for node in nodes {
+        if node.is_misfit() {
+            return Some(ExprFault::QualifiersDoNotFit);
+        }
+        is_out_of_range = is_out_of_range || node.is_out_of_range();
+        has_bits_past_mask = has_bits_past_mask || node.has_bits_past_mask();
+    }
+    if is_out_of_range {
         Some(ExprFault::ValueOutOfRange)
-    } else if has_bits_past_mask(nodes) {
+    } else if has_bits_past_mask {
         Some(ExprFault::BitsPastMask)
     } else {
         None
     }
-}
-
-/// Whether some value has qualifiers, or some `broadcast` a protocol, that do not go with it (E7).
-fn has_misfit(nodes: &[Node]) -> bool
-    ensures { result ≡ list_any is_misfit_node nodes.now }
-{
-    nodes.iter().any(|node| node.is_misfit())
-}
-
-/// Whether some number of a value or some size of an accessor is out of range (E8).
-fn has_out_of_range(nodes: &[Node]) -> bool
-    ensures { result ≡ list_any is_out_of_range_node nodes.now }
-{
-    nodes.iter().any(|node| node.is_out_of_range())
-}
-
-/// Whether some network has bits set that its mask leaves out (E9).
-fn has_bits_past_mask(nodes: &[Node]) -> bool
-    ensures { result ≡ list_any has_bits_past_mask_node nodes.now }
-{
-    nodes.iter().any(|node| node.has_bits_past_mask())
 }
 
 /// Fills in what is left out before each value that has qualifiers: the type `host`, the direction

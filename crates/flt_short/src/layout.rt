@@ -120,8 +120,10 @@ impl<A: Allocator> Layout<A> {
     fn emit(&mut self, insn: Insn) -> Result<(), AllocError>
         ensures { OnOk result (self.new ≡ emitted insn self.old) }
     {
-        self.backwards.push(insn)?;
-        Ok(())
+        match self.backwards.push(insn) {
+            Ok(()) => Ok(()),
+            Err(_) => Err(AllocError),
+        }
     }
 
     /// Puts in front a jump (`ja`) to a place, and notes it.

@@ -105,9 +105,9 @@ impl Shortening<'_> {
     /// Puts an instruction in front of the new code. If there is no room, the new code isn't
     /// shorter than the old one, and isn't taken in the end.
     fn push(&mut self, insn: Wide) {
-        if let Some(free) = self.backwards.get_mut(self.len) {
-            *free = insn;
-            self.len = self.len.saturating_add(1);
+        if self.len < self.backwards.len() {
+            self.backwards[self.len] = insn;
+            self.len += 1;
             if is_test(&insn) {
                 self.note_test(insn);
             }
@@ -135,35 +135,45 @@ impl Shortening<'_> {
         let no = top.saturating_sub(test.no as usize);
         let mut entry = self.first_entry(test, yes, no);
         for _ in 0..self.tests.len() {
-            match self.tests.get_mut(entry) {
-                Some(place) if *place == 0 => {
-                    *place = self.len;
-                    return;
-                }
-                _ => entry = self.entry_after(entry),
+            if entry < self.tests.len() && self.tests[entry] == 0 {
+                self.tests[entry] = self.len;
+                return;
             }
+            entry = self.entry_after(entry);
         }
     }
 
     /// The landing of the instruction of the old code at an index; past its end nowhere.
     fn landing_at(&self, at: usize) -> Landing {
-        self.landings.get(at).copied().unwrap_or(NOWHERE)
+        if at < self.landings.len() {
+            self.landings[at]
+        } else {
+            NOWHERE
+        }
     }
 
     /// The instruction of the old code at an index; outside it `EMPTY`.
     fn old_insn(&self, at: usize) -> Wide {
-        self.insns.get(at).copied().unwrap_or(EMPTY)
+        if at < self.insns.len() {
+            self.insns[at]
+        } else {
+            EMPTY
+        }
     }
 
     /// The instruction right in front of a place of the new code; `EMPTY` if there is no room.
     fn insn_before(&self, place: usize) -> Wide {
-        self.backwards.get(place).copied().unwrap_or(EMPTY)
+        if place < self.backwards.len() {
+            self.backwards[place]
+        } else {
+            EMPTY
+        }
     }
 
     /// Notes the landing of an instruction of the old code.
     fn land(&mut self, at: usize, landing: Landing) {
-        if let Some(here) = self.landings.get_mut(at) {
-            *here = landing;
+        if at < self.landings.len() {
+            self.landings[at] = landing;
         }
     }
 
@@ -232,10 +242,10 @@ impl Shortening<'_> {
         let mut found = None;
         let mut entry = self.first_entry(insn, yes, no);
         for _ in 0..self.tests.len() {
-            let test = self.tests.get(entry).copied().unwrap_or(0);
-            if test == 0 {
+            if entry >= self.tests.len() || self.tests[entry] == 0 {
                 break;
             }
+            let test = self.tests[entry];
             let place = test.saturating_sub(1);
             let other = self.insn_before(place);
             if place >= yes.max(no)
@@ -335,18 +345,14 @@ impl Shortening<'_> {
         other.code == insn.code && other.k == insn.k
     }
 
-    /// Whether the instruction at a place of the new code rejects the packet.
-    fn rejects(&self, place: usize) -> bool {
-        is_rejection(self.insn_before(place.wrapping_sub(1)))
-    }
-
     /// Whether an operation is omitted before the landing `next`, and so lands there itself: it
     /// can't fail, and the register that it sets isn't read; or the packet is rejected there.
     fn is_left_out(&self, operation: Operation, next: Landing) -> bool {
         is_sure(operation)
             && !(sets_accumulator(operation) && next.accumulator)
             && !(sets_index(operation) && next.index)
-            || self.rejects(next.place) && goes_on_or_rejects(operation)
+            || goes_on_or_rejects(operation)
+                && is_rejection(self.insn_before(next.place.wrapping_sub(1)))
     }
 
     /// Emits an instruction that is neither a test nor a return for the one at `at`, and notes the

@@ -230,19 +230,11 @@ fn thread_all(seen: &mut [Known], insns: &mut [Wide])
     }
 }
 
-/// Threads code; `seen` has room for the state at each place.
-fn threaded_insns<A: Allocator>(seen: &mut [Known], mut insns: Vec<Wide, A>) -> Vec<Wide, A>
-    ensures { Threads result.items insns.items }
-{
-    thread_all(seen, &mut insns);
-    insns
-}
-
 /// Threads code of at most `FEW` instructions without allocating memory.
-fn threaded_few<A: Allocator>(insns: Vec<Wide, A>) -> Vec<Wide, A>
-    ensures { Threads result.items insns.items }
+fn thread_few(insns: &mut [Wide])
+    ensures { Threads insns.new insns.old }
 {
-    threaded_insns(&mut [unreached(); FEW], insns)
+    thread_all(&mut [unreached(); FEW], insns);
 }
 
 /// Whether an instruction loads bytes of the packet, its length, or the length of a header.
@@ -278,15 +270,17 @@ fn repeats_a_load(insns: &[Wide]) -> bool {
 /// packet. Code of at most 64 instructions in which no load occurs twice is returned unchanged,
 /// since threading seldom changes it. The error is a failed allocation.
 #[tactic(auto, using(crate::proofs::Threading::threads_itself))]
-pub fn threaded<A: Allocator>(alloc: A, insns: Vec<Wide, A>) -> Result<Vec<Wide, A>, AllocError>
+pub fn threaded<A: Allocator>(alloc: A, mut insns: Vec<Wide, A>) -> Result<Vec<Wide, A>, AllocError>
     ensures { IfOk result (λ new. Threads new.items insns.items) }
 {
     if insns.len() <= SHORT_CODE && !repeats_a_load(&insns) {
         return Ok(insns);
     }
     if insns.len() <= FEW {
-        return Ok(threaded_few(insns));
+        thread_few(&mut insns);
+        return Ok(insns);
     }
     let mut seen = vec![in alloc; unreached(); insns.len()]?;
-    Ok(threaded_insns(&mut seen, insns))
+    thread_all(&mut seen, &mut insns);
+    Ok(insns)
 }

@@ -5,7 +5,6 @@ ghost use Rattle.std.specs.Prelude.{◌≡◌, ◌≤◌, ◌<◌, ◌+◌, ◌*
 ghost use Rattle.flt_words.specs.Addresses.{AreIp6Ends, IsDotted, IsGroup, IsIp6, IsMac};
 ghost use Rattle.flt_words.specs.inside.Addresses.{FindsAddress, IsDoubleColon, ReadsGroups};
 ghost use Rattle.flt_words.specs.inside.Addresses.{base_of};
-ghost use Rattle.flt_words.specs.declared.address.Group.TheVariants.{Octet};
 ghost use Rattle.flt_words.specs.Addresses.{IsWholeAddress, group_value, separator_of};
 
 use crate::number::{parse_decimal, parse_digits};
@@ -56,21 +55,13 @@ impl Group {
             (λ n. IsGroup self digits.now × (n ≡ group_value self digits.now)) }
     {
         match self {
-            Group::Octet => parse_octet(digits),
+            Group::Octet => match parse_decimal(digits) {
+                Ok(number) if number <= 255 => Some(number),
+                _ => None,
+            },
             Group::Byte => parse_hexadecimal(2, digits),
             Group::Quad => parse_hexadecimal(4, digits),
         }
-    }
-}
-
-/// The number up to 255 that decimal digits without leading zeros write, or `None`.
-fn parse_octet(digits: &[u8]) -> Option<u32>
-    ensures { MatchOption result (IsGroup Octet digits.now → ⊥)
-        (λ n. IsGroup Octet digits.now × (n ≡ digits_value 10 digits.now)) }
-{
-    match parse_decimal(digits) {
-        Ok(number) if number <= 255 => Some(number),
-        _ => None,
     }
 }
 

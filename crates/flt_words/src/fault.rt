@@ -1,6 +1,6 @@
 //! Why a text is not an expression.
 
-use std::alloc::{AllocError, AllocFailed};
+use std::alloc::AllocError;
 use std::error::Error;
 use std::fmt;
 
@@ -45,19 +45,6 @@ impl From<AllocError> for ExprFault {
     ghost from_gives = { λ _ e. e ≡ Memory };
 
     fn from(_error: AllocError) -> Self {
-        ExprFault::Memory
-    }
-}
-
-/// For `?`: if an allocation fails, the value that it was for is dropped, and the error is
-/// `Memory`.
-impl<T: Drop> From<AllocFailed<T>> for ExprFault {
-    ghost use Rattle.std.specs.Prelude.{◌≡◌};
-    ghost use Rattle.flt_words.specs.declared.fault.ExprFault.TheVariants.{Memory};
-
-    ghost from_gives = { λ _ e. e ≡ Memory };
-
-    fn from(_error: AllocFailed<T>) -> Self {
         ExprFault::Memory
     }
 }

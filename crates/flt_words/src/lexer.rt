@@ -135,7 +135,9 @@ pub fn lex<A: Allocator>(alloc: A, text: &str) -> Result<Vec<Token, A>, ExprFaul
             let place = at as u32 + 1;
             // In brackets where more of them are opened than closed before.
             let (kind, len) = first_token(closed < opened, place, &bytes[at..])?;
-            tokens.push(Token { kind, place })?;
+            let Ok(()) = tokens.push(Token { kind, place }) else {
+                return Err(ExprFault::Memory);
+            };
             match kind {
                 TokenKind::OpenBracket => opened += 1,
                 TokenKind::CloseBracket => closed += 1,

@@ -15,14 +15,14 @@ pub enum Protocol {
 }
 
 /// `and` or `&&`, `or` or `||`.
-#[derive(Clone, Copy, PartialEq, Eq)]
+#[derive(Clone, Copy)]
 pub enum Join {
     And,
     Or,
 }
 
 /// `src`, `dst`.
-#[derive(Clone, Copy, PartialEq, Eq)]
+#[derive(Clone, Copy)]
 pub enum Side {
     Source,
     Destination,
@@ -39,21 +39,21 @@ pub enum ValueType {
 }
 
 /// The primitives `less N` and `greater N`, on a packet's original length in bytes.
-#[derive(Clone, Copy, PartialEq, Eq)]
+#[derive(Clone, Copy)]
 pub enum Size {
     Less,
     Greater,
 }
 
 /// The primitives `broadcast` and `multicast`.
-#[derive(Clone, Copy, PartialEq, Eq)]
+#[derive(Clone, Copy)]
 pub enum Cast {
     Broadcast,
     Multicast,
 }
 
 /// `=` or `==`, `!=`, `<`, `<=`, `>`, `>=`.
-#[derive(Clone, Copy, PartialEq, Eq)]
+#[derive(Clone, Copy)]
 pub enum Comparison {
     Equal,
     NotEqual,
@@ -64,7 +64,7 @@ pub enum Comparison {
 }
 
 /// `|`, `&`, `<<`, `>>`, `+`, `-`, `*`, `/`, `%`, `^`. A `-` may also be a sign.
-#[derive(Clone, Copy, PartialEq, Eq)]
+#[derive(Clone, Copy)]
 pub enum Operator {
     Or,
     And,

@@ -3,7 +3,7 @@ use Rattle.flt_words.proofs.Common.{◌≡◌, ◌+◌, ◌==◌, arith, refl, s
 use Rattle.flt_words.proofs.Lexing.{blank_keeps, counted_few, counted_step, cut_blank, cut_end, cut_refused, cut_token, inside_at}
 use Rattle.flt_words.proofs.Pieces.{longest_some}
 use Rattle.flt_words.proofs.Tables.{closes_none, closings, openings, opens_none, token_has}
-use Rattle.flt_words.proofs.lexer.lex.Goals.{in-OpenBracket, in-CloseBracket, in_default}
+use Rattle.flt_words.proofs.lexer.lex.Goals.{in-OpenBracket, in-CloseBracket, in_default-kind}
 use Rattle.flt_words.proofs.lexer.lex.Goals as goal
 
 pub returns-then-bytes-gt-LONGEST-clause-err : goal.returns-then-bytes-gt-LONGEST-clause-err
@@ -48,7 +48,7 @@ loop-at-preserved g c =
     let grown : (c.match-kind.opened ≡ c.loop-at.opened + openings kind) × (c.match-kind.closed ≡ c.loop-at.closed + closings kind) = elim c.match-kind.branch [
       | in-OpenBracket w ↦ rw w.in-OpenBracket.is (omega (arith, w.opened-is), omega (arith, w.closed-is))
       | in-CloseBracket w ↦ rw w.in-CloseBracket.is (omega (arith, w.opened-is), omega (arith, w.closed-is))
-      | in_default w ↦ (omega (arith, w.opened-is, opens_none kind w.in_default.not-OpenBracket), omega (arith, w.closed-is, closes_none kind w.in_default.not-CloseBracket))
+      | in_default-kind w ↦ (omega (arith, w.opened-is, opens_none kind w.in_default-kind.not-OpenBracket), omega (arith, w.closed-is, closes_none kind w.in_default-kind.not-CloseBracket))
     ] in
     let opened = grown.0 ∙ counted_step (λ b. b == 91) text at len c.loop-at.opened (openings kind) c.loop-at.invariant.opened has.opened in
     let closed = grown.1 ∙ counted_step (λ b. b == 93) text at len c.loop-at.closed (closings kind) c.loop-at.invariant.closed has.closed in
@@ -58,7 +58,7 @@ loop-at-preserved g c =
       closed = closed;
       opened_few = counted_few (λ b. b == 91) text (at + len) _ opened;
       closed_few = counted_few (λ b. b == 93) text (at + len) _ closed;
-      cut = rw c.in_ok-push.ensures.items (cut_token c.loop-at.invariant.cut is);
+      cut = rw c.in-Ok.ensures.items (cut_token c.loop-at.invariant.cut is);
     }
 
 pub returns-clause-ok : goal.returns-clause-ok

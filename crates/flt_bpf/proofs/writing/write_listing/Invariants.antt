@@ -1,7 +1,7 @@
 -- Before each instruction the front of the listing up to it is written.
 use Rattle.std.proofs.Common.{◌≡◌, ◌+◌, ◌*◌, ◌≤◌, ◌++◌, length, IsTrue}
 use Rattle.flt_bpf.proofs.Assembling.{front_of}
-use Rattle.flt_bpf.proofs.writing.write_insns.Given as goal
+use Rattle.flt_bpf.proofs.writing.write_listing.Given as goal
 
 abbrev pub invariant-loop-insn : goal.invariant-loop-insn
 invariant-loop-insn g l = record {

@@ -1,0 +1,30 @@
+-- Line by line the listing is written, and where the output fails a front of it was.
+use Rattle.flt_bpf.proofs.Assembling.{line_bytes, stopped_front, stopped_told, more_told, more_size}
+use Rattle.flt_bpf.proofs.Checking.{parts}
+use Rattle.flt_bpf.proofs.Common.{length, ◌∙◌, arith, rules, length-decimal-le}
+use Rattle.flt_bpf.proofs.writing.write_listing.Goals as goal
+
+pub put_number-start-requires-clause-room : goal.put_number-start-requires-clause-room
+put_number-start-requires-clause-room g c =
+    let short = (parts c.insns-insns.result.now c.insns-insns.ensures.valid).short in
+    let count = length-decimal-le 10 (length c.insns-insns.result.now) (omega arith) (omega arith) (omega arith) in
+    omega arith
+
+pub returns-in-Err-clause-front : goal.returns-in-Err-clause-front
+returns-in-Err-clause-front g c =
+    rw (← c.insns-insns.ensures.insns) (stopped_front c.insns-insns.result.now c.loop-insn.insn-index _ c.loop-insn.written c.in-Err.stopped.written _ c.loop-insn-test.true (line_bytes c.put_insn_line-start.new.line c.put_insn_line-start.result c.put_insn_line-start.array_long ∙ c.put_insn_line-start.ensures.written) c.in-Err.ensures.front c.loop-insn.invariant.size)
+
+pub returns-in-Err-clause-exact : goal.returns-in-Err-clause-exact
+returns-in-Err-clause-exact g c =
+    λ tells. rw (← c.insns-insns.ensures.insns) (stopped_told _ _ _ c.insns-insns.result.now c.loop-insn.insn-index _ c.loop-insn.written c.in-Err.stopped.written _ c.loop-insn-test.true (line_bytes c.put_insn_line-start.new.line c.put_insn_line-start.result c.put_insn_line-start.array_long ∙ c.put_insn_line-start.ensures.written) c.in-Err.ensures.front c.loop-insn.invariant.size (c.loop-insn.invariant.exact tells) (c.in-Err.ensures.exact tells))
+
+pub loop-insn-preserved : goal.loop-insn-preserved
+loop-insn-preserved g c =
+    let bytes = line_bytes c.put_insn_line-start.new.line c.put_insn_line-start.result c.put_insn_line-start.array_long ∙ c.put_insn_line-start.ensures.written in
+    record {
+      bounded = omega arith;
+      size = more_size c.insns-insns.result.now c.loop-insn.insn-index _ c.loop-insn.written c.put_insn_line-start.result c.put_insn_line-start.new.line c.loop-insn-test.true c.put_insn_line-start.array_long bytes c.loop-insn.invariant.size;
+      failed = search rules;
+      room = search rules;
+      exact = λ tells. more_told _ _ _ c.insns-insns.result.now c.loop-insn.insn-index _ _ c.loop-insn-test.true bytes (c.loop-insn.invariant.exact tells) (c.in_default.ensures.exact tells);
+    }

@@ -1,0 +1,10 @@
+-- No misfit so far, and whether the other faults are there.
+use Rattle.flt_lang.proofs.Common.{◌≡◌, false, list_any, take, is_misfit_node, is_out_of_range_node, has_bits_past_mask_node}
+use Rattle.flt_lang.proofs.resolving.nodes_fault.Given as goal
+
+abbrev pub invariant-loop-node : goal.invariant-loop-node
+invariant-loop-node l = record {
+  all_fit : list_any is_misfit_node (take l.node-index l.nodes) ≡ false;
+  range : l.is_out_of_range ≡ list_any is_out_of_range_node (take l.node-index l.nodes);
+  mask : l.has_bits_past_mask ≡ list_any has_bits_past_mask_node (take l.node-index l.nodes);
+}
