@@ -2,6 +2,7 @@
 
 mod clone_only;
 pub mod compilation;
+mod explaining;
 mod expressions;
 mod jumps;
 mod layout;

@@ -7,3 +7,13 @@ mod programs;
 mod puts;
 mod texts;
 mod units;
+
+/// Whether each byte has this value.
+fn are_all(bytes: &[u8], value: u8) -> bool {
+    for byte in bytes {
+        if *byte != value {
+            return false;
+        }
+    }
+    true
+}

@@ -10,8 +10,6 @@
 pub mod laws;
 mod line;
 mod operand;
-#[cfg(test)]
-mod tests;
 mod text;
 mod walk;
 

@@ -133,10 +133,12 @@ fn are_parted(
 ) -> bool {
     let (mut yes, mut no) = (yes.iter().peekable(), no.iter().peekable());
     let mut either = either.iter().peekable();
-    let end = all
-        .iter()
-        .position(|packet| Link::of_link_type(packet.link).is_none());
-    for packet in all.iter().take(end.unwrap_or(all.len())) {
+    let mut is_ended = false;
+    for packet in all {
+        is_ended = Link::of_link_type(packet.link).is_none();
+        if is_ended {
+            break;
+        }
         let is_read = yes.next_if_eq(&packet).is_some() || no.next_if_eq(&packet).is_some();
         let must_be_read = is_steady && ENOUGH <= packet.data.len();
         if is_read != either.next_if_eq(&packet).is_some() || must_be_read && !is_read {
@@ -144,7 +146,7 @@ fn are_parted(
         }
     }
     let is_passed = yes.next().is_none() && no.next().is_none() && either.next().is_none();
-    is_passed && end.is_some() == has_end
+    is_passed && is_ended == has_end
 }
 
 /// Whether the run ended at a packet whose link type isn't filtered.
@@ -188,8 +190,12 @@ fn filtered(
 
 /// The packets of a link that a file has.
 fn on_link<'b>(alloc: Global, link: Link, bytes: &'b [u8]) -> Result<Vec<Packet<'b>>, AllocError> {
-    let mut packets = packets_of(alloc, bytes)?.list;
-    packets.retain(|packet| packet.link == link.link_type());
+    let mut packets = Vec::new(alloc);
+    for packet in packets_of(alloc, bytes)?.list.iter() {
+        if packet.link == link.link_type() {
+            packets.push(*packet)?;
+        }
+    }
     Ok(packets)
 }
 
@@ -208,11 +214,6 @@ fn compiled(fuzzer: &mut Fuzzer<'_>, bytes: &[u8], text: &str, by_words: &Outcom
     Ok(())
 }
 
-/// Whether these are the same packets.
-fn are_same(left: &[Packet<'_>], right: &[Packet<'_>]) -> bool {
-    left == right
-}
-
 /// Compares what a listing keeps of its link with what its expression keeps: more if the
 /// expression's run ended early. A damaged listing is run too.
 fn listed(
@@ -229,7 +230,7 @@ fn listed(
     } else {
         fuzzer.same(&by_words.messages, &by_code.messages)?;
     }
-    fuzzer.compare(are_same(&words, &codes), text.as_bytes(), bytes)?;
+    fuzzer.compare(words == codes, text.as_bytes(), bytes)?;
     let wrong = damaged(fuzzer.alloc, &mut fuzzer.random, listing)?;
     fuzzer.print_by(&wrong, bytes)?;
     Ok(())

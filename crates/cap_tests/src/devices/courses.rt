@@ -38,13 +38,14 @@ impl Course {
         self
     }
 
-    /// Names the course on which something doesn't hold.
-    pub fn expect(&self, rt: &impl Abort, holds: bool) {
+    /// Names the course on which something doesn't hold, or memory runs out.
+    pub fn expect(&self, rt: &impl Abort, holds: Result<bool>) {
         let Manner { piece, failing, .. } = self.manner;
         assert!(rt;
-            holds,
+            matches!(holds, Ok(true)),
             "{} bytes, capacity {}, {piece} a call, failing {failing}",
-            self.len, self.capacity
+            self.len,
+            self.capacity
         );
     }
 

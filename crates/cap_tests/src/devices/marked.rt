@@ -50,6 +50,11 @@ impl Counts {
             in_order: true,
         }
     }
+
+    /// Whether this many calls were made, and each failed.
+    pub fn are_failures(&self, calls: usize) -> bool {
+        self.calls == calls && self.failures == calls
+    }
 }
 
 /// What a call moves: at most `piece` bytes. Each call whose number is a multiple of `failing`

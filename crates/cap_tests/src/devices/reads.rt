@@ -5,7 +5,6 @@ use cap_octet::{DeviceFault, Input, StdInput, read_full};
 use std::alloc::Global;
 use std::cell::Cell;
 use std::io::{BufReader, ErrorKind, Result as IoResult};
-use std::test::Fail;
 
 /// An input over a marked reader.
 type MarkedInput<'a> = StdInput<MarkedReader<'a>>;
@@ -114,7 +113,7 @@ fn take_at_hand(
 }
 
 /// Reads to the end. Whether each call returned what the reader did, and all bytes came.
-fn reads_hold(alloc: Global, course: &Course, way: Way, room: &mut [u8]) -> Result<bool, Fail> {
+fn reads_hold(alloc: Global, course: &Course, way: Way, room: &mut [u8]) -> IoResult<bool> {
     let counts = Cell::new(Counts::new());
     let mut input = input_of(alloc, course, &counts)?;
     let mut given = 0usize;
@@ -140,52 +139,45 @@ fn reads_hold(alloc: Global, course: &Course, way: Way, room: &mut [u8]) -> Resu
 }
 
 #[test]
-fn reads_past_4_mib_are_the_readers(rt: HostRuntime) -> Result<(), Fail> {
-    let mut room = vec![in rt.alloc(); 0; LARGEST]?;
-    for course in long_courses(&rt)? {
-        course.expect(
-            &rt,
-            reads_hold(rt.alloc(), &course, Way::Single, &mut room)?,
-        );
+fn reads_past_4_mib_are_the_readers(rt: HostRuntime) {
+    let mut room = vec![in rt.alloc(); 0; LARGEST].expect(&rt, "memory");
+    for course in long_courses(&rt).expect(&rt, "a clock") {
+        course.expect(&rt, reads_hold(rt.alloc(), &course, Way::Single, &mut room));
     }
-    Ok(())
 }
 
 #[test]
-fn reads_over_small_buffers_are_the_readers(rt: HostRuntime) -> Result<(), Fail> {
+fn reads_over_small_buffers_are_the_readers(rt: HostRuntime) {
     let mut room = [0; 20];
-    for course in &small_courses(rt.alloc())? {
+    for course in &small_courses(rt.alloc()).expect(&rt, "memory") {
         for way in [Way::Single, Way::Full, Way::AtHand] {
-            course.expect(&rt, reads_hold(rt.alloc(), course, way, &mut room)?);
+            course.expect(&rt, reads_hold(rt.alloc(), course, way, &mut room));
         }
     }
-    Ok(())
 }
 
 /// A read that a signal interrupts is a failure as any other. The next one goes on.
 #[test]
-fn an_interrupted_read_fails(rt: HostRuntime) -> Result<(), Fail> {
+fn an_interrupted_read_fails(rt: HostRuntime) {
     let mut room = [0; 20];
     for capacity in [0, 1, 7] {
         let course = Course::small(capacity, (2, 2, ErrorKind::Interrupted));
         for way in [Way::Single, Way::Full] {
-            course.expect(&rt, reads_hold(rt.alloc(), &course, way, &mut room)?);
+            course.expect(&rt, reads_hold(rt.alloc(), &course, way, &mut room));
         }
     }
-    Ok(())
 }
 
 /// Each read over a reader that always fails calls it once.
 #[test]
-fn reads_of_a_broken_reader_fail(rt: HostRuntime) -> Result<(), Fail> {
+fn reads_of_a_broken_reader_fail(rt: HostRuntime) {
     for capacity in CAPACITIES {
         let counts = Cell::new(Counts::new());
         let course = Course::small(capacity, (1, 1, ErrorKind::TimedOut));
-        let mut input = input_of(rt.alloc(), &course, &counts)?;
+        let mut input = input_of(rt.alloc(), &course, &counts).expect(&rt, "memory");
         for calls in 1..9 {
-            assert!(rt; input.read(&mut [0; 3]) == Err(DeviceFault));
-            assert!(rt; counts.get().calls == calls && counts.get().failures == calls);
+            let fails = input.read(&mut [0; 3]) == Err(DeviceFault);
+            assert!(rt; fails && counts.get().are_failures(calls));
         }
     }
-    Ok(())
 }

@@ -10,41 +10,39 @@ fn gives<I: Input>(input: &mut I, bytes: &[u8]) -> bool {
 }
 
 #[test]
-fn a_reader_is_read_to_its_end(rt: HostRuntime) -> Result<()> {
-    let reader = BufReader::with_capacity(rt.alloc(), 8, b"abcde".as_slice())?;
-    let mut input = StdInput::new(reader);
+fn a_reader_is_read_to_its_end(rt: HostRuntime) {
+    let reader = BufReader::with_capacity(rt.alloc(), 8, b"abcde".as_slice());
+    let mut input = StdInput::new(reader.expect(&rt, "memory"));
     for bytes in [b"ab".as_slice(), b"cd", b"e", b"", b""] {
         assert!(rt; gives(&mut input, bytes));
     }
-    Ok(())
 }
 
 #[test]
-fn readers_in_pieces_fill_a_buffer(rt: HostRuntime) -> Result<()> {
+fn readers_in_pieces_fill_a_buffer(rt: HostRuntime) {
     let pieces = b"abc".as_slice().chain(b"de".as_slice());
-    let mut input = StdInput::new(BufReader::with_capacity(rt.alloc(), 4, pieces)?);
+    let reader = BufReader::with_capacity(rt.alloc(), 4, pieces);
+    let mut input = StdInput::new(reader.expect(&rt, "memory"));
     let mut buf = [0; 4];
     assert!(rt; read_full(&mut input, &mut buf) == Ok(4) && buf == *b"abcd");
     assert!(rt; read_full(&mut input, &mut buf) == Ok(1) && buf == *b"ebcd");
-    Ok(())
 }
 
 #[test]
-fn a_writer_takes_all(rt: HostRuntime) -> Result<()> {
-    let writer = BufWriter::with_capacity(rt.alloc(), 4, Vec::new(rt.alloc()))?;
-    let mut output = StdOutput::new(writer);
+fn a_writer_takes_all(rt: HostRuntime) {
+    let writer = BufWriter::with_capacity(rt.alloc(), 4, Vec::new(rt.alloc()));
+    let mut output = StdOutput::new(writer.expect(&rt, "memory"));
     assert!(rt; output.write(b"abc") == Ok(3) && output.write(b"") == Ok(0));
     assert!(rt; write_all(&mut output, b"de").is_ok());
     let (mut writer, cause) = output.into_inner();
     assert!(rt; cause.is_none() && writer.flush().is_ok());
     assert!(rt; writer.get_ref().as_slice() == b"abcde".as_slice());
-    Ok(())
 }
 
 #[test]
-fn a_writer_with_less_room_takes_a_prefix(rt: HostRuntime) -> Result<()> {
-    let writer = BufWriter::with_capacity(rt.alloc(), 0, Cursor::new([0; 5]))?;
-    let mut output = StdOutput::new(writer);
+fn a_writer_with_less_room_takes_a_prefix(rt: HostRuntime) {
+    let writer = BufWriter::with_capacity(rt.alloc(), 0, Cursor::new([0; 5]));
+    let mut output = StdOutput::new(writer.expect(&rt, "memory"));
     for answer in [Ok(3), Ok(2), Err(DeviceFault)] {
         assert!(rt; output.write(b"abc") == answer);
     }
@@ -52,7 +50,6 @@ fn a_writer_with_less_room_takes_a_prefix(rt: HostRuntime) -> Result<()> {
     let (writer, cause) = output.into_inner();
     assert!(rt; cause == Some(ErrorKind::WriteZero));
     assert!(rt; *writer.get_ref().get_ref() == *b"abcab");
-    Ok(())
 }
 
 /// Fails for lack of room, and at every later call since its reader went away.

@@ -1,6 +1,5 @@
 //! Times as printed dates and as read. The values are from Python's `datetime`.
 use cap_octet::{date_bytes, span_of, time_of};
-use std::test::Fail;
 
 /// Times, and the dates that are printed of them.
 const PRINTED: &[(u64, &str)] = &[
@@ -66,11 +65,11 @@ const NEITHER: &str = "\
     197é-01-01T00:00:00Z";
 
 #[test]
-fn texts_are_read(rt: HostRuntime) -> Result<(), Fail> {
+fn texts_are_read(rt: HostRuntime) {
     for (rows, is_span) in [(DATES, false), (SECONDS, true)] {
         for row in rows.lines() {
             let (time, text) = row.split_once(" ").unwrap_or((row, ""));
-            let time = Some(time.parse::<u64>()?);
+            let time = Some(time.parse::<u64>().expect(&rt, "a number"));
             let span = if is_span { time } else { None };
             assert!(rt; time_of(text) == time && span_of(text) == span, "{text}");
         }
@@ -81,5 +80,4 @@ fn texts_are_read(rt: HostRuntime) -> Result<(), Fail> {
     for text in NEITHER.split_whitespace() {
         assert!(rt; time_of(text) == None && span_of(text) == None, "{text}");
     }
-    Ok(())
 }

@@ -5,7 +5,6 @@ use cap_octet::{DeviceFault, Output, StdOutput, write_all};
 use std::alloc::Global;
 use std::cell::Cell;
 use std::io::{BufWriter, ErrorKind, Result as IoResult, Write};
-use std::test::Fail;
 
 /// An output over a marked writer of this course.
 fn output_of<'a>(
@@ -60,7 +59,7 @@ fn write_by(output: &mut impl Output, whole: bool, buf: &[u8]) -> (usize, bool) 
 
 /// Writes marked bytes, in single writes or whole ones. Whether each returned what the writer did,
 /// and all bytes came.
-fn writes_hold(alloc: Global, course: &Course, whole: bool, room: &mut [u8]) -> Result<bool, Fail> {
+fn writes_hold(alloc: Global, course: &Course, whole: bool, room: &mut [u8]) -> IoResult<bool> {
     let counts = Cell::new(Counts::new());
     let mut output = output_of(alloc, course, &counts)?;
     let mut taken = 0usize;
@@ -83,33 +82,31 @@ fn writes_hold(alloc: Global, course: &Course, whole: bool, room: &mut [u8]) -> 
 }
 
 #[test]
-fn writes_past_4_mib_come_to_the_writer(rt: HostRuntime) -> Result<(), Fail> {
-    let mut room = vec![in rt.alloc(); 0; LARGEST]?;
-    for course in long_courses(&rt)? {
-        course.expect(&rt, writes_hold(rt.alloc(), &course, false, &mut room)?);
+fn writes_past_4_mib_come_to_the_writer(rt: HostRuntime) {
+    let mut room = vec![in rt.alloc(); 0; LARGEST].expect(&rt, "memory");
+    for course in long_courses(&rt).expect(&rt, "a clock") {
+        course.expect(&rt, writes_hold(rt.alloc(), &course, false, &mut room));
     }
-    Ok(())
 }
 
 #[test]
-fn writes_over_small_buffers_come_to_the_writer(rt: HostRuntime) -> Result<(), Fail> {
+fn writes_over_small_buffers_come_to_the_writer(rt: HostRuntime) {
     let mut room = [0; 20];
-    for course in &small_courses(rt.alloc())? {
+    for course in &small_courses(rt.alloc()).expect(&rt, "memory") {
         for whole in [false, true] {
-            course.expect(&rt, writes_hold(rt.alloc(), course, whole, &mut room)?);
+            course.expect(&rt, writes_hold(rt.alloc(), course, whole, &mut room));
         }
     }
-    Ok(())
 }
 
 /// Every second call is interrupted. std's buffer makes its own writes again; a write past the
 /// buffer fails, as at any other failure. In turn: how many bytes are written, what is returned,
 /// and how many calls were made by then.
 #[test]
-fn an_interrupted_write_fails_past_the_buffer(rt: HostRuntime) -> Result<(), Fail> {
+fn an_interrupted_write_fails_past_the_buffer(rt: HostRuntime) {
     let course = Course::small(4, (usize::MAX, 2, ErrorKind::Interrupted));
     let counts = Cell::new(Counts::new());
-    let mut output = output_of(rt.alloc(), &course, &counts)?;
+    let mut output = output_of(rt.alloc(), &course, &counts).expect(&rt, "memory");
     for (bytes, answer, calls) in [
         ([0; 3].as_slice(), Ok(3), 0),
         (&[0; 3], Ok(3), 1),
@@ -124,20 +121,18 @@ fn an_interrupted_write_fails_past_the_buffer(rt: HostRuntime) -> Result<(), Fai
     }
     let (_, cause) = output.into_inner();
     assert!(rt; cause == Some(ErrorKind::Interrupted) && counts.get().bytes == 14);
-    Ok(())
 }
 
 /// Each write past the buffer of a writer that always fails calls it once.
 #[test]
-fn writes_to_a_broken_writer_fail(rt: HostRuntime) -> Result<(), Fail> {
+fn writes_to_a_broken_writer_fail(rt: HostRuntime) {
     for capacity in CAPACITIES {
         let counts = Cell::new(Counts::new());
         let course = Course::small(capacity, (1, 1, ErrorKind::TimedOut));
-        let mut output = output_of(rt.alloc(), &course, &counts)?;
+        let mut output = output_of(rt.alloc(), &course, &counts).expect(&rt, "memory");
         for calls in 1..9 {
-            assert!(rt; output.write(&[0; 17]) == Err(DeviceFault));
-            assert!(rt; counts.get().calls == calls && counts.get().failures == calls);
+            let fails = output.write(&[0; 17]) == Err(DeviceFault);
+            assert!(rt; fails && counts.get().are_failures(calls));
         }
     }
-    Ok(())
 }

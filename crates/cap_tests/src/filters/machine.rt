@@ -1,7 +1,8 @@
-//! Worked programs and listings.
+//! Worked programs, listings and traces.
 
 mod listings;
 mod programs;
+mod traces;
 
 use flt_bpf::{Insn, Program, check, read_listing};
 use std::alloc::Global;

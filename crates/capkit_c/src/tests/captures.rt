@@ -1,10 +1,11 @@
 //! Captures that are read: one of each form, put together by the formats' drafts.
 
+use super::are_all;
 use crate::matching::capkit_next_match;
 use crate::memory::{Interface, Packet, Reader};
 use crate::reading::{capkit_comment, capkit_next, capkit_next_unit};
 use flt_bpf::Insn;
-use std::test::Fail;
+use std::alloc::{AllocError, Global};
 
 /// The start of a capture.
 const START: Reader = Reader {
@@ -149,7 +150,7 @@ fn is_seen(seen: &Seen, reader: &Reader, capture: &[u8], packet: &Packet) -> boo
     let length = capkit_comment(reader, capture, packet, &mut buffer);
     let size = comment.len().min(3);
     let is_commented = length == comment.len() && &buffer[..size] == &comment[..size];
-    let is_kept = buffer[size] == 0 && buffer[size + 1..].iter().all(|byte| *byte == b'~');
+    let is_kept = buffer[size] == 0 && are_all(&buffer[size + 1..], b'~');
     (packet.time, packet.at) == place
         && (packet.captured, packet.original) == lengths
         && (packet.interface, packet.snap, packet.link_type) == interface
@@ -171,7 +172,7 @@ fn is_right(call: &Call, reader: &mut Reader, table: &mut [Interface; 2], captur
 }
 
 #[test]
-fn captures_are_read(rt: HostRuntime) -> Result<(), Fail> {
+fn captures_are_read(rt: HostRuntime) {
     for (number, (capture, calls)) in CAPTURES.iter().enumerate() {
         let (mut reader, mut table) = (START, [NO_INTERFACE; 2]);
         for (at, call) in calls.iter().enumerate() {
@@ -179,7 +180,6 @@ fn captures_are_read(rt: HostRuntime) -> Result<(), Fail> {
             assert!(rt; is_right, "capture {number}, call {at}");
         }
     }
-    Ok(())
 }
 
 /// Reads units up to a fault or the end, and gives its number, with the reader as it is then.
@@ -197,7 +197,7 @@ fn read_all(capture: &[u8], table: &mut [Interface]) -> (u32, Reader) {
 
 /// What C sees of the reader and of the table.
 #[test]
-fn what_is_declared(rt: HostRuntime) -> Result<(), Fail> {
+fn what_is_declared(rt: HostRuntime) {
     let mut table = [NO_INTERFACE; 2];
     let (_, reader) = read_all(NANOSECONDS, &mut table);
     assert!(rt; (reader.form, reader.big_endian, reader.nanoseconds) == (1, 1, 1));
@@ -213,7 +213,6 @@ fn what_is_declared(rt: HostRuntime) -> Result<(), Fail> {
     assert!(rt; (first.link_type, first.name_length) == (1, 4));
     assert!(rt; first.name.starts_with(b"eth0"));
     assert!(rt; (table[1].units, table[1].name_length) == (1_000_000, 0));
-    Ok(())
 }
 
 /// A capture, the place of a byte and what is put there, the number of the first check that fails,
@@ -235,10 +234,10 @@ const FAULTS: &[(&[u8], usize, u8, u32, usize)] = &[
 ];
 
 #[test]
-fn faults_are_found(rt: HostRuntime) -> Result<(), Fail> {
+fn faults_are_found(rt: HostRuntime) {
     let mut table = [NO_INTERFACE; 2];
     for (capture, at, byte, expected, offset) in FAULTS {
-        let mut altered = Vec::from_slice(rt.alloc(), capture)?;
+        let mut altered = Vec::from_slice(rt.alloc(), capture).expect(&rt, "memory");
         if let Some(place) = altered.get_mut(*at) {
             *place = *byte;
         }
@@ -248,32 +247,35 @@ fn faults_are_found(rt: HostRuntime) -> Result<(), Fail> {
             "{number} at {at}"
         );
     }
-    Ok(())
 }
 
-/// A section with 256 interfaces, and one more: a good one, and one whose name doesn't fit.
-#[test]
-fn most_interfaces(rt: HostRuntime) -> Result<(), Fail> {
-    let mut capture = Vec::from_slice(rt.alloc(), &BLOCKS[..28])?;
+/// A section with 256 interfaces, and one more, whose name has this length.
+fn too_many(alloc: Global, name_length: u8) -> Result<Vec<u8>, AllocError> {
+    let mut capture = Vec::from_slice(alloc, &BLOCKS[..28])?;
     for _ in 0..256 {
         capture.extend_from_slice(&BLOCKS[144..164])?;
     }
-    let mut table = vec![in rt.alloc(); NO_INTERFACE; 300]?;
-    for is_good in [false, true] {
-        let mut whole = Vec::from_slice(rt.alloc(), &capture)?;
-        whole.extend_from_slice(&BLOCKS[28..46])?;
-        whole.push(if is_good { 4 } else { 200 })?;
-        whole.extend_from_slice(&BLOCKS[47..80])?;
-        let (number, reader) = read_all(&whole, &mut table);
+    capture.extend_from_slice(&BLOCKS[28..46])?;
+    capture.push(name_length)?;
+    capture.extend_from_slice(&BLOCKS[47..80])?;
+    Ok(capture)
+}
+
+/// The name of the last interface fits, or doesn't.
+#[test]
+fn most_interfaces(rt: HostRuntime) {
+    let mut table = vec![in rt.alloc(); NO_INTERFACE; 300].expect(&rt, "memory");
+    for name_length in [200, 4] {
+        let capture = too_many(rt.alloc(), name_length).expect(&rt, "memory");
+        let (number, reader) = read_all(&capture, &mut table);
         assert!(rt; (number, reader.offset, reader.interfaces) == (211, 28 + 256 * 20, 256));
     }
-    Ok(())
 }
 
 /// A prefix of a capture is whole after a unit, no capture before its first number, and else
 /// truncated.
 #[test]
-fn prefixes_are_truncated(rt: HostRuntime) -> Result<(), Fail> {
+fn prefixes_are_truncated(rt: HostRuntime) {
     let mut table = [NO_INTERFACE; 2];
     for capture in [MICROSECONDS, NANOSECONDS, BLOCKS] {
         for size in 0..capture.len() {
@@ -286,7 +288,6 @@ fn prefixes_are_truncated(rt: HostRuntime) -> Result<(), Fail> {
             );
         }
     }
-    Ok(())
 }
 
 /// A capture, a program of one return, its link type, and what the search for packets returns.
@@ -300,7 +301,7 @@ const SEARCHES: &[(&[u8], u32, u16, u32)] = &[
 
 /// Packets are read without the units between them, and sought by a program.
 #[test]
-fn packets_are_sought(rt: HostRuntime) -> Result<(), Fail> {
+fn packets_are_sought(rt: HostRuntime) {
     for (capture, answer, link_type, expected) in SEARCHES {
         let (mut reader, mut table, mut packet) = (START, [NO_INTERFACE; 2], NO_PACKET);
         let found = capkit_next(&mut reader, &mut table, capture, &mut packet);
@@ -325,5 +326,4 @@ fn packets_are_sought(rt: HostRuntime) -> Result<(), Fail> {
         let found = capkit_next_match(&mut reader, &mut table, capture, &[], 1, &mut packet);
         assert!(rt; found == 101 && reader.offset == 0);
     }
-    Ok(())
 }

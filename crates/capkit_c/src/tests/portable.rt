@@ -2,7 +2,6 @@
 
 use super::programs::{Row, UNWRITTEN, filled};
 use crate::portable::{capkit_is_portable, capkit_portability};
-use std::test::Fail;
 
 const RETURN: Row = (22, 0, 0, 0);
 
@@ -97,7 +96,7 @@ const OTHERWISE: &[&[Row]] = &[
 ];
 
 #[test]
-fn what_runs_alike(rt: HostRuntime) -> Result<(), Fail> {
+fn what_runs_alike(rt: HostRuntime) {
     for (programs, expected) in [(ALIKE, 1), (OTHERWISE, 0)] {
         for (at, rows) in programs.iter().enumerate() {
             let mut place = [UNWRITTEN; 8];
@@ -112,9 +111,9 @@ fn what_runs_alike(rt: HostRuntime) -> Result<(), Fail> {
             );
         }
     }
-    let most = vec![in rt.alloc(); UNWRITTEN; 4096]?;
+    let most = vec![in rt.alloc(); UNWRITTEN; 4096].expect(&rt, "memory");
     assert!(rt; capkit_is_portable(&most) == 1);
-    let over = vec![in rt.alloc(); UNWRITTEN; 4097]?;
+    let over = vec![in rt.alloc(); UNWRITTEN; 4097].expect(&rt, "memory");
     assert!(rt; capkit_is_portable(&over) == 0 && capkit_portability(&over) == 0);
     // The packet's length is another one only on Linux, and a place from 2^31 on means something
     // else only there.
@@ -123,5 +122,4 @@ fn what_runs_alike(rt: HostRuntime) -> Result<(), Fail> {
     let mut place = [UNWRITTEN; 8];
     let rows: &[Row] = &[(0xb1, 0, 0, 14), (0x50, 0, 0, HIGH - 1), RETURN];
     assert!(rt; capkit_portability(filled(rows, &mut place)) == 1);
-    Ok(())
 }

@@ -1,5 +1,6 @@
 //! Compilations, checks and runs.
 
+use super::are_all;
 use crate::bounding::capkit_bound;
 use crate::compiling::capkit_compile;
 use crate::listings::{capkit_read_listing, capkit_write_listing};
@@ -10,8 +11,7 @@ use crate::running::{
 };
 use flt_bpf::Insn;
 use flt_trace::Step;
-use std::alloc::Global;
-use std::test::Fail;
+use std::alloc::{AllocError, Global};
 
 /// What instructions hold that no call wrote.
 pub(super) const UNWRITTEN: Insn = Insn {
@@ -70,19 +70,18 @@ fn is_refused(alloc: Global, row: &Refusal) -> bool {
     let mut place = 77;
     let of_bound = capkit_bound(alloc, text, &mut place);
     let is_of_text = status < 15 && (of_bound, place) == *expected;
-    let is_kept = insns.iter().all(|insn| *insn == UNWRITTEN);
+    let is_kept = insns == [UNWRITTEN; 4];
     (status, number) == *expected && is_kept && (is_of_text || of_bound == 0 && 4 <= place)
 }
 
 #[test]
-fn refused_texts(rt: HostRuntime) -> Result<(), Fail> {
+fn refused_texts(rt: HostRuntime) {
     for row in REFUSALS {
         assert!(rt; is_refused(rt.alloc(), row), "status {}", row.3.0);
     }
-    let blanks = vec![in rt.alloc(); b' '; 65_537]?;
+    let blanks = vec![in rt.alloc(); b' '; 65_537].expect(&rt, "memory");
     let mut number = 77;
     assert!(rt; capkit_bound(rt.alloc(), &blanks, &mut number) == 1 && number == 0);
-    Ok(())
 }
 
 /// What a program that passes the check returns on a packet, and after how many steps, if all
@@ -107,7 +106,7 @@ fn answer_of(insns: &[Insn], packet: &[u8]) -> Option<(u32, usize)> {
 }
 
 #[test]
-fn a_short_text(rt: HostRuntime) -> Result<(), Fail> {
+fn a_short_text(rt: HostRuntime) {
     let (mut insns, mut place, mut number) = ([UNWRITTEN; 6], [UNWRITTEN; 8], 77);
     // 2, and 6 for its test.
     assert!(rt; capkit_bound(rt.alloc(), b"ip", &mut number) == 0 && number == 8);
@@ -123,14 +122,13 @@ fn a_short_text(rt: HostRuntime) -> Result<(), Fail> {
     packet[13] = 6;
     assert!(rt; answer_of(program, &packet) == Some((0, 3)));
     assert!(rt; answer_of(program, &packet[..13]) == Some((0, 1)));
-    Ok(())
 }
 
 /// A link type, and the byte of its packets which shows that they are IPv4.
 const LINK_TYPES: [(u16, usize, u8); 4] = [(1, 12, 8), (101, 0, 0x45), (12, 0, 0x45), (113, 14, 8)];
 
 #[test]
-fn link_types(rt: HostRuntime) -> Result<(), Fail> {
+fn link_types(rt: HostRuntime) {
     for (link_type, at, byte) in LINK_TYPES {
         let (mut insns, mut count) = ([UNWRITTEN; 8], 77);
         let status = capkit_compile(rt.alloc(), b"ip", link_type, &mut insns, &mut count);
@@ -141,7 +139,6 @@ fn link_types(rt: HostRuntime) -> Result<(), Fail> {
         let accepts = matches!(answer_of(program, &packet), Some((262_144, _)));
         assert!(rt; status == 0 && rejects && accepts, "link type {link_type}");
     }
-    Ok(())
 }
 
 /// A text, a link type, the room for instructions, and the status with its number. All texts but
@@ -158,7 +155,7 @@ const BLANKS: &[(&[u8], u16, usize, (u32, usize))] = &[
 ];
 
 #[test]
-fn empty_expressions(rt: HostRuntime) -> Result<(), Fail> {
+fn empty_expressions(rt: HostRuntime) {
     for (text, link_type, room, expected) in BLANKS {
         let (mut insns, mut number) = ([UNWRITTEN; 2], 77);
         let room = &mut insns[..(*room).min(2)];
@@ -167,11 +164,10 @@ fn empty_expressions(rt: HostRuntime) -> Result<(), Fail> {
         let accepts = answer_of(&insns[..1], b"") == Some((262_144, 1));
         assert!(rt; accepts == (status == 0), "link type {link_type}");
     }
-    Ok(())
 }
 
 /// `tcp port 20000 or 20002` and so on up to 20,398: 2,002 bytes.
-fn many_ports(alloc: Global) -> Result<String, Fail> {
+fn many_ports(alloc: Global) -> Result<String, AllocError> {
     let mut text = String::from_str(alloc, "tcp port 20000")?;
     for port in 10_001..10_200u32 {
         text.push_str(&format!(in alloc; " or {}", 2 * port)?)?;
@@ -191,10 +187,10 @@ fn segment(port: u16) -> [u8; 54] {
 }
 
 #[test]
-fn a_long_text(rt: HostRuntime) -> Result<(), Fail> {
-    let text = many_ports(rt.alloc())?;
+fn a_long_text(rt: HostRuntime) {
+    let text = many_ports(rt.alloc()).expect(&rt, "memory");
     assert!(rt; text.len() > 1_000);
-    let mut insns = vec![in rt.alloc(); UNWRITTEN; 32_768]?;
+    let mut insns = vec![in rt.alloc(); UNWRITTEN; 32_768].expect(&rt, "memory");
     let (mut bound, mut count) = (0, 0);
     assert!(rt; capkit_bound(rt.alloc(), text.as_bytes(), &mut bound) == 0);
     let status = capkit_compile(rt.alloc(), text.as_bytes(), 1, &mut insns, &mut count);
@@ -213,7 +209,6 @@ fn a_long_text(rt: HostRuntime) -> Result<(), Fail> {
             "port {port}"
         );
     }
-    Ok(())
 }
 
 /// Instructions, the first rule that they break, and where.
@@ -233,16 +228,15 @@ const CHECKS: &[(&[Row], u32, usize)] = &[
 ];
 
 #[test]
-fn programs_are_checked(rt: HostRuntime) -> Result<(), Fail> {
+fn programs_are_checked(rt: HostRuntime) {
     for (rows, rule, at) in CHECKS {
         let (mut place, mut index) = ([UNWRITTEN; 8], 77);
         let found = capkit_check(filled(rows, &mut place), &mut index);
         assert!(rt; found == *rule && index == *at, "rule {rule}");
     }
-    let long = vec![in rt.alloc(); UNWRITTEN; 32_769]?;
+    let long = vec![in rt.alloc(); UNWRITTEN; 32_769].expect(&rt, "memory");
     let mut index = 77;
     assert!(rt; capkit_check(&long, &mut index) == 102 && index == 0);
-    Ok(())
 }
 
 /// Instructions, valid or not, and what any run returns, on two bytes of a packet of 60.
@@ -263,7 +257,7 @@ const RUNS: &[(&[Row], (u32, usize))] = &[
 ];
 
 #[test]
-fn any_instructions_run(rt: HostRuntime) -> Result<(), Fail> {
+fn any_instructions_run(rt: HostRuntime) {
     for (rows, expected) in RUNS {
         let (mut place, mut steps) = ([UNWRITTEN; 8], 77);
         let answer = capkit_run_any(filled(rows, &mut place), &[7, 9], 60, &mut steps);
@@ -272,7 +266,6 @@ fn any_instructions_run(rt: HostRuntime) -> Result<(), Fail> {
         assert!(rt; (answer, steps) == *expected, "{} in {steps}", answer);
         assert!(rt; capkit_matches(filled(rows, &mut place), &[7, 9], 60) == expected.0);
     }
-    Ok(())
 }
 
 /// A text, and what reading it as a listing returns next to which number, with room for two.
@@ -286,7 +279,7 @@ const LISTINGS: &[(&[u8], (u32, usize))] = &[
 ];
 
 #[test]
-fn listings_are_read(rt: HostRuntime) -> Result<(), Fail> {
+fn listings_are_read(rt: HostRuntime) {
     for (text, expected) in LISTINGS {
         let (mut insns, mut number) = ([UNWRITTEN; 2], 77);
         let status = capkit_read_listing(rt.alloc(), text, &mut insns, &mut number);
@@ -297,7 +290,6 @@ fn listings_are_read(rt: HostRuntime) -> Result<(), Fail> {
     let row = [(22, 0, 0, 0)];
     let mut place = [UNWRITTEN; 8];
     assert!(rt; answer_of(filled(&row, &mut place), &[]) == Some((0, 1)));
-    Ok(())
 }
 
 /// Whether a program's listing is this text, in every room, and reads back to the program.
@@ -307,7 +299,7 @@ fn is_listed(alloc: Global, insns: &[Insn], expected: &[u8]) -> bool {
         let status = capkit_write_listing(alloc, insns, &mut buffer[..room], &mut length);
         let fits = expected.len().min(room.saturating_sub(1));
         let is_ended = room == 0 || buffer[fits] == 0;
-        let is_kept = buffer.iter().skip(fits + 1).all(|byte| *byte == 0xaa);
+        let is_kept = are_all(buffer.get(fits + 1..).unwrap_or_default(), 0xaa);
         if (status, length) != (0, expected.len()) || !is_ended || !is_kept {
             return false;
         }
@@ -321,7 +313,7 @@ fn is_listed(alloc: Global, insns: &[Insn], expected: &[u8]) -> bool {
 }
 
 #[test]
-fn listings_are_written(rt: HostRuntime) -> Result<(), Fail> {
+fn listings_are_written(rt: HostRuntime) {
     let mut place = [UNWRITTEN; 8];
     let ipv4 = filled(&IPV4, &mut place);
     let expected = b"4\n40 0 0 12\n21 0 1 2048\n6 0 0 262144\n6 0 0 0\n";
@@ -341,31 +333,29 @@ fn listings_are_written(rt: HostRuntime) -> Result<(), Fail> {
         );
         assert!(rt; *rule == 0 || buffer == [0xaa; 40], "rule {rule}");
     }
-    Ok(())
 }
 
 #[test]
-fn a_long_listing(rt: HostRuntime) -> Result<(), Fail> {
+fn a_long_listing(rt: HostRuntime) {
     let longest = Insn {
         code: 7,
         jt: 255,
         jf: 255,
         k: 4_294_967_295,
     };
-    let mut insns = vec![in rt.alloc(); longest; 32_769]?;
+    let mut insns = vec![in rt.alloc(); longest; 32_769].expect(&rt, "memory");
     insns[32_767].code = 22;
-    let (mut buffer, mut length) = (vec![in rt.alloc(); 0; 819_226]?, 77);
+    let mut buffer = vec![in rt.alloc(); 0; 819_226].expect(&rt, "memory");
+    let mut length = 77;
     let status = capkit_write_listing(rt.alloc(), &insns, &mut buffer, &mut length);
     assert!(rt; status == 102 && length == 0);
     insns.truncate(32_768);
     let status = capkit_write_listing(rt.alloc(), &insns, &mut buffer, &mut length);
     // The line of the count; 21 bytes for each instruction, and 22 for that of code 22.
     assert!(rt; status == 0 && length == 6 + 21 * 32_767 + 22);
-    let (mut read, mut count) = (vec![in rt.alloc(); UNWRITTEN; 32_768]?, 77);
-    let Some(text) = buffer.get(..length) else {
-        return Err(Fail::from("longer than its room"));
-    };
+    let mut read = vec![in rt.alloc(); UNWRITTEN; 32_768].expect(&rt, "memory");
+    let mut count = 77;
+    let text = buffer.get(..length).unwrap_or_default();
     let status = capkit_read_listing(rt.alloc(), text, &mut read, &mut count);
     assert!(rt; status == 0 && count == 32_768 && read.as_slice() == insns.as_slice());
-    Ok(())
 }

@@ -1,11 +1,11 @@
 //! Packets that are put into a pcapng file, held against its units as other calls write them.
 
+use super::are_all;
 use super::captures::{NO_INTERFACE, NO_PACKET};
 use crate::memory::{Interface, Packet, Writer};
 use crate::writing::{
     capkit_write_interface, capkit_write_packet, capkit_write_section, capkit_writer_put,
 };
-use std::test::Fail;
 
 /// A file of which nothing is written.
 const START: Writer = Writer {
@@ -105,7 +105,7 @@ fn write_units(buffer: &mut [u8]) -> usize {
 }
 
 #[test]
-fn packets_are_put(rt: HostRuntime) -> Result<(), Fail> {
+fn packets_are_put(rt: HostRuntime) {
     let (mut expected, mut buffer) = ([0; 1024], [0; 1024]);
     let size = write_units(&mut expected);
     let mut table = [NO_INTERFACE; 4];
@@ -120,12 +120,11 @@ fn packets_are_put(rt: HostRuntime) -> Result<(), Fail> {
     }
     assert!(rt; file.at == size && file.writer.interfaces == 4);
     assert!(rt; buffer[..] == expected[..]);
-    Ok(())
 }
 
 /// Nothing is written, and nothing is kept of the packet.
 #[test]
-fn packets_are_not_put(rt: HostRuntime) -> Result<(), Fail> {
+fn packets_are_not_put(rt: HostRuntime) {
     let (mut table, mut buffer) = ([NO_INTERFACE; 1], [0xa5; 512]);
     let mut file = File {
         writer: START,
@@ -148,6 +147,5 @@ fn packets_are_not_put(rt: HostRuntime) -> Result<(), Fail> {
     assert!(rt; file.put(1, 0, b"", 5) == 225);
     file.at = 460;
     assert!(rt; file.put(1, 0, b"", 5) == 0);
-    assert!(rt; buffer[112..460].iter().all(|byte| *byte == 0xa5));
-    Ok(())
+    assert!(rt; are_all(&buffer[112..460], 0xa5));
 }

@@ -1,7 +1,7 @@
 //! What the numbers of the header are called.
 
+use super::are_all;
 use crate::texts::{capkit_text, capkit_version};
-use std::test::Fail;
 
 /// By its number, from 0: what capkit_compile and capkit_bound return.
 const STATUSES: [&str; 18] = [
@@ -76,12 +76,12 @@ fn is_named(number: u32, name: &str) -> bool {
     let mut buffer = [b'~'; 32];
     let length = capkit_text(number, &mut buffer);
     let end = name.len().min(31);
-    let is_kept = buffer[end + 1..].iter().all(|byte| *byte == b'~');
+    let is_kept = are_all(&buffer[end + 1..], b'~');
     length == name.len() && is_kept && buffer[end] == 0 && &buffer[..end] == &name.as_bytes()[..end]
 }
 
 #[test]
-fn numbers_have_names(rt: HostRuntime) -> Result<(), Fail> {
+fn numbers_have_names(rt: HostRuntime) {
     for (base, names) in [(0, &STATUSES[..]), (100, &RULES[..]), (200, &FOUND[..])] {
         for number in 0..30u32 {
             let name = names.get(number as usize).copied().unwrap_or("");
@@ -92,5 +92,4 @@ fn numbers_have_names(rt: HostRuntime) -> Result<(), Fail> {
     assert!(rt; capkit_text(101, &mut short) == 5 && short == *b"emp\0");
     assert!(rt; capkit_text(101, &mut short[..0]) == 5 && short == *b"emp\0");
     assert!(rt; capkit_version() == 0x100);
-    Ok(())
 }

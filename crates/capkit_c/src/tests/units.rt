@@ -1,10 +1,10 @@
 //! Units that are written, held against bytes that were put together by the formats' drafts.
 
+use super::are_all;
 use crate::writing::{
     capkit_write_file_header, capkit_write_interface, capkit_write_packet, capkit_write_record,
     capkit_write_section,
 };
-use std::test::Fail;
 
 /// 2023-11-14 22:13:20.123456789 UTC.
 const TIME: u64 = 1_700_000_000_123_456_789;
@@ -138,12 +138,12 @@ fn is_written_as(unit: Unit, expected: &[u8]) -> bool {
     let (mut buffer, mut length) = ([0xa5; 64], 77);
     let size = expected.len().min(64);
     let status = write(unit, &bytes, &mut buffer, &mut length);
-    let is_kept = buffer[size..].iter().all(|byte| *byte == 0xa5);
+    let is_kept = are_all(&buffer[size..], 0xa5);
     let is_whole = (status, length) == (0, expected.len()) && &buffer[..size] == expected;
     let (mut short, mut needed) = ([0xa5; 64], 77);
     let room = size.saturating_sub(1);
     let status = write(unit, &bytes, &mut short[..room], &mut needed);
-    let is_empty = short.iter().all(|byte| *byte == 0xa5);
+    let is_empty = are_all(&short, 0xa5);
     let is_refused = (status, needed) == (225, expected.len()) && is_empty;
     let fits = write(unit, &bytes, &mut short[..size], &mut needed) == 0;
     is_whole && is_kept && is_refused && fits && &short[..size] == expected
@@ -168,11 +168,11 @@ const REFUSED: &[(Unit, u32)] = &[
 ];
 
 #[test]
-fn units_are_written(rt: HostRuntime) -> Result<(), Fail> {
+fn units_are_written(rt: HostRuntime) {
     for (at, (unit, expected)) in UNITS.iter().enumerate() {
         assert!(rt; is_written_as(*unit, expected), "row {at}");
     }
-    let zeros = vec![in rt.alloc(); 0u8; 1_048_576]?;
+    let zeros = vec![in rt.alloc(); 0u8; 1_048_576].expect(&rt, "memory");
     for (at, (unit, number)) in REFUSED.iter().enumerate() {
         let (mut buffer, mut length) = ([0xa5; 4], 77);
         let status = write(*unit, &zeros, &mut buffer, &mut length);
@@ -182,5 +182,4 @@ fn units_are_written(rt: HostRuntime) -> Result<(), Fail> {
         );
         assert!(rt; buffer == [0xa5; 4], "row {at}");
     }
-    Ok(())
 }
