@@ -13,7 +13,7 @@ use Rattle.flt_gen.specs.declared.{elementary.FieldTest.FieldTest, relation.Rela
 use Rattle.flt_gen.specs.inside.{Emitted.equals, Code.accessor_offset}
 use Rattle.flt_gen.specs.Numbers.{accessor_tests, width_of}
 use Rattle.flt_words.specs.declared.token.Protocol.{Protocol}
-use Rattle.flt_gen.specs.inside.Cases.{same_words, case_front, mac_place, ip6_place, case_tests, word_test, lowest, is_whole, keeps, all_keep, chain, test_at, from_test, middle, is_parted, same_word, decided, decision, FEW_CASES}
+use Rattle.flt_gen.specs.inside.Cases.{same_words, case_front, mac_place, ip6_place, case_tests, word_test, lowest, is_whole, keeps, all_keep, chain, test_at, from_test, middle, is_parted, same_word, decided, decision}
 use Rattle.std.proofs.lemmas.{List.length-map, List.map-append, List.take-append-drop, List.length-drop, List.length-append, Nat.and-not, Nat.and_comm}
 
 -- ---- which words cases have
@@ -377,11 +377,11 @@ module _ (link : Link) where
       )
   parted_good _ k _ lower upper low high g h a b l m some = absurd g.0
 
-  decided_good : (by : Case → List Elementary) (next : ℕ → List Case → Formula) → ((w : ℕ) (fs : List (Offset × Width)) (cs : List Case) → Shapes fs (rows by w cs) → Good fs (rows by w cs) (next w cs)) → (w : ℕ) (fs : List (Offset × Width)) (cs : List Case) → Shapes fs (rows by w cs) → Good fs (rows by w cs) (decided next by w cs)
-  decided_good by next ok w fs cs h =
-      if_case (Good fs (rows by w cs)) (nat_le (length cs) FEW_CASES) _ _ (λ e. chain_good by w fs cs h)
+  decided_good : (few : ℕ) (by : Case → List Elementary) (next : ℕ → List Case → Formula) → ((w : ℕ) (fs : List (Offset × Width)) (cs : List Case) → Shapes fs (rows by w cs) → Good fs (rows by w cs) (next w cs)) → (w : ℕ) (fs : List (Offset × Width)) (cs : List Case) → Shapes fs (rows by w cs) → Good fs (rows by w cs) (decided few next by w cs)
+  decided_good few by next ok w fs cs h =
+      if_case (Good fs (rows by w cs)) (nat_le (length cs) few) _ _ (λ e. chain_good by w fs cs h)
       (λ e. if_case (Good fs (rows by w cs)) (all_keep by w (Exactly (lowest (test_at by w cs 0))) cs) _ _
-      (λ a. same cs h (let t : FEW_CASES < length cs = grind (arith, nat_tests) in omega arith) a)
+      (λ a. same cs h (let t : few < length cs = grind (arith, nat_tests) in omega arith) a)
       (λ a. if_case (Good fs (rows by w cs)) (is_parted by w cs (middle by w cs)) _ _ (λ b. parts cs (middle by w cs) h b) (λ b. chain_good by w fs cs h)))
     where
       same : (ds : List Case) → Shapes fs (rows by w ds) → 0 < length ds → all_keep by w (Exactly (lowest (test_at by w ds 0))) ds ≡ true → Good fs (rows by w ds) (same_word (test_at by w ds 0) (test_at by (w + 1) ds 0) (next (w + 1) ds))
@@ -406,10 +406,10 @@ module _ (link : Link) where
           (parted_good fs k (drop w (by d)) (rows by w (take at ds)) (rows by w (drop at ds)) (next w (d ∷ take at ds)) (next w (drop at ds)) shapes.0 shapes.1 (sym (kept_rows by w (Below k) (d ∷ take at ds)) ∙ c.0) (sym (kept_rows by w (From k) (drop at ds)) ∙ c.1)
           (ok w fs (d ∷ take at ds) shapes.0) (ok w fs (drop at ds) shapes.1) (omega (arith, length-map (drop at ds) (λ (c : Case). drop w (by c)), length-drop at ds))))
 
-  pub decision_good : (by : Case → List Elementary) (k w : ℕ) (fs : List (Offset × Width)) (cs : List Case) → Shapes fs (rows by w cs) → Good fs (rows by w cs) (decision k by w cs)
+  pub decision_good : (by : Case → List Elementary) (few k w : ℕ) (fs : List (Offset × Width)) (cs : List Case) → Shapes fs (rows by w cs) → Good fs (rows by w cs) (decision few k by w cs)
   unfolding decision
-  decision_good by zero w fs cs h = chain_good by w fs cs h
-  decision_good by (suc k) w fs cs h = decided_good by (decision k by) (decision_good by k) w fs cs h
+  decision_good by few zero w fs cs h = chain_good by w fs cs h
+  decision_good by few (suc k) w fs cs h = decided_good few by (decision few k by) (decision_good by few k) w fs cs h
 
 -- ---- cases that have the words of one
 

@@ -15,17 +15,17 @@ use Rattle.flt_ast.specs.declared.qualifiers.Direction.TheVariants as direction
 use Rattle.flt_words.specs.declared.token.Side.TheVariants.{Source, Destination}
 use Rattle.cap_octet.specs.{Link.network_offset, declared.link.Link.Link}
 
-decision_put : (k : ℕ) (tests : Case → List Elementary) (word : ℕ) (cs : List Case) → 0 < k → decision k tests word cs ≡ decided (decision (k - 1) tests) tests word cs
+decision_put : (few k : ℕ) (tests : Case → List Elementary) (word : ℕ) (cs : List Case) → 0 < k → decision few k tests word cs ≡ decided few (decision few (k - 1) tests) tests word cs
 unfolding decision
-decision_put zero tests word cs l = absurd (omega arith)
-decision_put (suc k) tests word cs l = ap (λ j. decided (decision j tests) tests word cs) (let e : k ≡ suc k - 1 = omega arith in e)
+decision_put few zero tests word cs l = absurd (omega arith)
+decision_put few (suc k) tests word cs l = ap (λ j. decided few (decision few j tests) tests word cs) (let e : k ≡ suc k - 1 = omega arith in e)
 
-pub decision_chain : (k : ℕ) (tests : Case → List Elementary) (word : ℕ) (cs : List Case) → (k ≡ 0) ⊎ (length cs ≤ FEW_CASES) → decision k tests word cs ≡ chain tests word cs
+pub decision_chain : (few k : ℕ) (tests : Case → List Elementary) (word : ℕ) (cs : List Case) → (k ≡ 0) ⊎ (length cs ≤ few) → decision few k tests word cs ≡ chain tests word cs
 unfolding decision
-decision_chain zero tests word cs h = refl
-decision_chain (suc k) tests word cs (inl e) = absurd (omega arith)
-decision_chain (suc k) tests word cs (inr l) =
-    if_case (λ (f : Formula). f ≡ chain tests word cs) (nat_le (length cs) FEW_CASES) _ _ (λ e. refl) (λ e. absurd (let no : FEW_CASES < length cs = grind (arith, nat_tests) in omega arith))
+decision_chain few zero tests word cs h = refl
+decision_chain few (suc k) tests word cs (inl e) = absurd (omega arith)
+decision_chain few (suc k) tests word cs (inr l) =
+    if_case (λ (f : Formula). f ≡ chain tests word cs) (nat_le (length cs) few) _ _ (λ e. refl) (λ e. absurd (let no : few < length cs = grind (arith, nat_tests) in omega arith))
 
 -- the code of tests, of which all hold
 pub all_emitted : (link : Link) (ts : List Elementary) (hit miss : ℕ) (c : List Insn) → emit_formula link (all_of ts) hit miss c ≡ emit_all ts hit miss c
@@ -55,15 +55,15 @@ cases_put link d key [] other l = absurd (omega arith)
 cases_put link d key (c ∷ cs) other l = refl
 
 -- the code of hosts of either side, by its parts
-pub either_emitted : (link : Link) (a : ℕ) (cs : List Case) (hit miss : ℕ) (c : List Insn) (found other asked first whole : Block) → let s = ip6_tests None a (network_offset link + 8) in let d = ip6_tests None a (network_offset link + 24) in emit_formula link (decision MOST_DECISIONS (case_tests link (direction.One Destination)) 3 cs) hit miss c ≡ found → emit_all (take 3 d) found.entry miss found.code ≡ other → emit_all d hit hit other.code ≡ asked → emit_all (drop 3 s) hit asked.entry asked.code ≡ first
-    → emit_formula link (decision MOST_DECISIONS (case_tests link (direction.One Source)) 3 cs) first.entry other.entry first.code ≡ whole → emit_formula link (either_ip6 link a cs) hit miss c ≡ emit_all (take 3 s) whole.entry other.entry whole.code
+pub either_emitted : (link : Link) (a : ℕ) (cs : List Case) (hit miss : ℕ) (c : List Insn) (found other asked first whole : Block) → let s = ip6_tests None a (network_offset link + 8) in let d = ip6_tests None a (network_offset link + 24) in emit_formula link (decision FEW_CASES MOST_DECISIONS (case_tests link (direction.One Destination)) 3 cs) hit miss c ≡ found → emit_all (take 3 d) found.entry miss found.code ≡ other → emit_all d hit hit other.code ≡ asked → emit_all (drop 3 s) hit asked.entry asked.code ≡ first
+    → emit_formula link (decision FEW_CASES MOST_DECISIONS (case_tests link (direction.One Source)) 3 cs) first.entry other.entry first.code ≡ whole → emit_formula link (either_ip6 link a cs) hit miss c ≡ emit_all (take 3 s) whole.entry other.entry whole.code
 either_emitted link a cs hit miss c found other asked first whole h i j k l = ap by_found h ∙ ap by_other i ∙ ap (by_asked other) j ∙ ap (by_first other) k ∙ ap (by_whole other) l
   where
     by_whole : Block → Block → Block
     by_whole o e = emit_all (take 3 (ip6_tests None a (network_offset link + 8))) e.entry o.entry e.code
 
     by_first : Block → Block → Block
-    by_first o e = by_whole o (emit_formula link (decision MOST_DECISIONS (case_tests link (direction.One Source)) 3 cs) e.entry o.entry e.code)
+    by_first o e = by_whole o (emit_formula link (decision FEW_CASES MOST_DECISIONS (case_tests link (direction.One Source)) 3 cs) e.entry o.entry e.code)
 
     by_asked : Block → Block → Block
     by_asked o e = by_first o (emit_all (drop 3 (ip6_tests None a (network_offset link + 8))) hit e.entry e.code)
@@ -81,12 +81,12 @@ tests_from (u ∷ ts) zero t e = (let same : u ≡ t = cc in ap (λ (x : Element
 tests_from (u ∷ ts) (suc word) t e = (let next : suc word + 1 ≡ suc (word + 1) = omega arith in tests_from ts word t e ∙ ap (λ k. t ∷ drop k (u ∷ ts)) (sym next))
 
 -- the parts of a decision
-module _ (k : ℕ) (by : Case → List Elementary) (w : ℕ) (cs : List Case) (some : 0 < k) (many : FEW_CASES < length cs) where
+module _ (few k : ℕ) (by : Case → List Elementary) (w : ℕ) (cs : List Case) (some : 0 < k) (many : few < length cs) where
   abbrev t : Option Elementary
   t = test_at by w cs 0
 
   abbrev next : ℕ → List Case → Formula
-  next = decision (k - 1) by
+  next = decision few (k - 1) by
 
   abbrev parts : Bool → Bool → Formula
   parts same parted =
@@ -95,18 +95,18 @@ module _ (k : ℕ) (by : Case → List Elementary) (w : ℕ) (cs : List Case) (s
       then Split (from_test t (lowest (test_at by w cs (middle by w cs)))) (next w (drop (middle by w cs) cs)) (next w (take (middle by w cs) cs))
       else chain by w cs)
 
-  put : decision k by w cs ≡ parts (all_keep by w (Exactly (lowest t)) cs) (is_parted by w cs (middle by w cs))
-  put = decision_put k by w cs some ∙ (let few : nat_le (length cs) FEW_CASES ≡ false = grind (arith, nat_tests) in ap (λ b. if b then chain by w cs else parts (all_keep by w (Exactly (lowest t)) cs) (is_parted by w cs (middle by w cs))) few)
+  put : decision few k by w cs ≡ parts (all_keep by w (Exactly (lowest t)) cs) (is_parted by w cs (middle by w cs))
+  put = decision_put few k by w cs some ∙ (let over : nat_le (length cs) few ≡ false = grind (arith, nat_tests) in ap (λ b. if b then chain by w cs else parts (all_keep by w (Exactly (lowest t)) cs) (is_parted by w cs (middle by w cs))) over)
 
-  pub decision_same : (o : Option Elementary) → o ≡ t → true ≡ all_keep by w (Exactly (lowest o)) cs → same_word o (test_at by (w + 1) cs 0) (next (w + 1) cs) ≡ decision k by w cs
+  pub decision_same : (o : Option Elementary) → o ≡ t → true ≡ all_keep by w (Exactly (lowest o)) cs → same_word o (test_at by (w + 1) cs 0) (next (w + 1) cs) ≡ decision few k by w cs
   decision_same o e a =
       ap (λ x. same_word x (test_at by (w + 1) cs 0) (next (w + 1) cs)) e
       ∙ sym (put ∙ ap (λ b. parts b (is_parted by w cs (middle by w cs))) (sym (a ∙ ap (λ x. all_keep by w (Exactly (lowest x)) cs) e)))
 
-  pub decision_told : (o : Elementary) (b : Bool) → Some o ≡ t → is_none (test_at by (w + 1) cs 0) ≡ b → true ≡ all_keep by w (Exactly (lowest (Some o))) cs → (if b then Single o else Both (Single o) (next (w + 1) cs)) ≡ decision k by w cs
+  pub decision_told : (o : Elementary) (b : Bool) → Some o ≡ t → is_none (test_at by (w + 1) cs 0) ≡ b → true ≡ all_keep by w (Exactly (lowest (Some o))) cs → (if b then Single o else Both (Single o) (next (w + 1) cs)) ≡ decision few k by w cs
   decision_told o b e n a = ap (λ c. if c then Single o else Both (Single o) (next (w + 1) cs)) (sym n) ∙ decision_same (Some o) e a
 
-  pub decision_halves : (o : Option Elementary) (at : ℕ) (b : Bool) → o ≡ t → at ≡ middle by w cs → false ≡ all_keep by w (Exactly (lowest o)) cs → b ≡ is_parted by w cs at → (if b then Split (from_test o (lowest (test_at by w cs at))) (next w (drop at cs)) (next w (take at cs)) else chain by w cs) ≡ decision k by w cs
+  pub decision_halves : (o : Option Elementary) (at : ℕ) (b : Bool) → o ≡ t → at ≡ middle by w cs → false ≡ all_keep by w (Exactly (lowest o)) cs → b ≡ is_parted by w cs at → (if b then Split (from_test o (lowest (test_at by w cs at))) (next w (drop at cs)) (next w (take at cs)) else chain by w cs) ≡ decision few k by w cs
   decision_halves o at b e f a g =
       ap₂ (λ x i. if b then Split (from_test x (lowest (test_at by w cs i))) (next w (drop i cs)) (next w (take i cs)) else chain by w cs) e f
       ∙ ap (parts false) (g ∙ ap (is_parted by w cs) f)

@@ -6,7 +6,7 @@ use Rattle.flt_gen.proofs.Deciding.{Known, known_both, Shapes, rows, rows_known,
 use Rattle.flt_gen.proofs.{Exclusive.both_either, Exclusive.or_no}
 use Rattle.std.specs.Prelude.{◌⊎◌, count_by}
 use Rattle.flt_gen.specs.declared.cases.Case.{Case, TheVariants.EitherIp6}
-use Rattle.flt_gen.specs.inside.Cases.{key_of, ip6_place, case_tests, insert_case, decision, either_ip6, MOST_DECISIONS}
+use Rattle.flt_gen.specs.inside.Cases.{key_of, ip6_place, case_tests, insert_case, decision, either_ip6, FEW_CASES, MOST_DECISIONS}
 use Rattle.flt_gen.specs.Primitives.{ip6_test}
 use Rattle.flt_ast.specs.declared.qualifiers.Direction.TheVariants as direction
 use Rattle.std.proofs.{Math.Nat.div-div-eq-div-mul, lemmas.List.length-map}
@@ -145,7 +145,7 @@ module _ (link : Link) (p : List ℕ) (n : ℕ) where
 
   either_read : (a b : ℕ) (cs : List Case) → Likes (EitherIp6 b) cs → reads link (either_ip6 link a cs) p n ≡ hosts_read a cs
   either_read a b cs h =
-      let good : (d : Direction) → reads link (decision MOST_DECISIONS (case_tests link d) 3 cs) p n ≡ ends d cs = λ d. (decision_good link (case_tests link d) MOST_DECISIONS 3 (last_field link d ∷ []) cs (last_shapes link d b cs h)).0 p n in
+      let good : (d : Direction) → reads link (decision FEW_CASES MOST_DECISIONS (case_tests link d) 3 cs) p n ≡ ends d cs = λ d. (decision_good link (case_tests link d) FEW_CASES MOST_DECISIONS 3 (last_field link d ∷ []) cs (last_shapes link d b cs h)).0 p n in
       ap₂ (λ x y. either (both (front source a) (both x (either (end source a) (either (told (words destination a)) Yes)))) (both (front destination a) y)) (good source) (good destination)
       ∙ ap (λ x. either (both (front source a) (both (ends source cs) (either (end source a) (either x Yes)))) (both (front destination a) (ends destination cs))) (parts destination a)
 
@@ -224,8 +224,8 @@ either_bare link a b cs h l =
     (bare_either (bare_both (bare_all (take 3 s) 3 (omega arith) (omega arith)) (bare_both (tree source) (bare_either (bare_all (drop 3 s) 1 (omega arith) (omega arith)) (bare_either (bare_all d 4 (omega arith) (omega arith)) (bare_one _)))))
     (bare_both (bare_all (take 3 d) 3 (omega arith) (omega arith)) (tree destination)))
   where
-    tree : (d : Direction) → Bare (decision MOST_DECISIONS (case_tests link d) 3 cs) (length cs + (length cs - 1))
+    tree : (d : Direction) → Bare (decision FEW_CASES MOST_DECISIONS (case_tests link d) 3 cs) (length cs + (length cs - 1))
     tree d =
         let s = sizes_last link d b cs h in
         let k = length-map cs (λ (c : Case). drop 3 (case_tests link d c)) in
-        bare_within _ (omega arith) ((decision_good link (case_tests link d) MOST_DECISIONS 3 (last_field link d ∷ []) cs (last_shapes link d b cs h)).1 (omega arith) (omega arith))
+        bare_within _ (omega arith) ((decision_good link (case_tests link d) FEW_CASES MOST_DECISIONS 3 (last_field link d ∷ []) cs (last_shapes link d b cs h)).1 (omega arith) (omega arith))

@@ -227,7 +227,7 @@ sides_good link d a m (EitherIp6 b) _ cs like l few both = (let no = like.0 in c
 sides_good link d a m _ (EitherIp6 x) cs like l few both = (let no = like.0 in cc)
 sides_good link d a m kind c cs like l few both =
     let by = case_tests link d in
-    let good = decision_good link by MOST_DECISIONS 0 (fields_of link d kind) (c ∷ cs) (shapes_of link d kind (c ∷ cs) like) in
+    let good = decision_good link by _ MOST_DECISIONS 0 (fields_of link d kind) (c ∷ cs) (shapes_of link d kind (c ∷ cs) like) in
     let long = length-map cs by in
     (good.0, bare_within _ (omega arith) (good.1 (some_fields link d kind) (omega arith)))
 

@@ -25,8 +25,12 @@ use flt_ast::{CompleteQualifiers, Direction, Value};
 use flt_words::{Comparison, Join, Protocol, Side, ValueType};
 use std::alloc::{AllocError, Allocator};
 
-/// How many cases are compared one after the other, since a test more would part them.
+/// How many cases of several words are compared one after the other.
 const FEW_CASES: usize = 2;
+
+/// How many cases of one word are, at most. Each half of more has 20 at least, so the tests between
+/// halves make a list longer by 5 % at most.
+const MOST_IN_TURN: usize = 40;
 
 /// How often cases are halved, or all have the same word, at most.
 const MOST_DECISIONS: usize = 64;
@@ -283,10 +287,11 @@ impl<A: Allocator> Code<A> {
         }
     }
 
-    /// Emits cases by halves, of one word after the other: they are halved `most` times at most.
+    /// Emits cases by halves, down to `few`, of one word after the other: `most` times at most.
     fn emit_decision(
         &mut self,
         most: usize,
+        few: usize,
         link: Link,
         direction: Direction,
         word: usize,
@@ -294,10 +299,10 @@ impl<A: Allocator> Code<A> {
         to: Targets,
     ) -> Result<usize, AllocError>
         ensures { Emits result
-            (emit_formula link (decision most (case_tests link direction) word cases.now)
+            (emit_formula link (decision few most (case_tests link direction) word cases.now)
             to.yes to.no self.old) self.new }
     {
-        if most == 0 || cases.len() <= FEW_CASES {
+        if most == 0 || cases.len() <= few {
             return self.emit_cases_in_turn(link, direction, word, cases, to);
         }
         let test = test_at(link, direction, word, cases, 0);
@@ -308,7 +313,7 @@ impl<A: Allocator> Code<A> {
             if test_at(link, direction, word + 1, cases, 0).is_none() {
                 return self.emit_elementary(test, to);
             }
-            let yes = self.emit_decision(most - 1, link, direction, word + 1, cases, to)?;
+            let yes = self.emit_decision(most - 1, few, link, direction, word + 1, cases, to)?;
             return self.emit_elementary(test, Targets { yes, no: to.no });
         }
         let at = middle(link, direction, word, cases);
@@ -316,8 +321,8 @@ impl<A: Allocator> Code<A> {
             return self.emit_cases_in_turn(link, direction, word, cases, to);
         }
         let number = lowest(test_at(link, direction, word, cases, at));
-        let no = self.emit_decision(most - 1, link, direction, word, &cases[..at], to)?;
-        let yes = self.emit_decision(most - 1, link, direction, word, &cases[at..], to)?;
+        let no = self.emit_decision(most - 1, few, link, direction, word, &cases[..at], to)?;
+        let yes = self.emit_decision(most - 1, few, link, direction, word, &cases[at..], to)?;
         self.emit_elementary(from_test(test, number), Targets { yes, no })
     }
 
@@ -339,13 +344,13 @@ impl<A: Allocator> Code<A> {
         let destination = ip6_tests(None, address, start + 24);
         let (yes, no) = (to.yes, to.no);
         let side = Direction::One(Side::Destination);
-        let found = self.emit_decision(MOST_DECISIONS, link, side, 3, cases, to)?;
+        let found = self.emit_decision(MOST_DECISIONS, FEW_CASES, link, side, 3, cases, to)?;
         let other = self.emit_tests(false, &destination[..3], Targets { yes: found, no })?;
         let asked = self.emit_tests(false, &destination, Targets { yes, no: yes })?;
         let yes = self.emit_tests(false, &source[3..], Targets { yes, no: asked })?;
         let side = Direction::One(Side::Source);
         let to = Targets { yes, no: other };
-        let yes = self.emit_decision(MOST_DECISIONS, link, side, 3, cases, to)?;
+        let yes = self.emit_decision(MOST_DECISIONS, FEW_CASES, link, side, 3, cases, to)?;
         self.emit_tests(false, &source[..3], Targets { yes, no: other })
     }
 
@@ -364,12 +369,12 @@ impl<A: Allocator> Code<A> {
     {
         match one {
             Case::EitherIp6(_) => self.emit_either_ip6(link, key, cases, to),
-            Case::Mac(_)
-            | Case::Ip6(_, _)
-            | Case::IpProto(_)
-            | Case::Ip6Proto(_)
-            | Case::Relation(_) => {
-                self.emit_decision(MOST_DECISIONS, link, direction, 0, cases, to)
+            Case::Mac(_) | Case::Ip6(_, _) => {
+                self.emit_decision(MOST_DECISIONS, FEW_CASES, link, direction, 0, cases, to)
+            }
+            Case::IpProto(_) | Case::Ip6Proto(_) | Case::Relation(_) => {
+                let few = (cases.len() - cases.len() / 2).min(MOST_IN_TURN);
+                self.emit_decision(MOST_DECISIONS, few, link, direction, 0, cases, to)
             }
         }
     }

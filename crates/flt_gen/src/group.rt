@@ -7,7 +7,7 @@ ghost use Rattle.std.specs.{List.insert, Prelude.reverse};
 ghost use Rattle.flt_gen.specs.inside.Group.{no_group, same_type, same_protocol, same_direction};
 ghost use Rattle.flt_gen.specs.inside.Group.{goes_with, is_masked, net_member, member_of, is_empty};
 ghost use Rattle.flt_gen.specs.inside.Group.{larger_group, is_searched, group_formula};
-ghost use Rattle.flt_gen.specs.inside.Group.{rows_formula, several_formula, is_address};
+ghost use Rattle.flt_gen.specs.inside.Group.{rows_formula, several_formula};
 ghost use Rattle.flt_gen.specs.inside.{Cases.case_of, Emits.EmitsFormula};
 ghost use Rattle.flt_gen.specs.inside.Intervals.{insert_ascending};
 ghost use Rattle.flt_gen.specs.inside.Group.{has_networks, case_goes_with, with_case};
@@ -159,13 +159,6 @@ fn member_of(value_type: ValueType, value: Value) -> Option<Interval>
     Some(Interval { low, high })
 }
 
-/// Whether addresses of IPv4 are looked for.
-fn is_address(value_type: ValueType) -> bool
-    ensures { result ≡ is_address value_type }
-{
-    matches!(value_type, ValueType::Host | ValueType::Net)
-}
-
 /// The index at which an interval is put among others, so that they still ascend.
 fn place_among(numbers: &[Interval], new: Interval) -> usize
     ensures inside { result ≤ length numbers.now }
@@ -309,7 +302,7 @@ impl<A: Allocator> Group<A> {
     fn has_networks(&self) -> bool
         ensures { result ≡ has_networks self.now }
     {
-        is_address(self.qualifiers.value_type) && !self.is_plain
+        matches!(self.qualifiers.value_type, ValueType::Host | ValueType::Net) && !self.is_plain
     }
 
     /// Emits the code that looks for the members. Returns the place where it begins.

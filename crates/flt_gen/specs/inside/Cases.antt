@@ -3,7 +3,7 @@
 -- of those that are left. Hosts of IPv6 on either side that differ only in the last word are a tree
 -- for each side.
 use Rattle.std.specs.List.{list_all, insert}
-use Rattle.std.specs.Prelude.{ℕ, zero, suc, ◌+◌, ◌-◌, ◌/◌, ◌^◌, ◌==◌, ◌&&◌, nat_lt, nat_le, Bool, true, false, if◌then◌else◌, List, [], ◌∷◌, length, take, drop, slice_get, count_by, is_none, Option, Some, None}
+use Rattle.std.specs.Prelude.{ℕ, zero, suc, ◌+◌, ◌-◌, ◌/◌, ◌^◌, ◌==◌, ◌&&◌, nat_lt, nat_le, min, Bool, true, false, if◌then◌else◌, List, [], ◌∷◌, length, take, drop, slice_get, count_by, is_none, Option, Some, None}
 use Rattle.flt_words.specs.declared.token.{Comparison.TheVariants.AtLeast, Protocol.Protocol}
 use Rattle.flt_words.specs.declared.token.{Join.TheVariants.Or, ValueType.ValueType}
 use Rattle.flt_words.specs.declared.token.Side.TheVariants.{Source, Destination}
@@ -147,21 +147,32 @@ is_parted tests word cs at =
     nat_lt 0 at && (nat_lt at (length cs)
     && (all_keep tests word (Below n) (take at cs) && all_keep tests word (From n) (drop at cs)))
 
--- how many cases are compared one after the other
+-- how many cases of several words are compared one after the other
 abbrev pub FEW_CASES : ℕ
 FEW_CASES = 2
+
+-- how many cases of one word are, at most
+abbrev pub MOST_IN_TURN : ℕ
+MOST_IN_TURN = 40
+
+-- how many of n cases with the words of one are
+abbrev pub few_of : Case → ℕ → ℕ
+few_of (Mac a) n = FEW_CASES
+few_of (Ip6 m a) n = FEW_CASES
+few_of c n = min (n - n / 2) MOST_IN_TURN
 
 -- all cases have a test, if there is one, and then what follows it, if they have another test
 abbrev pub same_word : Option Elementary → Option Elementary → Formula → Formula
 same_word None u following = Single (Outcome false)
 same_word (Some t) u following = if is_none u then Single t else Both (Single t) following
 
--- cases by halves, or by the word that all have; `next` decides the parts
-abbrev pub decided : (ℕ → List Case → Formula) → (Case → List Elementary) → ℕ → List Case → Formula
-decided next tests word cs =
+-- cases by halves until few are left, or by the word that all have; `next` decides the parts
+abbrev pub decided :
+    ℕ → (ℕ → List Case → Formula) → (Case → List Elementary) → ℕ → List Case → Formula
+decided few next tests word cs =
     let t = test_at tests word cs 0 in
     let at = middle tests word cs in
-    if nat_le (length cs) FEW_CASES then chain tests word cs else
+    if nat_le (length cs) few then chain tests word cs else
     (if all_keep tests word (Exactly (lowest t)) cs
     then same_word t (test_at tests (word + 1) cs 0) (next (word + 1) cs) else
     (if is_parted tests word cs at
@@ -169,10 +180,10 @@ decided next tests word cs =
     (next word (take at cs))
     else chain tests word cs))
 
--- cases by halves, of one word after the other: halved this often at most
-unfoldable pub decision : ℕ → (Case → List Elementary) → ℕ → List Case → Formula
-decision zero tests word cs = chain tests word cs
-decision (suc k) tests word cs = decided (decision k tests) tests word cs
+-- cases by halves until few are left, of one word after the other: halved this often at most
+unfoldable pub decision : ℕ → ℕ → (Case → List Elementary) → ℕ → List Case → Formula
+decision few zero tests word cs = chain tests word cs
+decision few (suc k) tests word cs = decided few (decision few k tests) tests word cs
 
 -- how often cases are halved, or all have the same word, at most
 abbrev pub MOST_DECISIONS : ℕ
@@ -185,18 +196,19 @@ abbrev pub either_ip6 : Link → ℕ → List Case → Formula
 either_ip6 link a cs =
     let s = ip6_tests None a (network_offset link + 8) in
     let d = ip6_tests None a (network_offset link + 24) in
-    let source = decision MOST_DECISIONS (case_tests link (Direction.One Source)) 3 cs in
-    let other = decision MOST_DECISIONS (case_tests link (Direction.One Destination)) 3 cs in
+    let side = λ (d : Direction). decision FEW_CASES MOST_DECISIONS (case_tests link d) 3 cs in
+    let source = side (Direction.One Source) in
     Either
     (Both (all_of (take 3 s))
     (Both source (Either (all_of (drop 3 s)) (Either (all_of d) (Single (Outcome true))))))
-    (Both (all_of (take 3 d)) other)
+    (Both (all_of (take 3 d)) (side (Direction.One Destination)))
 
 -- the tests of cases with the words of one; the number is the one by which the first in the
 -- expression ascends
 abbrev pub sides_decision : Link → Direction → ℕ → Case → List Case → Formula
 sides_decision link d a (EitherIp6 b) cs = either_ip6 link a cs
-sides_decision link d a c cs = decision MOST_DECISIONS (case_tests link d) 0 cs
+sides_decision link d a c cs =
+    decision (few_of c (length cs)) MOST_DECISIONS (case_tests link d) 0 cs
 
 -- cases with the same words, after the tests in front of them
 abbrev pub cases_formula : Link → Direction → ℕ → List Case → Formula
