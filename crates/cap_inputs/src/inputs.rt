@@ -77,7 +77,7 @@ impl<I: Input, A: Allocator> InputCursor<I, A> {
     ghost use Rattle.std.specs.Prelude.{IsTrue, false, true, ◌≤◌, IsSome, length};
     ghost use Rattle.cap_io.specs.Source.{Advances, SectionFits, Reading, Steps, TakesIfAtHand};
     ghost use Rattle.cap_io.specs.{Source.phase_after, Reading.most_in_unit};
-    ghost use Rattle.cap_io.specs.Capture.{first_link_of, kind_of};
+    ghost use Rattle.cap_io.specs.Capture.{kind_of};
     ghost use Rattle.cap_octet.specs.Packet.{captured};
 
     /// An input over a source of which nothing was read: no packet of it waits or is decided.
@@ -143,22 +143,6 @@ impl<I: Input, A: Allocator> InputCursor<I, A> {
     {
         self.greatest = self.greatest.max(self.time);
         self.waiting = false;
-    }
-
-    /// Whether the next packet is at hand, so that no read is made for it; `false` if that isn't
-    /// known.
-    // No more of its answer is stated: see `Source::has_next_at_hand`.
-    fn has_next_at_hand(&self) -> bool
-        ensures comes { IsTrue I.tells → result ≡ true → 12 ≤ length self.now.source.unread }
-    {
-        self.source.has_next_at_hand()
-    }
-
-    /// The first link type that the units read so far declare; `None` if none does.
-    fn first_link(&self) -> Option<u16>
-        ensures { result ≡ first_link_of self.now.source.declared }
-    {
-        self.source.first_link()
     }
 
     /// The greatest time of the packets up to and with the current one, by which a merge orders
@@ -236,7 +220,7 @@ impl<I: Input, A: Allocator> Inputs<I, A> {
             (map (fresh_input I.Input) inputs.items)) }
     {
         let cursors = cursors_of(alloc, inputs)?;
-        let queue = queue_for(alloc, merges, cursors.len())?;
+        let queue = Queue::new(alloc, merges, cursors.len())?;
         let schedule = first_schedule(&cursors, merges);
         Some(Inputs {
             cursors,
@@ -274,9 +258,10 @@ impl<I: Input, A: Allocator> Inputs<I, A> {
     pub fn offset(&self, input: usize) -> u64
         ensures { result ≡ offset_at self.now.cursors input }
     {
-        match self.cursors.get(input) {
-            Some(cursor) => cursor.offset(),
-            None => 0,
+        if input < self.cursors.len() {
+            self.cursors[input].offset()
+        } else {
+            0
         }
     }
 
@@ -316,9 +301,11 @@ impl<I: Input, A: Allocator> Inputs<I, A> {
         ensures comes { IsTrue I.tells → result ≡ true → IfSome
             (slice_get self.now.cursors input) (λ cursor. 12 ≤ length cursor.source.unread) }
     {
-        match self.cursors.get(input) {
-            Some(cursor) => cursor.has_next_at_hand(),
-            None => false,
+        if input < self.cursors.len() {
+            let cursor = &self.cursors[input];
+            cursor.source.has_next_at_hand()
+        } else {
+            false
         }
     }
 
@@ -326,7 +313,16 @@ impl<I: Input, A: Allocator> Inputs<I, A> {
     pub fn first_link(&self) -> Option<u16>
         ensures { result ≡ first_declared_link self.now.cursors }
     {
-        first_link_in(&self.cursors)
+        // From the last to the first, as `first_declared_link` is built: an earlier one replaces it.
+        let cursors = self.cursors.as_slice();
+        let mut first = None;
+        let mut i = cursors.len();
+        while i > 0 {
+            i -= 1;
+            let cursor = &cursors[i];
+            first = cursor.source.first_link().or(first);
+        }
+        first
     }
 
     /// Reads on the input with this index, which `next` told to read, as `read_input` does, if the
@@ -371,21 +367,6 @@ impl<I: Input, A: Allocator> Inputs<I, A> {
     }
 }
 
-/// The first link type that some inputs declare, in their order; `None` if none does.
-// From the last to the first, as `first_declared_link` is built: an earlier input's replaces it.
-fn first_link_in<I: Input, A: Allocator>(cursors: &[InputCursor<I, A>]) -> Option<u16>
-    ensures { result ≡ first_declared_link cursors.now }
-{
-    let mut first = None;
-    let mut i = cursors.len();
-    while i > 0 {
-        i -= 1;
-        let cursor = &cursors[i];
-        first = cursor.first_link().or(first);
-    }
-    first
-}
-
 /// What is next of inputs in turn: the input whose turn it is is read on, or its packet that waits
 /// is decided; if all had their turn, the job finishes.
 fn next_in_turn<I: Input, A: Allocator>(cursors: &[InputCursor<I, A>], turn: usize) -> Next
@@ -401,17 +382,6 @@ fn next_in_turn<I: Input, A: Allocator>(cursors: &[InputCursor<I, A>], turn: usi
     } else {
         Next::Finish
     }
-}
-
-/// An empty queue with room for `count` inputs, if they are merged; else with room for none,
-/// since inputs in turn need no queue. `None` if there is no memory.
-fn queue_for<A: Allocator>(alloc: A, merges: bool, count: usize) -> Option<Queue<A>>
-where
-    A: Drop,
-    ensures { IfSome result (λ q. (q.waiting ≡ []) × (IsTrue merges → count ≤ q.room)) }
-{
-    let room = if merges { count } else { 0 };
-    Queue::new(alloc, room).ok()
 }
 
 /// Updates queue and schedule after the input of an entry was read on. For a merge the entry is
@@ -502,9 +472,9 @@ where
 {
     let mut cursors = Vec::new(alloc);
     for input in inputs {
-        cursors
-            .push(InputCursor::new(Source::new(alloc, input)))
-            .ok()?;
+        let Ok(()) = cursors.push(InputCursor::new(Source::new(alloc, input))) else {
+            return None;
+        };
     }
     Some(cursors)
 }

@@ -1,5 +1,5 @@
 //! Which of several inputs comes next in a merge.
-use std::alloc::{AllocError, Allocator};
+use std::alloc::Allocator;
 use std::cmp::Reverse;
 use std::collections::BinaryHeap;
 use std::marker::Model;
@@ -37,17 +37,20 @@ impl<A: Allocator> Model for Queue<A> {
 
 impl<A: Allocator> Queue<A> {
     ghost use Rattle.std.specs.List.{All, Sorted.IsPermutation};
-    ghost use Rattle.std.specs.Prelude.{◌≡◌, ◌≢◌, ◌<◌, ◌≤◌, [], ◌∷◌, length, IfOk, MatchOption};
-    ghost use Rattle.cap_inputs.specs.Queue.{queue};
+    ghost use Rattle.std.specs.Prelude.{◌≡◌, ◌≢◌, ◌<◌, ◌≤◌, [], ◌∷◌, length, IfSome, IsTrue};
+    ghost use Rattle.std.specs.Prelude.{MatchOption};
     ghost use Rattle.cap_inputs.specs.inside.Queue.{IsFirstWaiting, Precedes};
 
-    /// An empty queue with room for `room` inputs. It takes its memory here.
-    pub fn new(alloc: A, room: usize) -> Result<Self, AllocError>
-        ensures { IfOk result (λ q. q ≡ queue [] room) }
+    /// An empty queue with room for `count` inputs, if they are merged; else with room for none,
+    /// since inputs in turn need no queue. It takes its memory here; `None` if there is none.
+    pub fn new(alloc: A, merges: bool, count: usize) -> Option<Self>
+        ensures { IfSome result (λ q. (q.waiting ≡ []) × (IsTrue merges → count ≤ q.room)) }
     {
-        Ok(Queue {
-            heap: BinaryHeap::with_capacity(alloc, room)?,
-        })
+        let room = if merges { count } else { 0 };
+        match BinaryHeap::with_capacity(alloc, room) {
+            Ok(heap) => Some(Queue { heap }),
+            Err(_) => None,
+        }
     }
 
     /// Puts the entry of an input into the queue, which has none of it yet. There is room, so that

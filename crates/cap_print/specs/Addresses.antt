@@ -1,5 +1,5 @@
 -- Addresses and ports, as they are printed of the bytes p of a packet.
-use Rattle.std.specs.Prelude.{ℕ, ◌+◌, List, [], ◌∷◌, ◌++◌, slice_index, decimal, Option, Some, None}
+use Rattle.std.specs.Prelude.{ℕ, zero, suc, ◌+◌, ◌*◌, List, [], ◌∷◌, ◌++◌, slice_index, decimal, Option, Some, None}
 use Rattle.cap_octet.specs.{Number.u16_in, declared.number.Order.TheVariants.Big}
 use Rattle.cap_print.specs.Hexadecimal.{hex_two, hex_group}
 
@@ -15,29 +15,26 @@ ipv4_text p at =
     (decimal (slice_index p (at + 1))
     ++ 46 ∷ (decimal (slice_index p (at + 2)) ++ 46 ∷ decimal (slice_index p (at + 3))))
 
--- two groups of an IPv6 address, in the four bytes from a place
-unfoldable pub two_groups : List ℕ → ℕ → List ℕ
-two_groups p at = hex_group (network_u16 p at) ++ 58 ∷ hex_group (network_u16 p (at + 2))
-
--- four groups, in the eight bytes from a place
-unfoldable pub four_groups : List ℕ → ℕ → List ℕ
-four_groups p at = two_groups p at ++ 58 ∷ two_groups p (at + 4)
+-- the first groups of an IPv6 address from a place, two bytes each: one, and this many more
+abbrev pub groups : List ℕ → ℕ → ℕ → List ℕ
+groups p at zero = hex_group (network_u16 p at)
+groups p at (suc n) = groups p at n ++ 58 ∷ hex_group (network_u16 p (at + 2 + 2 * n))
 
 -- the IPv6 address in the sixteen bytes from a place: eight groups, never shortened
 unfoldable pub ipv6_text : List ℕ → ℕ → List ℕ
-ipv6_text p at = four_groups p at ++ 58 ∷ four_groups p (at + 8)
+ipv6_text p at = groups p at 7
 
 -- a port after an address, if there is one
 abbrev pub port_text : Option ℕ → List ℕ
 port_text None = []
 port_text (Some port) = 46 ∷ decimal port
 
--- three bytes of an Ethernet address, from a place
-unfoldable pub three_bytes : List ℕ → ℕ → List ℕ
-three_bytes p at =
-    hex_two (slice_index p at)
-    ++ 58 ∷ (hex_two (slice_index p (at + 1)) ++ 58 ∷ hex_two (slice_index p (at + 2)))
+-- the first bytes of an Ethernet address from a place: one, and this many more
+abbrev pub bytes_with_colons : List ℕ → ℕ → ℕ → List ℕ
+bytes_with_colons p at zero = hex_two (slice_index p at)
+bytes_with_colons p at (suc n) =
+    bytes_with_colons p at n ++ 58 ∷ hex_two (slice_index p (at + 1 + n))
 
 -- the Ethernet address in the six bytes from a place
 unfoldable pub mac_text : List ℕ → ℕ → List ℕ
-mac_text p at = three_bytes p at ++ 58 ∷ three_bytes p (at + 3)
+mac_text p at = bytes_with_colons p at 5

@@ -3,11 +3,7 @@ use Rattle.std.specs.Option.{option_map_or}
 use Rattle.std.specs.Prelude.{ℕ, Bool, if◌then◌else◌, nat_lt, List, [], ◌∷◌, ◌++◌, length, decimal, codes, Option, None, Some}
 use Rattle.cap_octet.specs.{Date.date_text, Link.link_name, Link.link_of, Link.network_offset, Link.type_offset}
 use Rattle.cap_octet.specs.{Packet.Captured, declared.link.Link.Link, declared.link.Link.TheVariants.Ether}
-use Rattle.cap_print.specs.{Addresses.network_u16, Addresses.mac_text, Hexadecimal.hex_four, Network.network_part}
-
--- an EtherType, as `, type 0x0800, `
-unfoldable pub ethertype_text : ℕ → List ℕ
-ethertype_text type = codes ", type 0x" ++ (hex_four type ++ codes ", ")
+use Rattle.cap_print.specs.{Addresses.network_u16, Addresses.mac_text, Network.network_part, Network.type_text}
 
 -- the link part before the EtherType: for Ethernet the addresses of source and
 -- destination, for another link its name
@@ -20,7 +16,7 @@ unfoldable pub link_header : Link → Option ℕ → List ℕ → List ℕ
 link_header link None p = link_name link ++ codes ", "
 link_header link (Some at) p =
     if nat_lt (length p) (network_offset link) then link_name link ++ codes " [short], "
-    else link_text link p ++ ethertype_text (network_u16 p at)
+    else link_text link p ++ (codes ", " ++ (type_text (network_u16 p at) ++ codes ", "))
 
 -- what a line says of the link header of a link type, known or not
 unfoldable pub link_part : ℕ → List ℕ → List ℕ

@@ -1,7 +1,6 @@
 -- What a line says of a packet's network header. p are the captured bytes, in which the header
 -- begins at place l.
-use Rattle.std.specs.Option.{option_map}
-use Rattle.std.specs.Prelude.{ℕ, ◌+◌, ◌*◌, ◌%◌, nat_lt, nat_le, ◌==◌, ◌&&◌, ◌||◌, not, Bool, false, if◌then◌else◌, List, ◌++◌, ◌∷◌, length, slice_index, decimal, Option, Some, None, codes}
+use Rattle.std.specs.Prelude.{ℕ, ◌+◌, ◌*◌, ◌%◌, nat_lt, nat_le, ◌==◌, ◌&&◌, ◌||◌, not, Bool, false, if◌then◌else◌, List, ◌++◌, length, slice_index, decimal, Option, Some, None, codes}
 use Rattle.cap_octet.specs.Assigned.{IPPROTO_ICMP, IPPROTO_TCP, IPPROTO_UDP, IPPROTO_ICMPV6}
 use Rattle.cap_octet.specs.NetworkHeader.{link_header_length, network_header}
 use Rattle.cap_octet.specs.declared.network.NetworkHeader.{NetworkHeader}
@@ -20,11 +19,6 @@ layout_of V6 = record { protocol = 6; addresses = 8; address_length = 16 }
 -- the end of the addresses of an IP header
 abbrev pub addresses_end : Ip → ℕ → ℕ
 addresses_end ip l = l + (layout_of ip).addresses + 2 * (layout_of ip).address_length
-
--- what a line calls this version of IP
-abbrev pub ip_name : Ip → List ℕ
-ip_name V4 = codes "IP"
-ip_name V6 = codes "IP6"
 
 -- the version's own ICMP
 abbrev pub icmp : Ip → ℕ
@@ -53,15 +47,13 @@ address_text V6 p at = ipv6_text p at
 abbrev pub address_with_port : Ip → List ℕ → ℕ → Option ℕ → List ℕ
 address_with_port ip p at port = address_text ip p at ++ port_text port
 
--- `IP A > B: ` or `IP6 A > B: `, each address with its port, if there are ports
-unfoldable pub ip_endpoints : Ip → ℕ → List ℕ → Option (ℕ × ℕ) → List ℕ
+-- `A > B: `, each address with its port, if there are ports
+unfoldable pub ip_endpoints : Ip → ℕ → List ℕ → Option ℕ × Option ℕ → List ℕ
 ip_endpoints ip l p ports =
-    ip_name ip
-    ++ (32 ∷
-    (address_with_port ip p (l + (layout_of ip).addresses) (option_map (λ both. both.0) ports)
+    address_with_port ip p (l + (layout_of ip).addresses) ports.0
     ++ (codes " > "
     ++ (address_with_port ip p (l + (layout_of ip).addresses + (layout_of ip).address_length)
-    (option_map (λ both. both.1) ports) ++ codes ": "))))
+    ports.1 ++ codes ": "))
 
 -- a later fragment of IPv4: its offset isn't 0
 abbrev pub is_later_fragment : Ip → ℕ → List ℕ → Bool
@@ -77,17 +69,17 @@ header_end V6 l p = addresses_end V6 l
 abbrev pub has_ports : ℕ → Bool
 has_ports n = (n == IPPROTO_TCP) || (n == IPPROTO_UDP)
 
--- the two ports from a place, if this protocol has some and they are captured; else None
-abbrev pub ports_at : ℕ → ℕ → List ℕ → Option (ℕ × ℕ)
+-- the two ports from a place, if this protocol has some and they are captured
+abbrev pub ports_at : ℕ → ℕ → List ℕ → Option ℕ × Option ℕ
 ports_at n at p =
-    if has_ports n
-    && nat_le (at + 4) (length p) then Some (network_u16 p at, network_u16 p (at + 2)) else None
+    if has_ports n && nat_le (at + 4) (length p)
+    then (Some (network_u16 p at), Some (network_u16 p (at + 2))) else (None, None)
 
--- what a line says of a header of IP
+-- what a line says of a header of IP after its name
 unfoldable pub ip_part : Ip → ℕ → List ℕ → List ℕ
 ip_part ip l p =
-    if nat_lt (length p) (addresses_end ip l) then ip_name ip ++ codes " [short]"
-    else if is_later_fragment ip l p then ip_endpoints ip l p None ++ codes "fragment"
+    if nat_lt (length p) (addresses_end ip l) then codes "[short]"
+    else if is_later_fragment ip l p then ip_endpoints ip l p (None, None) ++ codes "fragment"
     else ip_endpoints ip l p
     (ports_at (slice_index p (l + (layout_of ip).protocol)) (header_end ip l p) p)
     ++ protocol_text ip (slice_index p (l + (layout_of ip).protocol))
@@ -100,13 +92,17 @@ arp_part l p =
     ++ (decimal (network_u16 p (l + 6))
     ++ (codes " " ++ (ipv4_text p (l + 14) ++ (codes " > " ++ ipv4_text p (l + 24)))))
 
+-- an EtherType, as `type 0x0800`
+unfoldable pub type_text : ℕ → List ℕ
+type_text type = codes "type 0x" ++ hex_four type
+
 -- what a line says of a packet with this network header
 unfoldable pub header_part : NetworkHeader → ℕ → List ℕ → List ℕ
-header_part (Known Ipv4) l p = ip_part V4 l p
-header_part (Known Ipv6) l p = ip_part V6 l p
+header_part (Known Ipv4) l p = codes "IP " ++ ip_part V4 l p
+header_part (Known Ipv6) l p = codes "IP6 " ++ ip_part V6 l p
 header_part (Known Arp) l p = codes "ARP" ++ arp_part l p
 header_part (Known Rarp) l p = codes "RARP" ++ arp_part l p
-header_part (OtherType type) l p = codes "type 0x" ++ hex_four type
+header_part (OtherType type) l p = type_text type
 header_part (OtherVersion version) l p = codes "version " ++ decimal version
 header_part (OtherLink link) l p = codes "link " ++ decimal link
 header_part Short l p = codes "[short]"

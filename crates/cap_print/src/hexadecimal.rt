@@ -20,7 +20,7 @@ fn hex_digit(digit: u16) -> u8
 /// The four digits of a number of 16 bits, in ASCII.
 #[inline]
 #[tactic(auto, unfolding(crate::specs::Hexadecimal::hex_four))]
-fn hex_four(number: u16) -> [u8; 4]
+pub fn hex_four(number: u16) -> [u8; 4]
     ensures { result ≡ hex_four number }
 {
     // 4,096 and 256 are 16^3 and 16^2.
@@ -76,15 +76,6 @@ pub fn push_hex_two(text: &mut Text, number: u8)
 {
     let number = number as u16;
     text.push_all(&[hex_digit(number / 16), hex_digit(number % 16)]);
-}
-
-/// Appends the four digits of a number of 16 bits.
-pub fn push_hex_four(text: &mut Text, number: u16)
-    requires { length text.old + 4 ≤ 256 }
-    ensures value { text.new ≡ text.old ++ hex_four number }
-    ensures bound { length text.new ≡ length text.old + 4 }
-{
-    text.push_all(&hex_four(number));
 }
 
 /// Appends the digits of a number of 16 bits without leading zeros, as a group of an IPv6 address.

@@ -5,25 +5,12 @@
 //! most 8, a number at most ten digits.
 ghost use Rattle.std.specs.Prelude.{◌≡◌, ◌+◌, ◌≤◌, ◌<◌, ◌++◌, IfSome, length};
 ghost use Rattle.cap_octet.specs.{Link.network_offset, Packet.captured};
-ghost use Rattle.cap_print.specs.Line.{link_header, line, link_part, link_text, ethertype_text};
+ghost use Rattle.cap_print.specs.Line.{link_header, line, link_part, link_text};
 
 use crate::address::{network_u16, push_mac};
-use crate::hexadecimal::push_hex_four;
-use crate::network::push_network_part;
+use crate::network::{push_name_and_number, push_network_part, push_type};
 use crate::text::Text;
 use cap_octet::{Link, Packet};
-
-/// Appends an EtherType, as `, type 0x0800, `.
-#[tactic(auto, unfolding(crate::specs::Line::ethertype_text))]
-fn push_ethertype(text: &mut Text, kind: u16)
-    requires { length text.old + 15 ≤ 256 }
-    ensures value { text.new ≡ text.old ++ ethertype_text kind }
-    ensures bound { length text.new ≡ length text.old + 15 }
-{
-    text.push_all(b", type 0x");
-    push_hex_four(text, kind);
-    text.push_all(b", ");
-}
 
 /// Appends the link part before the EtherType: for Ethernet the source's address, in
 /// the header's bytes 6 to 11, and the destination's, in its bytes 0 to 5; for another link its
@@ -66,7 +53,9 @@ fn push_link_header(text: &mut Text, link: Link, type_offset: Option<usize>, byt
         }
         Some(at) => {
             push_link_text(text, link, bytes);
-            push_ethertype(text, network_u16(bytes, at));
+            text.push_all(b", ");
+            push_type(text, network_u16(bytes, at));
+            text.push_all(b", ");
         }
     }
 }
@@ -82,8 +71,7 @@ fn push_link_part(text: &mut Text, link: u16, bytes: &[u8])
     match Link::of_link_type(link) {
         Some(link) => push_link_header(text, link, link.type_offset(), bytes),
         None => {
-            text.push_all(b"link ");
-            text.push_decimal(link as u32);
+            push_name_and_number(text, b"link ", link as u32);
             text.push_all(b", ");
         }
     }
@@ -103,7 +91,6 @@ pub fn write_line(text: &mut Text, with_link: bool, packet: &Packet<'_>)
         push_link_part(text, packet.link, packet.bytes);
     }
     push_network_part(text, packet.link, packet.bytes);
-    text.push_all(b", length ");
-    text.push_decimal(packet.orig);
+    push_name_and_number(text, b", length ", packet.orig);
     text.push(b'\n');
 }

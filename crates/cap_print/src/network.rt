@@ -5,13 +5,12 @@
 //! packet's bytes; places in the header are added to it.
 ghost use Rattle.std.specs.Prelude.{◌≡◌, ◌+◌, ◌*◌, ◌≤◌, ◌<◌, ◌++◌, decimal, length};
 ghost use Rattle.cap_octet.specs.Link.{longest_header};
-ghost use Rattle.cap_print.specs.Network.{address_text, arp_part, address_with_port, has_ports};
-ghost use Rattle.cap_print.specs.Network.{header_end, header_part, ip_endpoints, ip_name, ip_part};
-ghost use Rattle.cap_print.specs.Network.{is_later_fragment, layout_of, addresses_end};
-ghost use Rattle.cap_print.specs.Network.{network_part, ports_at, protocol_text};
+ghost use Rattle.cap_print.specs.Network.{addresses_end, address_with_port, arp_part, header_end};
+ghost use Rattle.cap_print.specs.Network.{ip_endpoints, ip_part, is_later_fragment, layout_of};
+ghost use Rattle.cap_print.specs.Network.{network_part, ports_at, protocol_text, type_text};
 
-use crate::address::{network_u16, push_ipv4, push_ipv6, push_port};
-use crate::hexadecimal::push_hex_four;
+use crate::address::{network_u16, push_ipv4, push_ipv6};
+use crate::hexadecimal::hex_four;
 use crate::text::Text;
 use cap_octet::assigned::{IPPROTO_ICMP, IPPROTO_ICMPV6, IPPROTO_TCP, IPPROTO_UDP};
 use cap_octet::{NetworkHeader, NetworkKind, link_header_length, network_header};
@@ -33,6 +32,9 @@ pub(crate) struct IpLayout {
     /// How many bytes an address has.
     address_length: usize,
 }
+
+/// The ports of source and destination, each if there is one.
+type Ports = (Option<u16>, Option<u16>);
 
 /// The places in a header of this version of IP (RFC 791, section 3.1; RFC 8200, section 3).
 fn layout_of(ip: Ip) -> IpLayout
@@ -61,21 +63,9 @@ fn addresses_end(ip: Ip, start: usize) -> usize
     start + layout.addresses + 2 * layout.address_length
 }
 
-/// Appends what a line calls this version of IP: `IP` or `IP6`.
-fn push_ip_name(text: &mut Text, ip: Ip)
-    requires { length text.old + 3 ≤ 256 }
-    ensures value { text.new ≡ text.old ++ ip_name ip }
-    ensures bound { length text.new ≤ length text.old + 3 }
-{
-    match ip {
-        Ip::V4 => text.push_all(b"IP"),
-        Ip::V6 => text.push_all(b"IP6"),
-    }
-}
-
 /// Appends a text and after it a number in decimal, as `proto 47`.
 #[inline(always)]
-fn push_name_and_number(text: &mut Text, name: &[u8], number: u32)
+pub fn push_name_and_number(text: &mut Text, name: &[u8], number: u32)
     requires { length text.old + length name.now + 10 ≤ 256 }
     ensures value { text.new ≡ text.old ++ (name.now ++ decimal number) }
     ensures bound { length text.new ≤ length text.old + length name.now + 10 }
@@ -103,21 +93,8 @@ fn push_protocol(text: &mut Text, ip: Ip, protocol: u8)
     }
 }
 
-/// Appends the address at place `at`, of 4 or 16 bytes by the version of IP.
-#[inline(always)]
-fn push_address(text: &mut Text, ip: Ip, bytes: &[u8], at: usize)
-    requires room { length text.old + 43 ≤ 256 }
-    requires there { at + (layout_of ip).address_length ≤ length bytes.now }
-    ensures value { text.new ≡ text.old ++ address_text ip bytes.now at }
-    ensures bound { length text.new ≤ length text.old + 43 }
-{
-    match ip {
-        Ip::V4 => push_ipv4(text, bytes, at),
-        Ip::V6 => push_ipv6(text, bytes, at),
-    }
-}
-
-/// Appends the address at place `at`, and its port if there is one, as `10.0.0.5.80`.
+/// Appends the address at place `at`, of 4 or 16 bytes by the version of IP, and its port if there
+/// is one, as `10.0.0.5.80`.
 #[inline(always)]
 fn push_address_with_port(text: &mut Text, ip: Ip, bytes: &[u8], at: usize, port: Option<u16>)
     requires room { length text.old + 54 ≤ 256 }
@@ -125,29 +102,28 @@ fn push_address_with_port(text: &mut Text, ip: Ip, bytes: &[u8], at: usize, port
     ensures value { text.new ≡ text.old ++ address_with_port ip bytes.now at port }
     ensures bound { length text.new ≤ length text.old + 54 }
 {
-    push_address(text, ip, bytes, at);
-    push_port(text, port);
+    match ip {
+        Ip::V4 => push_ipv4(text, bytes, at),
+        Ip::V6 => push_ipv6(text, bytes, at),
+    }
+    if let Some(port) = port {
+        push_name_and_number(text, b".", port as u32);
+    }
 }
 
-/// Appends `IP A > B: ` or `IP6 A > B: `, the addresses of source and destination of a header of
-/// IP, each with its port if there are ports.
+/// Appends `A > B: `, the addresses of source and destination of a header of IP, each with its port
+/// if there are ports.
 #[inline(always)]
 #[tactic(auto, unfolding(crate::specs::Network::ip_endpoints))]
-fn push_endpoints(text: &mut Text, ip: Ip, bytes: &[u8], start: usize, ports: Option<(u16, u16)>)
-    requires room { length text.old + 117 ≤ 256 }
+fn push_endpoints(text: &mut Text, ip: Ip, bytes: &[u8], start: usize, ports: Ports)
+    requires room { length text.old + 113 ≤ 256 }
     requires there { (start ≤ longest_header) × (addresses_end ip start ≤ length bytes.now) }
     ensures value { text.new ≡ text.old ++ ip_endpoints ip start bytes.now ports }
-    ensures bound { length text.new ≤ length text.old + 117 }
+    ensures bound { length text.new ≤ length text.old + 113 }
 {
     let layout = layout_of(ip);
     let source = start + layout.addresses;
-    // The ports of the source and of the destination.
-    let (from, to) = match ports {
-        Some((from, to)) => (Some(from), Some(to)),
-        None => (None, None),
-    };
-    push_ip_name(text, ip);
-    text.push(b' ');
+    let (from, to) = ports;
     push_address_with_port(text, ip, bytes, source, from);
     text.push_all(b" > ");
     push_address_with_port(text, ip, bytes, source + layout.address_length, to);
@@ -182,45 +158,39 @@ fn header_end(ip: Ip, bytes: &[u8], start: usize) -> usize
     }
 }
 
-/// Whether the headers of a protocol begin with two ports.
-fn has_ports(protocol: u8) -> bool
-    ensures { result ≡ has_ports protocol }
-{
-    protocol == IPPROTO_TCP || protocol == IPPROTO_UDP
-}
-
-/// The source's and the destination's port, in the four bytes from place `at`; `None` if the
-/// protocol has no ports or they aren't captured.
-fn ports_at(protocol: u8, bytes: &[u8], at: usize) -> Option<(u16, u16)>
+/// The two ports with which the headers of TCP and UDP begin, in the four bytes from place `at`;
+/// none of another protocol, or if they aren't captured.
+fn ports_at(protocol: u8, bytes: &[u8], at: usize) -> Ports
     requires { at ≤ longest_header + 60 }
     ensures { result ≡ ports_at protocol at bytes.now }
 {
-    if has_ports(protocol) && at + 4 <= bytes.len() {
-        Some((network_u16(bytes, at), network_u16(bytes, at + 2)))
+    if (protocol == IPPROTO_TCP || protocol == IPPROTO_UDP) && at + 4 <= bytes.len() {
+        (
+            Some(network_u16(bytes, at)),
+            Some(network_u16(bytes, at + 2)),
+        )
     } else {
-        None
+        (None, None)
     }
 }
 
-/// Appends what a line says of a header of IP: `IP A > B: ` with the protocol, or with `fragment`
-/// if it is a later fragment; `IP [short]` if the addresses aren't all captured. For IPv6 it
-/// is `IP6`.
+/// Appends what a line says of a header of IP after its name: `A > B: ` with the protocol, or with
+/// `fragment` if it is a later fragment; `[short]` if the addresses aren't all captured.
 // Inlined with what it calls, so that the version is a constant in each copy.
 #[inline(always)]
 #[tactic(auto, unfolding(crate::specs::Network::ip_part))]
 fn push_ip_part(text: &mut Text, ip: Ip, bytes: &[u8], start: usize)
-    requires room { length text.old + 133 ≤ 256 }
+    requires room { length text.old + 129 ≤ 256 }
     requires place { start ≤ longest_header }
     ensures value { text.new ≡ text.old ++ ip_part ip start bytes.now }
-    ensures bound { length text.new ≤ length text.old + 133 }
+    ensures bound { length text.new ≤ length text.old + 129 }
 {
     if bytes.len() < addresses_end(ip, start) {
-        push_ip_name(text, ip);
-        text.push_all(b" [short]");
+        text.push_all(b"[short]");
         return;
     }
     if is_later_fragment(ip, bytes, start) {
-        push_endpoints(text, ip, bytes, start, None);
+        push_endpoints(text, ip, bytes, start, (None, None));
         text.push_all(b"fragment");
         return;
     }
@@ -251,17 +221,36 @@ fn push_arp_part(text: &mut Text, bytes: &[u8], start: usize)
     push_ipv4(text, bytes, start + 24);
 }
 
-/// Appends what a line says of a packet with this network header.
-#[tactic(auto, unfolding(crate::specs::Network::header_part))]
-fn push_header_part(text: &mut Text, header: NetworkHeader, bytes: &[u8], start: usize)
-    requires room { length text.old + 133 ≤ 256 }
-    requires place { start ≤ longest_header }
-    ensures value { text.new ≡ text.old ++ header_part header start bytes.now }
+/// Appends an EtherType, as `type 0x0800`.
+#[tactic(auto, unfolding(crate::specs::Network::type_text))]
+pub fn push_type(text: &mut Text, kind: u16)
+    requires { length text.old + 11 ≤ 256 }
+    ensures value { text.new ≡ text.old ++ type_text kind }
+    ensures bound { length text.new ≡ length text.old + 11 }
+{
+    text.push_all(b"type 0x");
+    text.push_all(&hex_four(kind));
+}
+
+/// Appends what a line says of the captured bytes after the link header.
+// With this inside, a job's step grows too large to be inlined itself.
+#[inline(never)]
+#[tactic(auto, unfolding(crate::specs::Network::network_part, crate::specs::Network::header_part))]
+pub fn push_network_part(text: &mut Text, link: u16, bytes: &[u8])
+    requires { length text.old + 133 ≤ 256 }
+    ensures value { text.new ≡ text.old ++ network_part link bytes.now }
     ensures bound { length text.new ≤ length text.old + 133 }
 {
-    match header {
-        NetworkHeader::Known(NetworkKind::Ipv4) => push_ip_part(text, Ip::V4, bytes, start),
-        NetworkHeader::Known(NetworkKind::Ipv6) => push_ip_part(text, Ip::V6, bytes, start),
+    let start = link_header_length(link);
+    match network_header(link, bytes) {
+        NetworkHeader::Known(NetworkKind::Ipv4) => {
+            text.push_all(b"IP ");
+            push_ip_part(text, Ip::V4, bytes, start);
+        }
+        NetworkHeader::Known(NetworkKind::Ipv6) => {
+            text.push_all(b"IP6 ");
+            push_ip_part(text, Ip::V6, bytes, start);
+        }
         NetworkHeader::Known(NetworkKind::Arp) => {
             text.push_all(b"ARP");
             push_arp_part(text, bytes, start);
@@ -270,27 +259,11 @@ fn push_header_part(text: &mut Text, header: NetworkHeader, bytes: &[u8], start:
             text.push_all(b"RARP");
             push_arp_part(text, bytes, start);
         }
-        NetworkHeader::OtherType(ethertype) => {
-            text.push_all(b"type 0x");
-            push_hex_four(text, ethertype);
-        }
+        NetworkHeader::OtherType(kind) => push_type(text, kind),
         NetworkHeader::OtherVersion(version) => {
             push_name_and_number(text, b"version ", version as u32)
         }
         NetworkHeader::OtherLink(link) => { push_name_and_number(text, b"link ", link as u32) }
         NetworkHeader::Short => text.push_all(b"[short]"),
     }
-}
-
-/// Appends what a line says of the captured bytes after the link header.
-// With this inside, a job's step grows too large to be inlined itself.
-#[inline(never)]
-#[tactic(auto, unfolding(crate::specs::Network::network_part))]
-pub fn push_network_part(text: &mut Text, link: u16, bytes: &[u8])
-    requires { length text.old + 133 ≤ 256 }
-    ensures value { text.new ≡ text.old ++ network_part link bytes.now }
-    ensures bound { length text.new ≤ length text.old + 133 }
-{
-    let header = network_header(link, bytes);
-    push_header_part(text, header, bytes, link_header_length(link));
 }

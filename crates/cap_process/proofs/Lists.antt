@@ -18,9 +18,8 @@ greatest-next [] t = grind arith
 greatest-next (a ∷ ts) t = let e = greatest-next ts t in grind (arith, e)
 
 final-next : (ts : List ℕ) (t : ℕ) → final (ts ++ t ∷ []) ≡ t
-final-next [] t = refl
-final-next (a ∷ []) t = refl
 final-next (a ∷ b ∷ ts) t = final-next (b ∷ ts) t
+final-next _ t = refl
 
 least-next : (a : ℕ) (ts : List ℕ) (t : ℕ) → least (a ∷ (ts ++ t ∷ [])) ≡ min (least (a ∷ ts)) t
 least-next a [] t = refl
@@ -170,10 +169,8 @@ packet-next a f k state out reports input p es next = by_verdict (judge a state 
     by_verdict v is = subst By (sym is) (by v)
 
 pub end-stays : (a : Policy) (w : JobProgress) (input : ℕ) (kind : Option Kind) (size : ℕ) → is_count a ≡ false → end_input a w input kind size ≡ w
-end-stays (Edit s) w input kind size judges = refl
-end-stays (Filter rule count) w input kind size judges = refl
-end-stays KeepAll w input kind size judges = refl
 end-stays Count w input kind size judges = (cc)
+end-stays _ w input kind size judges = refl
 
 -- what is written of what passes is all up to the first that the form refuses, at which the job ends; where it refuses
 -- none, the verdicts end it

@@ -53,9 +53,7 @@ verdict-grows form w i x (Refuse fault) state = grows-none w (apply_verdict form
 closed-grows : (policy : Policy) (w : JobProgress) (i : ℕ) (kind : Option Kind) (size : ℕ) → Grows w (end_input policy w i kind size)
 closed-grows Count w i kind size =
     record { packets = []; packets_is = sym (append-nil w.packets); reports = record { input = i; kind = kind; size = size; tally = w.state.tally } ∷ []; reports_is = refl }
-closed-grows (Edit s) w i kind size = grows-none w w refl refl
-closed-grows (Filter rule count) w i kind size = grows-none w w refl refl
-closed-grows KeepAll w i kind size = grows-none w w refl refl
+closed-grows _ w i kind size = grows-none w w refl refl
 
 goes-grows : (policy : Policy) (form : Form) (w : JobProgress) (e : Event) → Grows w (apply_event policy form w e)
 goes-grows policy form w (Packet i x) = verdict-grows form w i x (judge policy w.state (w.decided + 1) x.packet).verdict (judge policy w.state (w.decided + 1) x.packet).state

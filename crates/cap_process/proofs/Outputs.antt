@@ -11,8 +11,7 @@ use Rattle.cap_process.specs.inside.Output.{PutsIntoOutput, Reports}
 pub drained-text : (before : List ℕ) (names : List (List ℕ)) (t : Target) (ps : List Captured) (rs : List Report) → HasWrittenTo before names t ps rs
     → written_to t ≡ before ++ output_text (form_to names t) ps rs
 drained-text before names (Capture sink) ps rs has = has.written
-drained-text before names (Text bytes failures room) ps rs has = has
-drained-text before names (Lines options bytes failures room) ps rs has = has
+drained-text before names _ ps rs has = has
 
 -- ---- lines
 
@@ -121,9 +120,7 @@ unput before ps q old new fault has puts writes =
 -- where a packet passed, nothing is added at a clean end
 pub closing-none : (form : Form) (link : Option ℕ) (ps : List Captured) → (0 ≡ length ps → ⊥) → closing_text form link ps ≡ []
 closing-none (AsCapture format) link [] some = absurd (some refl)
-closing-none (AsCapture format) link (p ∷ ps) some = refl
-closing-none (AsReports names) link ps some = refl
-closing-none (AsLines options) link ps some = refl
+closing-none _ link _ some = refl
 
 pub closing-some : (before : List ℕ) (names : List (List ℕ)) (form : Form) (t : Target) (link : Option ℕ) (ps : List Captured) (rs : List Report) (n : ℕ) (state : SelectorState) → HasWrittenTo before names t ps rs → form_to names t ≡ form → (0 ≡ length ps → ⊥)
     → written_to t ≡ before ++ final_text form link (record { decided = n; state = state; packets = ps; reports = rs; end = Some Complete })
@@ -154,8 +151,6 @@ pub record ReportOk (before : List ℕ) (ps : List Captured) (rs : List Report) 
 
 pub report-ok : (before : List ℕ) (ps : List Captured) (rs : List Report) (report : Report) (names : List (List ℕ)) (old new : Target) → HasWrittenTo before names old ps rs
     → Reports (report_text names report) old (Ok tt) new → ReportOk before ps rs report names old new
-report-ok before ps rs report names (Capture sink) new has puts = rw puts.1 (record { output = has; form = refl; failures = refl })
-report-ok before ps rs report names (Lines options bytes failures room) new has puts = rw puts.1 (record { output = has; form = refl; failures = refl })
 report-ok before ps rs report names (Text bytes failures room) new has puts =
     rw puts.is (record {
       output =
@@ -167,3 +162,4 @@ report-ok before ps rs report names (Text bytes failures room) new has puts =
       form = refl;
       failures = add-zero failures;
     })
+report-ok before ps rs report names _ new has puts = rw puts.1 (record { output = has; form = refl; failures = refl })

@@ -5,10 +5,8 @@ use Rattle.cap_process.specs.declared.selector.Verdict as code
 
 -- where packets aren't only counted, a number may be too great
 numbered : (policy : Policy) (number : ℕ) → is_count policy ≡ false → is_too_many policy number ≡ nat_le (2 ^ 63) number
-numbered (Edit s) number judges = refl
-numbered (Filter rule count) number judges = refl
-numbered KeepAll number judges = refl
 numbered Count number judges = (cc)
+numbered _ number judges = refl
 
 too-great : (policy : Policy) (number : ℕ) → is_count policy ≡ false → 2 ^ 63 ≤ number → is_too_many policy number ≡ true
 too-great policy number judges h = let e : nat_le (2 ^ 63) number ≡ true = grind (arith, nat_tests, h) in numbered policy number judges ∙ e
@@ -26,9 +24,7 @@ upper_bound policy state number p judges h = ap (λ (b : Bool). if b then refuse
 
 pub counted-spends : (policy : Policy) (number : ℕ) (p : Captured) (programs : List Content) → is_count policy ≡ true → programs ≡ spent_by_verdict policy number p programs
 counted-spends Count number p programs is = refl
-counted-spends (Edit s) number p programs is = (cc)
-counted-spends (Filter rule count) number p programs is = (cc)
-counted-spends KeepAll number p programs is = (cc)
+counted-spends _ number p programs is = (cc)
 
 pub refused-spends : (policy : Policy) (number : ℕ) (p : Captured) (programs : List Content) → is_count policy ≡ false → 2 ^ 63 ≤ number → programs ≡ spent_by_verdict policy number p programs
 refused-spends policy number p programs judges h = ap (λ (b : Bool). if b then programs else spent_by policy p programs) (sym (too-great policy number judges h))
@@ -61,18 +57,15 @@ tells-passed policy policy' state after number p q v judges less keeps same is =
 
 pub window-few : (n : Option ℕ) (w : Option WindowView) → IsWindowFor n w → length (marks_in w) ≤ places n
 window-few None None is = omega arith
-window-few None (Some w) is = absurd is
-window-few (Some n) None is = absurd is
 window-few (Some n) (Some w) is = is.1
+window-few _ _ is = absurd is
 
 -- ---- packets are counted
 
 pub tells-count : (policy : Policy) (passed : ℕ) (marks : List Mark) (tally tally' : Tally) (number : ℕ) (p : Captured) (v : code.Verdict) → is_count policy ≡ true → verdict_of v p ≡ Skip → tally' ≡ tally_with tally p
     → IsVerdict (judge policy (state_of passed marks tally) number p) (Ok v) p (state_of passed marks tally')
 tells-count Count passed marks tally tally' number p v is skips more = (skips, ap (state_of passed marks) more)
-tells-count (Edit s) passed marks tally tally' number p v is skips more = (cc)
-tells-count (Filter rule count) passed marks tally tally' number p v is skips more = (cc)
-tells-count KeepAll passed marks tally tally' number p v is skips more = (cc)
+tells-count _ passed marks tally tally' number p v is skips more = (cc)
 
 -- ---- what was counted is taken
 

@@ -4,7 +4,7 @@
 ghost use Rattle.std.specs.Prelude.{◌≡◌, ◌+◌, IfErr, IsTrue, true};
 ghost use Rattle.cap_octet.specs.{Packet.captured, Device.AppendsOrStops, Device.failures_of};
 ghost use Rattle.cap_print.specs.Rendering.{printed_text};
-ghost use Rattle.cap_process.specs.Output.{Capture, HasFewOutputInterfaces, failures_to, room_to};
+ghost use Rattle.cap_process.specs.Output.{HasFewOutputInterfaces, failures_to, room_to};
 ghost use Rattle.cap_process.specs.{Reports.file_report, Output.target_at, Output.written_to};
 ghost use Rattle.cap_process.specs.inside.Output.{EndsOutput, PutsIntoOutput, Reports, is_text};
 ghost use Rattle.flt_bpf.specs.Listing.{listing};
@@ -133,7 +133,10 @@ impl<O: Output, A: Allocator> JobOutput<O, A> {
         ensures upper_bound { HasFewOutputInterfaces self.old → HasFewOutputInterfaces self.new }
     {
         match &mut self.device {
-            Device::Capture(sink) => end_capture(sink, first_link),
+            Device::Capture(sink) => match sink.finish(first_link) {
+                Ok(()) => Ok(()),
+                Err(_) => Err(DeviceFault),
+            },
             Device::Text(_) | Device::Lines(_, _, _) => Ok(()),
         }
     }
@@ -205,24 +208,6 @@ fn put_listing<O: Output, A: Allocator>(
     ensures room { O.room output.new ≡ O.room output.old }
 {
     match write_listing(program, output) {
-        Ok(()) => Ok(()),
-        Err(_) => Err(DeviceFault),
-    }
-}
-
-/// Ends a capture, which gets its file header here if it has no packets, with the link type
-/// `first_link`, or that of Ethernet if there is none; in pcapng its section header.
-fn end_capture<O: Output, A: Allocator>(
-    sink: &mut Sink<O, A>,
-    first_link: Option<u16>,
-) -> Result<(), DeviceFault>
-    ensures exact { IsTrue O.tells
-        → EndsOutput first_link (Capture sink.old) result (Capture sink.new) }
-    ensures room { sink.new.room ≡ sink.old.room }
-    ensures upper_bound { HasFewOutputInterfaces (Capture sink.old)
-        → HasFewOutputInterfaces (Capture sink.new) }
-{
-    match sink.finish(first_link) {
         Ok(()) => Ok(()),
         Err(_) => Err(DeviceFault),
     }

@@ -1,6 +1,6 @@
 //! What becomes of each packet: a selector judges packets in turn by its policy, which is an edit,
 //! a filter, that all are kept, or that all are counted.
-ghost use Rattle.std.specs.Prelude.{◌≡◌, ℕ, ◌+◌, ◌-◌, ◌<◌, ◌≤◌, [], IfOk, None, Some, false};
+ghost use Rattle.std.specs.Prelude.{◌≡◌, ℕ, ◌+◌, ◌<◌, ◌≤◌, [], IfOk, None, Some, false};
 ghost use Rattle.std.specs.Prelude.{length};
 ghost use Rattle.cap_octet.specs.Packet.{Captured, captured};
 ghost use Rattle.cap_io.specs.Reading.{most_in_unit};
@@ -13,7 +13,6 @@ ghost use Rattle.cap_process.specs.inside.Selector.{verdict_if, verdict_of, Fits
 ghost use Rattle.cap_process.specs.inside.Selector.{HasFewMarks, IsVerdict, TakesTally};
 ghost use Rattle.cap_process.specs.{inside.Selector.policy_state, Reports.Tally, Verdict.is_last};
 ghost use Rattle.cap_process.specs.Verdict.{judge_by, Filter as AskedFilter, initial_state, judge};
-ghost use Rattle.cap_window.specs.View.{window};
 
 use crate::edit::edit_packet;
 use crate::tally::Tally;
@@ -81,27 +80,6 @@ impl<A: Allocator> Model for Selector<A> {
     ghost invariant = { λ j. IsWindowFor (window_of (policy_of j.policy)) j.window };
 }
 
-/// Whether the packet that passed as number `passed` is the last one that may, by the most packets,
-/// `count`; without a `count` none is.
-fn is_last(count: Option<u64>, passed: u64) -> bool
-    ensures { result ≡ is_last count passed }
-{
-    match count {
-        Some(count) => passed == count,
-        None => false,
-    }
-}
-
-/// An empty window for a search among `packets` packets in a row, the current one among them: it
-/// has room for the marks of the others. An error means that memory ran out.
-fn window_for<A: Allocator>(alloc: A, packets: u32) -> Result<Window<A>, AllocError>
-where
-    A: Copy,
-    ensures { IfOk result (λ w. w ≡ window [] (packets - 1)) }
-{
-    Window::new(alloc, packets.saturating_sub(1))
-}
-
 impl<A: Allocator> Policy<A> {
     /// Whether a packet passes; an edit changes it into what it passes as. The errors are
     /// `LinkTypeNotFiltered`, if an expression isn't read on its link type, and
@@ -148,7 +126,8 @@ impl<A: Allocator> Policy<A> {
     {
         match self {
             Policy::Edit(edit) => match edit.window {
-                Some(packets) => Ok(Some(window_for(alloc, packets)?)),
+                // The current packet is one of them, and its mark needs no room.
+                Some(packets) => Ok(Some(Window::new(alloc, packets.saturating_sub(1))?)),
                 None => Ok(None),
             },
             Policy::Filter(_, _) | Policy::KeepAll | Policy::Count => Ok(None),
@@ -247,8 +226,7 @@ impl<A: Allocator> Selector<A> {
         if passed < number {
             self.passed = passed + 1;
         }
-        let last = is_last(self.policy.count_limit(), self.passed);
-        Ok(pass_verdict(last))
+        Ok(pass_verdict(self.policy.count_limit(), self.passed))
     }
 
     /// Returns what was counted of the packets of the current input, at its end, and begins the
@@ -268,11 +246,15 @@ impl<A: Allocator> Selector<A> {
     }
 }
 
-/// The verdict on a packet that passes, by whether it is the last one.
-fn pass_verdict(last: bool) -> Verdict
-    ensures { (p : Captured) → verdict_of result p ≡ verdict_if p last }
+/// The verdict on the packet that passes as number `passed`: it is the last one if `count` packets
+/// may pass; without a `count` none is.
+fn pass_verdict(count: Option<u64>, passed: u64) -> Verdict
+    ensures { (p : Captured) → verdict_of result p ≡ verdict_if p (is_last count passed) }
 {
-    if last {
+    let Some(count) = count else {
+        return Verdict::Pass;
+    };
+    if passed == count {
         Verdict::PassLast
     } else {
         Verdict::Pass

@@ -84,7 +84,7 @@ returns g c =
     let K : Bool → Type 0 = λ b. ReturnsVerdict (count_limit (policy_of w.policy)) (judge_by (policy_of w.policy) state c.args.number p) (Ok b) q after in
     let keeps : K true = subst K c.if-not-branch.false (c.in_ok-keeps.ensures.exact w.passed w.tally judges) in
     let is : verdict_of c.pass_verdict.result q ≡ verdict_if q (is_last (count_limit (policy_of c.if-passed-number.self-inside.policy)) c.if-passed-number.self-inside.passed) =
-    c.pass_verdict.ensures q ∙ ap (verdict_if q) (c.is_last-last.ensures ∙ ap (λ (n : Option ℕ). is_last n c.if-passed-number.self-inside.passed) c.count_limit.ensures) in
+    c.pass_verdict.ensures q ∙ ap (λ (n : Option ℕ). verdict_if q (is_last n c.if-passed-number.self-inside.passed)) c.count_limit.ensures in
     elim c.if-passed-number.branch [
       | then-passed-number b ↦
           let last = rw b.self-inside-is at is in

@@ -1,6 +1,6 @@
 use Rattle.std.proofs.Common.{◌≡◌, ◌≤◌, length, drop}
 use Rattle.cap_inputs.specs.inside.Inputs.{first_declared_link}
-use Rattle.cap_inputs.proofs.inputs.first_link_in.Given as goal
+use Rattle.cap_inputs.proofs.inputs.Inputs.first_link.Given as goal
 
 abbrev pub invariant-loop-i : goal.invariant-loop-i
 invariant-loop-i g l = (l.i ≤ length l.cursors) × (l.first ≡ first_declared_link (drop l.i l.cursors))
