@@ -75,7 +75,7 @@ fn check_edit(matches: &ArgMatches<'_>) -> Result<(), Usage>
     if is_given(matches, ids::LATER) && is_given(matches, ids::EARLIER) {
         return Err(Usage::OptionsExclude);
     }
-    if uses_name_twice(&[text(matches, ids::IN)], Some(text(matches, ids::OUT))) {
+    if uses_name_twice(text(matches, ids::IN), &[], Some(text(matches, ids::OUT))) {
         return Err(Usage::NameUsedTwice);
     }
     Ok(())
@@ -130,7 +130,7 @@ pub fn edit_line(alloc: Global, matches: &ArgMatches<'_>) -> Result<Line, Usage>
     let ranges = ranges_in(alloc, texts(matches, ids::RANGE))?;
     check_edit(matches)?;
     let output = String::from_str(alloc, text(matches, ids::OUT))?;
-    let inputs = copies_of_texts(alloc, &[text(matches, ids::IN)])?;
+    let inputs = copies_of_texts(alloc, text(matches, ids::IN), &[])?;
     Ok(Line {
         command: Command::Edit(edit_of(matches, ranges)),
         inputs,

@@ -51,8 +51,8 @@ fn print_uses_name_twice(input: &str, listing: Option<&str>, output: Option<&str
         (option_map (λ name. name.now) output.entry) }
 {
     match listing {
-        Some(listing) => uses_name_twice(&[input, listing], output),
-        None => uses_name_twice(&[input], output),
+        Some(listing) => uses_name_twice(input, &[listing], output),
+        None => uses_name_twice(input, &[], output),
     }
 }
 
@@ -141,7 +141,7 @@ pub fn print_line(alloc: Global, matches: &ArgMatches<'_>) -> Result<Line, Usage
     let expr = expression_text(alloc, matches)?;
     let output = copy_of_text(alloc, optional_text(matches, ids::OUT))?;
     let code = copy_of_text(alloc, optional_text(matches, ids::LISTING))?;
-    let inputs = copies_of_texts(alloc, &[text(matches, ids::FILE)])?;
+    let inputs = copies_of_texts(alloc, text(matches, ids::FILE), &[])?;
     Ok(Line {
         command: Command::Print(print_of(matches, expr)),
         inputs,

@@ -198,8 +198,10 @@ pub struct Counted<'a, R> {
 impl<R: Read> Read for Counted<'_, R> {
     /// One read of the reader, whose bytes are counted.
     fn read(&mut self, buf: &mut [u8]) -> io::Result<usize> {
-        let count = self.reader.read(buf)?;
-        self.progress.count(count);
-        Ok(count)
+        let read = self.reader.read(buf);
+        if let Ok(count) = &read {
+            self.progress.count(*count);
+        }
+        read
     }
 }
