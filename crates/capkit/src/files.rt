@@ -1,6 +1,6 @@
 //! The names of the inputs of a command that has several, and copies of names.
-ghost use Rattle.std.specs.Prelude.{◌≡◌, ◌∷◌, ◌+◌, IfOk, IfErr, OnOk, None, map, option_map};
-ghost use Rattle.std.specs.Prelude.{length, string_bytes, true, vec_len};
+ghost use Rattle.std.specs.Prelude.{◌≡◌, ◌∷◌, ◌+◌, ◌++◌, [], IfOk, IfErr, OnOk, None, length, map};
+ghost use Rattle.std.specs.Prelude.{option_map, string_bytes, true, vec_len};
 ghost use Rattle.clap.specs.Words.{found_of, rows_of};
 ghost use Rattle.cap_command.specs.Command.{is_input_count};
 ghost use Rattle.capkit.specs.Line.{files_fault, files_in, IsUsageOf};
@@ -13,17 +13,28 @@ use cap_command::MOST_INPUTS;
 use clap::ArgMatches;
 use std::alloc::{AllocError, Global};
 
-/// Copies of texts, the first and then `more`, which own their bytes, since a line outlives the words
-/// that it was read from. An error means that memory ran out.
+/// Adds a copy of the text, which owns its bytes, after the texts. An error means that memory ran
+/// out.
+pub fn push_copy(alloc: Global, texts: &mut Vec<String>, text: &str) -> Result<(), AllocError>
+    ensures texts { OnOk result (map string_bytes texts.new.items
+        ≡ map string_bytes texts.old.items ++ text.now ∷ []) }
+    ensures count { OnOk result (vec_len texts.new ≡ vec_len texts.old + 1) }
+{
+    texts.push(String::from_str(alloc, text)?)?;
+    Ok(())
+}
+
+/// Copies of texts, the first and then `more`, which own their bytes, since a line outlives the
+/// words that it was read from. An error means that memory ran out.
 pub fn copies_of_texts(alloc: Global, first: &str, more: &[&str]) -> Result<Vec<String>, AllocError>
     ensures texts { IfOk result (λ owned.
         map string_bytes owned.items ≡ first.now ∷ map (λ name. name.now) more.now) }
     ensures count { IfOk result (λ owned. vec_len owned ≡ length more.now + 1) }
 {
     let mut owned = Vec::new(alloc);
-    owned.push(String::from_str(alloc, first)?)?;
+    push_copy(alloc, &mut owned, first)?;
     for name in more {
-        owned.push(String::from_str(alloc, name)?)?;
+        push_copy(alloc, &mut owned, name)?;
     }
     Ok(owned)
 }

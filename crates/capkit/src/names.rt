@@ -29,7 +29,8 @@ fn standard_stream_count(names: &[&str]) -> usize
 
 /// Whether standard input is two of the names, which are the first and `more`.
 fn reads_standard_twice(first: &str, more: &[&str]) -> bool
-    ensures { result ≡ nat_lt 1 (count_by is_standard (first.now ∷ map (λ name. name.now) more.now)) }
+    ensures { result ≡ nat_lt 1 (count_by is_standard
+        (first.now ∷ map (λ name. name.now) more.now)) }
 {
     if first == STANDARD {
         standard_stream_count(more) > 0
@@ -38,9 +39,9 @@ fn reads_standard_twice(first: &str, more: &[&str]) -> bool
     }
 }
 
-/// Whether the output, unless it is standard output, is an input too, the first or one of `more`, or
-/// standard input is two inputs. Names are compared as they are written; that two may lead to one
-/// file is seen by `overwrites_input`.
+/// Whether the output, unless it is standard output, is an input too, the first or one of `more`,
+/// or standard input is two inputs. Names are compared as they are written; that two may lead to
+/// one file is seen by `overwrites_input`.
 pub fn uses_name_twice(first: &str, more: &[&str], output: Option<&str>) -> bool
     ensures { result ≡ uses_name_twice (first.now ∷ map (λ name. name.now) more.now)
         (option_map (λ name. name.now) output.entry) }

@@ -6,6 +6,7 @@ ghost use Rattle.std.specs.Prelude.{true, unwrap_or, vec_len};
 ghost use Rattle.cap_command.specs.Command.{is_proper};
 ghost use Rattle.capkit.specs.Line.{has_expression, with_code};
 
+use crate::files::push_copy;
 use crate::progress::{Counted, Progress};
 use crate::stop::Stop;
 pub use crate::streams::create_output;
@@ -166,7 +167,7 @@ pub fn with_output_name(
     ensures names { IfOk result (λ all. map string_bytes all.items
         ≡ map string_bytes names.items ++ output.now ∷ []) }
 {
-    names.push(String::from_str(rt.alloc(), output)?)?;
+    push_copy(rt.alloc(), &mut names, output)?;
     Ok(names)
 }
 
