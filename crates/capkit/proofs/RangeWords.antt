@@ -83,6 +83,11 @@ fault_is names inputs output many twice same is_many is_twice =
     ap (λ texts. nat_lt most_inputs (length texts)) (sym same) ∙ ap (nat_lt most_inputs) (length-map names text_of) ∙ is_many in
     ap₂ first_of_two count (ap (λ texts. uses_name_twice texts output) (sym same) ∙ is_twice)
 
+pub too_many_files : (names : List (Bor Text)) (inputs : List Text) (output : Option Text) → map text_of names ≡ inputs → most_inputs < length names
+    → files_fault inputs output ≡ Some TooManyValues
+too_many_files names inputs output same more =
+    fault_is names inputs output true (uses_name_twice (map text_of names) output) same (lt-ltb most_inputs (length names) more) refl
+
 pub used_twice : (names : List (Bor Text)) (inputs : List Text) (output : Option Text) → map text_of names ≡ inputs → length names ≤ most_inputs
     → uses_name_twice (map text_of names) output ≡ true → files_fault inputs output ≡ Some NameUsedTwice
 used_twice names inputs output same upper_bound twice = fault_is names inputs output false true same (le-ltb most_inputs (length names) upper_bound) twice

@@ -3,6 +3,11 @@ use Rattle.std.specs.Fd.{file_raw_fd}
 use Rattle.std.specs.Prelude.{ℤ, pos, int_lt, Bool, true, false, not}
 use Rattle.capkit.specs.declared.streams.Created.{Created}
 
+-- whether an output is standard output
+abbrev pub is_standard_output : {S : Type 0} → Created S → Bool
+is_standard_output (Created.File output) = false
+is_standard_output (Created.Stream stream) = true
+
 -- the output is a file that may still hold what it held before it was opened
 abbrev pub holds_old_bytes : {S : Type 0} → Created S → Bool
 holds_old_bytes (Created.File output) = not output.is_emptied

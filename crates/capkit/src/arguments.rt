@@ -93,25 +93,6 @@ fn arg_of_row<'a>(alloc: Global, argument: Argument, choices: Choices<'a>) -> Ar
     }
 }
 
-/// The clap command with the arguments of these rows added after those that it has. An error
-/// means that memory ran out.
-fn with_arguments<'a>(
-    alloc: Global,
-    mut command: Command<'a>,
-    arguments: &[Argument],
-    choices: Choices<'a>,
-) -> Result<Command<'a>, AllocError>
-    ensures shape { IfOk result (λ after. app_of after ≡ with_rules (app_of command.entry)
-        (map (rule_by choices.entry) arguments.now)) }
-    ensures local { IfOk result (λ after. (fields_of after).has_globals
-        ≡ (fields_of command.entry).has_globals) }
-{
-    for argument in arguments {
-        command = command.arg(arg_of_row(alloc, *argument, choices))?;
-    }
-    Ok(command)
-}
-
 /// The clap subcommand that a row of the table describes, with its arguments. An error means
 /// that memory ran out.
 fn command_of_row<'a>(
@@ -122,10 +103,13 @@ fn command_of_row<'a>(
     ensures shape { IfOk result (λ command. app_of command ≡ app_by choices.entry row.now) }
     ensures local { IfOk result (λ command. (fields_of command).has_globals ≡ false) }
 {
-    let bare = Command::new(alloc, row.name)
+    let mut command = Command::new(alloc, row.name)
         .about(row.about)
         .after_help(row.examples);
-    with_arguments(alloc, bare, row.arguments, choices)
+    for argument in row.arguments {
+        command = command.arg(arg_of_row(alloc, *argument, choices))?;
+    }
+    Ok(command)
 }
 
 /// The command of clap's that is the whole line, before its subcommands are added: it needs one,

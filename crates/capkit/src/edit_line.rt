@@ -1,9 +1,10 @@
 //! The command line of `edit`: its options, its ranges and its names, or the first fault of them.
-ghost use Rattle.std.specs.Prelude.{◌≡◌, IfOk, IfErr, OnOk, Some, None, map, true};
+ghost use Rattle.std.specs.Prelude.{◌≡◌, ◌&&◌, IfOk, IfErr, OnOk, Some, None, is_none, is_some};
+ghost use Rattle.std.specs.Prelude.{map, true};
 ghost use Rattle.cap_command.specs.Command.{has_proper_ranges, is_proper_edit, is_proper_shift};
-ghost use Rattle.clap.specs.Words.{found_of, rows_of};
-ghost use Rattle.capkit.specs.Line.{edit_fault, has_bad_time, has_two_shifts, is_bad_duration};
-ghost use Rattle.capkit.specs.Line.{is_bad_time, is_ready, option_fault, range_fault, shift_in};
+ghost use Rattle.clap.specs.Words.{first_of, found_of, rows_of};
+ghost use Rattle.capkit.specs.Line.{edit_fault, has_bad_time, is_ready, option_fault, range_fault};
+ghost use Rattle.capkit.specs.Line.{shift_in};
 ghost use Rattle.capkit.specs.{Range.range_of, Line.HasOptions, Line.IsEditOf, Line.IsUsageOf};
 
 use crate::files::copies_of_texts;
@@ -31,44 +32,32 @@ fn ranges_in(alloc: Global, words: &[&str]) -> Result<Vec<(u64, u64)>, Usage>
     }
     let mut ranges = Vec::with_capacity(alloc, words.len())?;
     for word in words {
-        match range_in(word) {
-            Some(range) => ranges.push(range)?,
-            None => return Err(Usage::BadRange),
+        let Some(range) = range_in(word) else {
+            return Err(Usage::BadRange);
+        };
+        if ranges.push(range).is_err() {
+            return Err(Usage::Memory);
         }
     }
     Ok(ranges)
 }
 
-/// Whether the argument has a text that isn't a time; false if it isn't given.
-fn is_bad_time(matches: &ArgMatches<'_>, id: &str) -> bool
-    ensures { result ≡ is_bad_time id.now (rows_of (found_of matches.now)) }
+/// Whether the argument has a text of which this, the value that is read of it, is none.
+fn is_bad(matches: &ArgMatches<'_>, id: &str, value: Option<u64>) -> bool
+    ensures { result ≡ (is_some (first_of id.now (rows_of (found_of matches.now)))
+        && is_none value) }
 {
-    is_given(matches, id) && time(matches, id).is_none()
-}
-
-/// Whether the argument has a text that isn't a number of seconds; false if it isn't given.
-fn is_bad_duration(matches: &ArgMatches<'_>, id: &str) -> bool
-    ensures { result ≡ is_bad_duration id.now (rows_of (found_of matches.now)) }
-{
-    is_given(matches, id) && duration(matches, id).is_none()
+    is_given(matches, id) && value.is_none()
 }
 
 /// Whether one of the four arguments for times and durations has a text that isn't one.
 fn has_bad_time(matches: &ArgMatches<'_>) -> bool
     ensures { result ≡ has_bad_time (rows_of (found_of matches.now)) }
 {
-    is_bad_time(matches, ids::START)
-        || is_bad_time(matches, ids::STOP)
-        || is_bad_duration(matches, ids::LATER)
-        || is_bad_duration(matches, ids::EARLIER)
-}
-
-/// Whether times must be shifted both later and earlier, which exclude each other. clap isn't
-/// told, since its line has no rule of one argument on another (`line_is_simple` of `laws`).
-fn has_two_shifts(matches: &ArgMatches<'_>) -> bool
-    ensures { result ≡ has_two_shifts (rows_of (found_of matches.now)) }
-{
-    is_given(matches, ids::LATER) && is_given(matches, ids::EARLIER)
+    is_bad(matches, ids::START, time(matches, ids::START))
+        || is_bad(matches, ids::STOP, time(matches, ids::STOP))
+        || is_bad(matches, ids::LATER, duration(matches, ids::LATER))
+        || is_bad(matches, ids::EARLIER, duration(matches, ids::EARLIER))
 }
 
 /// Checks the words of an edit besides its ranges. An error is the first of their faults: a bad
@@ -81,10 +70,12 @@ fn check_edit(matches: &ArgMatches<'_>) -> Result<(), Usage>
     if has_bad_time(matches) {
         return Err(Usage::BadTime);
     }
-    if has_two_shifts(matches) {
+    // clap isn't told that these exclude each other, since its line has no rule of one argument on
+    // another (`line_is_simple` of `laws`).
+    if is_given(matches, ids::LATER) && is_given(matches, ids::EARLIER) {
         return Err(Usage::OptionsExclude);
     }
-    if uses_name_twice(&[text(matches, ids::IN)], Some(text(matches, ids::OUT))) {
+    if uses_name_twice(text(matches, ids::IN), &[], Some(text(matches, ids::OUT))) {
         return Err(Usage::NameUsedTwice);
     }
     Ok(())
@@ -139,7 +130,7 @@ pub fn edit_line(alloc: Global, matches: &ArgMatches<'_>) -> Result<Line, Usage>
     let ranges = ranges_in(alloc, texts(matches, ids::RANGE))?;
     check_edit(matches)?;
     let output = String::from_str(alloc, text(matches, ids::OUT))?;
-    let inputs = copies_of_texts(alloc, &[text(matches, ids::IN)])?;
+    let inputs = copies_of_texts(alloc, text(matches, ids::IN), &[])?;
     Ok(Line {
         command: Command::Edit(edit_of(matches, ranges)),
         inputs,

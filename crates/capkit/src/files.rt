@@ -1,6 +1,6 @@
 //! The names of the inputs of a command that has several, and copies of names.
-ghost use Rattle.std.specs.Prelude.{◌≡◌, IfOk, IfErr, OnOk, None, map, option_map, string_bytes};
-ghost use Rattle.std.specs.Prelude.{length, true, vec_len};
+ghost use Rattle.std.specs.Prelude.{◌≡◌, ◌∷◌, ◌+◌, ◌++◌, [], IfOk, IfErr, OnOk, None, length, map};
+ghost use Rattle.std.specs.Prelude.{option_map, string_bytes, true, vec_len};
 ghost use Rattle.clap.specs.Words.{found_of, rows_of};
 ghost use Rattle.cap_command.specs.Command.{is_input_count};
 ghost use Rattle.capkit.specs.Line.{files_fault, files_in, IsUsageOf};
@@ -13,35 +13,36 @@ use cap_command::MOST_INPUTS;
 use clap::ArgMatches;
 use std::alloc::{AllocError, Global};
 
-/// The names of the inputs, in order, borrowed from the words: at least one, since clap refuses a
-/// line without any. An error means that memory ran out.
-fn names_in<'a>(alloc: Global, matches: &ArgMatches<'a>) -> Result<Vec<&'a str>, AllocError>
-    ensures { IfOk result (λ names. map (λ name. name.now) names.items
-        ≡ files_in (rows_of (found_of matches.entry.now))) }
+/// Adds a copy of the text, which owns its bytes, after the texts. An error means that memory ran
+/// out.
+pub fn push_copy(alloc: Global, texts: &mut Vec<String>, text: &str) -> Result<(), AllocError>
+    ensures texts { OnOk result (map string_bytes texts.new.items
+        ≡ map string_bytes texts.old.items ++ text.now ∷ []) }
+    ensures count { OnOk result (vec_len texts.new ≡ vec_len texts.old + 1) }
 {
-    let mut names = Vec::new(alloc);
-    names.push(text(matches, ids::FILE))?;
-    names.extend_from_slice(texts(matches, ids::MORE))?;
-    Ok(names)
+    texts.push(String::from_str(alloc, text)?)?;
+    Ok(())
 }
 
-/// Copies of texts, which own their bytes, since a line outlives the words that it was read from.
-/// An error means that memory ran out.
-pub fn copies_of_texts(alloc: Global, names: &[&str]) -> Result<Vec<String>, AllocError>
+/// Copies of texts, the first and then `more`, which own their bytes, since a line outlives the
+/// words that it was read from. An error means that memory ran out.
+pub fn copies_of_texts(alloc: Global, first: &str, more: &[&str]) -> Result<Vec<String>, AllocError>
     ensures texts { IfOk result (λ owned.
-        map string_bytes owned.items ≡ map (λ name. name.now) names.now) }
-    ensures count { IfOk result (λ owned. vec_len owned ≡ length names.now) }
+        map string_bytes owned.items ≡ first.now ∷ map (λ name. name.now) more.now) }
+    ensures count { IfOk result (λ owned. vec_len owned ≡ length more.now + 1) }
 {
-    let mut owned = Vec::with_capacity(alloc, names.len())?;
-    for name in names {
-        owned.push(String::from_str(alloc, name)?)?;
+    let mut owned = Vec::new(alloc);
+    push_copy(alloc, &mut owned, first)?;
+    for name in more {
+        push_copy(alloc, &mut owned, name)?;
     }
     Ok(owned)
 }
 
-/// Copies of the names of a command's inputs; `output` is the name of its output, if it has one. An
-/// error is that memory ran out, or else the first of these: there are more than `MOST_INPUTS`
-/// inputs (`TooManyValues`), or a name is used twice (`NameUsedTwice`).
+/// Copies of the names of a command's inputs: at least one, since clap refuses a line without any.
+/// `output` is the name of its output, if it has one. An error is that memory ran out, or else the
+/// first of these: there are more than `MOST_INPUTS` inputs (`TooManyValues`), or a name is used
+/// twice (`NameUsedTwice`).
 pub fn input_names(
     alloc: Global,
     matches: &ArgMatches<'_>,
@@ -55,13 +56,14 @@ pub fn input_names(
     ensures fault { IfErr result (IsUsageOf (files_fault (files_in (rows_of (found_of matches.now)))
         (option_map (λ name. name.now) output.entry))) }
 {
-    let names = names_in(alloc, matches)?;
-    if names.len() > MOST_INPUTS {
+    let first = text(matches, ids::FILE);
+    let more = texts(matches, ids::MORE);
+    if more.len() >= MOST_INPUTS {
         return Err(Usage::TooManyValues);
     }
-    if uses_name_twice(&names, output) {
+    if uses_name_twice(first, more, output) {
         return Err(Usage::NameUsedTwice);
     }
-    let inputs = copies_of_texts(alloc, &names)?;
+    let inputs = copies_of_texts(alloc, first, more)?;
     Ok(inputs)
 }

@@ -70,28 +70,14 @@ print -Y: an expression is written after FILE, without -Y
 compile -d: a listing has the form of tcpdump -ddd
 compile -y: see --link";
 
-/// The name in `HINTS` of an option as clap shows it: `NEGATIVE` of a digit after a dash, as `-5`.
-fn hinted_name(option: &str) -> &str {
-    match option.as_bytes() {
-        [b'-', b'0'..=b'9'] => NEGATIVE,
-        _ => option,
-    }
-}
-
-/// The hint of a line of `HINTS`, if it is that for this option of this command.
-fn hint_of_line<'a>(line: &'a str, command: &str, option: &str) -> Option<&'a str> {
-    let (words, hint) = line.split_once(": ")?;
-    let (place, name) = words.split_once(" ")?;
-    if place == command && name == option {
-        return Some(hint);
-    }
-    None
-}
-
 /// The hint for an option that a command doesn't know, of `HINTS`; `None` if it has none.
 fn hint_for_option(command: &str, option: &str) -> Option<&'static str> {
     for line in HINTS.lines() {
-        if let Some(hint) = hint_of_line(line, command, option) {
+        if let Some((words, hint)) = line.split_once(": ")
+            && let Some((place, name)) = words.split_once(" ")
+            && place == command
+            && name == option
+        {
             return Some(hint);
         }
     }
@@ -104,7 +90,11 @@ pub(crate) fn hint_for_refusal(refusal: &str) -> Option<&'static str> {
     let (option, following) = refusal.strip_prefix(UNKNOWN)?.split_once("'")?;
     let (_, usage) = following.split_once(USAGE_OF)?;
     let (command, _) = usage.split_once(" ")?;
-    hint_for_option(command, hinted_name(option))
+    let name = match option.as_bytes() {
+        [b'-', b'0'..=b'9'] => NEGATIVE,
+        _ => option,
+    };
+    hint_for_option(command, name)
 }
 
 /// Adds to a text the list of the commands with what they do, as the help of the program has it. An

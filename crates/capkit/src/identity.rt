@@ -61,8 +61,3 @@ impl Identify for HostRuntime {
         }
     }
 }
-
-/// Whether this path leads to a plain file; false even if nothing can be looked up.
-pub fn is_plain(files: &impl Identify, path: &str) -> bool {
-    files.identity_of(path).is_some()
-}

@@ -5,10 +5,11 @@ ghost use Rattle.std.specs.{Global.Vec, IoError.error_kind};
 ghost use Rattle.std.specs.Prelude.{true, unwrap_or, vec_len};
 ghost use Rattle.cap_command.specs.Command.{is_proper};
 ghost use Rattle.capkit.specs.Line.{has_expression, with_code};
-ghost use Rattle.capkit.specs.Streams.{is_output_beside_streams};
 
+use crate::files::push_copy;
 use crate::progress::{Counted, Progress};
 use crate::stop::Stop;
+pub use crate::streams::create_output;
 use crate::streams::{Created, Opened};
 use crate::waiting::{Buffering, buffering_of, may_wait};
 use crate::{STANDARD, with_code};
@@ -38,7 +39,7 @@ pub type Target = StdOutput<Created>;
 /// The first `LISTING_ROOM` bytes of the listing of this name. The errors are `NoMemory`, and
 /// `CannotOpen`, even if it is opened and can't be read on.
 pub fn read_listing<'a>(rt: &HostRuntime, name: &'a str) -> Result<Vec<u8>, Stop<'a>> {
-    let Ok(opened) = Opened::open(rt, name) else {
+    let Some(opened) = Opened::open(rt, name) else {
         return Err(Stop::CannotOpen(name));
     };
     let mut bytes = Vec::new(rt.alloc());
@@ -93,27 +94,16 @@ pub fn open_inputs<'a, 'p>(
 {
     let mut inputs = Vec::new(rt.alloc());
     for name in names {
-        let name = name.as_str();
-        let Ok(opened) = Opened::open(rt, name) else {
+        let Some(reader) = Opened::open(rt, name) else {
             return Err(Stop::CannotOpen(name));
         };
-        let counted = Counted::new(opened, progress);
+        let counted = Counted { reader, progress };
         let reader = buffer_or_stop(BufReader::with_capacity(rt.alloc(), BUFFER, counted))?;
-        inputs.push(StdInput::new(reader))?;
+        if inputs.push(StdInput::new(reader)).is_err() {
+            return Err(Stop::NoMemory);
+        }
     }
     Ok(inputs)
-}
-
-/// Creates the output of this name. A file that is present is opened, and keeps its bytes until the
-/// first write or the end of the run, or for good if nothing runs or the run is refused. The one
-/// error is `CannotCreate`.
-pub fn create_output<'a>(rt: &HostRuntime, name: &'a str) -> Result<Created, Stop<'a>>
-    ensures { IfOk result (λ created. is_output_beside_streams created ≡ true) }
-{
-    match Created::create(rt, name) {
-        Ok(created) => Ok(created),
-        Err(_) => Err(Stop::CannotCreate(name)),
-    }
 }
 
 /// The output with its buffer: none on a terminal; if a read may wait, one that is written out
@@ -177,7 +167,7 @@ pub fn with_output_name(
     ensures names { IfOk result (λ all. map string_bytes all.items
         ≡ map string_bytes names.items ++ output.now ∷ []) }
 {
-    names.push(String::from_str(rt.alloc(), output)?)?;
+    push_copy(rt.alloc(), &mut names, output)?;
     Ok(names)
 }
 

@@ -37,8 +37,15 @@ fn input_is_file(files: &impl Identify, name: &str, file: Identity) -> bool {
     files.identity_of(input_path(name)) == Some(file)
 }
 
-/// Whether one of the line's inputs, or its listing, is the file of that identity.
-fn reads_file(files: &impl Identify, line: &Line, file: Identity) -> bool {
+/// Whether the line's output is a plain file that it reads too: it would be emptied, or read on and
+/// on as it grows. A file that can't be looked up is taken for another one.
+pub fn overwrites_input(files: &impl Identify, line: &Line) -> bool
+    ensures unread { vec_len (line.now).inputs ≡ 0 → is_none (line.now).code ≡ true
+        → result ≡ false }
+{
+    let Some(file) = files.identity_of(output_path(&line.output)) else {
+        return false;
+    };
     for name in &line.inputs {
         if input_is_file(files, name, file) {
             return true;
@@ -48,28 +55,4 @@ fn reads_file(files: &impl Identify, line: &Line, file: Identity) -> bool {
         Some(name) => input_is_file(files, name, file),
         None => false,
     }
-}
-
-/// Whether the line reads the plain file that this path leads to. A file that can't be looked up is
-/// taken for another one.
-fn reads_file_at(files: &impl Identify, line: &Line, path: &str) -> bool
-    ensures unread { vec_len (line.now).inputs ≡ 0 → is_none (line.now).code ≡ true
-        → result ≡ false }
-{
-    if line.inputs.is_empty() && line.code.is_none() {
-        return false;
-    }
-    match files.identity_of(path) {
-        Some(file) => reads_file(files, line, file),
-        None => false,
-    }
-}
-
-/// Whether the line's output is a plain file that it reads too: it would be emptied, or read on and
-/// on as it grows.
-pub fn overwrites_input(files: &impl Identify, line: &Line) -> bool
-    ensures unread { vec_len (line.now).inputs ≡ 0 → is_none (line.now).code ≡ true
-        → result ≡ false }
-{
-    reads_file_at(files, line, output_path(&line.output))
 }

@@ -1,12 +1,12 @@
 //! The command lines of `print`, with its expression or its listing, its options and its names, or
 //! the first fault of them, and of `compile`.
-ghost use Rattle.std.specs.Prelude.{◌≡◌, ◌∷◌, ◌≤◌, IfOk, IfErr, IfSome, OnOk, Some, None};
+ghost use Rattle.std.specs.Prelude.{◌≡◌, ◌||◌, ◌∷◌, ◌≤◌, IfOk, IfErr, IfSome, OnOk, Some, None};
 ghost use Rattle.std.specs.Option.{option_map_or, option_to_list};
 ghost use Rattle.std.specs.Prelude.{option_map, string_bytes, true};
 ghost use Rattle.cap_command.specs.Command.{is_at_least_one};
 ghost use Rattle.clap.specs.Words.{found_of, rows_of};
-ghost use Rattle.capkit.specs.Line.{expression_in, flag_in, has_exclusion, has_idle_format};
-ghost use Rattle.capkit.specs.Line.{has_two_filters, has_two_outputs, is_ready, argument_number};
+ghost use Rattle.capkit.specs.Line.{argument_number, expression_in, flag_in, has_idle_format};
+ghost use Rattle.capkit.specs.Line.{has_two_filters, has_two_outputs, is_ready};
 ghost use Rattle.capkit.specs.{Arguments.most_64, Names.uses_name_twice};
 ghost use Rattle.capkit.specs.declared.usage.Usage.TheVariants.{Memory};
 ghost use Rattle.capkit.specs.declared.ids.TheConstants.{BYTES, COUNT, LINK_HEADER};
@@ -29,8 +29,7 @@ fn expression_text(alloc: Global, matches: &ArgMatches<'_>) -> Result<String, Al
     ensures { IfOk result (λ expr. string_bytes expr
         ≡ expression_in (rows_of (found_of matches.now))) }
 {
-    let joined = texts(matches, ids::WORD).join(alloc, " ")?;
-    Ok(joined)
+    texts(matches, ids::WORD).join(alloc, " ")
 }
 
 /// A copy of a text, which owns its bytes, if there is one. An error means that memory ran out.
@@ -52,8 +51,8 @@ fn print_uses_name_twice(input: &str, listing: Option<&str>, output: Option<&str
         (option_map (λ name. name.now) output.entry) }
 {
     match listing {
-        Some(listing) => uses_name_twice(&[input, listing], output),
-        None => uses_name_twice(&[input], output),
+        Some(listing) => uses_name_twice(input, &[listing], output),
+        None => uses_name_twice(input, &[], output),
     }
 }
 
@@ -64,26 +63,17 @@ fn has_two_filters(matches: &ArgMatches<'_>) -> bool
     is_given(matches, ids::LISTING) && !texts(matches, ids::WORD).is_empty()
 }
 
-/// Whether packets must be written to a capture and yet lines must have link headers or bytes.
-fn has_two_outputs(matches: &ArgMatches<'_>) -> bool
-    ensures { result ≡ has_two_outputs (rows_of (found_of matches.now)) }
+/// Whether options are given that the output can't have: link headers or bytes, though packets are
+/// written to a capture, or a format, though lines are printed.
+fn has_idle_option(matches: &ArgMatches<'_>) -> bool
+    ensures { result ≡ (has_two_outputs (rows_of (found_of matches.now))
+        || has_idle_format (rows_of (found_of matches.now))) }
 {
-    is_given(matches, ids::OUT) && (flag(matches, ids::LINK_HEADER) || flag(matches, ids::BYTES))
-}
-
-/// Whether a format is given though no capture is written.
-fn has_idle_format(matches: &ArgMatches<'_>) -> bool
-    ensures { result ≡ has_idle_format (rows_of (found_of matches.now)) }
-{
-    is_given(matches, ids::FORMAT) && !is_given(matches, ids::OUT)
-}
-
-/// Whether options are given that exclude each other: two filters, two outputs, or a format without
-/// a capture.
-fn has_exclusion(matches: &ArgMatches<'_>) -> bool
-    ensures { result ≡ has_exclusion (rows_of (found_of matches.now)) }
-{
-    has_two_filters(matches) || has_two_outputs(matches) || has_idle_format(matches)
+    if is_given(matches, ids::OUT) {
+        flag(matches, ids::LINK_HEADER) || flag(matches, ids::BYTES)
+    } else {
+        is_given(matches, ids::FORMAT)
+    }
 }
 
 /// Checks the words of a print. An error is the first of their faults: options that exclude each
@@ -93,7 +83,7 @@ fn check_print(matches: &ArgMatches<'_>) -> Result<(), Usage>
     ensures refused { IfErr result (λ usage. print_fault (rows_of (found_of matches.now))
         ≡ Some usage) }
 {
-    if has_exclusion(matches) {
+    if has_two_filters(matches) || has_idle_option(matches) {
         return Err(Usage::OptionsExclude);
     }
     let listing = optional_text(matches, ids::LISTING);
@@ -151,7 +141,7 @@ pub fn print_line(alloc: Global, matches: &ArgMatches<'_>) -> Result<Line, Usage
     let expr = expression_text(alloc, matches)?;
     let output = copy_of_text(alloc, optional_text(matches, ids::OUT))?;
     let code = copy_of_text(alloc, optional_text(matches, ids::LISTING))?;
-    let inputs = copies_of_texts(alloc, &[text(matches, ids::FILE)])?;
+    let inputs = copies_of_texts(alloc, text(matches, ids::FILE), &[])?;
     Ok(Line {
         command: Command::Print(print_of(matches, expr)),
         inputs,

@@ -27,12 +27,6 @@ pub fn total_size(rt: &HostRuntime, names: &[String]) -> u64 {
     total
 }
 
-/// Whether the output of this name is a file, or will be one that isn't there yet. Standard output
-/// is none: what goes there may reach the terminal, by a pipe too.
-fn is_file(rt: &HostRuntime, output: &str) -> bool {
-    output != STANDARD && !matches!(look_up(rt, output), Found::Other)
-}
-
 /// Whether a line can be written over on standard error: it is a terminal, and its name, as `TERM`
 /// has it, isn't `dumb`.
 pub fn can_write_over(is_terminal: bool, name: Option<&str>) -> bool {
@@ -80,8 +74,8 @@ fn is_in_its_foreground(rt: &HostRuntime) -> bool {
 #[derive(Drop)]
 pub struct Progress<'a> {
     rt: &'a HostRuntime,
-    /// When the job began. None if nothing must be shown.
-    start: Option<Instant>,
+    /// When the job began. None if nothing must be shown, so that no bytes are counted.
+    pub start: Option<Instant>,
     /// The size of all inputs, in bytes; 0 if it isn't known.
     total: u64,
     /// How many bytes of the inputs were read.
@@ -93,10 +87,11 @@ pub struct Progress<'a> {
 }
 
 /// The time now, at which a job begins that shows its progress. `None` if it must show none:
-/// if the line can't be drawn, if the output isn't a file, so that its lines could meet the
-/// line of progress on the terminal, or if the clock can't be read.
+/// if the line can't be drawn, if the output isn't a file, nor will be a new one, so that its
+/// lines could meet the line of progress on the terminal, or if the clock can't be read.
 pub fn progress_start(rt: &HostRuntime, output: &str, is_drawable: bool) -> Option<Instant> {
-    if !is_drawable || !is_file(rt, output) {
+    // What goes to standard output may reach the terminal, by a pipe too.
+    if !is_drawable || output == STANDARD || matches!(look_up(rt, output), Found::Other) {
         return None;
     }
     Instant::now(rt).ok()
@@ -121,11 +116,6 @@ impl<'a> Progress<'a> {
             next: Cell::new(FIRST_SHOWN),
             is_shown: Cell::new(false),
         }
-    }
-
-    /// Whether bytes are counted, so that progress may be shown.
-    pub fn is_counting(&self) -> bool {
-        self.start.is_some()
     }
 
     /// Where progress may be shown, counts bytes that were read just now, and shows it on standard
@@ -171,21 +161,13 @@ impl<'a> Progress<'a> {
         let read = self.read.get();
         let mib = read / MIB;
         let rate = mib / seconds.max(1);
-        let (amount, unit) = match self.share(read) {
-            Some(share) => (share, "%"),
-            None => (u128::from(mib), " MiB"),
+        let (amount, unit) = if self.total == 0 {
+            (u128::from(mib), " MiB")
+        } else {
+            let share = u128::from(read) * 100 / u128::from(self.total);
+            (share.min(100), "%")
         };
         let _ = terminal.eprint(format_args!("\r\x1b[K{amount}{unit} read, {rate} MiB/s"));
-    }
-
-    /// The share of the inputs that `read` bytes are, in percent, 100 at most. `None` if the
-    /// size of the inputs isn't known.
-    fn share(&self, read: u64) -> Option<u128> {
-        if self.total == 0 {
-            return None;
-        }
-        let share = u128::from(read) * 100 / u128::from(self.total);
-        Some(share.min(100))
     }
 
     /// Ends progress: erases its line, if there is one; but not from the background: that
@@ -208,22 +190,18 @@ impl<'a> Progress<'a> {
 /// A reader whose bytes are counted.
 #[derive(Drop)]
 pub struct Counted<'a, R> {
-    reader: R,
-    progress: &'a Progress<'a>,
-}
-
-impl<'a, R: Read> Counted<'a, R> {
-    /// A reader of which nothing is read yet, whose bytes count as this progress.
-    pub fn new(reader: R, progress: &'a Progress<'a>) -> Self {
-        Counted { reader, progress }
-    }
+    pub reader: R,
+    /// What counts them.
+    pub progress: &'a Progress<'a>,
 }
 
 impl<R: Read> Read for Counted<'_, R> {
     /// One read of the reader, whose bytes are counted.
     fn read(&mut self, buf: &mut [u8]) -> io::Result<usize> {
-        let count = self.reader.read(buf)?;
-        self.progress.count(count);
-        Ok(count)
+        let read = self.reader.read(buf);
+        if let Ok(count) = &read {
+            self.progress.count(*count);
+        }
+        read
     }
 }

@@ -32,18 +32,6 @@ pub fn tell_refusal(rt: &(impl AllocGlobal + Print + Errors), error: &clap::Erro
     };
 }
 
-/// Reports why words aren't a command line, or prints what the user asked to know of it, and
-/// returns whether such an answer could be written; true if none is asked.
-fn tell_usage(rt: &(impl AllocGlobal + Print + Errors), usage: &Usage) -> bool {
-    match usage {
-        Usage::Refused(error) if error.use_stderr() => tell_refusal(rt, error),
-        Usage::Refused(answer) => return print_answer(rt, answer),
-        Usage::Memory => tell(rt, format_args!("{usage}")),
-        fault => tell(rt, format_args!("usage: {fault}")),
-    }
-    true
-}
-
 /// The status of words that aren't a command line: 2, even if clap ran out of memory, or 1 of
 /// `Usage::Memory`. For a request for help or the version it is 0 if the answer could be written,
 /// and else 1.
@@ -63,7 +51,13 @@ fn status_of(usage: &Usage, is_written: bool) -> u8
 pub fn refuse(rt: &(impl AllocGlobal + Print + Errors), usage: Usage) -> u8
     ensures { (is_written : Bool) × (result ≡ status_of usage is_written) }
 {
-    let is_written = tell_usage(rt, &usage);
+    let mut is_written = true;
+    match &usage {
+        Usage::Refused(error) if error.use_stderr() => tell_refusal(rt, error),
+        Usage::Refused(answer) => is_written = print_answer(rt, answer),
+        Usage::Memory => tell(rt, format_args!("{usage}")),
+        fault => tell(rt, format_args!("usage: {fault}")),
+    }
     status_of(&usage, is_written)
 }
 

@@ -3,7 +3,6 @@ ghost use Rattle.std.specs.Prelude.{◌≡◌};
 
 use crate::FAULT;
 use crate::message::{Errors, Shown, tell};
-use std::alloc::{AllocError, AllocFailed};
 use std::fmt;
 
 /// Why a command was not run to its end.
@@ -28,20 +27,6 @@ impl fmt::Display for Stop<'_> {
             Stop::NoMemory => return f.write_str("no memory"),
         };
         write!(f, "{}: {fault}", Shown { text: name })
-    }
-}
-
-/// A failed allocation, as `?` returns it.
-impl From<AllocError> for Stop<'_> {
-    fn from(_error: AllocError) -> Self {
-        Stop::NoMemory
-    }
-}
-
-/// A failed allocation that hands a value back, which is dropped.
-impl<T: Drop> From<AllocFailed<T>> for Stop<'_> {
-    fn from(_error: AllocFailed<T>) -> Self {
-        Stop::NoMemory
     }
 }
 

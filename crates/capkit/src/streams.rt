@@ -1,37 +1,35 @@
 //! What names mean: files and the standard streams.
 ghost use Rattle.std.specs.{Fd.file_raw_fd, Io.WritesAtMost, Io.KnownBytes.WriteAppends};
-ghost use Rattle.std.specs.Prelude.{◌≡◌, ◌≢◌, IfOk, OnOk, None, false, true, not, is_err};
-ghost use Rattle.capkit.specs.Streams.{holds_old_bytes, is_beside_streams};
+ghost use Rattle.std.specs.Prelude.{◌≡◌, ◌≢◌, IfOk, IfSome, OnOk, None, false, true, not, is_err};
+ghost use Rattle.capkit.specs.Streams.{holds_old_bytes, is_beside_streams, is_standard_output};
 ghost use Rattle.capkit.specs.inside.Streams.{is_input_beside_streams, is_standard_input};
 ghost use Rattle.capkit.specs.{Names.is_standard, Streams.is_output_beside_streams};
-ghost use Rattle.capkit.specs.inside.Streams.{is_standard_output};
 
+use crate::stop::Stop;
 use crate::{STANDARD, USAGE};
 use std::fs::{File, OpenOptions};
-use std::io::{self, Error, ErrorKind, IsTerminal, Read, Stdin, Stdout, Write};
+use std::io::{self, IsTerminal, Read, Stdin, Stdout, Write};
 use std::os::fd::AsRawFd;
 
 /// The number of the last standard stream; a file of the program has a greater one.
 const LAST_STREAM: i32 = 2;
 
 /// Opens the file of that path as these options say, and never under the number of a standard
-/// stream. The error is the system's.
+/// stream. `None` if it can't be opened.
 ///
 /// The system gives the number of a stream that was closed to the next file that is opened; what is
 /// written to that stream would go into the file then.
-fn open_beside_streams(rt: &HostRuntime, how: &OpenOptions, path: &str) -> io::Result<File>
-    ensures { IfOk result (λ file. is_beside_streams (file_raw_fd file) ≡ true) }
+fn open_beside_streams(rt: &HostRuntime, how: &OpenOptions, path: &str) -> Option<File>
+    ensures { IfSome result (λ file. is_beside_streams (file_raw_fd file) ≡ true) }
 {
-    let opened = how.open(rt, path)?;
+    let opened = how.open(rt, path).ok()?;
     if opened.as_raw_fd() > LAST_STREAM {
-        return Ok(opened);
+        return Some(opened);
     }
     // std numbers a clone from 3 on. With `opened` the number of the stream is closed again.
-    let clone = opened.try_clone()?;
-    if clone.as_raw_fd() > LAST_STREAM {
-        Ok(clone)
-    } else {
-        Err(Error::from(ErrorKind::Other))
+    match opened.try_clone() {
+        Ok(clone) if clone.as_raw_fd() > LAST_STREAM => Some(clone),
+        _ => None,
     }
 }
 
@@ -43,18 +41,21 @@ pub enum Opened {
 }
 
 impl Opened {
-    /// Opens the file of that name, or standard input. The error is the system's.
-    pub(crate) fn open(rt: &HostRuntime, name: &str) -> io::Result<Opened>
-        ensures standard { IfOk result (λ opened. is_standard_input opened
+    /// Opens the file of that name, or standard input. `None` if it can't be opened.
+    pub(crate) fn open(rt: &HostRuntime, name: &str) -> Option<Opened>
+        ensures standard { IfSome result (λ opened. is_standard_input opened
             ≡ is_standard name.now) }
-        ensures beside { IfOk result (λ opened. is_input_beside_streams opened ≡ true) }
+        ensures beside { IfSome result (λ opened. is_input_beside_streams opened ≡ true) }
     {
         if name == STANDARD {
-            return Ok(Opened::Stream(rt.stdin()));
+            return Some(Opened::Stream(rt.stdin()));
         }
         let mut how = OpenOptions::new();
         how.read(true);
-        Ok(Opened::File(open_beside_streams(rt, &how, name)?))
+        match open_beside_streams(rt, &how, name) {
+            Some(file) => Some(Opened::File(file)),
+            None => None,
+        }
     }
 }
 
@@ -83,26 +84,27 @@ pub enum Created<S = Stdout> {
     Stream(S),
 }
 
-impl Created {
-    /// Creates the file of that name, or opens it with what it holds; or takes standard output. The
-    /// error is the system's.
-    pub(crate) fn create(rt: &HostRuntime, name: &str) -> io::Result<Created>
-        ensures standard { IfOk result (λ created. is_standard_output created
-            ≡ is_standard name.now) }
-        ensures kept { IfOk result (λ created. holds_old_bytes created
-            ≡ not (is_standard name.now)) }
-        ensures beside { IfOk result (λ created. is_output_beside_streams created ≡ true) }
-    {
-        if name == STANDARD {
-            return Ok(Created::Stream(rt.stdout()));
-        }
-        let mut how = OpenOptions::new();
-        how.write(true).create(true);
-        let file = open_beside_streams(rt, &how, name)?;
-        Ok(Created::File(OutputFile {
+/// Creates the output of this name: a file, or standard output. A file that is present is opened,
+/// and keeps its bytes until the first write or the end of the run, or for good if nothing runs or
+/// the run is refused. The one error is `CannotCreate`.
+pub fn create_output<'a>(rt: &HostRuntime, name: &'a str) -> Result<Created, Stop<'a>>
+    ensures standard { IfOk result (λ created. is_standard_output created
+        ≡ is_standard name.entry.now) }
+    ensures kept { IfOk result (λ created. holds_old_bytes created
+        ≡ not (is_standard name.entry.now)) }
+    ensures beside { IfOk result (λ created. is_output_beside_streams created ≡ true) }
+{
+    if name == STANDARD {
+        return Ok(Created::Stream(rt.stdout()));
+    }
+    let mut how = OpenOptions::new();
+    how.write(true).create(true);
+    match open_beside_streams(rt, &how, name) {
+        Some(file) => Ok(Created::File(OutputFile {
             file,
             is_emptied: false,
-        }))
+        })),
+        None => Err(Stop::CannotCreate(name)),
     }
 }
 

@@ -2,13 +2,13 @@
 //! is seen as it comes, and isn't lost if the run is stopped while it waits.
 ghost use Rattle.std.specs.Prelude.{◌≡◌, false, true};
 
-use crate::identity::{Identify, is_plain};
+use crate::identity::Identify;
 use crate::overwrites::input_path;
 
 /// Whether a read of some input of these names may wait: one isn't a plain file.
 pub fn may_wait(files: &impl Identify, names: &[String]) -> bool {
     for name in names {
-        if !is_plain(files, input_path(name)) {
+        if files.identity_of(input_path(name)).is_none() {
             return true;
         }
     }

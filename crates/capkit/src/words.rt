@@ -2,6 +2,7 @@
 ghost use Rattle.std.specs.Prelude.{◌≡◌, IfOk, map, string_bytes, true};
 ghost use Rattle.capkit.specs.{Line.is_ready, Line.SaysLine, Words.with_help_option};
 
+use crate::files::push_copy;
 use crate::overwrites::overwrites_input;
 use crate::{Line, Usage, command_of};
 use std::alloc::{AllocError, Global};
@@ -21,7 +22,7 @@ pub fn with_help_option(alloc: Global, words: Vec<String>) -> Result<Vec<String>
         _ => return Ok(line_words),
     }
     line_words.remove(0);
-    line_words.push(String::from_str(alloc, "--help")?)?;
+    push_copy(alloc, &mut line_words, "--help")?;
     Ok(line_words)
 }
 

@@ -3,7 +3,7 @@
 use super::folder::{CAPTURE, enter, leave};
 use crate::words::{line_of, words_of};
 use capkit::Usage;
-use capkit::identity::{Identify, Identity, is_plain};
+use capkit::identity::{Identify, Identity};
 use capkit::overwrites::overwrites_input;
 use capkit::waiting::may_wait;
 use capkit::words::line_of_words;
@@ -106,7 +106,7 @@ const WAITED: [(&str, bool); 6] = [
 #[test]
 fn devices_are_waited_for(rt: HostRuntime) -> Result<(), Fail> {
     enter(&rt, "waited")?;
-    assert!(rt; is_plain(&rt, "in") && !is_plain(&rt, "."));
+    assert!(rt; rt.identity_of("in").is_some() && rt.identity_of(".").is_none());
     for (inputs, wanted) in WAITED {
         let names = words_of(rt.alloc(), inputs)?;
         assert!(rt; may_wait(&rt, names.as_slice()) == wanted, "{inputs}");

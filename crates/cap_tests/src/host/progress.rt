@@ -89,8 +89,8 @@ fn progress_is_of_plain_files(rt: HostRuntime) -> Result<(), Fail> {
     for (inputs, size) in SIZES {
         let names = words_of(rt.alloc(), inputs)?;
         assert!(rt; total_size(&rt, names.as_slice()) == size, "{inputs}");
-        let counts = Progress::new(&rt, names.as_slice(), "new").is_counting();
-        assert!(rt; !counts || rt.stderr().is_terminal(), "{inputs}");
+        let start = Progress::new(&rt, names.as_slice(), "new").start;
+        assert!(rt; start.is_none() || rt.stderr().is_terminal(), "{inputs}");
     }
     for (output, wanted) in [
         ("-", false),

@@ -2,7 +2,7 @@
 use Rattle.std.specs.Fd.{file_raw_fd}
 use Rattle.std.specs.Prelude.{ℕ, Bool, true, false, List, Option, Some, None, codes, if◌then◌else◌}
 use Rattle.capkit.specs.{Names.is_standard, Streams.is_beside_streams}
-use Rattle.capkit.specs.declared.streams.{Created.Created, Opened.Opened}
+use Rattle.capkit.specs.declared.streams.Opened.{Opened}
 
 -- the path of what is read under a name
 abbrev pub input_path : List ℕ → List ℕ
@@ -17,11 +17,6 @@ output_path None = codes "/dev/stdout"
 abbrev pub is_standard_input : Opened → Bool
 is_standard_input (Opened.File file) = false
 is_standard_input (Opened.Stream stream) = true
-
--- whether an output is standard output
-abbrev pub is_standard_output : {S : Type 0} → Created S → Bool
-is_standard_output (Created.File output) = false
-is_standard_output (Created.Stream stream) = true
 
 -- an input that is a file hasn't the number of a standard stream
 abbrev pub is_input_beside_streams : Opened → Bool

@@ -10,14 +10,9 @@ returns-in_err-ranges-clause-fault c =
     let p = err_from_is_err_and c.from_residual.result c.from_residual.ensures.1 in
     rw (p.1, p.2) (inl refl)
 
-pub returns-in_err-push-in-Some-clause-fault : goal.returns-in_err-push-in-Some-clause-fault
-returns-in_err-push-in-Some-clause-fault c =
-    let p = err_from_is_err_and c.from_residual-in_err-push-in-Some.result c.from_residual-in_err-push-in-Some.ensures.1 in
-    rw (p.1, p.2) (inl refl)
-
-pub returns-in-None-clause-fault : goal.returns-in-None-clause-fault
-returns-in-None-clause-fault c =
-    inr (bad_range c.args.words.now c.loop-word.word-index _ (omega arith) c.loop-word-test.true (sym c.range_in.ensures.value ∙ c.in-None.is))
+pub returns-in_default-clause-fault : goal.returns-in_default-clause-fault
+returns-in_default-clause-fault c =
+    inr (bad_range c.args.words.now c.loop-word.word-index _ (omega arith) c.loop-word-test.true (sym c.range_in.ensures.value ∙ c.in_default.is))
 
 pub returns-clause-ranges : goal.returns-clause-ranges
 returns-clause-ranges c =

@@ -1,6 +1,9 @@
 use Rattle.std.proofs.{Common.arith, lemmas.Grind.common_steps}
 use Rattle.capkit.proofs.files.copies_of_texts.Goals as goal
 
+pub loop-name-init : goal.loop-name-init
+loop-name-init c = grind (arith, common_steps)
+
 pub loop-name-preserved : goal.loop-name-preserved
 loop-name-preserved c = grind (arith, common_steps)
 

@@ -1,5 +1,5 @@
-use Rattle.std.proofs.Common.{◌≡◌, map, string_bytes, take}
+use Rattle.std.proofs.Common.{◌≡◌, ◌∷◌, map, string_bytes, take}
 use Rattle.capkit.proofs.files.copies_of_texts.Given as goal
 
 abbrev pub invariant-loop-name : goal.invariant-loop-name
-invariant-loop-name l = map string_bytes l.owned.items ≡ map (λ name. name.now) (take l.name-index l.names)
+invariant-loop-name l = map string_bytes l.owned.items ≡ l.first ∷ map (λ name. name.now) (take l.name-index l.more)

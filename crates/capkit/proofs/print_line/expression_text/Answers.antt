@@ -1,9 +1,9 @@
-use Rattle.std.proofs.Common.{◌∙◌, ap, codes, List, ℕ}
+use Rattle.std.proofs.{Common.◌∙◌, Common.ap, Common.codes, Common.List, Common.ℕ, lemmas.Result.IfOk-weaker}
 use Rattle.std.specs.List.{join_by}
 use Rattle.capkit.proofs.PrintReady.{joined}
 use Rattle.capkit.proofs.print_line.expression_text.Goals as goal
 
 pub returns : goal.returns
 returns c =
-    c.in_ok-joined.ensures.ok ∙ joined (λ word. word.now) (codes " ") c.texts.result.now
-    ∙ ap (join_by (λ (text : List ℕ). text) (codes " ")) c.texts.ensures
+    IfOk-weaker c.join.result _ _ (λ text is. is ∙ joined (λ word. word.now) (codes " ") c.texts.result.now
+    ∙ ap (join_by (λ (text : List ℕ). text) (codes " ")) c.texts.ensures) c.join.ensures.ok
