@@ -119,13 +119,12 @@ fn sources_and_sinks(rt: HostRuntime) {
 }
 
 #[test]
-fn programs(rt: HostRuntime) -> Result<(), Fail> {
+fn programs(rt: HostRuntime) {
     flt_bpf::laws::listing_back();
-    let mut program = flt_bpf::check(code_of(rt.alloc(), "6 0 0 1")?)?;
+    let mut program = flt_bpf::check(code_of(&rt, "6 0 0 1")).expect(&rt, "a program");
     assert!(rt; flt_bpf::run(&mut program, &[], 0) == (1, 1) && program.spent() == 1);
     let refused = flt_bpf::check(Vec::new(rt.alloc())).err();
     assert!(rt; refused == Some((flt_bpf::CheckFault::Empty, 0)));
     let wrong = flt_bpf::read_listing(rt.alloc(), b"?").err();
     assert!(rt; wrong == Some(flt_bpf::ListingFault::NotListing(1)));
-    Ok(())
 }

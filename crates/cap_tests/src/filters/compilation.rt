@@ -8,6 +8,7 @@ use flt_bpf::{Insn, read_listing};
 use flt_lang::{Checked, check, parse, resolve};
 use flt_words::{ExprFault, lex};
 use std::alloc::{Allocator, Global};
+use std::process::Abort;
 use std::test::Fail;
 
 /// The code of `ja`.
@@ -45,19 +46,20 @@ pub fn compiled(alloc: Global, text: &str) -> Result<Vec<Insn>, Fail> {
 /// The instructions of a text, four numbers each, with `; ` between them. A word means an
 /// instruction that many have: `type` loads the type of an Ethernet frame, `protocol` the protocol
 /// of an IPv4 packet, and `yes` and `no` return.
-pub fn code_of(alloc: Global, text: &str) -> Result<Vec<Insn>, Fail> {
-    let mut listing = format!(in alloc; "{}\n", text.split("; ").count())?;
+pub fn code_of(rt: &(impl Abort + AllocGlobal), text: &str) -> Vec<Insn> {
+    let count = text.split("; ").count();
+    let mut listing = format!(in rt.alloc(); "{count}").expect(rt, "memory");
     for insn in text.split("; ") {
-        listing.push_str(match insn {
+        let fields = match insn {
             "type" => "40 0 0 12",
             "protocol" => "48 0 0 23",
             "yes" => "6 0 0 262144",
             "no" => "6 0 0 0",
             _ => insn,
-        })?;
-        listing.push_str("\n")?;
+        };
+        write!(listing, "\n{fields}").expect(rt, "memory");
     }
-    Ok(read_listing(alloc, listing.as_bytes())?)
+    read_listing(rt.alloc(), listing.as_bytes()).expect(rt, "a listing")
 }
 
 /// How many instructions have this code.

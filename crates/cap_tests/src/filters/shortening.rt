@@ -4,7 +4,6 @@ use crate::filters::compilation::code_of;
 use flt_bpf::{Insn, Wide};
 use flt_short::{shortened, threaded};
 use std::alloc::{AllocError, Global};
-use std::test::Fail;
 
 /// Code, and the shorter one that is made of it; none if it stays. Each has a name before it.
 const RULES: &str = "\
@@ -84,13 +83,12 @@ fn made_of(alloc: Global, old: &[Insn]) -> Result<Vec<Insn>, AllocError> {
 }
 
 #[test]
-fn code_is_shortened_by_each_rule(rt: HostRuntime) -> Result<(), Fail> {
+fn code_is_shortened_by_each_rule(rt: HostRuntime) {
     for row in RULES.split("\n\n") {
         let mut lines = row.lines();
         let (name, old) = (lines.next().unwrap_or(""), lines.next().unwrap_or(""));
-        let wanted = code_of(rt.alloc(), lines.next().unwrap_or(old))?;
-        let made = made_of(rt.alloc(), &code_of(rt.alloc(), old)?)?;
+        let wanted = code_of(&rt, lines.next().unwrap_or(old));
+        let made = made_of(rt.alloc(), &code_of(&rt, old)).expect(&rt, "memory");
         assert!(rt; made == wanted, "{name}");
     }
-    Ok(())
 }

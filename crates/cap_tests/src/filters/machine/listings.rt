@@ -4,7 +4,6 @@ use super::{IPV4, insn, program_of};
 use cap_octet::TrialOutput;
 use flt_bpf::{Insn, Program, read_listing, write_listing};
 use std::alloc::Global;
-use std::test::Fail;
 
 /// Whether a text is read as these instructions.
 fn is_read_as(alloc: Global, text: &[u8], expected: &[Insn]) -> bool {
@@ -31,12 +30,11 @@ fn listings_are_read(rt: HostRuntime) {
     assert!(rt; is_read_as(rt.alloc(), b"0", &[]));
 }
 
-/// Whether a listing's program is written as this text, by `piece` bytes per call.
-fn is_written_as(alloc: Global, listing: &[u8], text: &[u8], piece: usize) -> Result<bool, Fail> {
-    let program = program_of(alloc, listing)?;
+/// Whether a program is written as this text, by `piece` bytes per call.
+fn is_written_as(program: &Program<Global>, text: &[u8], piece: usize) -> bool {
     let mut bytes = [0u8; 64];
     let mut output = TrialOutput::new(&mut bytes, piece.max(1));
-    Ok(write_listing(&program, &mut output).is_ok() && output.written() == text)
+    write_listing(program, &mut output).is_ok() && output.written() == text
 }
 
 /// The longest lines.
@@ -52,13 +50,13 @@ const WRITTEN: [(&[u8], &[u8]); 2] = [
 ];
 
 #[test]
-fn programs_are_written(rt: HostRuntime) -> Result<(), Fail> {
+fn programs_are_written(rt: HostRuntime) {
     for (listing, text) in WRITTEN {
+        let program = program_of(&rt, listing);
         for piece in 1..65 {
-            assert!(rt; is_written_as(rt.alloc(), listing, text, piece)?, "{piece}");
+            assert!(rt; is_written_as(&program, text, piece), "{piece}");
         }
     }
-    Ok(())
 }
 
 /// Whether an output with so much room takes that much of `IPV4`, and then fails.
@@ -72,11 +70,10 @@ fn fails_at(program: &Program<Global>, room: &mut [u8]) -> bool {
 }
 
 #[test]
-fn an_output_may_fail_anywhere(rt: HostRuntime) -> Result<(), Fail> {
-    let program = program_of(rt.alloc(), IPV4)?;
+fn an_output_may_fail_anywhere(rt: HostRuntime) {
+    let program = program_of(&rt, IPV4);
     let mut bytes = [0u8; 64];
     for room in 0..IPV4.len() {
         assert!(rt; fails_at(&program, &mut bytes[..room]), "{room}");
     }
-    Ok(())
 }

@@ -7,11 +7,11 @@ use flt_bpf::operation::{Operation, decode};
 use flt_bpf::{CheckFault, ListingFault, check, run};
 use std::alloc::Global;
 use std::fmt::Display;
-use std::test::Fail;
+use std::process::Abort;
 
 #[test]
-fn ethernet_type_is_tested(rt: HostRuntime) -> Result<(), Fail> {
-    let mut program = program_of(rt.alloc(), IPV4)?;
+fn ethernet_type_is_tested(rt: HostRuntime) {
+    let mut program = program_of(&rt, IPV4);
     let mut packet = [0u8; 14];
     packet[12] = 8;
     assert!(rt; program.spent() == 0);
@@ -19,9 +19,7 @@ fn ethernet_type_is_tested(rt: HostRuntime) -> Result<(), Fail> {
     packet[13] = 6;
     assert!(rt; run(&mut program, &packet, 14) == (0, 3));
     assert!(rt; run(&mut program, &packet[..13], 14) == (0, 1));
-    assert!(rt; program.spent() == 7);
-    assert!(rt; program.insns().len() == 4);
-    Ok(())
+    assert!(rt; program.spent() == 7 && program.insns().len() == 4);
 }
 
 /// The answer and the count of instructions of a run, the length of a packet, its captured bytes,
@@ -89,33 +87,34 @@ const ANSWERS: &str = "\
 0 2 | 0 | - | 7 255 255 99; 60 9 9 0; 22 1 1 77";
 
 /// The bytes of a text, decimal numbers; none of `-`.
-fn bytes_of(alloc: Global, text: &str) -> Result<Vec<u8>, Fail> {
-    let mut bytes = Vec::new(alloc);
+fn bytes_of(rt: &(impl Abort + AllocGlobal), text: &str) -> Vec<u8> {
+    let mut bytes = Vec::new(rt.alloc());
     for number in text.split_whitespace() {
         if number != "-" {
-            bytes.push(number.parse::<u8>()?)?;
+            let byte = number.parse::<u8>().expect(rt, "a byte");
+            bytes.push(byte).expect(rt, "memory");
         }
     }
-    Ok(bytes)
+    bytes
 }
 
 /// Runs the program of a row.
-fn answers(alloc: Global, row: &'static str) -> Result<bool, Fail> {
+fn answers(rt: &(impl Abort + AllocGlobal), row: &'static str) -> bool {
     let (wanted, rest) = field(row);
     let (len, rest) = field(rest);
     let (packet, code) = field(rest);
-    let packet = bytes_of(alloc, packet)?;
-    let mut program = check(code_of(alloc, code)?)?;
-    let (answer, count) = run(&mut program, &packet, len.parse::<u32>()?);
-    Ok(format!(in alloc; "{answer} {count}")?.as_str() == wanted)
+    let packet = bytes_of(rt, packet);
+    let mut program = check(code_of(rt, code)).expect(rt, "a program");
+    let len = len.parse::<u32>().expect(rt, "a length");
+    let (answer, count) = run(&mut program, &packet, len);
+    is_told_as(rt.alloc(), format_args!("{answer} {count}"), wanted)
 }
 
 #[test]
-fn runs_answer_as_stated(rt: HostRuntime) -> Result<(), Fail> {
+fn runs_answer_as_stated(rt: HostRuntime) {
     for row in ANSWERS.lines() {
-        assert!(rt; row.starts_with("#") || answers(rt.alloc(), row)?, "{row}");
+        assert!(rt; row.starts_with("#") || answers(&rt, row), "{row}");
     }
-    Ok(())
 }
 
 #[test]
@@ -129,27 +128,22 @@ fn codes_stand_for_their_operations(rt: HostRuntime) {
 }
 
 #[test]
-fn a_longest_program_of_jumps_ends(rt: HostRuntime) -> Result<(), Fail> {
+fn a_longest_program_of_jumps_ends(rt: HostRuntime) {
     let mut insns = Vec::new(rt.alloc());
     for _ in 0..32_767 {
-        insns.push(insn(5, 0, 0, 0))?;
+        insns.push(insn(5, 0, 0, 0)).expect(&rt, "memory");
     }
-    insns.push(insn(6, 0, 0, 1))?;
-    let mut program = check(insns)?;
+    insns.push(insn(6, 0, 0, 1)).expect(&rt, "memory");
+    let mut program = check(insns).expect(&rt, "a program");
     assert!(rt; run(&mut program, &[], 0) == (1, 32_768));
     assert!(rt; run(&mut program, &[], 0) == (1, 32_768));
     assert!(rt; program.spent() == 65_536);
-    Ok(())
 }
 
 #[test]
-fn a_program_may_be_too_long(rt: HostRuntime) -> Result<(), Fail> {
-    let mut insns = Vec::new(rt.alloc());
-    for _ in 0..32_769 {
-        insns.push(insn(9, 0, 0, 0))?;
-    }
+fn a_program_may_be_too_long(rt: HostRuntime) {
+    let insns = vec![in rt.alloc(); insn(9, 0, 0, 0); 32_769].expect(&rt, "memory");
     assert!(rt; check(insns).err() == Some((CheckFault::TooLong, 0)));
-    Ok(())
 }
 
 /// Whether a fault is reported like this.

@@ -4,7 +4,6 @@ use super::insn;
 use crate::filters::compilation::code_of;
 use flt_bpf::check;
 use flt_trace::{Step, insn_text, trace};
-use std::test::Fail;
 
 /// The code and the number of an instruction, whose offsets are 3 and 7, and how it is printed at
 /// place 1.
@@ -56,13 +55,12 @@ fn are_first(steps: &[Step]) -> bool {
 
 // ldb [0]; tax; jeq #0x45, which skips the next instruction if it holds; ret #7; ret #9
 #[test]
-fn traced(rt: HostRuntime) -> Result<(), Fail> {
-    let code = code_of(rt.alloc(), "48 0 0 0; 7 0 0 0; 21 1 0 69; 6 0 0 7; 6 0 0 9")?;
-    let program = check(code)?;
+fn traced(rt: HostRuntime) {
+    let code = code_of(&rt, "48 0 0 0; 7 0 0 0; 21 1 0 69; 6 0 0 7; 6 0 0 9");
+    let program = check(code).expect(&rt, "a program");
     let mut steps = [UNWRITTEN; 5];
     assert!(rt; trace(program.insns(), &[0x45, 0], 60, &mut steps) == (9, 4));
     let mut few = [UNWRITTEN; 1];
     assert!(rt; trace(program.insns(), &[0x45, 0], 60, &mut few) == (9, 4));
     assert!(rt; are_first(&steps) && are_first(&few));
-    Ok(())
 }
