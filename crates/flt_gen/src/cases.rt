@@ -1,8 +1,7 @@
 //! Lists of MAC addresses, of addresses and networks of IPv6, and of protocol numbers, each on one
-//! side, and of relations of one accessor, as decision trees: the first words of the values are
-//! compared by halves, and then the next words of those that are left. Each test loads its word;
-//! `flt_short` leaves out the loads of what is in A. Hosts of IPv6 on either side are a tree for
-//! each side, if they differ only in the last word.
+//! side, and of relations of one accessor, as decision trees: the first words are compared by
+//! halves, and then the next ones. Each test loads its word; `flt_short` leaves out repeated loads.
+//! Hosts of IPv6 on either side are a tree for each side, if they differ only in the last word.
 
 ghost use Rattle.std.specs.Prelude.{◌≡◌, drop, OnOk};
 ghost use Rattle.flt_gen.specs.inside.Cases.{case_of, same_words, key_of, insert_case, case_front};

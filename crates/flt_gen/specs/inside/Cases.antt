@@ -1,7 +1,6 @@
 -- Lists of MAC addresses, of addresses and networks of IPv6, of protocol numbers, and of relations of
--- one accessor, as decision trees: the first words are compared by halves, and then the next words
--- of those that are left. Hosts of IPv6 on either side that differ only in the last word are a tree
--- for each side.
+-- one accessor, as decision trees: the first words are compared by halves, and then the next ones.
+-- Hosts of IPv6 on either side that differ only in the last word are a tree for each side.
 use Rattle.std.specs.List.{list_all, insert}
 use Rattle.std.specs.Prelude.{ℕ, zero, suc, ◌+◌, ◌-◌, ◌/◌, ◌^◌, ◌==◌, ◌&&◌, nat_lt, nat_le, min, Bool, true, false, if◌then◌else◌, List, [], ◌∷◌, length, take, drop, slice_get, count_by, is_none, Option, Some, None}
 use Rattle.flt_words.specs.declared.token.{Comparison.TheVariants.AtLeast, Protocol.Protocol}
