@@ -313,7 +313,7 @@ impl<I: Input, A: Allocator> Inputs<I, A> {
     pub fn first_link(&self) -> Option<u16>
         ensures { result ≡ first_declared_link self.now.cursors }
     {
-        // From the last to the first, as `first_declared_link` is built: an earlier one replaces it.
+        // From the last to the first, as `first_declared_link` is: an earlier one replaces it.
         let cursors = self.cursors.as_slice();
         let mut first = None;
         let mut i = cursors.len();

@@ -378,7 +378,7 @@ impl<A: Allocator> Code<A> {
         }
     }
 
-    /// Emits the tests in front of cases with the words of this one: the frames that they may be in,
+    /// Emits the tests in front of cases with the words of this one: the frames they may be in,
     /// or the tests that an accessor needs.
     fn emit_front(&mut self, link: Link, case: Case, to: Targets) -> Result<usize, AllocError>
         ensures { Emits result (emit_all (case_front link case) to.yes to.no self.old) self.new }
