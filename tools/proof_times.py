@@ -4,9 +4,9 @@
 usage: proof_times.py CRATE [COUNT]
 
 It goes by what the last check wrote into the crate's out/incremental, and when. So that check is to be one from nothing, by one
-job: remove that folder, and run `rt check --jobs 1` in the crate's. What is written is the same each time; seconds depend on
-what else runs. After a function come the megabytes of its parts: Lts is the model of its steps, Tie and Proof are where goals
-are searched for, Kinds is mostly what is loaded. The first function that needs a library pays for loading it.
+job: empty that folder, which rt else takes from another checkout, and run `rt check --jobs 1` in the crate's. What is written is
+the same each time; what an earlier check left counts too, and seconds depend on what else runs. After a function come the
+megabytes of its parts: Lts is the model of its steps, Tie and Proof are where goals are searched for, Kinds is mostly loading.
 """
 import collections
 import pathlib
