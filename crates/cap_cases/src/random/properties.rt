@@ -214,6 +214,11 @@ fn compiled(fuzzer: &mut Fuzzer<'_>, bytes: &[u8], text: &str, by_words: &Outcom
     Ok(())
 }
 
+/// Whether these are the same packets.
+fn are_same(left: &[Packet<'_>], right: &[Packet<'_>]) -> bool {
+    left == right
+}
+
 /// Compares what a listing keeps of its link with what its expression keeps: more if the
 /// expression's run ended early. A damaged listing is run too.
 fn listed(
@@ -230,7 +235,7 @@ fn listed(
     } else {
         fuzzer.same(&by_words.messages, &by_code.messages)?;
     }
-    fuzzer.compare(words == codes, text.as_bytes(), bytes)?;
+    fuzzer.compare(are_same(&words, &codes), text.as_bytes(), bytes)?;
     let wrong = damaged(fuzzer.alloc, &mut fuzzer.random, listing)?;
     fuzzer.print_by(&wrong, bytes)?;
     Ok(())
