@@ -37,14 +37,15 @@ impl<A: Allocator> Model for Queue<A> {
 
 impl<A: Allocator> Queue<A> {
     ghost use Rattle.std.specs.List.{All, Sorted.IsPermutation};
-    ghost use Rattle.std.specs.Prelude.{◌≡◌, ◌≢◌, ◌<◌, ◌≤◌, [], ◌∷◌, length, IfSome, IsTrue};
-    ghost use Rattle.std.specs.Prelude.{MatchOption};
+    ghost use Rattle.std.specs.Prelude.{◌≡◌, ◌≢◌, ◌<◌, ◌≤◌, [], ◌∷◌, length, IfSome, MatchOption};
+    ghost use Rattle.std.specs.Prelude.{if◌then◌else◌};
+    ghost use Rattle.cap_inputs.specs.Queue.{queue};
     ghost use Rattle.cap_inputs.specs.inside.Queue.{IsFirstWaiting, Precedes};
 
     /// An empty queue with room for `count` inputs, if they are merged; else with room for none,
     /// since inputs in turn need no queue. It takes its memory here; `None` if there is none.
     pub fn new(alloc: A, merges: bool, count: usize) -> Option<Self>
-        ensures { IfSome result (λ q. (q.waiting ≡ []) × (IsTrue merges → count ≤ q.room)) }
+        ensures { IfSome result (λ q. q ≡ queue [] (if merges then count else 0)) }
     {
         let room = if merges { count } else { 0 };
         match BinaryHeap::with_capacity(alloc, room) {

@@ -1,6 +1,6 @@
 -- Decision trees of cases: they read as one case after the other, and have few tests.
 use Rattle.flt_gen.proofs.Ascending.{if_case, each_is}
-use Rattle.flt_gen.proofs.Common.{◌≡◌, ℕ, zero, suc, ◌+◌, ◌-◌, ◌*◌, ◌^◌, ◌<◌, ◌≤◌, List, [], ◌∷◌, ◌++◌, length, map, take, drop, Bool, true, false, Option, Some, None, refl, sym, ap, ap₂, ◌∙◌, subst, arith, add-one, ◌==◌, ◌&&◌, nat_lt, nat_le, bit_and, nat_tests, and_parts, pow_pos, and_le_r, Tcp, Direction, Link, first_bits, Word, HalfWord, Byte, Width, Offset, Fixed, Equal, Elementary, Field, MatchResult, Yes, No, Rejected, reading_of, with, field_at, under_mask, compares, elementary_reads, network_offset, Formula, both, either, all_of, reads, partial_mask}
+use Rattle.flt_gen.proofs.Common.{◌≡◌, ℕ, zero, suc, ◌+◌, ◌-◌, ◌*◌, ◌^◌, ◌<◌, ◌≤◌, List, [], ◌∷◌, ◌++◌, length, map, max, length-take, take, drop, Bool, true, false, Option, Some, None, refl, sym, ap, ap₂, ◌∙◌, subst, arith, add-one, ◌==◌, ◌&&◌, nat_lt, nat_le, bit_and, nat_tests, and_parts, pow_pos, and_le_r, Tcp, Direction, Link, first_bits, Word, HalfWord, Byte, Width, Offset, Fixed, Equal, Elementary, Field, MatchResult, Yes, No, Rejected, reading_of, with, field_at, under_mask, compares, elementary_reads, network_offset, Formula, both, either, all_of, reads, partial_mask}
 use Rattle.flt_gen.proofs.Counted.{Bare, bare_within, bare_all, bare_one, bare_some, bare_both, bare_either, bare_split}
 use Rattle.flt_gen.proofs.Exclusive.{both_either, or_no, either_assoc, and_yes}
 use Rattle.flt_gen.proofs.{Needed.all_put, Once.equal_are, Together.word_small}
@@ -202,7 +202,7 @@ pub known_both : {r s : MatchResult} → Known r → Known s → Known (both r s
 known_both (true, e) (b, f) = (b, ap₂ both e f)
 known_both (false, e) (b, f) = (false, ap₂ both e f)
 
-known_either : {r s : MatchResult} → Known r → Known s → Known (either r s)
+pub known_either : {r s : MatchResult} → Known r → Known s → Known (either r s)
 known_either (true, e) (b, f) = (true, ap₂ either e f)
 known_either (false, e) (b, f) = (b, ap₂ either e f)
 
@@ -290,15 +290,6 @@ module _ (link : Link) (p : List ℕ) (n : ℕ) where
   all_over ([] ∷ rs) h some = refl
   all_over ((t ∷ ts) ∷ rs) h some = absurd h.0
 
-  -- single words that are captured
-  pub rows_known : (f : Offset × Width) (rs : List (List Elementary)) (x : ℕ) → Shapes (f ∷ []) rs → field_at f.0 f.1 p ≡ Some x → Known (read_all rs)
-  rows_known f [] x h e = (false, refl)
-  rows_known f ((Field t ∷ []) ∷ rs) x h e =
-      let r = word_read f t (h.0).0 (h.0).1 (h.0).2 ∙ ap (λ o. reading_of (with o (λ y. Some (under_mask t.mask y == t.value)))) e in
-      known_either (under_mask t.mask x == t.value, r) (rows_known f rs x h.1 e)
-  rows_known f ((Field t ∷ u ∷ us) ∷ rs) x h e = absurd (h.0).4
-  rows_known f (_ ∷ rs) x h e = absurd h.0
-
   -- ---- cases in another order
 
   swapped : (a b z : MatchResult) → (a ≡ Yes → b ≡ Rejected → ⊥) → (b ≡ Yes → a ≡ Rejected → ⊥) → either a (either b z) ≡ either b (either a z)
@@ -331,29 +322,30 @@ module _ (link : Link) (p : List ℕ) (n : ℕ) where
 -- ---- decisions
 
 module _ (link : Link) where
-  -- a formula reads as rows do, one after the other, and has few tests
-  abbrev Good : List (Offset × Width) → List (List Elementary) → Formula → Type 0
-  Good fs rs f = ((p : List ℕ) (n : ℕ) → reads link f p n ≡ read_all link p n rs) × (0 < length fs → 0 < length rs → Bare f (sizes rs + (length rs - 1)))
+  -- a formula reads as rows do, one after the other, and has few tests: one more for each row, but for
+  -- the few that are one after the other
+  abbrev Good : ℕ → List (Offset × Width) → List (List Elementary) → Formula → Type 0
+  Good few fs rs f = ((p : List ℕ) (n : ℕ) → reads link f p n ≡ read_all link p n rs) × (0 < length fs → 0 < length rs → Bare f (sizes rs + (length rs - max 1 few)))
 
   row_bare : (fs : List (Offset × Width)) (r : List Elementary) → Shape fs r → 0 < length fs → Bare (all_of r) (length r)
   row_bare fs r h some = let e = shape_length fs r h in bare_all r (length r) (omega arith) (omega arith)
 
-  chain_good : (by : Case → List Elementary) (w : ℕ) (fs : List (Offset × Width)) (cs : List Case) → Shapes fs (rows by w cs) → Good fs (rows by w cs) (chain by w cs)
-  chain_good by w fs [] h = (λ p n. refl, λ some l. absurd (omega arith))
-  chain_good by w fs (c ∷ []) h = (λ p n. sym (or_no _), λ some l. bare_within _ (omega arith) (row_bare fs (drop w (by c)) h.0 some))
-  chain_good by w fs (c ∷ d ∷ cs) h =
-      let more = chain_good by w fs (d ∷ cs) h.1 in
+  chain_good : (few : ℕ) (by : Case → List Elementary) (w : ℕ) (fs : List (Offset × Width)) (cs : List Case) → Shapes fs (rows by w cs) → Good few fs (rows by w cs) (chain by w cs)
+  chain_good few by w fs [] h = (λ p n. refl, λ some l. absurd (omega arith))
+  chain_good few by w fs (c ∷ []) h = (λ p n. sym (or_no _), λ some l. bare_within _ (omega arith) (row_bare fs (drop w (by c)) h.0 some))
+  chain_good few by w fs (c ∷ d ∷ cs) h =
+      let more = chain_good few by w fs (d ∷ cs) h.1 in
       (λ p n. ap (either (reads link (all_of (drop w (by c))) p n)) (more.0 p n), λ some l. bare_within _ (omega arith) (bare_either (row_bare fs (drop w (by c)) h.0 some) (more.1 some (omega arith))))
 
-  same_good : (next : Formula) (fs : List (Offset × Width)) (r : List Elementary) (rs : List (List Elementary)) → Shapes fs (r ∷ rs) → all_rows (Exactly (lowest (first r))) (r ∷ rs) ≡ true → ((gs : List (Offset × Width)) → Shapes gs (map rest (r ∷ rs)) → Good gs (map rest (r ∷ rs)) next) → Good fs (r ∷ rs) (same_word (first r) (first (rest r)) next)
-  same_good next fs [] rs h a ok = cc
-  same_good next (f ∷ []) (Field t ∷ []) rs h a ok = (
+  same_good : (few : ℕ) (next : Formula) (fs : List (Offset × Width)) (r : List Elementary) (rs : List (List Elementary)) → Shapes fs (r ∷ rs) → all_rows (Exactly (lowest (first r))) (r ∷ rs) ≡ true → ((gs : List (Offset × Width)) → Shapes gs (map rest (r ∷ rs)) → Good few gs (map rest (r ∷ rs)) next) → Good few fs (r ∷ rs) (same_word (first r) (first (rest r)) next)
+  same_good few next fs [] rs h a ok = cc
+  same_good few next (f ∷ []) (Field t ∷ []) rs h a ok = (
     λ p n. first_told link p n f [] t [] rs h.0 a ∙ sym (and_yes _)
         ∙ ap (both (by_field link p n f None t.value)) (sym (all_over link p n (map rest ((Field t ∷ []) ∷ rs)) (shapes_rest f [] ((Field t ∷ []) ∷ rs) h) (omega arith)))
         ∙ sym (same_read link p n f [] t.value ((Field t ∷ []) ∷ rs) h a (omega arith)),
     λ some l. bare_some _ (omega arith),
   )
-  same_good next (f ∷ fs) (Field t ∷ u ∷ us) rs h a ok =
+  same_good few next (f ∷ fs) (Field t ∷ u ∷ us) rs h a ok =
       let more = ok fs (shapes_rest f fs ((Field t ∷ u ∷ us) ∷ rs) h) in
       let long = shape_length fs (u ∷ us) (h.0).4 in
       let sum = sizes_rest f fs ((Field t ∷ u ∷ us) ∷ rs) h in
@@ -361,12 +353,12 @@ module _ (link : Link) where
         λ p n. ap₂ both (first_told link p n f fs t (u ∷ us) rs h.0 a) (more.0 p n) ∙ sym (same_read link p n f fs t.value ((Field t ∷ u ∷ us) ∷ rs) h a (omega arith)),
         λ some l. bare_within _ (omega arith) (bare_both (bare_one (Field t)) (more.1 (omega arith) (omega arith))),
       )
-  same_good next (f ∷ fs) (Field t ∷ []) rs h a ok = absurd (h.0).4
-  same_good next _ _ rs h a ok = absurd h.0
+  same_good few next (f ∷ fs) (Field t ∷ []) rs h a ok = absurd (h.0).4
+  same_good few next _ _ rs h a ok = absurd h.0
 
-  parted_good : (fs : List (Offset × Width)) (k : ℕ) (r : List Elementary) (lower upper : List (List Elementary)) (low high : Formula) → Shapes fs (r ∷ lower) → Shapes fs upper → all_rows (Below k) (r ∷ lower) ≡ true → all_rows (From k) upper ≡ true → Good fs (r ∷ lower) low → Good fs upper high → 0 < length upper → Good fs (r ∷ lower ++ upper) (Split (from_test (first r) k) high low)
-  parted_good fs k [] lower upper low high g h a b l m some = cc
-  parted_good (f ∷ fs) k (Field t ∷ ts) lower upper low high g h a b l m some =
+  parted_good : (few : ℕ) (fs : List (Offset × Width)) (k : ℕ) (r : List Elementary) (lower upper : List (List Elementary)) (low high : Formula) → Shapes fs (r ∷ lower) → Shapes fs upper → all_rows (Below k) (r ∷ lower) ≡ true → all_rows (From k) upper ≡ true → Good few fs (r ∷ lower) low → Good few fs upper high → 0 < length upper → few < length (r ∷ lower) + length upper → Good few fs (r ∷ lower ++ upper) (Split (from_test (first r) k) high low)
+  parted_good few fs k [] lower upper low high g h a b l m some many = cc
+  parted_good few (f ∷ fs) k (Field t ∷ ts) lower upper low high g h a b l m some many =
       let sum = sizes_append lower upper in
       let long = length-append lower upper in (
         λ p n. ap₂ (choose _) (m.0 p n) (l.0 p n)
@@ -375,40 +367,41 @@ module _ (link : Link) where
             ∙ sym (read_append link p n ((Field t ∷ ts) ∷ lower) upper),
         λ words z. bare_within _ (omega arith) (bare_split (m.1 words some) (l.1 words (omega arith))),
       )
-  parted_good _ k _ lower upper low high g h a b l m some = absurd g.0
+  parted_good few _ k _ lower upper low high g h a b l m some many = absurd g.0
 
-  decided_good : (few : ℕ) (by : Case → List Elementary) (next : ℕ → List Case → Formula) → ((w : ℕ) (fs : List (Offset × Width)) (cs : List Case) → Shapes fs (rows by w cs) → Good fs (rows by w cs) (next w cs)) → (w : ℕ) (fs : List (Offset × Width)) (cs : List Case) → Shapes fs (rows by w cs) → Good fs (rows by w cs) (decided few next by w cs)
+  decided_good : (few : ℕ) (by : Case → List Elementary) (next : ℕ → List Case → Formula) → ((w : ℕ) (fs : List (Offset × Width)) (cs : List Case) → Shapes fs (rows by w cs) → Good few fs (rows by w cs) (next w cs)) → (w : ℕ) (fs : List (Offset × Width)) (cs : List Case) → Shapes fs (rows by w cs) → Good few fs (rows by w cs) (decided few next by w cs)
   decided_good few by next ok w fs cs h =
-      if_case (Good fs (rows by w cs)) (nat_le (length cs) few) _ _ (λ e. chain_good by w fs cs h)
-      (λ e. if_case (Good fs (rows by w cs)) (all_keep by w (Exactly (lowest (test_at by w cs 0))) cs) _ _
+      if_case (Good few fs (rows by w cs)) (nat_le (length cs) few) _ _ (λ e. chain_good few by w fs cs h)
+      (λ e. if_case (Good few fs (rows by w cs)) (all_keep by w (Exactly (lowest (test_at by w cs 0))) cs) _ _
       (λ a. same cs h (let t : few < length cs = grind (arith, nat_tests) in omega arith) a)
-      (λ a. if_case (Good fs (rows by w cs)) (is_parted by w cs (middle by w cs)) _ _ (λ b. parts cs (middle by w cs) h b) (λ b. chain_good by w fs cs h)))
+      (λ a. if_case (Good few fs (rows by w cs)) (is_parted by w cs (middle by w cs)) _ _ (λ b. parts cs (middle by w cs) h (grind (arith, nat_tests)) b) (λ b. chain_good few by w fs cs h)))
     where
-      same : (ds : List Case) → Shapes fs (rows by w ds) → 0 < length ds → all_keep by w (Exactly (lowest (test_at by w ds 0))) ds ≡ true → Good fs (rows by w ds) (same_word (test_at by w ds 0) (test_at by (w + 1) ds 0) (next (w + 1) ds))
+      same : (ds : List Case) → Shapes fs (rows by w ds) → 0 < length ds → all_keep by w (Exactly (lowest (test_at by w ds 0))) ds ≡ true → Good few fs (rows by w ds) (same_word (test_at by w ds 0) (test_at by (w + 1) ds 0) (next (w + 1) ds))
       same [] h some a = absurd (omega arith)
       same (d ∷ ds) h some a =
-          subst (Good fs (rows by w (d ∷ ds))) (ap₂ (λ t u. same_word t u (next (w + 1) (d ∷ ds))) (sym (first_is (by d) w)) (sym (first_is (by d) (w + 1) ∙ ap first (rest_is (by d) w))))
-          (same_good (next (w + 1) (d ∷ ds)) fs (drop w (by d)) (rows by w ds) h
+          subst (Good few fs (rows by w (d ∷ ds))) (ap₂ (λ t u. same_word t u (next (w + 1) (d ∷ ds))) (sym (first_is (by d) w)) (sym (first_is (by d) (w + 1) ∙ ap first (rest_is (by d) w))))
+          (same_good few (next (w + 1) (d ∷ ds)) fs (drop w (by d)) (rows by w ds) h
           (ap (λ t. all_rows (Exactly (lowest t)) (rows by w (d ∷ ds))) (sym (first_is (by d) w)) ∙ sym (kept_rows by w (Exactly (lowest (word_test by w d))) (d ∷ ds)) ∙ a)
-          (λ gs g. let same = rows_rest by w (d ∷ ds) in subst (λ rs. Good gs rs (next (w + 1) (d ∷ ds))) same (ok (w + 1) gs (d ∷ ds) (subst (Shapes gs) (sym same) g))))
+          (λ gs g. let same = rows_rest by w (d ∷ ds) in subst (λ rs. Good few gs rs (next (w + 1) (d ∷ ds))) same (ok (w + 1) gs (d ∷ ds) (subst (Shapes gs) (sym same) g))))
 
-      parts : (ds : List Case) (at : ℕ) → Shapes fs (rows by w ds) → is_parted by w ds at ≡ true → Good fs (rows by w ds) (Split (from_test (test_at by w ds 0) (lowest (test_at by w ds at))) (next w (drop at ds)) (next w (take at ds)))
-      parts [] at h e = absurd (let a = and_parts (nat_lt 0 at) _ e in let b = and_parts (nat_lt at 0) _ a.1 in let t = b.0 in let no : at < 0 = grind (arith, nat_tests) in omega arith)
-      parts (d ∷ ds) zero h e = cc
-      parts (d ∷ ds) (suc at) h e =
+      parts : (ds : List Case) (at : ℕ) → Shapes fs (rows by w ds) → few < length ds → is_parted by w ds at ≡ true → Good few fs (rows by w ds) (Split (from_test (test_at by w ds 0) (lowest (test_at by w ds at))) (next w (drop at ds)) (next w (take at ds)))
+      parts [] at h many e = absurd (let a = and_parts (nat_lt 0 at) _ e in let b = and_parts (nat_lt at 0) _ a.1 in let t = b.0 in let no : at < 0 = grind (arith, nat_tests) in omega arith)
+      parts (d ∷ ds) zero h many e = cc
+      parts (d ∷ ds) (suc at) h many e =
           let k = lowest (test_at by w (d ∷ ds) (suc at)) in
           let b = and_parts (nat_lt (suc at) (length (d ∷ ds))) _ (and_parts (nat_lt 0 (suc at)) _ e).1 in
           let c = and_parts (all_keep by w (Below k) (d ∷ take at ds)) (all_keep by w (From k) (drop at ds)) b.1 in
           let shapes = shapes_parts fs by w (suc at) (d ∷ ds) h in
           let some : suc at < length (d ∷ ds) = (let t = b.0 in grind (arith, nat_tests)) in
-          subst (λ rs. Good fs rs (Split (from_test (word_test by w d) k) (next w (drop at ds)) (next w (d ∷ take at ds)))) (rows_parts by w (suc at) (d ∷ ds))
-          (subst (λ t. Good fs (rows by w (d ∷ take at ds) ++ rows by w (drop at ds)) (Split (from_test t k) (next w (drop at ds)) (next w (d ∷ take at ds)))) (sym (first_is (by d) w))
-          (parted_good fs k (drop w (by d)) (rows by w (take at ds)) (rows by w (drop at ds)) (next w (d ∷ take at ds)) (next w (drop at ds)) shapes.0 shapes.1 (sym (kept_rows by w (Below k) (d ∷ take at ds)) ∙ c.0) (sym (kept_rows by w (From k) (drop at ds)) ∙ c.1)
-          (ok w fs (d ∷ take at ds) shapes.0) (ok w fs (drop at ds) shapes.1) (omega (arith, length-map (drop at ds) (λ (c : Case). drop w (by c)), length-drop at ds))))
+          subst (λ rs. Good few fs rs (Split (from_test (word_test by w d) k) (next w (drop at ds)) (next w (d ∷ take at ds)))) (rows_parts by w (suc at) (d ∷ ds))
+          (subst (λ t. Good few fs (rows by w (d ∷ take at ds) ++ rows by w (drop at ds)) (Split (from_test t k) (next w (drop at ds)) (next w (d ∷ take at ds)))) (sym (first_is (by d) w))
+          (parted_good few fs k (drop w (by d)) (rows by w (take at ds)) (rows by w (drop at ds)) (next w (d ∷ take at ds)) (next w (drop at ds)) shapes.0 shapes.1 (sym (kept_rows by w (Below k) (d ∷ take at ds)) ∙ c.0) (sym (kept_rows by w (From k) (drop at ds)) ∙ c.1)
+          (ok w fs (d ∷ take at ds) shapes.0) (ok w fs (drop at ds) shapes.1) (omega (arith, length-map (drop at ds) (λ (c : Case). drop w (by c)), length-drop at ds))
+          (omega (arith, length-map (take at ds) (λ (c : Case). drop w (by c)), length-map (drop at ds) (λ (c : Case). drop w (by c)), length-drop at ds, length-take at ds))))
 
-  pub decision_good : (by : Case → List Elementary) (few k w : ℕ) (fs : List (Offset × Width)) (cs : List Case) → Shapes fs (rows by w cs) → Good fs (rows by w cs) (decision few k by w cs)
+  pub decision_good : (by : Case → List Elementary) (few k w : ℕ) (fs : List (Offset × Width)) (cs : List Case) → Shapes fs (rows by w cs) → Good few fs (rows by w cs) (decision few k by w cs)
   unfolding decision
-  decision_good by few zero w fs cs h = chain_good by w fs cs h
+  decision_good by few zero w fs cs h = chain_good few by w fs cs h
   decision_good by few (suc k) w fs cs h = decided_good few by (decision few k by) (decision_good by few k) w fs cs h
 
 -- ---- cases that have the words of one

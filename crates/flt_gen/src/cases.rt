@@ -1,14 +1,15 @@
 //! Lists of MAC addresses, of addresses and networks of IPv6, and of protocol numbers, each on one
 //! side, and of relations of one accessor, as decision trees: the first words are compared by
 //! halves, and then the next ones. Each test loads its word; `flt_short` leaves out repeated loads.
-//! Hosts of IPv6 on either side are a tree for each side, if they differ only in the last word.
+//! Hosts of IPv6 on either side are a tree for each side, if their first two words are alike.
 
-ghost use Rattle.std.specs.Prelude.{◌≡◌, drop, OnOk};
+ghost use Rattle.std.specs.Prelude.{◌≡◌, drop, length, reverse, OnOk};
 ghost use Rattle.flt_gen.specs.inside.Cases.{case_of, same_words, key_of, insert_case, case_front};
 ghost use Rattle.flt_gen.specs.inside.Cases.{case_tests, lowest, reach, word_test, keeps, all_keep};
 ghost use Rattle.flt_gen.specs.inside.Cases.{test_at, from_test, middle, is_parted, chain};
 ghost use Rattle.flt_gen.specs.inside.{Emits.Emits, Code.emit_all, Code.emit_formula};
 ghost use Rattle.flt_gen.specs.inside.Cases.{decision, cases_formula, either_ip6, sides_decision};
+ghost use Rattle.flt_gen.specs.inside.Cases.{few_of, unasked, asked, share_third};
 ghost use Rattle.flt_gen.specs.inside.Emits.{EmitsFormula};
 
 use crate::address::{ip6_test, ip6_tests};
@@ -16,6 +17,7 @@ use crate::code::{Code, Targets};
 use crate::elementary::{
     Elementary, FieldTest, FrameKind, has_ip_proto, has_ip6_proto, kind_test, network_offset,
 };
+use crate::group::Entry;
 use crate::number::emit_protocol_tests;
 use crate::protocol::mac_tests;
 use crate::relation::{Relation, relation_test};
@@ -24,18 +26,28 @@ use flt_ast::{CompleteQualifiers, Direction, Value};
 use flt_words::{Comparison, Join, Protocol, Side, ValueType};
 use std::alloc::{AllocError, Allocator};
 
-/// How many cases of several words are compared one after the other.
-const FEW_CASES: usize = 2;
+/// How many cases of several words are compared one after the other, at most. Each half of more has
+/// 7 at least, of 3 instructions each, so the tests between halves make a list longer by 5 % at most.
+const MOST_OF_WORDS: usize = 13;
 
-/// How many cases of one word are, at most. Each half of more has 20 at least, so the tests between
-/// halves make a list longer by 5 % at most.
+/// How many MAC addresses are in a list of this many, at most: it is longer, and takes fewer steps.
+const MOST_OF_LONG: usize = 4;
+
+const LONG_LIST: usize = 40;
+
+/// How many cases of one word are compared one after the other, at most. Each half of more has 20 at
+/// least, so the tests between halves make a list longer by 5 % at most.
 const MOST_IN_TURN: usize = 40;
+
+/// How many hosts of either side are, at most: with fewer, both trees might have more tests than the
+/// hosts have one after the other.
+const FEW_HOSTS: usize = 6;
 
 /// How often cases are halved, or all have the same word, at most.
 const MOST_DECISIONS: usize = 64;
 
-/// An address of IPv6 divided by this is all of its words but the last.
-const LAST_WORD: u128 = 0x1_0000_0000;
+/// An address of IPv6 divided by this is its first two words.
+const LAST_WORDS: u128 = 0x1_0000_0000_0000_0000;
 
 /// A value that is compared word by word.
 #[derive(Clone, Copy)]
@@ -84,8 +96,8 @@ pub fn case_of(qualifiers: CompleteQualifiers, value: Value) -> Option<Case>
     }
 }
 
-/// Whether both are compared in the same words, which for either side have to differ only in the
-/// last.
+/// Whether both are compared in the same words, of which for either side the first two have to be
+/// alike.
 pub fn same_words(one: Case, other: Case) -> bool
     ensures { result ≡ same_words one other }
 {
@@ -94,7 +106,7 @@ pub fn same_words(one: Case, other: Case) -> bool
         | (Case::Ip6(_, _), Case::Ip6(_, _))
         | (Case::IpProto(_), Case::IpProto(_))
         | (Case::Ip6Proto(_), Case::Ip6Proto(_)) => true,
-        (Case::EitherIp6(one), Case::EitherIp6(other)) => one / LAST_WORD == other / LAST_WORD,
+        (Case::EitherIp6(one), Case::EitherIp6(other)) => one / LAST_WORDS == other / LAST_WORDS,
         (Case::Relation(one), Case::Relation(other)) => {
             one.protocol == other.protocol && one.size == other.size && one.index == other.index
         }
@@ -243,6 +255,27 @@ fn is_parted(link: Link, direction: Direction, word: usize, cases: &[Case], at: 
         && all_keep(link, direction, word, Bound::From(number), &cases[at..])
 }
 
+/// Whether hosts of either side have the third word in common.
+fn share_third(link: Link, cases: &[Case]) -> bool
+    ensures { result ≡ share_third link cases.now }
+{
+    let side = Direction::One(Side::Source);
+    let third = lowest(test_at(link, side, 2, cases, 0));
+    all_keep(link, side, 2, Bound::Exactly(third), cases)
+}
+
+/// How many of some cases with the words of this one are compared one after the other, at most.
+fn few_of(one: Case, count: usize) -> usize
+    ensures { result ≡ few_of one count }
+{
+    let half = count - count / 2;
+    match one {
+        Case::Mac(_) if count >= LONG_LIST => MOST_OF_LONG,
+        Case::Mac(_) | Case::Ip6(_, _) => half.min(MOST_OF_WORDS),
+        _ => half.min(MOST_IN_TURN),
+    }
+}
+
 impl<A: Allocator> Code<A> {
     /// Emits the tests of a case from a word on, which all have to hold. Returns the place where
     /// they begin; for no test that is `to.yes`. It calls itself for each: they are few.
@@ -325,35 +358,93 @@ impl<A: Allocator> Code<A> {
         self.emit_elementary(from_test(test, number), Targets { yes, no })
     }
 
-    /// Emits if either side is one of some hosts of IPv6 that differ only in the last word. The
-    /// first in the expression is `address`. If the source is another one, the words of the
-    /// destination are asked for, as a test of the first one would: the packet is rejected if
-    /// one of them isn't captured.
+    /// Emits if the source is that of one of some hosts, in the words that may differ, and the
+    /// third word of the destination isn't that of one in front of it.
+    fn emit_unasked(
+        &mut self,
+        link: Link,
+        entries: &[Entry],
+        to: Targets,
+    ) -> Result<usize, AllocError>
+        ensures { EmitsFormula link (unasked link (reverse entries.now)) to self.old result
+            self.new }
+    {
+        let start = network_offset(link);
+        let mut at = to.yes;
+        for entry in entries {
+            if let Entry::Value(_, Value::Ip6(address, _)) = *entry {
+                let source = ip6_tests(None, address, start + 8);
+                let third = ip6_test(None, address, start + 24, 2);
+                let no = self.emit_elementary(third, Targets { yes: to.no, no: at })?;
+                at = self.emit_tests(false, &source[2..], Targets { yes: to.yes, no })?;
+            }
+        }
+        Ok(at)
+    }
+
+    /// Emits what is asked of the destination if the source is that of one of some hosts, of which
+    /// `address` is the first: as much as tests of the hosts in front of it read of the destination
+    /// has to be captured.
+    fn emit_asked(
+        &mut self,
+        link: Link,
+        address: u128,
+        share_third: bool,
+        entries: &[Entry],
+        to: Targets,
+    ) -> Result<usize, AllocError>
+        ensures { EmitsFormula link (asked link address share_third (reverse entries.now)) to
+            self.old result self.new }
+    {
+        let words = ip6_tests(None, address, network_offset(link) + 24);
+        let yes = to.yes;
+        let last = self.emit_tests(false, &words[3..], Targets { yes, no: yes })?;
+        if share_third {
+            return self.emit_tests(false, &words[..3], Targets { yes: last, no: yes });
+        }
+        let other = self.emit_unasked(link, entries, Targets { yes, no: last })?;
+        self.emit_tests(
+            false,
+            &words[..2],
+            Targets {
+                yes: other,
+                no: yes,
+            },
+        )
+    }
+
+    /// Emits if either side is one of some hosts of IPv6 whose first two words are alike. The first
+    /// in the expression is `address`.
     fn emit_either_ip6(
         &mut self,
         link: Link,
         address: u128,
         cases: &[Case],
+        entries: &[Entry],
         to: Targets,
     ) -> Result<usize, AllocError>
-        ensures { EmitsFormula link (either_ip6 link address cases.now) to self.old result self.new }
+        ensures { EmitsFormula link (either_ip6 link address cases.now (reverse entries.now)) to
+            self.old result self.new }
     {
         let start = network_offset(link);
         let source = ip6_tests(None, address, start + 8);
         let destination = ip6_tests(None, address, start + 24);
         let (yes, no) = (to.yes, to.no);
         let side = Direction::One(Side::Destination);
-        let found = self.emit_decision(MOST_DECISIONS, FEW_CASES, link, side, 3, cases, to)?;
-        let other = self.emit_tests(false, &destination[..3], Targets { yes: found, no })?;
-        let asked = self.emit_tests(false, &destination, Targets { yes, no: yes })?;
-        let yes = self.emit_tests(false, &source[3..], Targets { yes, no: asked })?;
+        let found = self.emit_decision(MOST_DECISIONS, FEW_HOSTS, link, side, 2, cases, to)?;
+        let other = self.emit_tests(false, &destination[..2], Targets { yes: found, no })?;
+        let shared = share_third(link, cases);
+        let to = Targets { yes, no: other };
+        let asked = self.emit_asked(link, address, shared, entries, to)?;
+        let yes = self.emit_tests(false, &source[2..], Targets { yes, no: asked })?;
         let side = Direction::One(Side::Source);
         let to = Targets { yes, no: other };
-        let yes = self.emit_decision(MOST_DECISIONS, FEW_CASES, link, side, 3, cases, to)?;
-        self.emit_tests(false, &source[..3], Targets { yes, no: other })
+        let yes = self.emit_decision(MOST_DECISIONS, FEW_HOSTS, link, side, 2, cases, to)?;
+        self.emit_tests(false, &source[..2], Targets { yes, no: other })
     }
 
-    /// Emits cases with the words of one; `key` is that of the first in the expression.
+    /// Emits cases with the words of one, which are these entries; `key` is that of the first in the
+    /// expression.
     fn emit_cases_like(
         &mut self,
         link: Link,
@@ -361,18 +452,20 @@ impl<A: Allocator> Code<A> {
         key: u128,
         one: Case,
         cases: &[Case],
+        entries: &[Entry],
         to: Targets,
     ) -> Result<usize, AllocError>
-        ensures { EmitsFormula link (sides_decision link direction key one cases.now) to self.old
+        ensures { EmitsFormula link
+            (sides_decision link direction key one cases.now (reverse entries.now)) to self.old
             result self.new }
     {
+        let few = few_of(one, cases.len());
         match one {
-            Case::EitherIp6(_) => self.emit_either_ip6(link, key, cases, to),
-            Case::Mac(_) | Case::Ip6(_, _) => {
-                self.emit_decision(MOST_DECISIONS, FEW_CASES, link, direction, 0, cases, to)
+            Case::EitherIp6(_) => self.emit_either_ip6(link, key, cases, entries, to),
+            Case::Mac(_) | Case::Ip6(_, _) | Case::IpProto(_) | Case::Ip6Proto(_) => {
+                self.emit_decision(MOST_DECISIONS, few, link, direction, 0, cases, to)
             }
-            Case::IpProto(_) | Case::Ip6Proto(_) | Case::Relation(_) => {
-                let few = (cases.len() - cases.len() / 2).min(MOST_IN_TURN);
+            Case::Relation(_) => {
                 self.emit_decision(MOST_DECISIONS, few, link, direction, 0, cases, to)
             }
         }
@@ -394,23 +487,25 @@ impl<A: Allocator> Code<A> {
         self.emit_elementary(kind_test(link, kind), to)
     }
 
-    /// Emits cases that look for a value, after the tests in front of them. `key` is the first's in
-    /// the expression. Returns the place where the code begins.
+    /// Emits cases, which are these entries, after the tests in front of them. `key` is the first's
+    /// in the expression. Returns the place where the code begins.
     pub fn emit_cases(
         &mut self,
         link: Link,
         direction: Direction,
         key: u128,
         cases: &[Case],
+        entries: &[Entry],
         to: Targets,
     ) -> Result<usize, AllocError>
-        ensures { EmitsFormula link (cases_formula link direction key cases.now) to self.old result
+        ensures { EmitsFormula link
+            (cases_formula link direction key cases.now (reverse entries.now)) to self.old result
             self.new }
     {
         let [first, ..] = cases else {
             return Ok(to.no);
         };
-        let yes = self.emit_cases_like(link, direction, key, *first, cases, to)?;
+        let yes = self.emit_cases_like(link, direction, key, *first, cases, entries, to)?;
         self.emit_front(link, *first, Targets { yes, no: to.no })
     }
 }

@@ -39,6 +39,10 @@ const FEWEST_RANGES: usize = 3;
 /// How many cases are decided together at least: fewer are shorter one after the other.
 const FEWEST_CASES: usize = 8;
 
+/// How many addresses and networks of IPv6 on one side are: a word of a network of which no bit
+/// counts is loaded there, but not one after the other.
+const FEWEST_ADDRESSES: usize = 20;
+
 /// A member: a value with its qualifiers, or a relation.
 #[derive(Clone, Copy)]
 pub enum Entry {
@@ -288,12 +292,11 @@ impl<A: Allocator> Group<A> {
     fn is_searched(&self) -> bool
         ensures { result ≡ is_searched self.now }
     {
-        let fewest = if !self.cases.is_empty() {
-            FEWEST_CASES
-        } else if self.is_plain {
-            2
-        } else {
-            FEWEST_RANGES
+        let fewest = match self.cases.first() {
+            None if self.is_plain => 2,
+            None => FEWEST_RANGES,
+            Some(Case::Ip6(_, _)) => FEWEST_ADDRESSES,
+            Some(_) => FEWEST_CASES,
         };
         self.entries.entries().len() >= fewest
     }
@@ -314,7 +317,8 @@ impl<A: Allocator> Group<A> {
         }
         if !self.cases.is_empty() {
             let direction = self.qualifiers.direction;
-            return code.emit_cases(link, direction, self.first_key, &self.cases, to);
+            let (key, entries) = (self.first_key, self.entries.entries());
+            return code.emit_cases(link, direction, key, &self.cases, entries, to);
         }
         let has_networks = self.has_networks();
         let numbers = self.room.numbers(has_networks, self.first, &self.all)?;

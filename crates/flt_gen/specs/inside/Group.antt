@@ -196,15 +196,19 @@ FEWEST_RANGES = 3
 abbrev pub FEWEST_CASES : ℕ
 FEWEST_CASES = 8
 
--- how many members are looked for together at least
-abbrev pub fewest : Group → ℕ
-fewest group =
-    if not (has_none group.cases) then FEWEST_CASES else
-    (if group.is_plain then 2 else FEWEST_RANGES)
+-- how many addresses and networks of IPv6 on one side are
+abbrev pub FEWEST_ADDRESSES : ℕ
+FEWEST_ADDRESSES = 20
+
+-- how many members are looked for together at least: as cases, or as numbers, which may be one each
+abbrev pub fewest : List Case → Bool → ℕ
+fewest [] is_plain = if is_plain then 2 else FEWEST_RANGES
+fewest (Case.Ip6 n a ∷ cs) is_plain = FEWEST_ADDRESSES
+fewest (c ∷ cs) is_plain = FEWEST_CASES
 
 -- the members are looked for together
 abbrev pub is_searched : Group → Bool
-is_searched group = nat_le (fewest group) (length group.entries)
+is_searched group = nat_le (fewest group.cases group.is_plain) (length group.entries)
 
 -- addresses of IPv4 are looked for
 abbrev pub is_address : ValueType → Bool
@@ -249,7 +253,7 @@ abbrev pub together_formula : Link → Group → List Case → Formula
 together_formula link group [] =
     several_formula link group.qualifiers group.qualifiers.value_type (numbers_of group)
 together_formula link group (c ∷ cs) =
-    cases_formula link group.qualifiers.direction group.first_key (c ∷ cs)
+    cases_formula link group.qualifiers.direction group.first_key (c ∷ cs) group.entries
 
 -- a packet has one of the members
 abbrev pub group_formula : Link → Group → Formula
