@@ -61,6 +61,7 @@ EXPRESSIONS = {
     "macs-40": " or ".join("ether src 00" + "".join(f":{chooser.randrange(256):02x}" for _ in range(5)) for _ in range(40)),
     "ip6-256": " or ".join(f"src host 2001:db8::{k:x}" for k in range(256)),
     "ip6-hosts-256": " or ".join(f"host 2001:db8::{k:x}" for k in range(256)),
+    "ip6-hosts-64": " or ".join(f"host 2001:db8::{k:x}:0:{k:x}" for k in range(256)),
     "bytes-30": " or ".join(f"tcp[0:2] = {port}" for port in PORTS[::10]),
 }
 

@@ -1,7 +1,7 @@
 //! Lists of MAC addresses, of addresses and networks of IPv6, and of protocol numbers, each on one
 //! side, and of relations of one accessor, as decision trees: the first words are compared by
 //! halves, and then the next ones. Each test loads its word; `flt_short` leaves out repeated loads.
-//! Hosts of IPv6 on either side are a tree for each side, if their first two words are alike.
+//! Hosts of IPv6 on either side are a tree for each side, if they have the first two words in common.
 
 ghost use Rattle.std.specs.Prelude.{◌≡◌, drop, length, reverse, OnOk};
 ghost use Rattle.flt_gen.specs.inside.Cases.{case_of, same_words, key_of, insert_case, case_front};
@@ -96,8 +96,8 @@ pub fn case_of(qualifiers: CompleteQualifiers, value: Value) -> Option<Case>
     }
 }
 
-/// Whether both are compared in the same words, of which for either side the first two have to be
-/// alike.
+/// Whether both are compared in the same words, of which hosts on either side have the first two in
+/// common.
 pub fn same_words(one: Case, other: Case) -> bool
     ensures { result ≡ same_words one other }
 {
@@ -413,8 +413,8 @@ impl<A: Allocator> Code<A> {
         )
     }
 
-    /// Emits if either side is one of some hosts of IPv6 whose first two words are alike. The first
-    /// in the expression is `address`.
+    /// Emits if either side is one of some hosts of IPv6, which have the first two words in common.
+    /// The first in the expression is `address`.
     fn emit_either_ip6(
         &mut self,
         link: Link,

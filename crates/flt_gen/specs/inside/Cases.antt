@@ -32,7 +32,7 @@ case_of Proto (Some Protocol.Ip) d (Value.Number n m) = Some (IpProto n)
 case_of Proto (Some Protocol.Ip6) d (Value.Number n m) = Some (Ip6Proto n)
 case_of _ _ _ _ = None
 
--- both are compared in the same words, of which for either side the first two have to be alike
+-- both are compared in the same words, of which hosts on either side have the first two in common
 abbrev pub same_words : Case → Case → Bool
 same_words (Mac a) (Mac b) = true
 same_words (Ip6 m a) (Ip6 n b) = true
