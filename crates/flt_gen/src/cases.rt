@@ -1,7 +1,7 @@
 //! Lists of MAC addresses, of addresses and networks of IPv6, and of protocol numbers, each on one
 //! side, and of relations of one accessor, as decision trees: the first words are compared by
 //! halves, and then the next ones. Each test loads its word; `flt_short` leaves out repeated loads.
-//! Hosts of IPv6 on either side are a tree for each side, if they have the first two words in common.
+//! Hosts of IPv6 on either side that have the first two words in common are a tree for each side.
 
 ghost use Rattle.std.specs.Prelude.{◌≡◌, drop, length, reverse, OnOk};
 ghost use Rattle.flt_gen.specs.inside.Cases.{case_of, same_words, key_of, insert_case, case_front};
@@ -26,8 +26,9 @@ use flt_ast::{CompleteQualifiers, Direction, Value};
 use flt_words::{Comparison, Join, Protocol, Side, ValueType};
 use std::alloc::{AllocError, Allocator};
 
-/// How many cases of several words are compared one after the other, at most. Each half of more has
-/// 7 at least, of 3 instructions each, so the tests between halves make a list longer by 5 % at most.
+/// How many cases of several words are compared one after the other, at most. Each half of more
+/// has 7 at least, of 3 instructions each, so the tests between halves make a list longer by 5 % at
+/// most.
 const MOST_OF_WORDS: usize = 13;
 
 /// How many MAC addresses are in a list of this many, at most: it is longer, and takes fewer steps.
@@ -35,12 +36,12 @@ const MOST_OF_LONG: usize = 4;
 
 const LONG_LIST: usize = 40;
 
-/// How many cases of one word are compared one after the other, at most. Each half of more has 20 at
-/// least, so the tests between halves make a list longer by 5 % at most.
+/// How many cases of one word are compared one after the other, at most. Each half of more has 20
+/// at least, so the tests between halves make a list longer by 5 % at most.
 const MOST_IN_TURN: usize = 40;
 
-/// How many hosts of either side are, at most: with fewer, both trees might have more tests than the
-/// hosts have one after the other.
+/// How many hosts of either side are, at most: with fewer, both trees might have more tests than
+/// the hosts have one after the other.
 const FEW_HOSTS: usize = 6;
 
 /// How often cases are halved, or all have the same word, at most.
@@ -443,8 +444,8 @@ impl<A: Allocator> Code<A> {
         self.emit_tests(false, &source[..2], Targets { yes, no: other })
     }
 
-    /// Emits cases with the words of one, which are these entries; `key` is that of the first in the
-    /// expression.
+    /// Emits cases with the words of one, which are these entries; `key` is that of the first in
+    /// the expression.
     fn emit_cases_like(
         &mut self,
         link: Link,

@@ -208,9 +208,9 @@ unasked link (Entry.Value q (Value.Ip6 a n) ∷ es) =
     (Both (Except (Single (ip6_test None a (network_offset link + 24) 2))) (unasked link es))
 unasked link (e ∷ es) = unasked link es
 
--- the source is that of a host, of which the first is a. So yes, unless a test of a host in front of
--- it reads a word of the destination that isn't captured. All have the first two words in common, and
--- maybe the third one too
+-- the source is that of a host, of which the first is a. So yes, unless a test of a host in front
+-- of it reads a word of the destination that isn't captured. All have the first two words in common,
+-- and maybe the third one too
 abbrev pub asked : Link → ℕ → Bool → List Entry → Formula
 asked link a true es =
     let d = ip6_tests None a (network_offset link + 24) in
@@ -226,8 +226,8 @@ share_third link cs =
     let tests = case_tests link (Direction.One Source) in
     all_keep tests 2 (Exactly (lowest (test_at tests 2 cs 0))) cs
 
--- either side is one of some hosts of IPv6, which have the first two words in common: the entries, of
--- which the first is a, or as cases
+-- either side is one of some hosts of IPv6, which have the first two words in common: the entries,
+-- of which the first is a, or as cases
 abbrev pub either_ip6 : Link → ℕ → List Case → List Entry → Formula
 either_ip6 link a cs es =
     let s = ip6_tests None a (network_offset link + 8) in
