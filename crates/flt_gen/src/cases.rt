@@ -31,9 +31,10 @@ use std::alloc::{AllocError, Allocator};
 /// most.
 const MOST_OF_WORDS: usize = 13;
 
-/// How many MAC addresses are in a list of this many, at most: it is longer, and takes fewer steps.
+/// How many MAC addresses of a long list are, at most: it is longer then, and takes fewer steps.
 const MOST_OF_LONG: usize = 4;
 
+/// How many MAC addresses make a list long.
 const LONG_LIST: usize = 40;
 
 /// How many cases of one word are compared one after the other, at most. Each half of more has 20
@@ -403,15 +404,8 @@ impl<A: Allocator> Code<A> {
         if share_third {
             return self.emit_tests(false, &words[..3], Targets { yes: last, no: yes });
         }
-        let other = self.emit_unasked(link, entries, Targets { yes, no: last })?;
-        self.emit_tests(
-            false,
-            &words[..2],
-            Targets {
-                yes: other,
-                no: yes,
-            },
-        )
+        let at = self.emit_unasked(link, entries, Targets { yes, no: last })?;
+        self.emit_tests(false, &words[..2], Targets { yes: at, no: yes })
     }
 
     /// Emits if either side is one of some hosts of IPv6, which have the first two words in common.
@@ -463,10 +457,11 @@ impl<A: Allocator> Code<A> {
         let few = few_of(one, cases.len());
         match one {
             Case::EitherIp6(_) => self.emit_either_ip6(link, key, cases, entries, to),
-            Case::Mac(_) | Case::Ip6(_, _) | Case::IpProto(_) | Case::Ip6Proto(_) => {
-                self.emit_decision(MOST_DECISIONS, few, link, direction, 0, cases, to)
-            }
-            Case::Relation(_) => {
+            Case::Mac(_)
+            | Case::Ip6(_, _)
+            | Case::IpProto(_)
+            | Case::Ip6Proto(_)
+            | Case::Relation(_) => {
                 self.emit_decision(MOST_DECISIONS, few, link, direction, 0, cases, to)
             }
         }

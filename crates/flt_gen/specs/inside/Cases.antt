@@ -150,10 +150,11 @@ is_parted tests word cs at =
 abbrev pub MOST_OF_WORDS : ℕ
 MOST_OF_WORDS = 13
 
--- how many MAC addresses are in a list of this many, at most
+-- how many MAC addresses of a long list are, at most
 abbrev pub MOST_OF_LONG : ℕ
 MOST_OF_LONG = 4
 
+-- how many MAC addresses make a list long
 abbrev pub LONG_LIST : ℕ
 LONG_LIST = 40
 
