@@ -1,12 +1,11 @@
 -- What is known holds of the packet and of the registers.
-use Rattle.flt_short.proofs.Common.{◌≡◌, ℕ, zero, suc, ◌+◌, ◌≤◌, ◌%◌, ◌^◌, List, [], ◌∷◌, length, Bool, true, false, Option, Some, None, refl, sym, ap, ◌∙◌, subst, arith, ◌⊎◌, inl, inr, ◌==◌, nat_lt, if◌then◌else◌, slice_set, slice_get, option_map, nat_tests, State, Operation, LoadAbsolute, LoadIndirect, Load, LoadHeaderLength, Store, Compute, Negate, CopyToIndex, CopyToAccumulator, Accumulator, Index, Immediate, Memory, Length, Constant, Byte, Insn, Next, Goes, does, into, word_into, with_register, goes_on_or_rejects, field, compute, header_length, operand_value, Field, Held, Known, same_optional, same_field, claims_nothing, allows, Implies, JoinsClaims, same_held, common_header, holds_field, known_after, masked_held, masked_by, and_parts, loaded, loaded_at, masked, value_of, IsThere, is_said, Says, HeldHolds, IndexHolds, Holds, HoldsAt, JoinsBy, JoinsFact, JoinsFacts, Arrives}
+use Rattle.flt_short.proofs.Common.{◌≡◌, ℕ, zero, suc, ◌+◌, ◌≤◌, ◌%◌, ◌^◌, List, [], ◌∷◌, length, Bool, true, false, Option, Some, None, refl, sym, ap, ◌∙◌, subst, arith, ◌⊎◌, inl, inr, ◌==◌, nat_lt, if◌then◌else◌, slice_set, slice_get, option_map, nat_tests, State, Operation, LoadAbsolute, LoadIndirect, Load, LoadHeaderLength, Store, Compute, Negate, CopyToIndex, CopyToAccumulator, Accumulator, Index, Immediate, Memory, Length, Constant, Byte, Insn, Next, Goes, does, into, word_into, with_register, goes_on_or_rejects, field, compute, header_length, operand_value, Field, Held, Known, same_optional, same_field, claims_nothing, Implies, JoinsClaims, same_held, common_header, holds_field, known_after, masked_held, masked_by, and_parts, loaded, loaded_at, masked, value_of, IsThere, is_said, Says, HeldHolds, IndexHolds, Holds, HoldsAt, JoinsBy, JoinsFact, JoinsFacts, Arrives}
 use Rattle.std.proofs.Common.{◌<◌, All, get_or, take}
 use Rattle.std.proofs.lemmas.List.{take_more_set, take_all}
 use Rattle.std.proofs.lemmas.List.Elements.{All-set, All-push}
 use Rattle.flt_bpf.specs.{Instructions.operation_of, declared.operation.AluOperation.AluOperation}
 use Rattle.flt_bpf.specs.declared.operation.{Register.Register}
 use Rattle.flt_short.specs.declared.facts.Claim.{Claim}
-use Rattle.flt_short.specs.declared.facts.Claim.TheVariants.{Nothing}
 use Rattle.flt_short.specs.declared.facts.Fact.{Fact}
 use Rattle.flt_short.specs.declared.facts.Held.TheVariants as held
 
@@ -34,18 +33,6 @@ same_value p n f g e =
     let k = q.1 in
     let mask = same_masks f.mask g.mask q.2 in
     cc
-
-nothing_allows : (c : Claim) (n : ℕ) → claims_nothing c ≡ true → allows c n ≡ true
-nothing_allows Nothing n e = refl
-nothing_allows _ n e = cc
-
-pub nothing_said : (o : Option ℕ) → is_said Nothing o ≡ true
-nothing_said None = refl
-nothing_said (Some n) = refl
-
-pub silent : (c : Claim) (o : Option ℕ) → claims_nothing c ≡ true → is_said c o ≡ true
-silent c None e = e
-silent c (Some n) e = nothing_allows c n e
 
 implied : (c d : Claim) (o : Option ℕ) → Implies c d → is_said c o ≡ true → is_said d o ≡ true
 implied c d None i h = i.1 h

@@ -228,10 +228,9 @@ module _ (p : List ℕ) (n : ℕ) where
     does_good Jump j i f s a x ha hx = cc
     does_good (JumpIf o Constant) j i f s a x ha hx = way i.jt i.jf j.jt j.jf f s s.accumulator x (λ z. refl) hx (test_holds o s.accumulator i.k)
     does_good (JumpIf o IndexRegister) j i f s a x ha hx = way i.jt i.jf j.jt j.jf f s s.accumulator s.index (λ z. refl) (λ z. refl) (test_holds o s.accumulator s.index)
-    does_good ReturnConstant j i f s a x ha hx = (λ b eb. eb, omega arith)
-    does_good ReturnAccumulator j i f s a x ha hx = (λ b eb. eb, omega arith)
     does_good CopyToIndex j i f s a x ha hx = set_x f s s.accumulator x (λ z. refl) s.accumulator
     does_good CopyToAccumulator j i f s a x ha hx = set_a f s a s.index (λ z. refl) s.index
+    does_good _ j i f s a x ha hx = (λ b eb. eb, omega arith)
 
   -- the same instruction
   same_good : (c is : List Insn) (ls : List Landing) (l : Landing) (all : AllLand c is ls) (low : l.place ≤ length c) (j i : Insn) (op : Option Operation) → operation_of i.code ≡ op → same_step c op j l i ls ≡ true → (s : State) (a x : ℕ) → Same l.accumulator a s.accumulator → Same l.index x s.index → AsGood (j ∷ code_from c (l.place - 1)) (i ∷ is) p n 0 0 (other s a x) s
@@ -281,33 +280,6 @@ module _ (p : List ℕ) (n : ℕ) where
       let does = coded_step ReturnConstant j s q.0 in
       (ap (answer_after (answer_of js p n)) does ∙ ap Some q.1, ap (λ o. suc (steps_after (steps_of js p n) o)) does)
 
-  -- what an operation does that can't fail: A and X are others, if it sets them
-  pub record Sets (op : Operation) (o : Next) (s : State) : Type 0 where
-    pub a : ℕ
-    pub x : ℕ
-    pub goes : o ≡ Goes 0 (other s a x)
-    pub keeps_a : not (sets_accumulator op) ≡ true → a ≡ s.accumulator
-    pub keeps_x : not (sets_index op) ≡ true → x ≡ s.index
-
-  sets_a : (op : Operation) (o : Next) (s : State) (v : ℕ) → o ≡ Goes 0 (other s v s.index) → sets_accumulator op ≡ true → Sets op o s
-  sets_a op o s v e t = record { a = v; x = s.index; goes = e; keeps_a = λ h. cc; keeps_x = λ h. refl }
-
-  sets_x : (op : Operation) (o : Next) (s : State) (v : ℕ) → o ≡ Goes 0 (other s s.accumulator v) → sets_index op ≡ true → Sets op o s
-  sets_x op o s v e t = record { a = s.accumulator; x = v; goes = e; keeps_a = λ h. refl; keeps_x = λ h. cc }
-
-  pub sure_sets : (op : Operation) (i : Insn) (s : State) → is_sure op ≡ true → Sets op (does op i p n s) s
-  sure_sets (Load Accumulator Immediate) i s e = sets_a _ _ s i.k refl refl
-  sure_sets (Load Accumulator Length) i s e = sets_a _ _ s n refl refl
-  sure_sets (Load Index Immediate) i s e = sets_x _ _ s i.k refl refl
-  sure_sets (Load Index Length) i s e = sets_x _ _ s n refl refl
-  sure_sets (Compute AluOperation.Divide o) i s e = cc
-  sure_sets (Compute AluOperation.Remainder o) i s e = cc
-  sure_sets (Compute operator o) i s e = sets_a _ _ s _ refl refl
-  sure_sets Negate i s e = sets_a _ _ s _ refl refl
-  sure_sets CopyToIndex i s e = sets_x _ _ s _ refl refl
-  sure_sets CopyToAccumulator i s e = sets_a _ _ s _ refl refl
-  sure_sets _ i s e = cc
-
   module _ (c is : List Insn) (ls : List Landing) (l : Landing) (all : AllLand c is ls) (i : Insn) (s : State) (a x : ℕ) (ha : Same l.accumulator a s.accumulator) (hx : Same l.index x s.index) where
     abbrev Left : Type 0
     Left = AsGood (code_from c l.place) (i ∷ is) p n 0 0 (other s a x) s
@@ -316,11 +288,24 @@ module _ (p : List ℕ) (n : ℕ) where
     kept true c u v w h g = λ e. h refl ∙ sym (g e)
     kept false c u v w h g = λ e. cc
 
+    -- an operation that can't fail: A and X are others, if it sets them
+    set_left : (op : Operation) (v w : ℕ) → operation_of i.code ≡ Some op → does op i p n s ≡ Goes 0 (other s v w) → (not (sets_accumulator op) ≡ true → v ≡ s.accumulator) → (not (sets_index op) ≡ true → w ≡ s.index) → lands_at c ls 0 l.place (l.accumulator && not (sets_accumulator op)) (l.index && not (sets_index op)) ≡ true → Left
+    set_left op v w o e keeps_a keeps_x f =
+        old_alone (code_from c l.place) is i 0 (other s a x) s (other s v w) (known_step p n i (Some op) s o ∙ e)
+        (landed c is ls all 0 l.place (l.accumulator && not (sets_accumulator op)) (l.index && not (sets_index op)) f (other s v w) a x (kept l.accumulator (not (sets_accumulator op)) a s.accumulator v ha keeps_a) (kept l.index (not (sets_index op)) x s.index w hx keeps_x))
+
     sure_left : (op : Operation) → operation_of i.code ≡ Some op → is_sure op ≡ true → lands_at c ls 0 l.place (l.accumulator && not (sets_accumulator op)) (l.index && not (sets_index op)) ≡ true → Left
-    sure_left op o e f =
-        let g = sure_sets op i s e in
-        old_alone (code_from c l.place) is i 0 (other s a x) s (other s g.a g.x) (known_step p n i (Some op) s o ∙ g.goes)
-        (landed c is ls all 0 l.place (l.accumulator && not (sets_accumulator op)) (l.index && not (sets_index op)) f (other s g.a g.x) a x (kept l.accumulator (not (sets_accumulator op)) a s.accumulator g.a ha g.keeps_a) (kept l.index (not (sets_index op)) x s.index g.x hx g.keeps_x))
+    sure_left (Load Accumulator Immediate) o e f = set_left _ i.k s.index o refl (λ h. cc) (λ h. refl) f
+    sure_left (Load Accumulator Length) o e f = set_left _ n s.index o refl (λ h. cc) (λ h. refl) f
+    sure_left (Load Index Immediate) o e f = set_left _ s.accumulator i.k o refl (λ h. refl) (λ h. cc) f
+    sure_left (Load Index Length) o e f = set_left _ s.accumulator n o refl (λ h. refl) (λ h. cc) f
+    sure_left (Compute AluOperation.Divide v) o e f = cc
+    sure_left (Compute AluOperation.Remainder v) o e f = cc
+    sure_left (Compute operator v) o e f = set_left _ _ s.index o refl (λ h. cc) (λ h. refl) f
+    sure_left Negate o e f = set_left _ _ s.index o refl (λ h. cc) (λ h. refl) f
+    sure_left CopyToIndex o e f = set_left _ s.accumulator s.accumulator o refl (λ h. refl) (λ h. cc) f
+    sure_left CopyToAccumulator o e f = set_left _ s.index s.index o refl (λ h. cc) (λ h. refl) f
+    sure_left _ o e f = cc
 
     rejected_left : (op : Operation) (j : Insn) (js : List Insn) → code_from c l.place ≡ j ∷ js → operation_of i.code ≡ Some op → rejects j ≡ true → goes_on_or_rejects op ≡ true → lands_at c ls 0 l.place (l.accumulator && not (sets_accumulator op)) (l.index && not (sets_index op)) ≡ true → Left
     rejected_left op j js d o r e f =

@@ -1,7 +1,7 @@
 -- There is room for one more instruction.
 use Rattle.std.proofs.Common.{length, drop, ap, arith, length-drop}
 use Rattle.flt_short.specs.inside.Layout.{PlacedCode}
-use Rattle.flt_short.proofs.Counted.{threefold}
+use Rattle.flt_short.proofs.Placed.{threefold}
 use Rattle.flt_short.proofs.layout.Layout.of_wide.Goals as goal
 
 pub lay_insn-requires : goal.lay_insn-requires
