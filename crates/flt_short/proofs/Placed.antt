@@ -1,7 +1,7 @@
 -- Wide code that is laid out: how many instructions it becomes, and that a jump stands only for a
 -- target that is too far for its test; that it gives the answers of the wide code; and that code
 -- without a fault stays so.
-use Rattle.flt_short.proofs.Common.{◌≡◌, ℕ, ◌+◌, ◌-◌, ◌*◌, ◌<◌, ◌≤◌, List, [], ◌∷◌, length, true, cond, Option, Some, refl, sym, arith, ◌≢◌, nat_le, count_by, nat_tests, All-cons, All-head, All-tail, Insn, Operation, Jump, JumpIf, is_branch, JUMP, MOST_OFFSET, HasNoJump, IsShort, back_of_code, PlacedCode, with_offsets, with_test_by, with_insn, placed_code, laid_out, zero, suc, Bool, false, ap, ◌∙◌, inl, inr, ◌⊎◌, slice_get, if◌then◌else◌, IsNeeded, JumpsAreNeeded, with_jump, is_near, with_way, way, place_at, subst, ◌==◌, ◌&&◌, nat_lt, All, All-take, All-replicate, State, answer_of, emitted, with_noted_jump, jump_near, None, ReturnConstant, ReturnAccumulator, Test, Operand, does_if_known, test_holds, operand_value, answer_after, ends_in_return, Load, Compute, Memory, unless, fault_if_known, is_return, IsFaultless, IsValidUnlessLong, Constant, plain_both, known_step}
+use Rattle.flt_short.proofs.Common.{◌≡◌, ℕ, ◌+◌, ◌-◌, ◌*◌, ◌<◌, ◌≤◌, List, [], ◌∷◌, length, true, cond, Option, Some, refl, sym, arith, ◌≢◌, nat_le, count_by, nat_tests, All-cons, All-head, All-tail, Insn, Operation, Jump, JumpIf, is_branch, JUMP, MOST_OFFSET, HasNoJump, IsShort, back_of_code, PlacedCode, with_offsets, with_test_by, with_insn, placed_code, laid_out, zero, suc, Bool, false, ap, ◌∙◌, inl, inr, ◌⊎◌, slice_get, if◌then◌else◌, IsNeeded, JumpsAreNeeded, with_jump, is_near, with_way, way, place_at, subst, ◌==◌, ◌&&◌, nat_lt, All, All-take, All-replicate, State, answer_of, emitted, with_noted_jump, jump_near, None, ReturnConstant, ReturnAccumulator, Test, Operand, does_if_known, test_holds, operand_value, answer_after, ends_in_return, Load, Compute, Memory, unless, fault_if_known, is_return, IsFaultless, IsValidUnlessLong, Constant, plain_both, known_step, length-drop}
 use Rattle.std.proofs.lemmas.List.Sums.{count_by-le-length, sum_by-cons}
 use Rattle.std.specs.Prelude.{slice_index}
 use Rattle.flt_bpf.proofs.{Jumps.jump_later, Jumps.needed_put, Suffix.valid_if_short}
@@ -41,6 +41,8 @@ at_most (i ∷ is) =
 -- three for each at most
 pub threefold : (wide : List Insn) → length (laid_out wide) ≤ 3 * length wide
 threefold wide = omega (arith, at_most wide, count_by-le-length (λ i. is_branch (operation_of i.code)) wide)
+
+pub ruleset room = (threefold, length-drop)
 
 -- in short code all targets are near: one instruction more, and no jump
 plain_put : (i : Insn) (c : List Insn) → i.code ≢ JUMP → HasNoJump c → IsShort (i ∷ c) (length c + 1)
