@@ -1,5 +1,5 @@
 -- What is known holds of the packet and of the registers.
-use Rattle.flt_short.proofs.Common.{◌≡◌, ℕ, zero, suc, ◌+◌, ◌≤◌, ◌%◌, ◌^◌, List, [], ◌∷◌, length, Bool, true, false, Option, Some, None, refl, sym, ap, ◌∙◌, subst, arith, ◌⊎◌, inl, inr, ◌==◌, nat_lt, if◌then◌else◌, slice_set, slice_get, option_map, nat_tests, State, Operation, LoadAbsolute, LoadIndirect, Load, LoadHeaderLength, Store, Compute, Negate, CopyToIndex, CopyToAccumulator, Accumulator, Index, Immediate, Memory, Length, Constant, Byte, Insn, Next, Goes, does, into, word_into, with_register, goes_on_or_rejects, field, compute, header_length, operand_value, Field, Held, Known, same_optional, same_field, claims_nothing, Implies, JoinsClaims, same_held, common_header, holds_field, known_after, masked_held, masked_by, and_parts, loaded, loaded_at, masked, value_of, IsThere, is_said, Says, HeldHolds, IndexHolds, Holds, HoldsAt, JoinsBy, JoinsFact, JoinsFacts, Arrives}
+use Rattle.flt_short.proofs.Common.{◌≡◌, ℕ, zero, suc, ◌+◌, ◌≤◌, List, [], ◌∷◌, length, Bool, true, false, Option, Some, None, refl, sym, ap, ◌∙◌, subst, arith, ◌⊎◌, inl, inr, ◌==◌, if◌then◌else◌, slice_set, nat_tests, State, Operation, Insn, Next, Goes, does, into, word_into, with_register, goes_on_or_rejects, field, compute, Field, Held, Known, same_optional, same_field, claims_nothing, Implies, JoinsClaims, same_held, common_header, holds_field, known_after, masked_held, masked_by, and_parts, loaded, loaded_at, masked, value_of, IsThere, is_said, Says, HeldHolds, IndexHolds, Holds, HoldsAt, JoinsBy, JoinsFact, JoinsFacts, Arrives}
 use Rattle.std.proofs.Common.{◌<◌, All, get_or, take}
 use Rattle.std.proofs.lemmas.List.{take_more_set, take_all}
 use Rattle.std.proofs.lemmas.List.Elements.{All-set, All-push}
@@ -148,22 +148,7 @@ module _ (p : List ℕ) (len : ℕ) where
   masks _ m v s x e = tt
 
   pub after : (op : Operation) (k : Known) (i : Insn) (s : State) → operation_of i.code ≡ Some op → goes_on_or_rejects op ≡ true → Holds p len k s → After (known_after (Some op) k i) (does op i p len s)
-  after (LoadAbsolute w) k i s e _ y = went _ Accumulator (field p i.k w) s (λ v g. record { a = ap (λ o. loaded o p len i.k) e ∙ g; x = y.x; facts = y.facts })
-  after (LoadIndirect w) k i s e _ y = went _ Accumulator (field p ((s.index + i.k) % 2 ^ 32) w) s (λ v g. record { a = ap (λ o. loaded_at o p s.index i.k) e ∙ g; x = y.x; facts = y.facts })
-  after (Load Accumulator Immediate) k i s e _ y = (refl, record { a = tt; x = y.x; facts = y.facts })
-  after (Load Accumulator Length) k i s e _ y = (refl, record { a = ap (λ o. loaded o p len i.k) e; x = y.x; facts = y.facts })
-  after (Load Accumulator Memory) k i s e _ y = word_went _ Accumulator (slice_get s.memory i.k) s (λ v. record { a = tt; x = y.x; facts = y.facts })
-  after (Load Index Immediate) k i s e _ y = (refl, record { a = tt; x = tt; facts = y.facts })
-  after (Load Index Length) k i s e _ y = (refl, record { a = tt; x = tt; facts = y.facts })
-  after (Load Index Memory) k i s e _ y = word_went _ Index (slice_get s.memory i.k) s (λ v. record { a = tt; x = tt; facts = y.facts })
-  after LoadHeaderLength k i s e _ y = went _ Index (option_map header_length (field p i.k Byte)) s (λ v g. record { a = tt; x = g; facts = y.facts })
-  after (Store r) k i s e _ y = by_test (After (known_after (Some (Store r)) k i)) (nat_lt i.k (length s.memory)) _ _ (λ _. (refl, record { a = tt; x = y.x; facts = y.facts })) (λ _. tt)
-  after (Compute AluOperation.And Constant) k i s e _ y = went _ Accumulator (compute AluOperation.And s.accumulator i.k) s (λ v g. record { a = masks k.held i.k v s y.a g; x = y.x; facts = y.facts })
-  after (Compute operator o) k i s e _ y = went _ Accumulator (compute operator s.accumulator (operand_value o i.k s.index)) s (λ v g. record { a = tt; x = y.x; facts = y.facts })
-  after Negate k i s e _ y = (refl, record { a = tt; x = y.x; facts = y.facts })
-  after CopyToIndex k i s e _ y = (refl, record { a = tt; x = tt; facts = y.facts })
-  after CopyToAccumulator k i s e _ y = (refl, record { a = tt; x = y.x; facts = y.facts })
-  after _ k i s e f y = cc
+  after op k i s e f y = grind (arith, masks)
 
 -- a run that comes to a place with more known
 pub arrives : (seen : List Known) (place : ℕ) (k d new : Known) → place < length seen → JoinsBy (get_or seen place d).held (get_or seen place d) k new → Arrives k place seen (slice_set seen place new)

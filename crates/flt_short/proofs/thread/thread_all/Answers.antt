@@ -1,5 +1,5 @@
 -- One more is threaded, or all are.
-use Rattle.flt_short.proofs.Common.{◌+◌, drop, subst, arith, Insn, IsThreaded}
+use Rattle.flt_short.proofs.Common.{◌+◌, arith}
 use Rattle.std.proofs.{Common.length-set, lemmas.List.take_rest}
 use Rattle.flt_short.proofs.Threading.{threaded_more, threaded_all, threads}
 use Rattle.flt_short.proofs.thread.thread_all.Goals as goal
@@ -9,8 +9,7 @@ loop-at-preserved c =
     let at = c.loop-at.at in
     let insns = c.loop-at.insns in
     let seen = c.thread_insn-insn.new.seen in
-    let one = subst (λ is. IsThreaded (at + 1) c.known_at-here.result c.index-insns-at.result is c.thread_insn-insn.result c.loop-at.seen seen) (take_rest insns (at + 1)) c.thread_insn-insn.ensures in
-    let here = subst (λ (i : Insn). IsThreaded (at + 1) c.known_at-here.result i (drop (at + 1) insns) c.thread_insn-insn.result c.loop-at.seen seen) c.index-insns-at.is one in
+    let here = rw (take_rest insns (at + 1), c.index-insns-at.is) at c.thread_insn-insn.ensures in
     record {
       shape = omega (arith, length-set insns at c.thread_insn-insn.result);
       so_far = threaded_more c.arrive.new.seen c.args.insns.now c.loop-at.seen seen c.known_at-here.result insns at c.index-insns-at.result c.thread_insn-insn.result (omega arith) c.loop-at.invariant.so_far c.known_at-here.ensures here;
