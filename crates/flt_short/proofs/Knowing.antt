@@ -1,5 +1,5 @@
 -- What is known holds of the packet and of the registers.
-use Rattle.flt_short.proofs.Common.{◌≡◌, ℕ, zero, suc, ◌+◌, ◌≤◌, List, [], ◌∷◌, length, Bool, true, false, Option, Some, None, refl, sym, ap, ◌∙◌, subst, arith, ◌⊎◌, inl, inr, ◌==◌, if◌then◌else◌, slice_set, nat_tests, State, Operation, Insn, Next, Goes, does, into, word_into, with_register, goes_on_or_rejects, field, compute, Field, Held, Known, same_optional, same_field, claims_nothing, Implies, JoinsClaims, same_held, common_header, holds_field, known_after, masked_held, masked_by, and_parts, loaded, loaded_at, masked, value_of, IsThere, is_said, Says, HeldHolds, IndexHolds, Holds, HoldsAt, JoinsBy, JoinsFact, JoinsFacts, Arrives}
+use Rattle.flt_short.proofs.Common.{◌≡◌, ℕ, zero, suc, ◌+◌, ◌≤◌, List, [], ◌∷◌, length, Bool, true, false, Option, Some, None, refl, sym, ap, ◌∙◌, subst, arith, ◌⊎◌, inl, inr, ◌==◌, if◌then◌else◌, slice_set, nat_tests, State, Operation, Insn, Next, Goes, does, into, word_into, with_register, goes_on_or_rejects, compute, Field, Held, Known, same_optional, same_field, claims_nothing, Implies, JoinsClaims, same_held, common_header, holds_field, known_after, masked_held, masked_by, and_parts, loaded, loaded_at, masked, value_of, IsThere, is_said, Says, HeldHolds, IndexHolds, Holds, HoldsAt, JoinsBy, JoinsFact, JoinsFacts, Arrives}
 use Rattle.std.proofs.Common.{◌<◌, All, get_or, take}
 use Rattle.std.proofs.lemmas.List.{take_more_set, take_all}
 use Rattle.std.proofs.lemmas.List.Elements.{All-set, All-push}
@@ -108,23 +108,16 @@ module _ (p : List ℕ) (len : ℕ) where
       (λ _. tt)
 
   joins_by : (h : Held) (k came new : Known) (s : State) → JoinsBy h k came new → (HeldHolds p len h s × Holds p len k s) ⊎ Holds p len came s → Holds p len new s
-  joins_by held.Unreached k came new s e (inl x) = absurd x.0
-  joins_by held.Unreached k came new s e (inr y) = subst (λ z. Holds p len z s) (sym e) y
-  joins_by h k came new s e (inl x) = record {
-    a = subst (λ z. HeldHolds p len z s) (sym e.0) (joins_held h came.held s (inl x.0));
-    x = subst (λ z. IndexHolds p z s.index) (sym e.1) (joins_index k.index came.index s.index (inl x.1.x));
-    facts = e.2 p len (inl x.1.facts);
-  }
-  joins_by h k came new s e (inr y) = record {
-    a = subst (λ z. HeldHolds p len z s) (sym e.0) (joins_held h came.held s (inr y.a));
-    x = subst (λ z. IndexHolds p z s.index) (sym e.1) (joins_index k.index came.index s.index (inr y.x));
-    facts = e.2 p len (inr y.facts);
+  joins_by held.Unreached k came new s e d = elim d [ inl x ↦ absurd x.0 | inr y ↦ subst (λ z. Holds p len z s) (sym e) y ]
+  joins_by h k came new s e d = record {
+    a = subst (λ z. HeldHolds p len z s) (sym e.0) (joins_held h came.held s (elim d [ inl x ↦ inl x.0 | inr y ↦ inr y.a ]));
+    x = subst (λ z. IndexHolds p z s.index) (sym e.1) (joins_index k.index came.index s.index (elim d [ inl x ↦ inl x.1.x | inr y ↦ inr y.x ]));
+    facts = e.2 p len (elim d [ inl x ↦ inl x.1.facts | inr y ↦ inr y.facts ]);
   }
 
   -- what is known where two ways meet holds on both
   joins : (k came new : Known) (s : State) → JoinsBy k.held k came new → Holds p len k s ⊎ Holds p len came s → Holds p len new s
-  joins k came new s e (inl y) = joins_by k.held k came new s e (inl (y.a, y))
-  joins k came new s e (inr y) = joins_by k.held k came new s e (inr y)
+  joins k came new s e d = joins_by k.held k came new s e (elim d [ inl y ↦ inl (y.a, y) | inr y ↦ inr y ])
 
   -- what is known after an instruction that is neither a jump nor a return holds, if the run goes on
   abbrev pub After : Known → Next → Type 0
@@ -139,7 +132,7 @@ module _ (p : List ℕ) (len : ℕ) where
   word_went k r None s f = tt
   word_went k r (Some v) s f = (refl, f v)
 
-  masks : (h : Held) (m v : ℕ) (s : State) → HeldHolds p len h s → compute AluOperation.And s.accumulator m ≡ Some v → HeldHolds p len (masked_held h m) (record s { accumulator = v })
+  pub masks : (h : Held) (m v : ℕ) (s : State) → HeldHolds p len h s → compute AluOperation.And s.accumulator m ≡ Some v → HeldHolds p len (masked_held h m) (record s { accumulator = v })
   masks (held.Field f) m v s x e = by f.mask refl
     where
       by : (o : Option ℕ) → f.mask ≡ o → HeldHolds p len (masked_by o f m) (record s { accumulator = v })

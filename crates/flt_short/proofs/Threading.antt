@@ -1,7 +1,7 @@
 -- A run may go on where a walk ends instead of where it began; so threaded code returns the same, and keeps its
 -- length, its tests and what breaks no rule.
-use Rattle.flt_short.proofs.Common.{◌≡◌, ℕ, zero, suc, ◌+◌, ◌<◌, List, [], ◌∷◌, length, drop, Bool, true, false, Option, Some, None, refl, sym, ap, ◌∙◌, subst, arith, if◌then◌else◌, slice_get, slice_set, bit_and, nat_tests, map, Insn, State, Operation, LoadAbsolute, LoadIndirect, Load, LoadHeaderLength, Compute, Jump, JumpIf, ReturnConstant, ReturnAccumulator, Accumulator, Index, Length, Constant, Next, Goes, does_if_known, into, answer_of, answer_after, operand_value, test_holds, is_branch, Field, Held, Known, same_held, same_optional, IsOutcome, held_after, is_free_by, is_free, known_step, count_by, get_or, cond, start, does, goes_on_or_rejects, ends_in_return, known_after, loaded, loaded_at, IsThere, HeldHolds, IndexHolds, Holds, HoldsAt, IsClaimAbout, Learns, Arrives, with_a, Passes, LeadsTo, Moves, Alike, IsThreaded, AreThreaded}
-use Rattle.flt_short.proofs.Knowing.{same_masks, same_value, same_holds, After, after}
+use Rattle.flt_short.proofs.Common.{◌≡◌, ℕ, zero, suc, ◌+◌, ◌<◌, List, [], ◌∷◌, length, drop, Bool, true, false, Option, Some, None, refl, sym, ap, ◌∙◌, subst, arith, if◌then◌else◌, slice_get, slice_set, bit_and, nat_tests, map, Insn, State, Operation, LoadAbsolute, LoadIndirect, Load, LoadHeaderLength, Compute, Jump, JumpIf, Accumulator, Index, Length, Constant, Next, Goes, does_if_known, into, answer_of, answer_after, operand_value, test_holds, is_branch, Field, Held, Known, same_held, same_optional, IsOutcome, held_after, is_free_by, is_free, known_step, count_by, get_or, cond, start, does, goes_on_or_rejects, ends_in_return, known_after, loaded, loaded_at, IsThere, HeldHolds, IndexHolds, Holds, HoldsAt, IsClaimAbout, Learns, Arrives, with_a, Passes, LeadsTo, Moves, Alike, IsThreaded, AreThreaded}
+use Rattle.flt_short.proofs.Knowing.{same_masks, same_value, same_holds, After, after, masks}
 use Rattle.flt_short.proofs.Likeness.{at_step}
 use Rattle.std.proofs.Common.{◌≤◌, ◌++◌, take, append_assoc}
 use Rattle.std.proofs.Math.Seq.{drop-cons}
@@ -57,14 +57,7 @@ passes_mask k i h o p n s a holds x = (bit_and a i.k, known_step p n i (Some (Co
 
 -- what A holds after any instruction
 held_next : (p : List ℕ) (n : ℕ) (k : Known) (s : State) → Holds p n k s → (op : Option Operation) (i : Insn) (h : Held) (a b far : ℕ) → operation_of i.code ≡ op → HeldHolds p n h (with_a s a) → does_if_known op i p n (with_a s a) ≡ Goes far (with_a s b) → HeldHolds p n (held_after op h i) (with_a s b)
-held_next p n k s holds None i h a b far o x e = cc
-held_next p n k s holds (Some (JumpIf t u)) i h a b far o x e = let same : with_a s a ≡ with_a s b = cc in subst (HeldHolds p n h) same x
-held_next p n k s holds (Some Jump) i h a b far o x e = tt
-held_next p n k s holds (Some ReturnConstant) i h a b far o x e = cc
-held_next p n k s holds (Some ReturnAccumulator) i h a b far o x e = cc
-held_next p n k s holds (Some op) i h a b far o x e =
-    let known = record k { held = h } in
-    (subst (After p n _) e (after p n op known i (with_a s a) o refl (record { a = x; x = holds.x; facts = holds.facts }))).1.a
+held_next p n k s holds op i h a b far o x e = grind (arith, masks)
 
 -- the answer from the spot after an instruction
 stepped : (c : List Insn) (spot : Spot) (i : Insn) (p : List ℕ) (n a b far : ℕ) (s : State) → slice_get c spot.place ≡ Some i → step i p n (with_a s a) ≡ Goes far (with_a s b) → answer_of c p n spot.place (with_a s a) ≡ answer_of c p n (spot.place + 1 + far) (with_a s b)
@@ -129,11 +122,7 @@ module _ (from : ℕ) (k : Known) (i : Insn) (is : List Insn) where
   unknown_threaded seen o = step_threaded None seen seen o (λ p n q s x. x) (λ d alike p n s holds. refl)
 
   pub return_threaded : (op : Operation) (seen : List Known) → operation_of i.code ≡ Some op → goes_on_or_rejects op ≡ false → ((t : Test) (o : Operand) → op ≡ JumpIf t o → ⊥) → (op ≡ Jump → ⊥) → IsThreaded from k i is i seen seen
-  return_threaded (JumpIf t o) seen e none not_test not_jump = absurd (not_test t o refl)
-  return_threaded Jump seen e none not_test not_jump = absurd (not_jump refl)
-  return_threaded ReturnConstant seen e none not_test not_jump = step_threaded (Some ReturnConstant) seen seen e (λ p n q s x. x) (λ d alike p n s holds. refl)
-  return_threaded ReturnAccumulator seen e none not_test not_jump = step_threaded (Some ReturnAccumulator) seen seen e (λ p n q s x. x) (λ d alike p n s holds. refl)
-  return_threaded _ seen e none not_test not_jump = cc
+  return_threaded op seen e none not_test not_jump = step_threaded (Some op) seen seen e (λ p n q s x. x) (λ d alike p n s holds. grind arith)
 
   pub plain_threaded : (op : Operation) (old seen : List Known) → operation_of i.code ≡ Some op → goes_on_or_rejects op ≡ true → Arrives (known_after (Some op) k i) from old seen → IsThreaded from k i is i old seen
   plain_threaded op old seen o e comes = step_threaded (Some op) old seen o comes.keeps (λ d alike p n s holds. by d alike p n (does op i p n s) (after p n op k i s o e holds))
