@@ -1,12 +1,11 @@
 -- What is known holds of the packet and of the registers.
-use Rattle.flt_short.proofs.Common.{◌≡◌, ℕ, zero, suc, ◌+◌, ◌≤◌, ◌%◌, ◌^◌, List, [], ◌∷◌, length, Bool, true, false, Option, Some, None, refl, sym, ap, ◌∙◌, subst, arith, ◌⊎◌, inl, inr, ◌==◌, nat_lt, if◌then◌else◌, slice_set, slice_get, option_map, nat_tests, State, Operation, LoadAbsolute, LoadIndirect, Load, LoadHeaderLength, Store, Compute, Negate, CopyToIndex, CopyToAccumulator, Accumulator, Index, Immediate, Memory, Length, Constant, Byte, Insn, Next, Goes, does, into, word_into, with_register, goes_on_or_rejects, field, compute, header_length, operand_value, Field, Held, Known, same_optional, same_field, claims_nothing, allows, Implies, JoinsClaims, same_held, common_header, holds_field, known_after, masked_held, masked_by, and_parts, loaded, loaded_at, masked, value_of, IsThere, is_said, Says, HeldHolds, IndexHolds, Holds, HoldsAt, JoinsBy, JoinsFact, JoinsFacts, Arrives}
+use Rattle.flt_short.proofs.Common.{◌≡◌, ℕ, zero, suc, ◌+◌, ◌≤◌, List, [], ◌∷◌, length, Bool, true, false, Option, Some, None, refl, sym, ap, ◌∙◌, subst, arith, ◌⊎◌, inl, inr, ◌==◌, if◌then◌else◌, slice_set, nat_tests, State, Operation, Insn, Next, Goes, does, into, word_into, with_register, goes_on_or_rejects, compute, Field, Held, Known, same_optional, same_field, claims_nothing, Implies, JoinsClaims, same_held, common_header, holds_field, known_after, masked_held, masked_by, and_parts, loaded, loaded_at, masked, value_of, IsThere, is_said, Says, HeldHolds, IndexHolds, Holds, HoldsAt, JoinsBy, JoinsFact, JoinsFacts, Arrives}
 use Rattle.std.proofs.Common.{◌<◌, All, get_or, take}
 use Rattle.std.proofs.lemmas.List.{take_more_set, take_all}
 use Rattle.std.proofs.lemmas.List.Elements.{All-set, All-push}
 use Rattle.flt_bpf.specs.{Instructions.operation_of, declared.operation.AluOperation.AluOperation}
 use Rattle.flt_bpf.specs.declared.operation.{Register.Register}
 use Rattle.flt_short.specs.declared.facts.Claim.{Claim}
-use Rattle.flt_short.specs.declared.facts.Claim.TheVariants.{Nothing}
 use Rattle.flt_short.specs.declared.facts.Fact.{Fact}
 use Rattle.flt_short.specs.declared.facts.Held.TheVariants as held
 
@@ -34,18 +33,6 @@ same_value p n f g e =
     let k = q.1 in
     let mask = same_masks f.mask g.mask q.2 in
     cc
-
-nothing_allows : (c : Claim) (n : ℕ) → claims_nothing c ≡ true → allows c n ≡ true
-nothing_allows Nothing n e = refl
-nothing_allows _ n e = cc
-
-pub nothing_said : (o : Option ℕ) → is_said Nothing o ≡ true
-nothing_said None = refl
-nothing_said (Some n) = refl
-
-pub silent : (c : Claim) (o : Option ℕ) → claims_nothing c ≡ true → is_said c o ≡ true
-silent c None e = e
-silent c (Some n) e = nothing_allows c n e
 
 implied : (c d : Claim) (o : Option ℕ) → Implies c d → is_said c o ≡ true → is_said d o ≡ true
 implied c d None i h = i.1 h
@@ -121,23 +108,16 @@ module _ (p : List ℕ) (len : ℕ) where
       (λ _. tt)
 
   joins_by : (h : Held) (k came new : Known) (s : State) → JoinsBy h k came new → (HeldHolds p len h s × Holds p len k s) ⊎ Holds p len came s → Holds p len new s
-  joins_by held.Unreached k came new s e (inl x) = absurd x.0
-  joins_by held.Unreached k came new s e (inr y) = subst (λ z. Holds p len z s) (sym e) y
-  joins_by h k came new s e (inl x) = record {
-    a = subst (λ z. HeldHolds p len z s) (sym e.0) (joins_held h came.held s (inl x.0));
-    x = subst (λ z. IndexHolds p z s.index) (sym e.1) (joins_index k.index came.index s.index (inl x.1.x));
-    facts = e.2 p len (inl x.1.facts);
-  }
-  joins_by h k came new s e (inr y) = record {
-    a = subst (λ z. HeldHolds p len z s) (sym e.0) (joins_held h came.held s (inr y.a));
-    x = subst (λ z. IndexHolds p z s.index) (sym e.1) (joins_index k.index came.index s.index (inr y.x));
-    facts = e.2 p len (inr y.facts);
+  joins_by held.Unreached k came new s e d = elim d [ inl x ↦ absurd x.0 | inr y ↦ subst (λ z. Holds p len z s) (sym e) y ]
+  joins_by h k came new s e d = record {
+    a = subst (λ z. HeldHolds p len z s) (sym e.0) (joins_held h came.held s (elim d [ inl x ↦ inl x.0 | inr y ↦ inr y.a ]));
+    x = subst (λ z. IndexHolds p z s.index) (sym e.1) (joins_index k.index came.index s.index (elim d [ inl x ↦ inl x.1.x | inr y ↦ inr y.x ]));
+    facts = e.2 p len (elim d [ inl x ↦ inl x.1.facts | inr y ↦ inr y.facts ]);
   }
 
   -- what is known where two ways meet holds on both
   joins : (k came new : Known) (s : State) → JoinsBy k.held k came new → Holds p len k s ⊎ Holds p len came s → Holds p len new s
-  joins k came new s e (inl y) = joins_by k.held k came new s e (inl (y.a, y))
-  joins k came new s e (inr y) = joins_by k.held k came new s e (inr y)
+  joins k came new s e d = joins_by k.held k came new s e (elim d [ inl y ↦ inl (y.a, y) | inr y ↦ inr y ])
 
   -- what is known after an instruction that is neither a jump nor a return holds, if the run goes on
   abbrev pub After : Known → Next → Type 0
@@ -152,7 +132,7 @@ module _ (p : List ℕ) (len : ℕ) where
   word_went k r None s f = tt
   word_went k r (Some v) s f = (refl, f v)
 
-  masks : (h : Held) (m v : ℕ) (s : State) → HeldHolds p len h s → compute AluOperation.And s.accumulator m ≡ Some v → HeldHolds p len (masked_held h m) (record s { accumulator = v })
+  pub masks : (h : Held) (m v : ℕ) (s : State) → HeldHolds p len h s → compute AluOperation.And s.accumulator m ≡ Some v → HeldHolds p len (masked_held h m) (record s { accumulator = v })
   masks (held.Field f) m v s x e = by f.mask refl
     where
       by : (o : Option ℕ) → f.mask ≡ o → HeldHolds p len (masked_by o f m) (record s { accumulator = v })
@@ -161,22 +141,7 @@ module _ (p : List ℕ) (len : ℕ) where
   masks _ m v s x e = tt
 
   pub after : (op : Operation) (k : Known) (i : Insn) (s : State) → operation_of i.code ≡ Some op → goes_on_or_rejects op ≡ true → Holds p len k s → After (known_after (Some op) k i) (does op i p len s)
-  after (LoadAbsolute w) k i s e _ y = went _ Accumulator (field p i.k w) s (λ v g. record { a = ap (λ o. loaded o p len i.k) e ∙ g; x = y.x; facts = y.facts })
-  after (LoadIndirect w) k i s e _ y = went _ Accumulator (field p ((s.index + i.k) % 2 ^ 32) w) s (λ v g. record { a = ap (λ o. loaded_at o p s.index i.k) e ∙ g; x = y.x; facts = y.facts })
-  after (Load Accumulator Immediate) k i s e _ y = (refl, record { a = tt; x = y.x; facts = y.facts })
-  after (Load Accumulator Length) k i s e _ y = (refl, record { a = ap (λ o. loaded o p len i.k) e; x = y.x; facts = y.facts })
-  after (Load Accumulator Memory) k i s e _ y = word_went _ Accumulator (slice_get s.memory i.k) s (λ v. record { a = tt; x = y.x; facts = y.facts })
-  after (Load Index Immediate) k i s e _ y = (refl, record { a = tt; x = tt; facts = y.facts })
-  after (Load Index Length) k i s e _ y = (refl, record { a = tt; x = tt; facts = y.facts })
-  after (Load Index Memory) k i s e _ y = word_went _ Index (slice_get s.memory i.k) s (λ v. record { a = tt; x = tt; facts = y.facts })
-  after LoadHeaderLength k i s e _ y = went _ Index (option_map header_length (field p i.k Byte)) s (λ v g. record { a = tt; x = g; facts = y.facts })
-  after (Store r) k i s e _ y = by_test (After (known_after (Some (Store r)) k i)) (nat_lt i.k (length s.memory)) _ _ (λ _. (refl, record { a = tt; x = y.x; facts = y.facts })) (λ _. tt)
-  after (Compute AluOperation.And Constant) k i s e _ y = went _ Accumulator (compute AluOperation.And s.accumulator i.k) s (λ v g. record { a = masks k.held i.k v s y.a g; x = y.x; facts = y.facts })
-  after (Compute operator o) k i s e _ y = went _ Accumulator (compute operator s.accumulator (operand_value o i.k s.index)) s (λ v g. record { a = tt; x = y.x; facts = y.facts })
-  after Negate k i s e _ y = (refl, record { a = tt; x = y.x; facts = y.facts })
-  after CopyToIndex k i s e _ y = (refl, record { a = tt; x = tt; facts = y.facts })
-  after CopyToAccumulator k i s e _ y = (refl, record { a = tt; x = y.x; facts = y.facts })
-  after _ k i s e f y = cc
+  after op k i s e f y = grind (arith, masks)
 
 -- a run that comes to a place with more known
 pub arrives : (seen : List Known) (place : ℕ) (k d new : Known) → place < length seen → JoinsBy (get_or seen place d).held (get_or seen place d) k new → Arrives k place seen (slice_set seen place new)

@@ -1,5 +1,5 @@
 -- Code that is alike has the answers of the old code, and a run of it meets no more instructions.
-use Rattle.flt_short.proofs.Common.{◌≡◌, inl, inr, ℕ, zero, suc, ◌+◌, ◌-◌, ◌%◌, ◌^◌, ◌<◌, ◌≤◌, List, [], ◌∷◌, length, drop, length-drop, Bool, true, false, Option, Some, None, refl, sym, ap, ◌∙◌, subst, arith, ◌≢◌, All, count_by, ◌==◌, nat_lt, ◌&&◌, ◌||◌, not, if◌then◌else◌, slice_get, slice_set, bit_and, option_map, and_parts, or_cases, nat_tests, slice_get_within, get_or_from_slice_get, Insn, State, Operation, LoadAbsolute, LoadIndirect, Load, LoadHeaderLength, Store, Compute, Negate, Jump, JumpIf, ReturnConstant, ReturnAccumulator, CopyToIndex, CopyToAccumulator, Accumulator, Index, Immediate, Memory, Length, Constant, IndexRegister, Byte, code_of, Next, Goes, Ends, Lost, does, does_if_known, into, into_word, operand_value, test_holds, field, compute, header_length, Answered, run_from, progress_after, step_if_there, machine, start, IsValidUnlessLong, JUMP, is_branch, goes_on, rejects, is_sure, goes_on_or_rejects, goes_on_alike, are_copies, lands_at_if, lands_at, code_from, stands_at, stands, are_alike, answer_of, answer_after, get_or, parts, known_step, into_both, word_both, stored_both, plain_both}
+use Rattle.flt_short.proofs.Common.{◌≡◌, inl, inr, ℕ, zero, suc, ◌+◌, ◌-◌, ◌<◌, ◌≤◌, List, [], ◌∷◌, length, drop, length-drop, Bool, true, false, Option, Some, None, refl, sym, ap, ◌∙◌, subst, arith, ◌≢◌, All, count_by, ◌==◌, ◌&&◌, ◌||◌, not, if◌then◌else◌, slice_get, bit_and, and_parts, or_cases, nat_tests, slice_get_within, get_or_from_slice_get, Insn, State, Operation, Load, Compute, Negate, Jump, JumpIf, ReturnConstant, ReturnAccumulator, CopyToIndex, CopyToAccumulator, Accumulator, Index, Immediate, Length, Constant, IndexRegister, code_of, Next, Goes, Ends, Lost, does, does_if_known, operand_value, test_holds, Answered, run_from, progress_after, step_if_there, machine, start, IsValidUnlessLong, JUMP, is_branch, goes_on, rejects, is_sure, goes_on_or_rejects, goes_on_alike, are_copies, lands_at_if, lands_at, code_from, stands_at, stands, are_alike, answer_of, answer_after, get_or, parts, known_step, plain_both}
 use Rattle.std.proofs.{Math.Seq.drop-nil, Math.Seq.drop-cons, lemmas.List.drop-drop}
 use Rattle.flt_bpf.specs.{Instructions.operation_of, Machine.step}
 use Rattle.flt_bpf.specs.Registers.{reads_accumulator, reads_index, sets_accumulator, sets_index}
@@ -76,6 +76,9 @@ read_is : (b : Bool) (u v : ℕ) → Same b u v → u ≡ read b u v
 read_is true u v h = h refl
 read_is false u v h = refl
 
+read_same : (b sets a : Bool) (u v : ℕ) → sets ≡ false → Same a u v → Same (sets || a) (read b u v) v
+read_same b sets a u v e h = grind arith
+
 drop_after : (c : List Insn) (k : ℕ) (j : Insn) (js : List Insn) → drop k c ≡ j ∷ js → drop (suc k) c ≡ js
 drop_after c k j js e = let next : k + 1 ≡ suc k = omega arith in ap (λ m. drop m c) (sym next) ∙ sym (drop-drop 1 k c) ∙ ap (drop 1) e
 
@@ -97,6 +100,10 @@ module _ (p : List ℕ) (n : ℕ) where
 
   lost : (d is : List Insn) → Follows d is p n Lost Lost
   lost d is = (λ b eb. eb, omega arith)
+
+  -- an operation does the same with other values of A and X where it doesn't read them
+  does_both : (P : Next → Next → Type 0) (op : Operation) (j i : Insn) (s : State) (a x : ℕ) → goes_on_or_rejects op ≡ true → P (Ends 0) (Ends 0) → P Lost Lost → (sets_index op ≡ false → (v : ℕ) → P (Goes 0 (record { accumulator = v; index = read (reads_index op) x s.index; memory = s.memory })) (Goes 0 (record { accumulator = v; index = s.index; memory = s.memory }))) → (sets_accumulator op ≡ false → (v : ℕ) → P (Goes 0 (record { accumulator = read (reads_accumulator op) a s.accumulator; index = v; memory = s.memory })) (Goes 0 (record { accumulator = s.accumulator; index = v; memory = s.memory }))) → (sets_accumulator op ≡ false → sets_index op ≡ false → (m : List ℕ) → P (Goes 0 (record { accumulator = read (reads_accumulator op) a s.accumulator; index = read (reads_index op) x s.index; memory = m })) (Goes 0 (record { accumulator = s.accumulator; index = s.index; memory = m }))) → P (does op (record j { k = i.k }) p n (other s (read (reads_accumulator op) a s.accumulator) (read (reads_index op) x s.index))) (does op i p n s)
+  does_both P op j i s a x e ends lost set_a set_x stored = grind (arith, ends, lost, set_a, set_x, stored)
 
   -- both codes go on by an instruction
   both : (d is : List Insn) (j i : Insn) (t s : State) (u v : Next) → step j p n t ≡ u → step i p n s ≡ v → Follows d is p n u v → AsGood (j ∷ d) (i ∷ is) p n 0 0 t s
@@ -191,47 +198,26 @@ module _ (p : List ℕ) (n : ℕ) where
     abbrev Fits : ℕ → ℕ → Bool → Bool → Type 0
     Fits k far a x = lands_at c ls k (l.place - (1 + far)) a x ≡ true
 
-    set_a : Fits 0 0 true l.index → (s : State) (a x : ℕ) → Same l.index x s.index → (v : ℕ) → AsGood following is p n 0 0 (other s v x) (record s { accumulator = v })
-    set_a f s a x hx v = fit 0 0 true l.index f (record s { accumulator = v }) v x (λ z. refl) hx
-
-    set_x : Fits 0 0 l.accumulator true → (s : State) (a x : ℕ) → Same l.accumulator a s.accumulator → (v : ℕ) → AsGood following is p n 0 0 (other s a v) (record s { index = v })
-    set_x f s a x ha v = fit 0 0 l.accumulator true f (record s { index = v }) a v ha (λ z. refl)
-
-    to_a : Fits 0 0 true l.index → (s : State) (a x : ℕ) → Same l.index x s.index → (o : Option ℕ) → Follows following is p n (into Accumulator o (other s a x)) (into Accumulator o s)
-    to_a f s a x hx o = into_both p n (Follows following is p n) (ends following is) (lost following is) Accumulator o (other s a x) s (λ v e. set_a f s a x hx v)
-
-    stored : Fits 0 0 l.accumulator l.index → (s : State) (a x : ℕ) → Same l.accumulator a s.accumulator → Same l.index x s.index → (k v : ℕ) → Follows following is p n (into_word k v (other s a x)) (into_word k v s)
-    stored f s a x ha hx k v =
-        let m = slice_set s.memory k v in
-        stored_both p n (Follows following is p n) (ends following is) (lost following is) (nat_lt k (length s.memory)) (record (other s a x) { memory = m }) (record s { memory = m }) (fit 0 0 l.accumulator l.index f (record s { memory = m }) a x ha hx)
-
     way : (hit miss near next : ℕ) → (lands_at c ls hit (l.place - (1 + near)) l.accumulator l.index && lands_at c ls miss (l.place - (1 + next)) l.accumulator l.index) ≡ true → (s : State) (a x : ℕ) → Same l.accumulator a s.accumulator → Same l.index x s.index → (b : Bool) → AsGood following is p n (if b then near else next) (if b then hit else miss) (other s a x) s
     way hit miss near next f s a x ha hx true = fit hit near l.accumulator l.index (and_parts (lands_at c ls hit (l.place - (1 + near)) l.accumulator l.index) _ f).0 s a x ha hx
     way hit miss near next f s a x ha hx false = fit miss next l.accumulator l.index (and_parts (lands_at c ls hit (l.place - (1 + near)) l.accumulator l.index) _ f).1 s a x ha hx
 
     -- what the operation does, with the values of A and X that it reads
+    plain_good : (op : Operation) (j i : Insn) → goes_on_or_rejects op ≡ true → Fits 0 0 (sets_accumulator op || l.accumulator) (sets_index op || l.index) → (s : State) (a x : ℕ) → Same l.accumulator a s.accumulator → Same l.index x s.index → Follows following is p n (does op (record j { k = i.k }) p n (other s (read (reads_accumulator op) a s.accumulator) (read (reads_index op) x s.index))) (does op i p n s)
+    plain_good op j i e f s a x ha hx =
+        let same_a = λ (q : sets_accumulator op ≡ false). read_same (reads_accumulator op) (sets_accumulator op) l.accumulator a s.accumulator q ha in
+        let same_x = λ (q : sets_index op ≡ false). read_same (reads_index op) (sets_index op) l.index x s.index q hx in
+        let to = fit 0 0 (sets_accumulator op || l.accumulator) (sets_index op || l.index) f in
+        does_both (Follows following is p n) op j i s a x e (ends following is) (lost following is)
+        (λ q v. to (record s { accumulator = v }) v _ (λ z. refl) (same_x q)) (λ q v. to (record s { index = v }) _ v (same_a q) (λ z. refl)) (λ q r m. to (record s { memory = m }) _ _ (same_a q) (same_x r))
+
     does_good : (op : Operation) (j i : Insn) → goes_on c op j l i ls ≡ true → (s : State) (a x : ℕ) → Same l.accumulator a s.accumulator → Same l.index x s.index → Follows following is p n (does op (record j { k = i.k }) p n (other s (read (reads_accumulator op) a s.accumulator) (read (reads_index op) x s.index))) (does op i p n s)
-    does_good (LoadAbsolute w) j i f s a x ha hx = to_a f s a x hx (field p i.k w)
-    does_good (LoadIndirect w) j i f s a x ha hx = to_a f s a s.index (λ z. refl) (field p ((s.index + i.k) % 2 ^ 32) w)
-    does_good (Load Accumulator Immediate) j i f s a x ha hx = set_a f s a x hx i.k
-    does_good (Load Accumulator Length) j i f s a x ha hx = set_a f s a x hx n
-    does_good (Load Accumulator Memory) j i f s a x ha hx = word_both p n (Follows following is p n) (ends following is) (lost following is) Accumulator (slice_get s.memory i.k) (other s a x) s (λ v e. set_a f s a x hx v)
-    does_good (Load Index Immediate) j i f s a x ha hx = set_x f s a x ha i.k
-    does_good (Load Index Length) j i f s a x ha hx = set_x f s a x ha n
-    does_good (Load Index Memory) j i f s a x ha hx = word_both p n (Follows following is p n) (ends following is) (lost following is) Index (slice_get s.memory i.k) (other s a x) s (λ v e. set_x f s a x ha v)
-    does_good LoadHeaderLength j i f s a x ha hx = into_both p n (Follows following is p n) (ends following is) (lost following is) Index (option_map header_length (field p i.k Byte)) (other s a x) s (λ v e. set_x f s a x ha v)
-    does_good (Store Accumulator) j i f s a x ha hx = stored f s s.accumulator x (λ z. refl) hx i.k s.accumulator
-    does_good (Store Index) j i f s a x ha hx = stored f s a s.index ha (λ z. refl) i.k s.index
-    does_good (Compute o Constant) j i f s a x ha hx = to_a f s s.accumulator x hx (compute o s.accumulator i.k)
-    does_good (Compute o IndexRegister) j i f s a x ha hx = to_a f s s.accumulator s.index (λ z. refl) (compute o s.accumulator s.index)
-    does_good Negate j i f s a x ha hx = set_a f s s.accumulator x hx ((2 ^ 32 - s.accumulator) % 2 ^ 32)
     does_good Jump j i f s a x ha hx = cc
     does_good (JumpIf o Constant) j i f s a x ha hx = way i.jt i.jf j.jt j.jf f s s.accumulator x (λ z. refl) hx (test_holds o s.accumulator i.k)
     does_good (JumpIf o IndexRegister) j i f s a x ha hx = way i.jt i.jf j.jt j.jf f s s.accumulator s.index (λ z. refl) (λ z. refl) (test_holds o s.accumulator s.index)
     does_good ReturnConstant j i f s a x ha hx = (λ b eb. eb, omega arith)
     does_good ReturnAccumulator j i f s a x ha hx = (λ b eb. eb, omega arith)
-    does_good CopyToIndex j i f s a x ha hx = set_x f s s.accumulator x (λ z. refl) s.accumulator
-    does_good CopyToAccumulator j i f s a x ha hx = set_a f s a s.index (λ z. refl) s.index
+    does_good op j i f s a x ha hx = plain_good op j i refl f s a x ha hx
 
   -- the same instruction
   same_good : (c is : List Insn) (ls : List Landing) (l : Landing) (all : AllLand c is ls) (low : l.place ≤ length c) (j i : Insn) (op : Option Operation) → operation_of i.code ≡ op → same_step c op j l i ls ≡ true → (s : State) (a x : ℕ) → Same l.accumulator a s.accumulator → Same l.index x s.index → AsGood (j ∷ code_from c (l.place - 1)) (i ∷ is) p n 0 0 (other s a x) s
@@ -281,33 +267,6 @@ module _ (p : List ℕ) (n : ℕ) where
       let does = coded_step ReturnConstant j s q.0 in
       (ap (answer_after (answer_of js p n)) does ∙ ap Some q.1, ap (λ o. suc (steps_after (steps_of js p n) o)) does)
 
-  -- what an operation does that can't fail: A and X are others, if it sets them
-  pub record Sets (op : Operation) (o : Next) (s : State) : Type 0 where
-    pub a : ℕ
-    pub x : ℕ
-    pub goes : o ≡ Goes 0 (other s a x)
-    pub keeps_a : not (sets_accumulator op) ≡ true → a ≡ s.accumulator
-    pub keeps_x : not (sets_index op) ≡ true → x ≡ s.index
-
-  sets_a : (op : Operation) (o : Next) (s : State) (v : ℕ) → o ≡ Goes 0 (other s v s.index) → sets_accumulator op ≡ true → Sets op o s
-  sets_a op o s v e t = record { a = v; x = s.index; goes = e; keeps_a = λ h. cc; keeps_x = λ h. refl }
-
-  sets_x : (op : Operation) (o : Next) (s : State) (v : ℕ) → o ≡ Goes 0 (other s s.accumulator v) → sets_index op ≡ true → Sets op o s
-  sets_x op o s v e t = record { a = s.accumulator; x = v; goes = e; keeps_a = λ h. refl; keeps_x = λ h. cc }
-
-  pub sure_sets : (op : Operation) (i : Insn) (s : State) → is_sure op ≡ true → Sets op (does op i p n s) s
-  sure_sets (Load Accumulator Immediate) i s e = sets_a _ _ s i.k refl refl
-  sure_sets (Load Accumulator Length) i s e = sets_a _ _ s n refl refl
-  sure_sets (Load Index Immediate) i s e = sets_x _ _ s i.k refl refl
-  sure_sets (Load Index Length) i s e = sets_x _ _ s n refl refl
-  sure_sets (Compute AluOperation.Divide o) i s e = cc
-  sure_sets (Compute AluOperation.Remainder o) i s e = cc
-  sure_sets (Compute operator o) i s e = sets_a _ _ s _ refl refl
-  sure_sets Negate i s e = sets_a _ _ s _ refl refl
-  sure_sets CopyToIndex i s e = sets_x _ _ s _ refl refl
-  sure_sets CopyToAccumulator i s e = sets_a _ _ s _ refl refl
-  sure_sets _ i s e = cc
-
   module _ (c is : List Insn) (ls : List Landing) (l : Landing) (all : AllLand c is ls) (i : Insn) (s : State) (a x : ℕ) (ha : Same l.accumulator a s.accumulator) (hx : Same l.index x s.index) where
     abbrev Left : Type 0
     Left = AsGood (code_from c l.place) (i ∷ is) p n 0 0 (other s a x) s
@@ -316,11 +275,24 @@ module _ (p : List ℕ) (n : ℕ) where
     kept true c u v w h g = λ e. h refl ∙ sym (g e)
     kept false c u v w h g = λ e. cc
 
+    -- an operation that can't fail: A and X are others, if it sets them
+    set_left : (op : Operation) (v w : ℕ) → operation_of i.code ≡ Some op → does op i p n s ≡ Goes 0 (other s v w) → (not (sets_accumulator op) ≡ true → v ≡ s.accumulator) → (not (sets_index op) ≡ true → w ≡ s.index) → lands_at c ls 0 l.place (l.accumulator && not (sets_accumulator op)) (l.index && not (sets_index op)) ≡ true → Left
+    set_left op v w o e keeps_a keeps_x f =
+        old_alone (code_from c l.place) is i 0 (other s a x) s (other s v w) (known_step p n i (Some op) s o ∙ e)
+        (landed c is ls all 0 l.place (l.accumulator && not (sets_accumulator op)) (l.index && not (sets_index op)) f (other s v w) a x (kept l.accumulator (not (sets_accumulator op)) a s.accumulator v ha keeps_a) (kept l.index (not (sets_index op)) x s.index w hx keeps_x))
+
     sure_left : (op : Operation) → operation_of i.code ≡ Some op → is_sure op ≡ true → lands_at c ls 0 l.place (l.accumulator && not (sets_accumulator op)) (l.index && not (sets_index op)) ≡ true → Left
-    sure_left op o e f =
-        let g = sure_sets op i s e in
-        old_alone (code_from c l.place) is i 0 (other s a x) s (other s g.a g.x) (known_step p n i (Some op) s o ∙ g.goes)
-        (landed c is ls all 0 l.place (l.accumulator && not (sets_accumulator op)) (l.index && not (sets_index op)) f (other s g.a g.x) a x (kept l.accumulator (not (sets_accumulator op)) a s.accumulator g.a ha g.keeps_a) (kept l.index (not (sets_index op)) x s.index g.x hx g.keeps_x))
+    sure_left (Load Accumulator Immediate) o e f = set_left _ i.k s.index o refl (λ h. cc) (λ h. refl) f
+    sure_left (Load Accumulator Length) o e f = set_left _ n s.index o refl (λ h. cc) (λ h. refl) f
+    sure_left (Load Index Immediate) o e f = set_left _ s.accumulator i.k o refl (λ h. refl) (λ h. cc) f
+    sure_left (Load Index Length) o e f = set_left _ s.accumulator n o refl (λ h. refl) (λ h. cc) f
+    sure_left (Compute AluOperation.Divide v) o e f = cc
+    sure_left (Compute AluOperation.Remainder v) o e f = cc
+    sure_left (Compute operator v) o e f = set_left _ _ s.index o refl (λ h. cc) (λ h. refl) f
+    sure_left Negate o e f = set_left _ _ s.index o refl (λ h. cc) (λ h. refl) f
+    sure_left CopyToIndex o e f = set_left _ s.accumulator s.accumulator o refl (λ h. refl) (λ h. cc) f
+    sure_left CopyToAccumulator o e f = set_left _ s.index s.index o refl (λ h. cc) (λ h. refl) f
+    sure_left _ o e f = cc
 
     rejected_left : (op : Operation) (j : Insn) (js : List Insn) → code_from c l.place ≡ j ∷ js → operation_of i.code ≡ Some op → rejects j ≡ true → goes_on_or_rejects op ≡ true → lands_at c ls 0 l.place (l.accumulator && not (sets_accumulator op)) (l.index && not (sets_index op)) ≡ true → Left
     rejected_left op j js d o r e f =

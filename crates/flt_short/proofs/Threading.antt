@@ -1,11 +1,11 @@
 -- A run may go on where a walk ends instead of where it began; so threaded code returns the same, and keeps its
 -- length, its tests and what breaks no rule.
-use Rattle.flt_short.proofs.Common.{◌≡◌, ℕ, zero, suc, ◌+◌, ◌%◌, ◌^◌, ◌<◌, List, [], ◌∷◌, length, drop, Bool, true, false, Option, Some, None, refl, sym, ap, ◌∙◌, subst, arith, if◌then◌else◌, slice_get, slice_set, bit_and, option_map, nat_tests, nat_lt, map, Insn, State, Operation, LoadAbsolute, LoadIndirect, Load, LoadHeaderLength, Store, Compute, Jump, JumpIf, ReturnConstant, ReturnAccumulator, CopyToAccumulator, Accumulator, Index, Immediate, Memory, Length, Constant, Byte, Next, Goes, does_if_known, into, field, header_length, answer_of, answer_after, operand_value, test_holds, is_branch, Field, Held, Known, same_held, same_optional, IsOutcome, held_after, is_free_by, is_free, known_step, into_both, word_both, stored_both, count_by, get_or, cond, start, does, goes_on_or_rejects, fault_if_known, ends_in_return, known_after, loaded, loaded_at, IsThere, HeldHolds, IndexHolds, Holds, HoldsAt, IsClaimAbout, Learns, Arrives, with_a, Passes, LeadsTo, Moves, Alike, IsThreaded, AreThreaded}
-use Rattle.flt_short.proofs.Knowing.{same_masks, same_value, same_holds, After, after}
+use Rattle.flt_short.proofs.Common.{◌≡◌, ℕ, zero, suc, ◌+◌, ◌<◌, List, [], ◌∷◌, length, drop, Bool, true, false, Option, Some, None, refl, sym, ap, ◌∙◌, subst, arith, if◌then◌else◌, slice_get, slice_set, bit_and, nat_tests, map, Insn, State, Operation, LoadAbsolute, LoadIndirect, Load, LoadHeaderLength, Compute, Jump, JumpIf, Accumulator, Index, Length, Constant, Next, Goes, does_if_known, into, answer_of, answer_after, operand_value, test_holds, is_branch, Field, Held, Known, same_held, same_optional, IsOutcome, held_after, is_free_by, is_free, known_step, count_by, get_or, cond, start, does, goes_on_or_rejects, ends_in_return, known_after, loaded, loaded_at, IsThere, HeldHolds, IndexHolds, Holds, HoldsAt, IsClaimAbout, Learns, Arrives, with_a, Passes, LeadsTo, Moves, Alike, IsThreaded, AreThreaded}
+use Rattle.flt_short.proofs.Knowing.{same_masks, same_value, same_holds, After, after, masks}
 use Rattle.flt_short.proofs.Likeness.{at_step}
 use Rattle.std.proofs.Common.{◌≤◌, ◌++◌, take, append_assoc}
 use Rattle.std.proofs.Math.Seq.{drop-cons}
-use Rattle.std.proofs.lemmas.List.{append-nil, drop_all, length-map, take_all, take_more_set, drop-set-lt}
+use Rattle.std.proofs.lemmas.List.{append-nil, drop_all, length-map, take_all, take_rest, take_more_set, drop-set-lt}
 use Rattle.std.proofs.Math.ListN.{get_or-map}
 use Rattle.std.proofs.lemmas.List.Sums.{sum_by-cons}
 use Rattle.flt_bpf.proofs.Suffix.{answer_drop}
@@ -17,31 +17,17 @@ use Rattle.flt_short.specs.{Threads.Threads, declared.facts.Claim.Claim, declare
 use Rattle.flt_short.specs.declared.facts.Held.TheVariants as held
 
 module _ (p : List ℕ) (n : ℕ) where
+  -- an instruction that is free: what it does is the same with another A, or A stays
+  free_both : (P : Next → Next → Type 0) (i : Insn) (s : State) (a : ℕ) (op : Option Operation) (rest : Bool) → ((u : Next) → P u u) → (rest ≡ true → (x : ℕ) (m : List ℕ) → P (Goes 0 (record { accumulator = a; index = x; memory = m })) (Goes 0 (record { accumulator = s.accumulator; index = x; memory = m }))) → is_free_by op rest ≡ true → P (does_if_known op i p n (with_a s a)) (does_if_known op i p n s)
+  free_both P i s a op rest same kept e = grind (arith, same, kept)
+
   -- what A holds doesn't matter before code that is free
   pub free_same : (c : List Insn) → is_free c ≡ true → (s : State) (a : ℕ) → answer_of c p n 0 (with_a s a) ≡ answer_of c p n 0 s
   free_same [] e s a = cc
   free_same (i ∷ is) e s a =
       ap (answer_after (answer_of is p n)) (known_step p n i (operation_of i.code) (with_a s a) refl)
-      ∙ by (operation_of i.code) (λ f t. free_same is f t a) e
+      ∙ free_both (λ u v. answer_after (answer_of is p n) u ≡ answer_after (answer_of is p n) v) i s a (operation_of i.code) (is_free is) (λ u. refl) (λ f x m. free_same is f (record { accumulator = s.accumulator; index = x; memory = m }) a) e
       ∙ sym (ap (answer_after (answer_of is p n)) (known_step p n i (operation_of i.code) s refl))
-    where
-      Same : Next → Next → Type 0
-      Same u v = answer_after (answer_of is p n) u ≡ answer_after (answer_of is p n) v
-
-      by : (op : Option Operation) → (is_free is ≡ true → (t : State) → Same (Goes 0 (with_a t a)) (Goes 0 t)) → is_free_by op (is_free is) ≡ true → Same (does_if_known op i p n (with_a s a)) (does_if_known op i p n s)
-      by (Some (LoadAbsolute w)) rest e = into_both p n Same refl refl Accumulator (field p i.k w) (with_a s a) s (λ v g. refl)
-      by (Some (LoadIndirect w)) rest e = into_both p n Same refl refl Accumulator (field p ((s.index + i.k) % 2 ^ 32) w) (with_a s a) s (λ v g. refl)
-      by (Some (Load Accumulator Immediate)) rest e = refl
-      by (Some (Load Accumulator Length)) rest e = refl
-      by (Some (Load Accumulator Memory)) rest e = word_both p n Same refl refl Accumulator (slice_get s.memory i.k) (with_a s a) s (λ v g. refl)
-      by (Some (Load Index Immediate)) rest e = rest e (record s { index = i.k })
-      by (Some (Load Index Length)) rest e = rest e (record s { index = n })
-      by (Some (Load Index Memory)) rest e = word_both p n Same refl refl Index (slice_get s.memory i.k) (with_a s a) s (λ v g. rest e (record s { index = v }))
-      by (Some LoadHeaderLength) rest e = into_both p n Same refl refl Index (option_map header_length (field p i.k Byte)) (with_a s a) s (λ v g. rest e (record s { index = v }))
-      by (Some (Store Index)) rest e = stored_both p n Same refl refl (nat_lt i.k (length s.memory)) _ _ (rest e (record s { memory = slice_set s.memory i.k s.index }))
-      by (Some ReturnConstant) rest e = refl
-      by (Some CopyToAccumulator) rest e = refl
-      by _ rest e = cc
 
 -- what a walk passes
 pub passes_test : (k : Known) (i : Insn) (h : Held) (f : Field) (c : Claim) (b : Bool) (far : ℕ) → operation_of i.code ≡ Some (JumpIf Test.Equal Constant) → h ≡ held.Field f → IsClaimAbout k.facts f c → IsOutcome c i.k b → (if b then i.jt else i.jf) ≡ far → Passes k i h far
@@ -71,14 +57,7 @@ passes_mask k i h o p n s a holds x = (bit_and a i.k, known_step p n i (Some (Co
 
 -- what A holds after any instruction
 held_next : (p : List ℕ) (n : ℕ) (k : Known) (s : State) → Holds p n k s → (op : Option Operation) (i : Insn) (h : Held) (a b far : ℕ) → operation_of i.code ≡ op → HeldHolds p n h (with_a s a) → does_if_known op i p n (with_a s a) ≡ Goes far (with_a s b) → HeldHolds p n (held_after op h i) (with_a s b)
-held_next p n k s holds None i h a b far o x e = cc
-held_next p n k s holds (Some (JumpIf t u)) i h a b far o x e = let same : with_a s a ≡ with_a s b = cc in subst (HeldHolds p n h) same x
-held_next p n k s holds (Some Jump) i h a b far o x e = tt
-held_next p n k s holds (Some ReturnConstant) i h a b far o x e = cc
-held_next p n k s holds (Some ReturnAccumulator) i h a b far o x e = cc
-held_next p n k s holds (Some op) i h a b far o x e =
-    let known = record k { held = h } in
-    (subst (After p n _) e (after p n op known i (with_a s a) o refl (record { a = x; x = holds.x; facts = holds.facts }))).1.a
+held_next p n k s holds op i h a b far o x e = grind (arith, masks)
 
 -- the answer from the spot after an instruction
 stepped : (c : List Insn) (spot : Spot) (i : Insn) (p : List ℕ) (n a b far : ℕ) (s : State) → slice_get c spot.place ≡ Some i → step i p n (with_a s a) ≡ Goes far (with_a s b) → answer_of c p n spot.place (with_a s a) ≡ answer_of c p n (spot.place + 1 + far) (with_a s b)
@@ -117,53 +96,36 @@ pub stops_free : (k : Known) (c : List Insn) (spot : Spot) (best : ℕ) → is_f
 stops_free k c spot best free p n s a holds x e =
     sym (answer_drop c p n spot.place s) ∙ sym (free_same p n (drop spot.place c) free s a) ∙ answer_drop c p n spot.place (with_a s a) ∙ e
 
--- a walk from a target
-pub moves : (k : Known) (c : List Insn) (from found : ℕ) → LeadsTo k c (record { place = from; held = k.held }) from found → found < length c → Moves k c from found
-moves k c from found leads inside = record { runs = λ p n s holds. leads p n s s.accumulator holds holds.a refl; inside = λ _. inside }
+pub ruleset stops = (stops_same, stops_free, take_rest)
 
-pub stays : (k : Known) (c : List Insn) (from : ℕ) → Moves k c from from
-stays k c from = record { runs = λ p n s holds. refl; inside = λ l. l }
+-- a test with other targets inside the code
+test_sound : (t : Test) (o : Operand) (i : Insn) (a b len : ℕ) → operation_of i.code ≡ Some (JumpIf t o) → (i.jt < len → a < len) → (i.jf < len → b < len) → fault_of i len ≡ None → fault_of (record i { jt = a; jf = b }) len ≡ None
+unfolding fault_of
+test_sound t o i a b len e to_yes to_no f = grind (arith, nat_tests)
 
 -- an instruction that is threaded, of each kind
 module _ (from : ℕ) (k : Known) (i : Insn) (is : List Insn) where
-  pub unreached_threaded : (seen : List Known) → k.held ≡ held.Unreached → IsThreaded from k i is i seen seen
-  unreached_threaded seen e = record {
-    code = refl;
-    sound = λ f. f;
-    keeps = λ p n q s x. x;
-    runs = λ d alike p n s holds. absurd (subst (λ h. HeldHolds p n h s) e holds.a);
-  }
-
   -- whose step goes on so
-  step_threaded : (op : Operation) (old seen : List Known) → operation_of i.code ≡ Some op → ((p : List ℕ) (n q : ℕ) (s : State) → HoldsAt p n old q s → HoldsAt p n seen q s) → ((d : List Insn) → Alike from seen d is → (p : List ℕ) (n : ℕ) (s : State) → Holds p n k s → answer_after (answer_of d p n) (does op i p n s) ≡ answer_after (answer_of is p n) (does op i p n s)) → IsThreaded from k i is i old seen
+  step_threaded : (op : Option Operation) (old seen : List Known) → operation_of i.code ≡ op → ((p : List ℕ) (n q : ℕ) (s : State) → HoldsAt p n old q s → HoldsAt p n seen q s) → ((d : List Insn) → Alike from seen d is → (p : List ℕ) (n : ℕ) (s : State) → Holds p n k s → answer_after (answer_of d p n) (does_if_known op i p n s) ≡ answer_after (answer_of is p n) (does_if_known op i p n s)) → IsThreaded from k i is i old seen
   step_threaded op old seen o keeps runs = record {
     code = refl;
     sound = λ f. f;
     keeps = keeps;
     runs = λ d alike p n s holds.
-        ap (answer_after (answer_of d p n)) (known_step p n i (Some op) s o) ∙ runs d alike p n s holds ∙ sym (ap (answer_after (answer_of is p n)) (known_step p n i (Some op) s o));
+        ap (answer_after (answer_of d p n)) (known_step p n i op s o) ∙ runs d alike p n s holds ∙ sym (ap (answer_after (answer_of is p n)) (known_step p n i op s o));
   }
 
   pub jump_threaded : (old seen : List Known) → operation_of i.code ≡ Some Jump → Arrives k (from + i.k) old seen → IsThreaded from k i is i old seen
-  jump_threaded old seen o comes = step_threaded Jump old seen o comes.keeps (λ d alike p n s holds. alike p n i.k s (comes.comes p n s holds))
+  jump_threaded old seen o comes = step_threaded (Some Jump) old seen o comes.keeps (λ d alike p n s holds. alike p n i.k s (comes.comes p n s holds))
 
   pub unknown_threaded : (seen : List Known) → operation_of i.code ≡ None → IsThreaded from k i is i seen seen
-  unknown_threaded seen o = record {
-    code = refl;
-    sound = λ f. f;
-    keeps = λ p n q s x. x;
-    runs = λ d alike p n s holds. ap (answer_after (answer_of d p n)) (known_step p n i None s o) ∙ sym (ap (answer_after (answer_of is p n)) (known_step p n i None s o));
-  }
+  unknown_threaded seen o = step_threaded None seen seen o (λ p n q s x. x) (λ d alike p n s holds. refl)
 
   pub return_threaded : (op : Operation) (seen : List Known) → operation_of i.code ≡ Some op → goes_on_or_rejects op ≡ false → ((t : Test) (o : Operand) → op ≡ JumpIf t o → ⊥) → (op ≡ Jump → ⊥) → IsThreaded from k i is i seen seen
-  return_threaded (JumpIf t o) seen e none not_test not_jump = absurd (not_test t o refl)
-  return_threaded Jump seen e none not_test not_jump = absurd (not_jump refl)
-  return_threaded ReturnConstant seen e none not_test not_jump = step_threaded ReturnConstant seen seen e (λ p n q s x. x) (λ d alike p n s holds. refl)
-  return_threaded ReturnAccumulator seen e none not_test not_jump = step_threaded ReturnAccumulator seen seen e (λ p n q s x. x) (λ d alike p n s holds. refl)
-  return_threaded _ seen e none not_test not_jump = cc
+  return_threaded op seen e none not_test not_jump = step_threaded (Some op) seen seen e (λ p n q s x. x) (λ d alike p n s holds. grind arith)
 
   pub plain_threaded : (op : Operation) (old seen : List Known) → operation_of i.code ≡ Some op → goes_on_or_rejects op ≡ true → Arrives (known_after (Some op) k i) from old seen → IsThreaded from k i is i old seen
-  plain_threaded op old seen o e comes = step_threaded op old seen o comes.keeps (λ d alike p n s holds. by d alike p n (does op i p n s) (after p n op k i s o e holds))
+  plain_threaded op old seen o e comes = step_threaded (Some op) old seen o comes.keeps (λ d alike p n s holds. by d alike p n (does op i p n s) (after p n op k i s o e holds))
     where
       by : (d : List Insn) → Alike from seen d is → (p : List ℕ) (n : ℕ) (u : Next) → After p n (known_after (Some op) k i) u → answer_after (answer_of d p n) u ≡ answer_after (answer_of is p n) u
       by d alike p n (Goes far t) h =
@@ -173,10 +135,9 @@ module _ (from : ℕ) (k : Known) (i : Insn) (is : List Insn) where
       by d alike p n _ h = refl
 
   pub test_threaded : (hit miss : Known) (old mid seen : List Known) (a b : ℕ) (t : Test) (o : Operand) → operation_of i.code ≡ Some (JumpIf t o) → Learns k i true hit → Learns k i false miss → Moves hit is i.jt a → Moves miss is i.jf b → Arrives hit (from + a) old mid → Arrives miss (from + b) mid seen → IsThreaded from k i is (record i { jt = a; jf = b }) old seen
-  unfolding fault_of
   test_threaded hit miss old mid seen a b t o e learns_yes learns_no to_yes to_no first second = record {
     code = refl;
-    sound = sound;
+    sound = test_sound t o i a b (length is) e to_yes.inside to_no.inside;
     keeps = λ p n q s x. second.keeps p n q s (first.keeps p n q s x);
     runs = λ d alike p n s holds.
         ap (answer_after (answer_of d p n)) (known_step p n (record i { jt = a; jf = b }) (Some (JumpIf t o)) s e) ∙ way d alike p n s holds (test_holds t s.accumulator (operand_value o i.k s.index)) refl ∙ sym (ap (answer_after (answer_of is p n)) (known_step p n i (Some (JumpIf t o)) s e));
@@ -190,36 +151,17 @@ module _ (from : ℕ) (k : Known) (i : Insn) (is : List Insn) where
           let h = learns_no p n s t o e g holds in
           alike p n b s (second.comes p n s h) ∙ to_no.runs p n s h
 
-      tests : (y x : Bool) → nat_lt i.jt (length is) ≡ y → nat_lt i.jf (length is) ≡ x → fault_if_known (Some (JumpIf t o)) i (length is) ≡ None → fault_if_known (Some (JumpIf t o)) (record i { jt = a; jf = b }) (length is) ≡ None
-      tests true true f g none =
-          let yes_in : i.jt < length is = grind (arith, nat_tests) in
-          let no_in : i.jf < length is = grind (arith, nat_tests) in
-          let yes_there = to_yes.inside yes_in in
-          let no_there = to_no.inside no_in in
-          let l : nat_lt a (length is) ≡ true = grind (arith, nat_tests) in
-          let m : nat_lt b (length is) ≡ true = grind (arith, nat_tests) in
-          rw (l, m) refl
-      tests _ _ f g none = grind (arith, nat_tests)
-
-      sound : fault_of i (length is) ≡ None → fault_of (record i { jt = a; jf = b }) (length is) ≡ None
-      sound f =
-          ap (λ op. fault_if_known op (record i { jt = a; jf = b }) (length is)) e
-          ∙ tests (nat_lt i.jt (length is)) (nat_lt i.jf (length is)) refl refl (sym (ap (λ op. fault_if_known op i (length is)) e) ∙ f)
-
 abbrev pub codes_of : List Insn → List ℕ
 codes_of is = map (λ i. i.code) is
 
 -- in front of code that is threaded
 pub threaded_front : (at : ℕ) (k : Known) (i j : Insn) (is d : List Insn) (old seen : List Known) → ((p : List ℕ) (n : ℕ) (s : State) → HoldsAt p n old at s → Holds p n k s) → IsThreaded (at + 1) k i is j old seen → AreThreaded (at + 1) seen d is → AreThreaded at old (j ∷ d) (i ∷ is)
 threaded_front at k i j is d old seen there one rest = record {
-  codes = codes;
+  codes = (let head = one.code in let tail = rest.codes in cc);
   sound = λ f. (ap (fault_of j) same ∙ one.sound f.0, rest.sound f.1);
   runs = runs;
 }
   where
-    codes : codes_of (j ∷ d) ≡ codes_of (i ∷ is)
-    codes = let head = one.code in let tail = rest.codes in cc
-
     same : length d ≡ length is
     same = sym (length-map d (λ (x : Insn). x.code)) ∙ ap length rest.codes ∙ length-map is (λ (x : Insn). x.code)
 
@@ -245,14 +187,11 @@ threaded_all begin old seen xs at l so_far =
     subst (λ new. AreThreaded 0 begin new old) (append-nil (take at xs) ∙ take_all at xs l) (so_far [] (subst (AreThreaded at seen []) (sym (drop_all at xs l)) none))
 
 -- what the codes of instructions decide
-branches : (new old : List Insn) → codes_of new ≡ codes_of old → count_by (λ i. is_branch (operation_of i.code)) new ≡ count_by (λ i. is_branch (operation_of i.code)) old
-branches [] [] e = refl
-branches (j ∷ new) (i ∷ old) e =
-    let test = λ (m : Insn). cond (is_branch (operation_of m.code)) 1 0 in
-    let head : j.code ≡ i.code = cc in
-    let tail : codes_of new ≡ codes_of old = cc in
-    sum_by-cons test j new ∙ ap (λ c. cond (is_branch (operation_of c)) 1 0 + count_by (λ m. is_branch (operation_of m.code)) new) head ∙ ap (λ m. test i + m) (branches new old tail) ∙ sym (sum_by-cons test i old)
-branches _ _ e = cc
+count_codes : (is : List Insn) → count_by (λ i. is_branch (operation_of i.code)) is ≡ count_by (λ (c : ℕ). is_branch (operation_of c)) (codes_of is)
+count_codes [] = refl
+count_codes (i ∷ is) =
+    let test = λ (c : ℕ). cond (is_branch (operation_of c)) 1 0 in
+    sum_by-cons (λ (m : Insn). test m.code) i is ∙ ap (λ m. test i.code + m) (count_codes is) ∙ sym (sum_by-cons test i.code (codes_of is))
 
 ends : (new old : List Insn) → codes_of new ≡ codes_of old → ends_in_return new ≡ ends_in_return old
 ends [] [] e = refl
@@ -268,7 +207,7 @@ threads new old seen begins t =
     let same : length new ≡ length old = sym (length-map new (λ (x : Insn). x.code)) ∙ ap length t.codes ∙ length-map old (λ (x : Insn). x.code) in
     record {
       same_length = same;
-      branches = branches new old t.codes;
+      branches = count_codes new ∙ ap (count_by (λ (c : ℕ). is_branch (operation_of c))) t.codes ∙ sym (count_codes old);
       sound = λ v. record { faultless = t.sound v.faultless; ends = ends new old t.codes ∙ v.ends };
       runs = λ p n. t.runs p n 0 start (begins p n start);
       no_jump = λ h m e l f. h m e (omega arith) (sym (code_at new old m e t.codes) ∙ f);

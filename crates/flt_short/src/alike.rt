@@ -273,19 +273,13 @@ fn stands(code: &[Wide], landing: Landing, old: Wide, after: &[Wide], following:
     if landing.place == 0 {
         return true;
     }
-    if landing.place > code.len() {
+    let [new, ..] = code_from(code, landing.place) else {
         return false;
-    }
-    let from = code_from(code, landing.place);
-    match from {
-        [] => false,
-        [new, ..] => {
-            let new = *new;
-            (is_same_step(code, new, landing, old, following)
-                || is_one_test(code, new, landing, old, after, following))
-                || is_left_out(code, new, landing, old, following)
-        }
-    }
+    };
+    landing.place <= code.len()
+        && ((is_same_step(code, *new, landing, old, following)
+            || is_one_test(code, *new, landing, old, after, following))
+            || is_left_out(code, *new, landing, old, following))
 }
 
 /// Whether the code does, from each landing on, what the old code does from the instruction on that

@@ -11,10 +11,9 @@ ghost use Rattle.flt_bpf.specs.{Instructions.operation_of, declared.machine.Stat
 ghost use Rattle.flt_short.specs.inside.Facts.{same_optional, same_field, claims_nothing, allows};
 ghost use Rattle.flt_short.specs.inside.Facts.{Implies, JoinsClaims, same_held, IsOutcome};
 ghost use Rattle.flt_short.specs.inside.Facts.{IsOther, holds_field, masked_held, held_after};
-ghost use Rattle.flt_short.specs.inside.Facts.{index_after, known_after, Holds, IsThere, HoldsAt};
-ghost use Rattle.flt_short.specs.inside.Facts.{IsAlwaysTrue, JoinsFact, JoinsFacts, JoinsBy};
-ghost use Rattle.flt_short.specs.inside.Facts.{IsClaimAbout, IsClaimAfter, AddsFact, Learns};
-ghost use Rattle.flt_short.specs.inside.Facts.{Arrives};
+ghost use Rattle.flt_short.specs.inside.Facts.{known_after, Holds, IsThere, HoldsAt};
+ghost use Rattle.flt_short.specs.inside.Facts.{JoinsFact, JoinsFacts, JoinsBy, IsClaimAbout};
+ghost use Rattle.flt_short.specs.inside.Facts.{IsClaimAfter, AddsFact, Learns, Arrives};
 
 use flt_bpf::Wide;
 use flt_bpf::operation::{AluOperation, Operand, Operation, Register, Source, Test, decode};
@@ -82,7 +81,7 @@ const NOTHING_CLAIMED: Fact = Fact {
 
 /// The state at a place if nothing is known of the runs that reach it.
 pub fn nothing_known() -> Known
-    ensures { IsAlwaysTrue result }
+    ensures { (p : List ℕ) (n : ℕ) (s : State) → Holds p n result s }
 {
     Known {
         held: Held::Unknown,
@@ -359,25 +358,18 @@ pub fn held_after(held: Held, insn: Wide) -> Held
     }
 }
 
-/// The header whose length X holds after an instruction that isn't a test, by the one before;
-/// `None` if none is known.
-fn index_after(index: Option<u32>, insn: Wide) -> Option<u32>
-    ensures { result ≡ index_after (operation_of insn.code) index insn }
-{
-    match decode(insn.code) {
-        Some(Operation::LoadHeaderLength) => Some(insn.k),
-        Some(Operation::Load(Register::Index, _) | Operation::CopyToIndex) => None,
-        _ => index,
-    }
-}
-
 /// Changes the state before an instruction that isn't a test to the one after it. Facts are about
 /// the packet, so they stay.
 pub fn pass_insn(known: &mut Known, insn: Wide)
     ensures { known.new ≡ known_after (operation_of insn.code) known.old insn }
 {
     known.held = held_after(known.held, insn);
-    known.index = index_after(known.index, insn);
+    let index = known.index;
+    known.index = match decode(insn.code) {
+        Some(Operation::LoadHeaderLength) => Some(insn.k),
+        Some(Operation::Load(Register::Index, _) | Operation::CopyToIndex) => None,
+        _ => index,
+    };
 }
 
 /// The claim about a field after the test whether it is a number had this outcome. If the field is

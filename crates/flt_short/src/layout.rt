@@ -180,8 +180,7 @@ impl<A: Allocator> Layout<A> {
         requires { length self.old.code + 3 < 2 ^ 32 }
         ensures { OnOk result (self.new ≡ with_test insn yes no self.old) }
     {
-        let is_yes_near = self.distance(yes) <= MOST_OFFSET;
-        let most = if is_yes_near {
+        let most = if self.distance(yes) <= MOST_OFFSET {
             MOST_OFFSET
         } else {
             MOST_OFFSET - 1
@@ -203,10 +202,7 @@ impl<A: Allocator> Layout<A> {
                 let (yes, no) = (self.target_place(insn.yes), self.target_place(insn.no));
                 self.emit_test(insn, self.near_place(yes), self.near_place(no))?;
             }
-            Some(Operation::Jump) => {
-                let to = self.target_place(insn.k);
-                self.emit_jump(to)?;
-            }
+            Some(Operation::Jump) => self.emit_jump(self.target_place(insn.k))?,
             _ => self.emit(with_offsets(insn, 0, 0))?,
         }
         let top = self.top();
@@ -228,6 +224,7 @@ impl<A: Allocator + Clone> Layout<A> {
     /// The layout of wide code, made from its last instruction to its first. Each becomes three at
     /// most, so of fewer than 2^30 the places fit 32 bits. An error is a failed allocation, or an
     /// allocator that cannot be cloned.
+    #[tactic(auto, using(crate::proofs::Placed::room))]
     fn of_wide(alloc: A, wide: &[Wide]) -> Result<Self, AllocError>
         requires { length wide.now < 2 ^ 30 }
         ensures { IfOk result (λ layout. layout ≡ placed_code wide.now) }
@@ -251,7 +248,7 @@ impl<A: Allocator + Clone> Layout<A> {
 /// except that on the length: it may have grown.
 ///
 /// An error is a failed allocation, or an allocator that cannot be cloned.
-#[tactic(auto, using(crate::proofs::Sound::layout_facts))]
+#[tactic(auto, using(crate::proofs::Placed::layout_facts))]
 pub fn laid_out<A: Allocator + Clone>(alloc: A, wide: &[Wide]) -> Result<Vec<Insn, A>, AllocError>
     requires { length wide.now < 2 ^ 30 }
     ensures answers { IfOk result (λ code. (p : List ℕ) (n : ℕ)

@@ -51,6 +51,11 @@ fn landing_before(operation: Operation, place: usize, next: Landing) -> Landing 
     }
 }
 
+/// The item at an index; past the end the other one.
+fn item_or<T: Copy>(items: &[T], at: usize, other: T) -> T {
+    if at < items.len() { items[at] } else { other }
+}
+
 /// The index in the old code of the instruction `offset` past the next one.
 fn index_after(at: usize, offset: usize) -> usize {
     at.saturating_add(offset).saturating_add(1)
@@ -79,6 +84,16 @@ fn table_len(len: usize) -> usize {
         .max(16)
         .checked_next_power_of_two()
         .unwrap_or(16)
+}
+
+/// The entry of the table at which the search for a test with these targets begins, modulo the
+/// number of entries.
+fn first_entry(insn: Wide, yes: usize, no: usize) -> usize {
+    let mut mixed = usize::from(insn.code);
+    for part in [insn.k as usize, yes, no] {
+        mixed = mixed.wrapping_mul(HASH_FACTOR).wrapping_add(part);
+    }
+    mixed.wrapping_mul(HASH_FACTOR) >> 32
 }
 
 /// The new code, which grows from its end to its beginning while the old code is read in that order
@@ -114,60 +129,34 @@ impl Shortening<'_> {
         }
     }
 
-    /// The entry of the table at which the search for a test with these targets begins.
-    fn first_entry(&self, insn: Wide, yes: usize, no: usize) -> usize {
-        let mut mixed = usize::from(insn.code);
-        for part in [insn.k as usize, yes, no] {
-            mixed = mixed.wrapping_mul(HASH_FACTOR).wrapping_add(part);
-        }
-        (mixed.wrapping_mul(HASH_FACTOR) >> 32) & self.tests.len().saturating_sub(1)
-    }
-
-    /// The entry of the table after this one; after the last one it is the first.
-    fn entry_after(&self, entry: usize) -> usize {
-        entry.wrapping_add(1) & self.tests.len().saturating_sub(1)
-    }
-
     /// Adds to the table the test that was put last.
     fn note_test(&mut self, test: Wide) {
         let top = self.len.saturating_sub(1);
         let yes = top.saturating_sub(test.yes as usize);
         let no = top.saturating_sub(test.no as usize);
-        let mut entry = self.first_entry(test, yes, no);
-        for _ in 0..self.tests.len() {
+        let first = first_entry(test, yes, no);
+        for turn in 0..self.tests.len() {
+            let entry = first.wrapping_add(turn) & self.tests.len().saturating_sub(1);
             if entry < self.tests.len() && self.tests[entry] == 0 {
                 self.tests[entry] = self.len;
                 return;
             }
-            entry = self.entry_after(entry);
         }
     }
 
     /// The landing of the instruction of the old code at an index; past its end nowhere.
     fn landing_at(&self, at: usize) -> Landing {
-        if at < self.landings.len() {
-            self.landings[at]
-        } else {
-            NOWHERE
-        }
+        item_or(self.landings, at, NOWHERE)
     }
 
     /// The instruction of the old code at an index; outside it `EMPTY`.
     fn old_insn(&self, at: usize) -> Wide {
-        if at < self.insns.len() {
-            self.insns[at]
-        } else {
-            EMPTY
-        }
+        item_or(self.insns, at, EMPTY)
     }
 
     /// The instruction right in front of a place of the new code; `EMPTY` if there is no room.
     fn insn_before(&self, place: usize) -> Wide {
-        if place < self.backwards.len() {
-            self.backwards[place]
-        } else {
-            EMPTY
-        }
+        item_or(self.backwards, place, EMPTY)
     }
 
     /// Notes the landing of an instruction of the old code.
@@ -180,13 +169,8 @@ impl Shortening<'_> {
     /// Marks that a run reaches an instruction of the old code: the instruction has a landing at
     /// place 1 until its own is noted.
     fn mark_reached(&mut self, at: usize) {
-        self.land(
-            at,
-            Landing {
-                place: 1,
-                ..NOWHERE
-            },
-        );
+        let place = 1;
+        self.land(at, Landing { place, ..NOWHERE });
     }
 
     /// Marks all instructions of the old code that a run reaches. Jumps only lead forward, so one
@@ -228,20 +212,15 @@ impl Shortening<'_> {
         })
     }
 
-    /// Whether the instruction of the old code at `at` is joined with an earlier one, and then
-    /// isn't emitted and lands nowhere. If a run jumps to that one, the new code isn't taken.
-    fn is_joined(&self, at: usize) -> bool {
-        at >= 1 && self.bits_test_at(at - 1).is_some()
-    }
-
     /// The place of a test in the new code with the same code, `k` and targets; `None` if there is
     /// none. A test after the same instruction as in the old code is preferred, since that
     /// instruction can then be shared too.
     fn find_same_test(&self, at: usize, insn: Wide, yes: usize, no: usize) -> Option<usize> {
         let front = self.old_insn(at.wrapping_sub(1));
         let mut found = None;
-        let mut entry = self.first_entry(insn, yes, no);
-        for _ in 0..self.tests.len() {
+        let first = first_entry(insn, yes, no);
+        for turn in 0..self.tests.len() {
+            let entry = first.wrapping_add(turn) & self.tests.len().saturating_sub(1);
             if entry >= self.tests.len() || self.tests[entry] == 0 {
                 break;
             }
@@ -258,7 +237,6 @@ impl Shortening<'_> {
                 }
                 found = Some(test);
             }
-            entry = self.entry_after(entry);
         }
         found
     }
@@ -320,12 +298,7 @@ impl Shortening<'_> {
             let no = farther.saturating_add(insn.no as usize);
             self.push(with_offsets(insn, yes, no));
         }
-        self.move_block(from, farther);
-    }
-
-    /// Notes that a block of the old code, from the instruction at `from` to its last one, now
-    /// lands `farther` instructions in front of its earlier places.
-    fn move_block(&mut self, from: usize, farther: usize) {
+        // The old block now lands `farther` instructions in front of its earlier places.
         for at in from..self.insns.len() {
             let landing = self.landing_at(at);
             if landing.place > 0 {
@@ -372,29 +345,24 @@ impl Shortening<'_> {
             self.land(at, landing);
             return;
         }
-        if landing.place < self.len {
-            if self.stands_before(landing.place, insn) {
-                let place = landing.place.saturating_add(1);
-                self.land(at, landing_before(operation, place, landing));
-                return;
+        let mut place = landing.place.saturating_add(1);
+        if place > self.len || !self.stands_before(landing.place, insn) {
+            if place <= self.len {
+                self.emit_block_again(next);
             }
-            self.emit_block_again(next);
+            self.push(insn);
+            place = self.len;
         }
-        self.push(insn);
-        let place = self.len;
         self.land(at, landing_before(operation, place, landing));
     }
 
     /// Emits an instruction of the old code, joined with the one after it if that is shorter.
     fn emit(&mut self, at: usize) {
         let insn = self.old_insn(at);
-        if let Some(test) = self.bits_test_at(at) {
-            self.emit_test(at, test, index_after(at, 0));
-            return;
-        }
-        match decode(insn.code) {
-            Some(Operation::JumpIf(_, _)) => self.emit_test(at, insn, at),
-            Some(operation @ (Operation::ReturnConstant | Operation::ReturnAccumulator)) => {
+        match (self.bits_test_at(at), decode(insn.code)) {
+            (Some(test), _) => self.emit_test(at, test, index_after(at, 0)),
+            (_, Some(Operation::JumpIf(_, _))) => self.emit_test(at, insn, at),
+            (_, Some(operation @ (Operation::ReturnConstant | Operation::ReturnAccumulator))) => {
                 self.push(insn);
                 self.land(at, landing_before(operation, self.len, NOWHERE));
             }
@@ -403,13 +371,14 @@ impl Shortening<'_> {
     }
 
     /// Reads the whole old code, and emits what a run reaches, unless an earlier instruction is
-    /// joined with it. Returns the number of instructions of the new code.
+    /// joined with it: then it lands nowhere, and if a run jumps to it, the new code isn't taken.
+    /// Returns the number of instructions of the new code.
     fn read_all(&mut self) -> usize {
         self.mark_all_reached();
         for at in (0..self.insns.len()).rev() {
             let is_reached = self.landing_at(at).place > 0;
             self.land(at, NOWHERE);
-            if is_reached && !self.is_joined(at) {
+            if is_reached && (at == 0 || self.bits_test_at(at - 1).is_none()) {
                 self.emit(at);
             }
         }

@@ -101,6 +101,7 @@ fn is_free(code: &[Wide]) -> bool
 /// is inside the code, and A is the same there as after the passed instructions, or its value
 /// doesn't matter. Else `best`, the last such place so far; at the start of a walk both are the
 /// same.
+#[tactic(auto, using(crate::proofs::Threading::stops))]
 fn place_or_best(known: &Known, code: &[Wide], spot: Spot, best: usize) -> usize
     ensures { LeadsTo known.now code.now spot best result }
 {
@@ -219,22 +220,12 @@ fn thread_all(seen: &mut [Known], insns: &mut [Wide])
     ensures { Threads insns.new insns.old }
 {
     arrive(seen, 0, &nothing_known());
-    let mut at = 0;
-    // The label names the loop in its proof.
-    'insns: while at < insns.len() {
+    for at in 0..insns.len() {
         let mut here = known_at(seen, at);
         let old = insns[at];
         let insn = thread_insn(seen, at + 1, &mut here, old, &insns[at + 1..]);
         insns[at] = insn;
-        at += 1;
     }
-}
-
-/// Threads code of at most `FEW` instructions without allocating memory.
-fn thread_few(insns: &mut [Wide])
-    ensures { Threads insns.new insns.old }
-{
-    thread_all(&mut [unreached(); FEW], insns);
 }
 
 /// Whether an instruction loads bytes of the packet, its length, or the length of a header.
@@ -277,7 +268,7 @@ pub fn threaded<A: Allocator>(alloc: A, mut insns: Vec<Wide, A>) -> Result<Vec<W
         return Ok(insns);
     }
     if insns.len() <= FEW {
-        thread_few(&mut insns);
+        thread_all(&mut [unreached(); FEW], &mut insns);
         return Ok(insns);
     }
     let mut seen = vec![in alloc; unreached(); insns.len()]?;

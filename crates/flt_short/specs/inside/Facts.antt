@@ -171,10 +171,6 @@ pub record Holds (p : List ℕ) (n : ℕ) (k : Known) (s : State) : Type 0 where
 abbrev pub HoldsAt : List ℕ → ℕ → List Known → ℕ → State → Type 0
 HoldsAt p n seen place s = IfSome (slice_get seen place) (λ k. Holds p n k s)
 
--- what is known is true of every packet and state
-abbrev pub IsAlwaysTrue : Known → Type 0
-IsAlwaysTrue k = (p : List ℕ) (n : ℕ) (s : State) → Holds p n k s
-
 -- z is true of a packet of which x is, or of which all of ys are
 abbrev pub JoinsFact : Fact → List Fact → Fact → Type 0
 JoinsFact x ys z = (p : List ℕ) (n : ℕ) → Says p n x ⊎ All (Says p n) ys → Says p n z

@@ -1,21 +1,16 @@
 -- An instruction is threaded by its operation.
-use Rattle.flt_short.proofs.Common.{◌≡◌, ◌+◌, Some, sym, ap, ◌∙◌, subst, Insn, JumpIf, Jump, Moves, Arrives, IsThreaded, known_after}
+use Rattle.flt_short.proofs.Common.{◌≡◌, Some, sym, ap, ◌∙◌, subst, Insn, JumpIf, Moves, IsThreaded}
 use Rattle.flt_bpf.specs.Instructions.{operation_of}
 use Rattle.flt_short.proofs.Threading.{unknown_threaded, plain_threaded, test_threaded, jump_threaded, return_threaded}
 use Rattle.flt_short.proofs.thread.thread_insn.Goals as goal
 
 pub returns-in_default-decode : goal.returns-in_default-decode
-returns-in_default-decode c =
-    unknown_threaded c.args.from c.args.here.now c.args.insn c.args.following.now c.args.seen.now
-    (ap (λ (i : Insn). operation_of i.code) (sym c.insn.view_is) ∙ sym c.decode.ensures ∙ c.in_default-decode.is)
+returns-in_default-decode c = rw (← c.insn.view_is) (unknown_threaded _ _ _ _ _ (sym c.decode.ensures ∙ c.in_default-decode.is))
 
 pub returns-then-goes_on_or_rejects : goal.returns-then-goes_on_or_rejects
 returns-then-goes_on_or_rejects c =
     let o : operation_of c.args.insn.code ≡ Some c.in-Some.operation = ap (λ (i : Insn). operation_of i.code) (sym c.insn.view_is) ∙ sym c.decode.ensures ∙ c.in-Some.is in
-    let after = c.pass_insn.ensures ∙ ap (λ op. known_after op c.args.here.now c.args.insn) o in
-    plain_threaded c.args.from c.args.here.now c.args.insn c.args.following.now c.in-Some.operation c.args.seen.now c.arrive.new.seen o
-    (sym c.goes_on_or_rejects.ensures ∙ c.if-goes_on_or_rejects.true)
-    (subst (λ k. Arrives k c.args.from c.args.seen.now c.arrive.new.seen) after c.arrive.ensures)
+    plain_threaded _ _ _ _ _ _ _ o (sym c.goes_on_or_rejects.ensures ∙ c.if-goes_on_or_rejects.true) (rw (rw o at c.pass_insn.ensures) at c.arrive.ensures)
 
 pub returns-in-JumpIf : goal.returns-in-JumpIf
 returns-in-JumpIf c =
@@ -35,14 +30,9 @@ returns-in-JumpIf c =
     c.arrive-in-JumpIf.ensures c.arrive-in-JumpIf-2.ensures)
 
 pub returns-in-Jump : goal.returns-in-Jump
-returns-in-Jump c =
-    let o : operation_of c.args.insn.code ≡ Some Jump = ap (λ (i : Insn). operation_of i.code) (sym c.insn.view_is) ∙ sym c.decode.ensures ∙ c.in-Some.is ∙ ap Some c.in-Jump.is in
-    jump_threaded c.args.from c.args.here.now c.args.insn c.args.following.now c.args.seen.now c.arrive-in-Jump.new.seen o
-    (subst (λ (i : Insn). Arrives c.args.here.now (c.args.from + i.k) c.args.seen.now c.arrive-in-Jump.new.seen) c.insn.view_is c.arrive-in-Jump.ensures)
+returns-in-Jump c = rw (← c.insn.view_is) (jump_threaded _ _ _ _ _ _ (sym c.decode.ensures ∙ c.in-Some.is ∙ ap Some c.in-Jump.is) c.arrive-in-Jump.ensures)
 
 pub returns-in_default-operation : goal.returns-in_default-operation
 returns-in_default-operation c =
-    let o : operation_of c.args.insn.code ≡ Some c.in-Some.operation = ap (λ (i : Insn). operation_of i.code) (sym c.insn.view_is) ∙ sym c.decode.ensures ∙ c.in-Some.is in
-    return_threaded c.args.from c.args.here.now c.args.insn c.args.following.now c.in-Some.operation c.args.seen.now o
-    (sym c.goes_on_or_rejects.ensures ∙ c.if-goes_on_or_rejects.false)
-    c.in_default-operation.not-JumpIf c.in_default-operation.not-Jump
+    rw (← c.insn.view_is) (return_threaded _ _ _ _ c.in-Some.operation _ (sym c.decode.ensures ∙ c.in-Some.is)
+    (sym c.goes_on_or_rejects.ensures ∙ c.if-goes_on_or_rejects.false) c.in_default-operation.not-JumpIf c.in_default-operation.not-Jump)
