@@ -1,5 +1,4 @@
 pub mod Common
-pub mod Backwards
 pub mod Search
 pub mod Codes
 pub mod Tails

@@ -136,7 +136,7 @@ module _ (p : List ℕ) (n : ℕ) where
       let x = header_length b in
       let place : (x + (l + v) % 2 ^ 32) % 2 ^ 32 ≡ (x + l + v) % 2 ^ 32 = omega arith in ap (λ at. field p at w) place
 
-  indexed_same : (link : Link) (protocol : Protocol) (w : Width) (v : ℕ) → field_at (accessor_offset link protocol v) w p ≡ with (base link protocol p) (λ at. field p ((at + v) % 2 ^ 32) w)
+  pub indexed_same : (link : Link) (protocol : Protocol) (w : Width) (v : ℕ) → field_at (accessor_offset link protocol v) w p ≡ with (base link protocol p) (λ at. field p ((at + v) % 2 ^ 32) w)
   indexed_same link Tcp w v = header_same _ (network_offset link) v w
   indexed_same link Udp w v = header_same _ (network_offset link) v w
   indexed_same link Icmp w v = header_same _ (network_offset link) v w

@@ -1,48 +1,37 @@
 -- The walk over the nodes of an expression makes its program.
-use Rattle.flt_gen.proofs.Common.{◌≡◌, ℕ, ◌-◌, List, [], ◌∷◌, length, drop, take, get_or, suc, ◌≤◌, Some, None, Entry, Equal, Ether, refl, sym, ap, ◌∙◌, arith, reverse, take-suc, reverse-append, Node, Expression, expr_onto, Link, expression_code, program_code, Walk, emit_node, emit_both_nodes, or_walk, emit_nodes, start_walk, insns_of}
+use Rattle.flt_gen.proofs.Common.{◌≡◌, ℕ, ◌-◌, List, [], ◌∷◌, length, take, get_or, suc, ◌≤◌, Some, None, Entry, Equal, Ether, refl, sym, ap, ◌∙◌, arith, reverse, take-suc, reverse-append, Node, Expression, expr_onto, Link, program_code, Walk, emit_node, emit_both_nodes, or_walk, emit_nodes, start_walk, insns_of}
 use Rattle.flt_gen.proofs.Walking.{expression_walked}
 use Rattle.flt_gen.specs.inside.{Relations.relation, Relations.relation_in, Walk.emit_member}
-use Rattle.flt_ast.specs.declared.node.Node.TheVariants as node
 
--- by the nodes of the tree turned round
-abbrev pub Turned : Expression → List Node → Type 0
-Turned e ns = reverse ns ≡ expr_onto e
-
--- the instructions are those of the expression's program
-pub program_is : (link : Link) (e : Expression) (ns : List Node) → Turned e ns → insns_of (emit_nodes link start_walk (reverse ns)) ≡ program_code link e
-program_is link e ns h =
-    let x = emit_nodes link start_walk (expr_onto e) in
-    let c = (expression_walked link e).code in
-    let y = (expression_walked link e).entry in
-    ap insns_of (ap (emit_nodes link start_walk) h)
-    ∙ ap (λ d. drop (length d - x.to.yes) d) c
-    ∙ ap (λ k. drop (length (expression_code link e).code - k) (expression_code link e).code) y
+-- the nodes of the tree, turned round, make the instructions of the expression's program
+pub program_is : (link : Link) (e : Expression) (ns : List Node) → reverse ns ≡ expr_onto e → insns_of (emit_nodes link start_walk (reverse ns)) ≡ program_code link e
+program_is link e ns h = ap (λ xs. insns_of (emit_nodes link start_walk xs)) h ∙ expression_walked link e
 
 is_some : (u v : Walk) → Some u ≡ Some v → u ≡ v
 is_some u v e = cc
 
 -- a relation is put at once
 relation_walked : (link : Link) (w : Walk) (a b c d : Node) (ns : List Node) (e : Entry) → relation_in (a ∷ b ∷ c ∷ d ∷ ns) ≡ Some e → emit_nodes link w (a ∷ b ∷ c ∷ d ∷ ns) ≡ emit_nodes link (emit_member link e w) ns
-relation_walked link w (node.Compare Equal) (node.Literal k) (node.Load p s) (node.Literal i) ns e is = (let same : relation p s i k ≡ e = cc in ap (λ x. emit_nodes link (emit_member link x w) ns) same)
+relation_walked link w (Node.Compare Equal) (Node.Literal k) (Node.Load p s) (Node.Literal i) ns e is = (let same : relation p s i k ≡ e = cc in ap (λ x. emit_nodes link (emit_member link x w) ns) same)
 relation_walked link w _ _ _ _ ns e is = cc
 
 pub both_walked : (link : Link) (w v : Walk) (n m : Node) (ns : List Node) → relation_in (n ∷ m ∷ ns) ≡ None → emit_both_nodes link w n m ≡ Some v → emit_nodes link w (n ∷ m ∷ ns) ≡ emit_nodes link v ns
-both_walked link w v (node.Compare Equal) (node.Literal k) (node.Load p s ∷ node.Literal i ∷ ns) none e = cc
-both_walked link w v (node.Apply o) (node.Literal k) ns none e = ap (λ x. emit_nodes link (or_walk x (emit_node link (emit_node link w (node.Apply o)) (node.Literal k))) ns) e
-both_walked link w v (node.Compare c) (node.Literal k) ns none e = ap (λ x. emit_nodes link x ns) (is_some _ v e)
-both_walked link w v (node.Load p s) (node.Literal k) ns none e = ap (λ x. emit_nodes link x ns) (is_some _ v e)
+both_walked link w v (Node.Compare Equal) (Node.Literal k) (Node.Load p s ∷ Node.Literal i ∷ ns) none e = cc
+both_walked link w v (Node.Apply o) (Node.Literal k) ns none e = ap (λ x. emit_nodes link (or_walk x (emit_node link (emit_node link w (Node.Apply o)) (Node.Literal k))) ns) e
+both_walked link w v (Node.Compare c) (Node.Literal k) ns none e = ap (λ x. emit_nodes link x ns) (is_some _ v e)
+both_walked link w v (Node.Load p s) (Node.Literal k) ns none e = ap (λ x. emit_nodes link x ns) (is_some _ v e)
 both_walked link w v _ _ ns none e = cc
 
 pub one_walked : (link : Link) (w : Walk) (n m : Node) (ns : List Node) → emit_both_nodes link w n m ≡ None → emit_nodes link w (n ∷ m ∷ ns) ≡ emit_nodes link (emit_node link w n) (m ∷ ns)
-one_walked link w (node.Apply o) (node.Literal k) ns e = ap (λ x. emit_nodes link (or_walk x (emit_node link (emit_node link w (node.Apply o)) (node.Literal k))) ns) e
-one_walked link w (node.Compare c) (node.Literal k) ns e = cc
-one_walked link w (node.Load p s) (node.Literal k) ns e = cc
-one_walked link w (node.Compare Equal) _ ns e = refl
+one_walked link w (Node.Apply o) (Node.Literal k) ns e = ap (λ x. emit_nodes link (or_walk x (emit_node link (emit_node link w (Node.Apply o)) (Node.Literal k))) ns) e
+one_walked link w (Node.Compare c) (Node.Literal k) ns e = cc
+one_walked link w (Node.Load p s) (Node.Literal k) ns e = cc
+one_walked link w (Node.Compare Equal) _ ns e = refl
 one_walked link w _ _ ns e = refl
 
 pub last_walked : (link : Link) (w : Walk) (n : Node) → emit_nodes link w (n ∷ []) ≡ emit_node link w n
-last_walked link w (node.Apply o) = refl
-last_walked link w (node.Compare Equal) = refl
+last_walked link w (Node.Apply o) = refl
+last_walked link w (Node.Compare Equal) = refl
 last_walked link w _ = refl
 
 -- the last of the nodes that are left, and the last two
@@ -55,7 +44,7 @@ two_put ns j i h other e f within = one_put ns j i other e within ∙ ap (λ xs.
 
 pub relation_put : (link : Link) (ns : List Node) (j : ℕ) (w : Walk) (e : Entry) → 4 ≤ j → j ≤ length ns → relation_in (reverse (take j ns)) ≡ Some e → emit_nodes link (emit_member link e w) (reverse (take (j - 4) ns)) ≡ emit_nodes link w (reverse (take j ns))
 relation_put link ns j w e some within is =
-    let other = node.Check Ether in
+    let other = Node.Check Ether in
     let four =
     two_put ns j (j - 1) (j - 2) other (omega arith) (omega arith) within
     ∙ ap (λ xs. get_or ns (j - 1) other ∷ get_or ns (j - 2) other ∷ xs) (two_put ns (j - 2) (j - 3) (j - 4) other (omega arith) (omega arith) (omega arith)) in
