@@ -19,12 +19,12 @@
 //! - `tcp[..]` and 13, a constant index, become one load. Its protocol goes into `accessors`.
 //!   Nothing waits in `numbers`, so their tests are emitted in front (`finish_relation`).
 
-ghost use Rattle.std.specs.Prelude.{◌≡◌, true, Some, None, if◌then◌else◌, OnOk, IfOk, reverse};
+ghost use Rattle.std.specs.Prelude.{◌≡◌, Some, None, if◌then◌else◌, OnOk, IfOk, reverse};
 ghost use Rattle.flt_gen.specs.inside.Walk.{start_walk, insns_of, emit_nodes, emit_both_nodes};
 ghost use Rattle.flt_gen.specs.inside.Walk.{emit_load_at, emit_operator_with, emit_comparison_with};
 ghost use Rattle.flt_gen.specs.inside.Walk.{emit_node, emit_join, emit_entry, emit_truth_node};
-ghost use Rattle.flt_gen.specs.inside.Walk.{emit_apart, is_truth_node, begin_left, begin_right, flush_group};
-ghost use Rattle.flt_gen.specs.inside.Walk.{finish_formula, finish_truth, is_number_node};
+ghost use Rattle.flt_gen.specs.inside.Walk.{emit_apart, begin_left, begin_right, flush_group};
+ghost use Rattle.flt_gen.specs.inside.Walk.{finish_formula, finish_truth};
 ghost use Rattle.flt_gen.specs.inside.Walk.{emit_leaf, begin_operands, finish_number};
 ghost use Rattle.flt_gen.specs.inside.{Code.block, Walk.finish_relation, Group.entry_formula};
 ghost use Rattle.flt_gen.specs.inside.Group.{no_group, larger_group, group_formula};
@@ -204,7 +204,7 @@ impl<A: Allocator + Clone> Walk<A> {
 
     /// Emits one more node, the one before those that were emitted. A group that waits is emitted
     /// first, unless the node is a value or an `or`, which may go on with it, or arithmetic, of
-    /// which the comparison did so.
+    /// which the comparison did so. The value of arithmetic is in A then.
     fn emit_node(&mut self, link: Link, node: &Node) -> Result<(), AllocError>
         ensures { OnOk result (self.new ≡ emit_node link self.old node.now) }
     {
@@ -214,12 +214,18 @@ impl<A: Allocator + Clone> Walk<A> {
                 link,
                 Entry::Value(*qualifiers, *value),
             ),
-            Node::Literal(_)
-            | Node::Named(_)
-            | Node::Len
-            | Node::Load(_, _)
-            | Node::Negate
-            | Node::Apply(_) => { self.emit_number_node(link, node) }
+            Node::Literal(n) | Node::Named(n) => self.emit_leaf(link, Source::Immediate, *n),
+            Node::Len => self.emit_leaf(link, Source::Length, 0),
+            Node::Load(protocol, size) => {
+                emit_accessor(&mut self.code, link, *protocol, width_of(*size))?;
+                self.numbers.push(Waiting::Index(*protocol))
+            }
+            Node::Negate => self.code.emit_plain(Operation::Negate, 0),
+            Node::Apply(operator) => {
+                self.code
+                    .emit_plain(computation(*operator, Operand::IndexRegister), 0)?;
+                self.begin_operands(self.slot)
+            }
             _ => {
                 self.flush_group(link)?;
                 self.emit_truth_node(link, node)
@@ -302,17 +308,15 @@ impl<A: Allocator + Clone> Walk<A> {
         Ok(())
     }
 
-    /// Emits a primitive or a negation. A value whose qualifiers aren't filled in matches no
-    /// packet; a `Checked` expression has none.
+    /// Emits a primitive, a negation or a comparison. Any other node matches no packet, as a value
+    /// whose qualifiers aren't filled in; a `Checked` expression has none.
     fn emit_truth_node(&mut self, link: Link, node: &Node) -> Result<(), AllocError>
-        requires truth { is_truth_node node.now ≡ true }
         ensures { OnOk result (self.new ≡ emit_truth_node link self.old node.now) }
     {
         let entry = match node {
             Node::Check(protocol) => self.code.emit_check(link, *protocol, self.to)?,
             Node::Cast(protocol, cast) => self.code.emit_cast(link, *protocol, *cast, self.to)?,
             Node::Sized(size, number) => self.code.emit_length_test(*size, *number, self.to)?,
-            Node::Bare(_) | Node::Valued(_, _) => self.to.no,
             Node::Not => {
                 self.to = self.to.exchanged();
                 return Ok(());
@@ -322,7 +326,7 @@ impl<A: Allocator + Clone> Walk<A> {
                     .emit_comparison(*comparison, Operand::IndexRegister, 0, self.to)?;
                 return self.begin_operands(0);
             }
-            _ => unreachable!(),
+            _ => self.to.no,
         };
         self.finish_truth(entry);
         Ok(())
@@ -390,28 +394,6 @@ impl<A: Allocator + Clone> Walk<A> {
             },
         };
         self.to = Targets { yes, no };
-    }
-
-    /// Emits a node of arithmetic, whose value is in A then.
-    fn emit_number_node(&mut self, link: Link, node: &Node) -> Result<(), AllocError>
-        requires { is_number_node node.now ≡ true }
-        ensures { OnOk result (self.new ≡ emit_node link self.old node.now) }
-    {
-        match node {
-            Node::Literal(n) | Node::Named(n) => self.emit_leaf(link, Source::Immediate, *n),
-            Node::Len => self.emit_leaf(link, Source::Length, 0),
-            Node::Load(protocol, size) => {
-                emit_accessor(&mut self.code, link, *protocol, width_of(*size))?;
-                self.numbers.push(Waiting::Index(*protocol))
-            }
-            Node::Negate => self.code.emit_plain(Operation::Negate, 0),
-            Node::Apply(operator) => {
-                self.code
-                    .emit_plain(computation(*operator, Operand::IndexRegister), 0)?;
-                self.begin_operands(self.slot)
-            }
-            _ => unreachable!(),
-        }
     }
 
     /// Emits the load of a number, or of the packet's original length, into A.

@@ -1,5 +1,5 @@
 -- The walk over the nodes of an expression, from the last to the first.
-use Rattle.std.specs.Prelude.{not, ℕ, ◌+◌, List, [], ◌∷◌, length, drop, ◌-◌, if◌then◌else◌, Bool, true, false, Option, Some, None}
+use Rattle.std.specs.Prelude.{ℕ, ◌+◌, List, [], ◌∷◌, length, drop, ◌-◌, if◌then◌else◌, Bool, Option, Some, None}
 use Rattle.flt_bpf.specs.declared.insn.Insn.{Insn}
 use Rattle.flt_bpf.specs.declared.operation.Operand.TheVariants.{Constant, IndexRegister}
 use Rattle.flt_bpf.specs.declared.operation.Operation.TheVariants.{Load, Store, Negate}
@@ -147,7 +147,7 @@ abbrev pub emit_join : Link → Join → Walk → Walk
 emit_join link Or w = record (begin_right w.pending w) { pending = Pending.Or }
 emit_join link And w = begin_left And (flush_group link w)
 
--- a primitive or a negation
+-- a primitive, a negation or a comparison; any other node matches no packet
 abbrev pub emit_truth_node : Link → Walk → Node → Walk
 emit_truth_node link w (Node.Check protocol) = finish_formula link (check_formula link protocol) w
 emit_truth_node link w (Node.Cast protocol c) = finish_formula link (cast_formula link protocol c) w
@@ -205,22 +205,6 @@ emit_both_nodes link w (Node.Compare comparison) (Node.Literal k) =
     emit_comparison_with comparison k (flush_group link w)
 emit_both_nodes link w (Node.Load p s) (Node.Literal k) = Some (emit_load_at link p s k w)
 emit_both_nodes link w _ _ = None
-
--- a node of arithmetic
-abbrev pub is_number_node : Node → Bool
-is_number_node (Node.Literal n) = true
-is_number_node (Node.Named n) = true
-is_number_node Node.Len = true
-is_number_node (Node.Load protocol size) = true
-is_number_node Node.Negate = true
-is_number_node (Node.Apply operator) = true
-is_number_node _ = false
-
--- a node of truths, except values with all their qualifiers and for joins
-abbrev pub is_truth_node : Node → Bool
-is_truth_node (Node.Qualified q v) = false
-is_truth_node (Node.Join join) = false
-is_truth_node n = not (is_number_node n)
 
 -- the two returns are there, and nothing waits
 abbrev pub start_walk : Walk
