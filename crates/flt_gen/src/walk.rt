@@ -21,7 +21,6 @@
 
 ghost use Rattle.std.specs.Prelude.{◌≡◌, Some, None, if◌then◌else◌, OnOk, IfOk, reverse};
 ghost use Rattle.flt_gen.specs.inside.Walk.{start_walk, insns_of, emit_nodes, emit_both_nodes};
-ghost use Rattle.flt_gen.specs.inside.Walk.{emit_load_at, emit_operator_with, emit_comparison_with};
 ghost use Rattle.flt_gen.specs.inside.Walk.{emit_node, emit_join, emit_entry, emit_truth_node};
 ghost use Rattle.flt_gen.specs.inside.Walk.{emit_apart, begin_left, begin_right, flush_group};
 ghost use Rattle.flt_gen.specs.inside.Walk.{finish_formula, finish_truth};
@@ -43,7 +42,7 @@ use cap_octet::Link;
 use flt_ast::{CompleteQualifiers, Node, Value};
 use flt_bpf::Wide;
 use flt_bpf::operation::{Operand, Operation, Register, Source};
-use flt_words::{Comparison, Join, Operator, Protocol};
+use flt_words::{Join, Protocol};
 use std::alloc::{AllocError, Allocator};
 use std::marker::Model;
 
@@ -143,63 +142,29 @@ impl<A: Allocator + Clone> Walk<A> {
         ensures same { IfOk result (λ fits. self.new ≡ (if fits then self.new else self.old)) }
     {
         match (node, right) {
-            (Node::Apply(operator), Node::Literal(n)) => { self.emit_operator_with(*operator, *n) }
+            (Node::Apply(operator), Node::Literal(n)) => {
+                if !takes_constant(*operator, *n) {
+                    return Ok(false);
+                }
+                self.code
+                    .emit_plain(computation(*operator, Operand::Constant), *n)?;
+                Ok(true)
+            }
             (Node::Compare(comparison), Node::Literal(n)) => {
-                self.emit_comparison_with(link, *comparison, *n)?;
+                self.flush_group(link)?;
+                self.code
+                    .emit_comparison(*comparison, Operand::Constant, *n, self.to)?;
                 Ok(true)
             }
             (Node::Load(protocol, size), Node::Literal(n)) => {
-                self.emit_load_at(link, *protocol, *size, *n)?;
+                let offset = accessor_offset(link, *protocol, *n);
+                self.code.emit_field(offset, width_of(*size))?;
+                self.numbers.push(Waiting::Index(*protocol))?;
+                self.finish_number(link)?;
                 Ok(true)
             }
             _ => Ok(false),
         }
-    }
-
-    /// Emits an accessor with a constant index.
-    fn emit_load_at(
-        &mut self,
-        link: Link,
-        protocol: Protocol,
-        size: u32,
-        index: u32,
-    ) -> Result<(), AllocError>
-        ensures { OnOk result (self.new ≡ emit_load_at link protocol size index self.old) }
-    {
-        let offset = accessor_offset(link, protocol, index);
-        self.code.emit_field(offset, width_of(size))?;
-        self.numbers.push(Waiting::Index(protocol))?;
-        self.finish_number(link)
-    }
-
-    /// Emits an operator with a constant as its right operand. `false`: its instruction may not
-    /// have it, and nothing is emitted.
-    fn emit_operator_with(&mut self, operator: Operator, constant: u32) -> Result<bool, AllocError>
-        ensures emits { IfOk result (λ fits. emit_operator_with operator constant self.old
-            ≡ (if fits then Some self.new else None)) }
-        ensures same { IfOk result (λ fits. self.new ≡ (if fits then self.new else self.old)) }
-    {
-        if !takes_constant(operator, constant) {
-            return Ok(false);
-        }
-        self.code
-            .emit_plain(computation(operator, Operand::Constant), constant)?;
-        Ok(true)
-    }
-
-    /// Emits a comparison with a constant as its right operand.
-    fn emit_comparison_with(
-        &mut self,
-        link: Link,
-        comparison: Comparison,
-        constant: u32,
-    ) -> Result<(), AllocError>
-        ensures { OnOk result
-            (emit_comparison_with comparison constant (flush_group link self.old) ≡ Some self.new) }
-    {
-        self.flush_group(link)?;
-        self.code
-            .emit_comparison(comparison, Operand::Constant, constant, self.to)
     }
 
     /// Emits one more node, the one before those that were emitted. A group that waits is emitted

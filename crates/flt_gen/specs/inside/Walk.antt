@@ -5,8 +5,8 @@ use Rattle.flt_bpf.specs.declared.operation.Operand.TheVariants.{Constant, Index
 use Rattle.flt_bpf.specs.declared.operation.Operation.TheVariants.{Load, Store, Negate}
 use Rattle.flt_bpf.specs.declared.operation.{Register.TheVariants.Accumulator, Source.Source}
 use Rattle.flt_bpf.specs.declared.operation.Source.TheVariants.{Immediate, Length}
-use Rattle.flt_words.specs.declared.token.{Comparison.Comparison, Comparison.TheVariants.Equal, Join.Join, Join.TheVariants.And, Join.TheVariants.Or}
-use Rattle.flt_words.specs.declared.token.{Operator.Operator, Protocol.Protocol}
+use Rattle.flt_words.specs.declared.token.{Comparison.TheVariants.Equal, Join.Join, Join.TheVariants.And, Join.TheVariants.Or}
+use Rattle.flt_words.specs.declared.token.Protocol.{Protocol}
 use Rattle.flt_ast.specs.declared.{node.Node.Node}
 use Rattle.cap_octet.specs.declared.link.Link.{Link}
 use Rattle.flt_gen.specs.{Formula.Formula, Numbers.width_of}
@@ -178,32 +178,19 @@ emit_node link w (Node.Apply operator) =
     begin_operands w.slot (plain (computation operator IndexRegister) 0 ∷ w.code) w
 emit_node link w n = emit_truth_node link (flush_group link w) n
 
--- an operator with a constant as its right operand, and the left one is next; none if its
--- instruction may not have this constant
-abbrev pub emit_operator_with : Operator → ℕ → Walk → Option Walk
-emit_operator_with operator k w =
-    if takes_constant operator k
-    then Some (with_insns (plain (computation operator Constant) k ∷ w.code) w)
-    else None
-
--- a comparison with a constant as its right operand, and the left one is next
-abbrev pub emit_comparison_with : Comparison → ℕ → Walk → Option Walk
-emit_comparison_with comparison k w =
-    Some (with_insns (emit_comparison comparison Constant k w.to.yes w.to.no w.code) w)
-
--- an accessor with a constant index
-abbrev pub emit_load_at : Link → Protocol → ℕ → ℕ → Walk → Walk
-emit_load_at link protocol size k w =
-    finish_number link (Index protocol ∷ w.numbers)
-    (with_insns (emit_field (accessor_offset link protocol k) (width_of size) w.code) w)
-
 -- an operator, a comparison or an accessor, and its right operand or index, a constant, at once;
 -- none if the nodes are others, or the instruction may not have this constant
 abbrev pub emit_both_nodes : Link → Walk → Node → Node → Option Walk
-emit_both_nodes link w (Node.Apply operator) (Node.Literal k) = emit_operator_with operator k w
+emit_both_nodes link w (Node.Apply operator) (Node.Literal k) =
+    if takes_constant operator k
+    then Some (with_insns (plain (computation operator Constant) k ∷ w.code) w)
+    else None
 emit_both_nodes link w (Node.Compare comparison) (Node.Literal k) =
-    emit_comparison_with comparison k (flush_group link w)
-emit_both_nodes link w (Node.Load p s) (Node.Literal k) = Some (emit_load_at link p s k w)
+    let v = flush_group link w in
+    Some (with_insns (emit_comparison comparison Constant k v.to.yes v.to.no v.code) v)
+emit_both_nodes link w (Node.Load p s) (Node.Literal k) =
+    Some (finish_number link (Index p ∷ w.numbers)
+    (with_insns (emit_field (accessor_offset link p k) (width_of s) w.code) w))
 emit_both_nodes link w _ _ = None
 
 -- the two returns are there, and nothing waits
