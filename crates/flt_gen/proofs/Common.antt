@@ -39,7 +39,7 @@ pub use Rattle.flt_gen.specs.Elementary.{Yes, No, reading_of, with, under_mask, 
 pub use Rattle.flt_gen.specs.Formula.{Formula, Single, Compare, Both, Either, Except, Split, Sought, is_in, is_within, no_interval, all_of, sides, Numbers, no_numbers, both, either, negation, reads, relation_reads, guarded_formula, checked_formula}
 pub use Rattle.flt_gen.specs.Laws.{word_mask, frame_kind, carries_kind, carries}
 pub use Rattle.flt_gen.specs.Numbers.{accessor_tests, width_of, base, number, result_of, accessors}
-pub use Rattle.flt_gen.specs.Primitives.{after, any_proto, mac_tests, check_formula, cast_formula, proto_formula, hosts_of_kind, hosts_formula, net_formula, net_test, ip6_formula, ether_host, port_formula, port_test, port_sides, transport, value_formula, sized_formula, qualified_formula, partial_mask, ip6_tests, address_test, ip6_test, address_places, port_is, port_between, port_places, following, ip_transport, ip6_transport}
+pub use Rattle.flt_gen.specs.Primitives.{after, any_proto, mac_tests, check_formula, cast_formula, proto_formula, hosts_of_kind, hosts_formula, net_formula, ip6_formula, ether_host, port_formula, port_test, port_sides, transport, value_formula, sized_formula, qualified_formula, partial_mask, ip6_tests, address_test, ip6_test, address_places, port_is, port_between, port_places, following, ip_transport, ip6_transport}
 pub use Rattle.flt_gen.specs.Reading.{formula, holds}
 pub use Rattle.flt_gen.specs.declared.elementary.Elementary.{Elementary, TheVariants.Outcome, TheVariants.Field}
 pub use Rattle.flt_gen.specs.declared.elementary.{FrameKind.FrameKind, Interval.Interval, Offset.Offset}

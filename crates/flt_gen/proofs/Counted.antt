@@ -1,9 +1,9 @@
 -- The counts of the table's formulas are at most those of the tree.
 use Rattle.flt_gen.proofs.Ascending.{Ready, Searches}
-use Rattle.flt_gen.proofs.Common.{◌≡◌, ℕ, ◌+◌, ◌-◌, ◌≤◌, max, min, List, [], ◌∷◌, length, Option, Some, None, refl, arith, Protocol, Source, Destination, And, Or, ValueType, Host, Net, Port, PortRange, Proto, Direction, Value, Link, FrameKind, Elementary, Sides, One, Between, ip_transport, ip6_transport, Formula, Single, Both, Either, Split, Sought, all_of, sides, Numbers, no_numbers, after, any_proto, mac_tests, check_formula, cast_formula, proto_formula, hosts_of_kind, hosts_formula, net_formula, net_test, ip6_formula, ether_host, port_formula, port_test, port_sides, transport, value_formula, sought_tests, tests, nodes, words}
+use Rattle.flt_gen.proofs.Common.{◌≡◌, ℕ, ◌+◌, ◌-◌, ◌≤◌, max, min, List, [], ◌∷◌, length, Option, Some, None, refl, arith, Protocol, Source, Destination, And, Or, ValueType, Host, Net, Port, PortRange, Proto, Direction, Value, Link, FrameKind, Elementary, Sides, One, Between, ip_transport, ip6_transport, Formula, Single, Both, Either, Split, Sought, all_of, sides, Numbers, no_numbers, after, any_proto, mac_tests, check_formula, cast_formula, proto_formula, hosts_of_kind, hosts_formula, net_formula, ip6_formula, ether_host, port_formula, port_test, port_sides, transport, value_formula, sought_tests, tests, nodes, words}
 use Rattle.flt_words.specs.declared.token.Cast.{Cast, TheVariants.Broadcast, TheVariants.Multicast}
 use Rattle.flt_ast.specs.Counts as count
-use Rattle.flt_gen.specs.declared.{address.Hosts.Hosts, address.NetTest.NetTest, port.PortTest.PortTest}
+use Rattle.flt_gen.specs.declared.{address.Hosts.Hosts, port.PortTest.PortTest}
 
 -- a formula with at most s nodes of arithmetic, w words of memory and n tests, in which all numbers
 -- that are searched ascend
@@ -107,10 +107,10 @@ ip4_are : (p : Option Protocol) (d : Direction) → of_kinds p (1 + count.side_t
 ip4_are None d = refl
 ip4_are (Some p) d = refl
 
-pub bare_net : (link : Link) (p : Option Protocol) (net : NetTest) → Bare (net_formula link p net) (count.ip4_tests p net.direction)
-bare_net link p net =
-    let e = ip4_are p net.direction in
-    bare_within _ (omega arith) (bare_hosts link p (Hosts.Net net) no_numbers _ (omega arith) (λ k. bare_after (bare_sides net.direction _ _ 1 (omega arith) (omega arith) (omega arith))))
+bare_net : (link : Link) (p : Option Protocol) (d : Direction) (mask : Option ℕ) (a : ℕ) → Bare (net_formula link p d mask a) (count.ip4_tests p d)
+bare_net link p d mask a =
+    let e = ip4_are p d in
+    bare_within _ (omega arith) (bare_hosts link p (Hosts.Net d mask a) no_numbers _ (omega arith) (λ k. bare_after (bare_sides d _ _ 1 (omega arith) (omega arith) (omega arith))))
 
 bare_ip6 : (link : Link) (d : Direction) (prefix : Option ℕ) (a : ℕ) → Bare (ip6_formula link d prefix a) (count.ip6_test_count d)
 bare_ip6 link d prefix a = bare_after (bare_sides d _ _ 4 (omega arith) (omega arith) (omega arith))
@@ -135,11 +135,11 @@ bare_range link p d a b = bare_ports link (port_test p d (Between a b)) no_numbe
 
 -- values
 pub bare_value : (link : Link) (k : ValueType) (p : Option Protocol) (d : Direction) (v : Value) → Bare (value_formula link k p d v) (count.typed_tests k p d v)
-bare_value link Host p d (Value.Dotted a m) = bare_net link p (net_test d None a.address)
+bare_value link Host p d (Value.Dotted a m) = bare_net link p d None a.address
 bare_value link Host p d (Value.Ip6 a n) = bare_ip6 link d None a
 bare_value link Host p d (Value.Mac a) = bare_ether link d a
-bare_value link Net p d (Value.Number n m) = bare_net link p (net_test d _ _)
-bare_value link Net p d (Value.Dotted a m) = bare_net link p (net_test d _ _)
+bare_value link Net p d (Value.Number n m) = bare_net link p d _ _
+bare_value link Net p d (Value.Dotted a m) = bare_net link p d _ _
 bare_value link Net p d (Value.Ip6 a n) = bare_ip6 link d n a
 bare_value link Port p d (Value.Number n m) = bare_port link p d n
 bare_value link PortRange p d (Value.Range a b) = bare_range link p d (min a b) (max a b)

@@ -1,6 +1,6 @@
 -- Addresses or ports that are looked for together read as one after the other.
 use Rattle.flt_gen.proofs.Ascending.{if_case, Each, each_is, Ordered, within_joined}
-use Rattle.flt_gen.proofs.Common.{◌≡◌, ℕ, ◌+◌, ◌*◌, ◌^◌, ◌%◌, ◌<◌, ◌≤◌, List, [], ◌∷◌, length, map, Bool, true, false, Option, Some, None, refl, sym, ap, ap₂, ◌∙◌, arith, inl, inr, ◌==◌, ◌||◌, ◌&&◌, nat_le, min, max, bit_and, nat_tests, or-false, Protocol, Ip, Tcp, Udp, ValueType, Host, Net, Port, PortRange, Source, Destination, And, Or, Direction, CompleteQualifiers, Value, first_bits, Word, HalfWord, Offset, field, Link, type_offset, FrameKind, Elementary, Interval, One, Between, Several, Sides, Transport, MatchResult, Yes, No, Rejected, reading_of, with, field_at, under_mask, kind_test, elementary_reads, Formula, Sought, is_in, is_within, both, either, all_of, sides, Numbers, no_numbers, reads, address_places, address_test, partial_mask, port_is, port_between, port_places, port_sides, transport, following, ip_transport, ip6_transport, port_test, port_formula, net_test, net_formula, value_formula, joined_all, left_out, high_mask, cut, sought, is_address, net_numbers, member_of, several_formula}
+use Rattle.flt_gen.proofs.Common.{◌≡◌, ℕ, ◌+◌, ◌*◌, ◌^◌, ◌%◌, ◌<◌, ◌≤◌, List, [], ◌∷◌, length, map, Bool, true, false, Option, Some, None, refl, sym, ap, ap₂, ◌∙◌, arith, inl, inr, ◌==◌, ◌||◌, ◌&&◌, nat_le, min, max, bit_and, nat_tests, or-false, Protocol, Ip, Tcp, Udp, ValueType, Host, Net, Port, PortRange, Source, Destination, And, Or, Direction, CompleteQualifiers, Value, first_bits, Word, HalfWord, Offset, field, Link, type_offset, FrameKind, Elementary, Interval, One, Between, Several, Sides, Transport, MatchResult, Yes, No, Rejected, reading_of, with, field_at, under_mask, kind_test, elementary_reads, Formula, Sought, is_in, is_within, both, either, all_of, sides, Numbers, no_numbers, reads, address_places, address_test, partial_mask, port_is, port_between, port_places, port_sides, transport, following, ip_transport, ip6_transport, port_test, port_formula, net_formula, value_formula, joined_all, left_out, high_mask, cut, sought, is_address, net_numbers, member_of, several_formula}
 use Rattle.flt_gen.proofs.Exclusive.{or_no, both_either, kinds_exclude}
 use Rattle.flt_gen.proofs.Prefixes.{Idle, idle_sought, Small, cut_in, cut_within, net_hit}
 use Rattle.flt_gen.proofs.Runs.{one_number}
@@ -330,13 +330,13 @@ module _ (link : Link) (p : List ℕ) (n : ℕ) where
   row_sides at (Direction.Both Or) s t f e h = ap₂ either e h
   row_sides at (Direction.Both And) s t f e h = ap₂ both e h
 
-  address_row : (protocol : Option Protocol) (d : Direction) (mask : Option ℕ) (a : ℕ) (f : ℕ → Bool) → ((x : ℕ) → x < 2 ^ 32 → (under_mask mask x == a) ≡ f x) → reads link (net_formula link protocol (net_test d mask a)) p n ≡ hosts_by protocol (λ at. plain_reads d (source_of at) (destination_of at) f)
+  address_row : (protocol : Option Protocol) (d : Direction) (mask : Option ℕ) (a : ℕ) (f : ℕ → Bool) → ((x : ℕ) → x < 2 ^ 32 → (under_mask mask x == a) ≡ f x) → reads link (net_formula link protocol d mask a) p n ≡ hosts_by protocol (λ at. plain_reads d (source_of at) (destination_of at) f)
   address_row protocol d mask a f e = kinds_are protocol ∙ hosts_same protocol row (λ at. plain_reads d (source_of at) (destination_of at) f) each
     where
       row : Sides → MatchResult
       row at = reads link (sides d (address_test mask a at.source ∷ []) (address_test mask a at.destination ∷ [])) p n
 
-      kinds_are : (protocol : Option Protocol) → reads link (net_formula link protocol (net_test d mask a)) p n ≡ hosts_by protocol row
+      kinds_are : (protocol : Option Protocol) → reads link (net_formula link protocol d mask a) p n ≡ hosts_by protocol row
       kinds_are (Some Ip) = refl
       kinds_are _ = refl
 
@@ -363,7 +363,7 @@ module _ (link : Link) (p : List ℕ) (n : ℕ) where
   IsMember k protocol d v m = (m.low ≤ m.high) × (member_tests k protocol d ≤ count.typed_tests k protocol d v) × (reads link (value_formula link k protocol d v) p n ≡ member_reads k protocol d m)
 
   abbrev IsNet : Option Protocol → Direction → ℕ → ℕ → Interval → Type 0
-  IsNet protocol d b a m = (m.low ≤ m.high) × (count.ip4_tests protocol d ≤ count.ip4_tests protocol d) × (reads link (net_formula link protocol (net_test d (partial_mask (first_bits 32 b)) a)) p n ≡ member_reads Net protocol d m)
+  IsNet protocol d b a m = (m.low ≤ m.high) × (count.ip4_tests protocol d ≤ count.ip4_tests protocol d) × (reads link (net_formula link protocol d (partial_mask (first_bits 32 b)) a) p n ≡ member_reads Net protocol d m)
 
   net_row : (protocol : Option Protocol) (d : Direction) (b a : ℕ) → Each (net_numbers (record { address = a; mask = first_bits 32 b })) (IsNet protocol d b a)
   net_row protocol d b a =

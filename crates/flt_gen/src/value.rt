@@ -7,7 +7,7 @@
 
 ghost use Rattle.flt_gen.specs.inside.{Emits.EmitsFormula, Emitted.qualified_needed};
 
-use crate::address::{Hosts, NetTest, partial_mask};
+use crate::address::{Hosts, partial_mask};
 use crate::code::{Code, Targets};
 use crate::intervals::Numbers;
 use crate::port::{PortTest, Ports};
@@ -37,13 +37,8 @@ impl<A: Allocator> Code<A> {
         let none = Numbers::none();
         match (value_type, value) {
             (ValueType::Host, Value::Dotted(host, _)) => {
-                let (mask, address) = (None, host.address);
-                let net = NetTest {
-                    direction,
-                    mask,
-                    address,
-                };
-                self.emit_hosts(link, protocol, Hosts::Net(net), &none, to)
+                let wanted = Hosts::Net(direction, None, host.address);
+                self.emit_hosts(link, protocol, wanted, &none, to)
             }
             (ValueType::Host, Value::Ip6(address, _)) => {
                 self.emit_ip6(link, direction, None, address, to)
@@ -57,13 +52,8 @@ impl<A: Allocator> Code<A> {
             (ValueType::Net, value) => match value.ip4_net() {
                 None => Ok(to.no),
                 Some(net) => {
-                    let (mask, address) = (partial_mask(net.mask), net.address);
-                    let net = NetTest {
-                        direction,
-                        mask,
-                        address,
-                    };
-                    self.emit_hosts(link, protocol, Hosts::Net(net), &none, to)
+                    let wanted = Hosts::Net(direction, partial_mask(net.mask), net.address);
+                    self.emit_hosts(link, protocol, wanted, &none, to)
                 }
             },
             (ValueType::Port, Value::Number(port, _)) => {
