@@ -127,12 +127,6 @@ bare_ports link wanted bs n ip ip6 =
     bare_within _ (omega arith)
     (bare_either (bare_after (bare_transport wanted.protocol _ _ _ _ (bare_after ip))) (bare_after (bare_transport wanted.protocol _ _ _ n ip6)))
 
-pub bare_port : (link : Link) (p : Option Protocol) (d : Direction) (n : ℕ) → Bare (port_formula link (port_test p d (One n)) no_numbers) (count.port_tests p d 1)
-bare_port link p d n = bare_ports link (port_test p d (One n)) no_numbers _ (bare_sides d _ _ 1 (omega arith) (omega arith) (omega arith)) (bare_sides d _ _ 1 (omega arith) (omega arith) (omega arith))
-
-bare_range : (link : Link) (p : Option Protocol) (d : Direction) (a b : ℕ) → Bare (port_formula link (port_test p d (Between a b)) no_numbers) (count.port_tests p d 2)
-bare_range link p d a b = bare_ports link (port_test p d (Between a b)) no_numbers _ (bare_sides d _ _ 2 (omega arith) (omega arith) (omega arith)) (bare_sides d _ _ 2 (omega arith) (omega arith) (omega arith))
-
 -- values
 pub bare_value : (link : Link) (k : ValueType) (p : Option Protocol) (d : Direction) (v : Value) → Bare (value_formula link k p d v) (count.typed_tests k p d v)
 bare_value link Host p d (Value.Dotted a m) = bare_net link p d None a.address
@@ -141,8 +135,10 @@ bare_value link Host p d (Value.Mac a) = bare_ether link d a
 bare_value link Net p d (Value.Number n m) = bare_net link p d _ _
 bare_value link Net p d (Value.Dotted a m) = bare_net link p d _ _
 bare_value link Net p d (Value.Ip6 a n) = bare_ip6 link d n a
-bare_value link Port p d (Value.Number n m) = bare_port link p d n
-bare_value link PortRange p d (Value.Range a b) = bare_range link p d (min a b) (max a b)
+bare_value link Port p d (Value.Number n m) =
+    bare_ports link (port_test p d (One n)) no_numbers _ (bare_sides d _ _ 1 (omega arith) (omega arith) (omega arith)) (bare_sides d _ _ 1 (omega arith) (omega arith) (omega arith))
+bare_value link PortRange p d (Value.Range a b) =
+    bare_ports link (port_test p d (Between (min a b) (max a b))) no_numbers _ (bare_sides d _ _ 2 (omega arith) (omega arith) (omega arith)) (bare_sides d _ _ 2 (omega arith) (omega arith) (omega arith))
 bare_value link Proto p d (Value.Number n m) = bare_proto_value link p n
 bare_value link _ None d _ = bare_some _ (omega arith)
 bare_value link _ _ d _ = bare_some _ (omega arith)

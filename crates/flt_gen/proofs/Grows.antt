@@ -1,10 +1,10 @@
 -- The code of a formula, in front of other code, which still stands at its end: it has no fault and
 -- no jump, and no more instructions and branches than are counted.
 use Rattle.flt_gen.proofs.Ascending.{if_case, Searchable, Reached, Ready, Searches, length_without, ends_few}
-use Rattle.flt_gen.proofs.Codes.{code_is}
+use Rattle.flt_bpf.proofs.Codes.{code_is}
 use Rattle.flt_gen.proofs.Common.{and_parts, accessor_offset, alu_operation, ◌≡◌, ℕ, zero, suc, ◌+◌, ◌-◌, ◌*◌, ◌/◌, ◌<◌, ◌≤◌, List, [], ◌∷◌, length, take, drop, Bool, true, false, cond, Option, Some, None, refl, sym, ap, ◌∙◌, arith, length-drop, length-take, ◌≢◌, nat_lt, nat_le, ◌==◌, not, ◌&&◌, if◌then◌else◌, count_by, nat_tests, sum_by-cons, All-cons, Insn, Operand, Constant, IndexRegister, Operation, LoadAbsolute, LoadIndirect, Load, LoadHeaderLength, Store, Compute, Negate, Jump, JumpIf, CopyToIndex, Word, Accumulator, Index, Immediate, Memory, Length, Test, Width, fault_if_known, operation_fault, unless, ends_in_return, IsValidUnlessLong, code_of, is_branch, JUMP, HasNoJump, Comparison, Equal, NotEqual, Less, AtMost, Greater, AtLeast, Operator, Protocol, Tcp, Udp, Icmp, number_words, number_size, NumberTree, literal, len, named, load, negated, applied, Link, network_offset, Interval, Elementary, Outcome, Field, Offset, Fixed, AfterHeader, width_of, Formula, Single, Compare, Both, Either, Except, Split, Sought, Numbers, Sides, Direction, Source, Destination, And, Or, max, subst, plain, computation, takes_constant, constant, constant_operand, branch_insn, emit_branch, emit_comparison, emit_field, emit_mask, emit_accessor, emit_base, emit_number, Block, at_top, emit_interval, emit_chain, are_few, low_of, MOST_HALVINGS, emit_elementary, emit_formula, emit_masked, emit_side, emit_others, emit_few, emit_index, emit_at_index, emit_many, fewest_at_index, are_at_index, emit_among, words, nodes, first_ends, sought_tests, tests}
 use Rattle.flt_gen.proofs.Numbers.{operand_is}
-use Rattle.flt_gen.proofs.Tails.{Extends, extends_none, extends_put, extends_on, by_right, by_index}
+use Rattle.flt_gen.proofs.Leads.{Extends, extends_none, extends_put, extends_on, by_right, by_index}
 use Rattle.flt_bpf.specs.{Check.constant_fault, Check.fault_of, Instructions.operation_of}
 use Rattle.flt_bpf.specs.declared.fault.CheckFault.{CheckFault, TheVariants.JumpOut, TheVariants.NoSuchWord}
 use Rattle.flt_bpf.specs.declared.operation.AluOperation.{AluOperation}

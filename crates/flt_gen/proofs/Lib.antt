@@ -1,7 +1,5 @@
 pub mod Common
 pub mod Search
-pub mod Codes
-pub mod Tails
 pub mod Ascending
 pub mod Leads
 pub mod Exclusive

@@ -1,7 +1,6 @@
 -- What the code of arithmetic does.
-use Rattle.flt_gen.proofs.Codes.{run_plain}
 use Rattle.flt_gen.proofs.Common.{LoadAbsolute, accessor_offset, emit_field, ◌≡◌, ℕ, ◌+◌, ◌-◌, ◌%◌, ◌^◌, ◌<◌, ◌≤◌, List, ◌∷◌, length, Bool, true, false, Option, Some, None, refl, sym, ap, ap₂, ◌∙◌, subst, arith, slice_get, slice_set, nat_lt, if◌then◌else◌, option_map, nat_tests, get_or-set_same, get_or-set_other, Insn, State, Accumulator, Index, Width, Byte, Operand, Constant, IndexRegister, Goes, Lost, field, compute, operand_value, into, word_into, header_length, Operator, Protocol, Ether, Tcp, Udp, Icmp, NumberTree, literal, len, named, load, negated, applied, Link, Offset, Fixed, AfterHeader, with, field_at, network_offset, width_of, base, result_of, number, number_words, plain, alu_operation, computation, takes_constant, constant, constant_operand, emit_base, emit_transport, emit_accessor, emit_operands, emit_number, answer_of, answer_after, LoadIndirect, Load, LoadHeaderLength, Store, Negate, CopyToIndex, Immediate, Memory, Length}
-use Rattle.flt_gen.proofs.Tails.{by_right, by_index}
+use Rattle.flt_gen.proofs.Leads.{by_right, by_index, run_plain}
 use Rattle.std.proofs.{Math.ListN.length-set, lemmas.Option.slice_get-get_or}
 use Rattle.flt_words.specs.declared.token.Operator.TheVariants.{Add}
 

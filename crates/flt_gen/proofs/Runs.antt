@@ -2,12 +2,10 @@
 use Rattle.flt_gen.specs.Formula.{choose, Formula, Single, Compare, Both, Either, Except, Split, Sought, Numbers, is_in, is_within, among_reads, captured_reads, either_reads, sought_reads, relation_reads, both, either, negation as exchanged, reads}
 use Rattle.flt_gen.specs.inside.Code.{emit_search}
 use Rattle.flt_gen.proofs.Ascending.{if_case, Apart, Searchable, Reached, Ready, Searches, apart_without, within_without, searchable_apart, apart_take, apart_drop, lower_half, first_taken, upper_half}
-use Rattle.flt_gen.proofs.Codes.{run, run_plain}
-use Rattle.flt_gen.proofs.Common.{◌≡◌, ℕ, zero, suc, ◌+◌, ◌-◌, ◌/◌, ◌%◌, ◌^◌, ◌<◌, ◌≤◌, List, [], ◌∷◌, length, take, drop, Bool, true, false, Option, Some, None, refl, sym, ap, ◌∙◌, subst, arith, nat_le, nat_lt, ◌==◌, not, ◌&&◌, ◌||◌, if◌then◌else◌, bit_and, option_map, nat_tests, Insn, State, Width, Byte, Test, Operand, Constant, IndexRegister, LoadIndirect, Load, Immediate, LoadHeaderLength, Compute, JumpIf, Accumulator, Index, answer_of, answer_after, field, test_holds, operand_value, into, header_length, Comparison, Equal, NotEqual, Less, AtMost, Greater, AtLeast, number_words, NumberTree, Link, Offset, Fixed, AfterHeader, Interval, Sides, Direction, Source, Destination, And, Or, without, ap₂, Elementary, Outcome, Field, MatchResult, Yes, No, Rejected, reading_of, with, compares, field_at, under_mask, field_reads, elementary_reads, number, plain, constant, branch_insn, emit_elementary, emit_branch, emit_comparison, emit_field, emit_mask, emit_test, emit_relation, Block, at_top, emit_interval, emit_chain, are_few, low_of, MOST_HALVINGS, emit_masked, emit_side, emit_others, emit_few, emit_second, emit_at_sides, emit_many, are_at_index, emit_among, emit_formula, words}
+use Rattle.flt_gen.proofs.Common.{◌≡◌, ℕ, zero, suc, ◌+◌, ◌-◌, ◌/◌, ◌%◌, ◌^◌, ◌<◌, ◌≤◌, List, [], ◌∷◌, length, take, drop, Bool, true, false, Option, Some, None, refl, sym, ap, ◌∙◌, subst, arith, nat_le, nat_lt, ◌==◌, not, ◌&&◌, ◌||◌, if◌then◌else◌, bit_and, option_map, nat_tests, Insn, State, Width, Byte, Test, Operand, Constant, IndexRegister, LoadIndirect, Load, Immediate, LoadHeaderLength, Compute, JumpIf, Accumulator, Index, answer_of, answer_after, field, test_holds, operand_value, into, header_length, Comparison, Equal, NotEqual, Less, AtMost, Greater, AtLeast, number_words, NumberTree, Link, Offset, Fixed, AfterHeader, Interval, Sides, Direction, Source, Destination, And, Or, without, ap₂, Elementary, Outcome, Field, MatchResult, Yes, No, Rejected, reading_of, with, compares, field_at, under_mask, field_reads, elementary_reads, number, plain, constant, branch_insn, emit_elementary, emit_branch, emit_comparison, emit_field, emit_mask, emit_relation, Block, at_top, emit_interval, emit_chain, are_few, low_of, MOST_HALVINGS, emit_masked, emit_side, emit_others, emit_few, emit_second, emit_at_sides, emit_many, are_at_index, emit_among, emit_formula, words}
 use Rattle.flt_gen.proofs.Grows.{are_many, some_searched, source_lean, branch_grows, interval_fits, chain_fits, search_fits, side_fits, others_fits, masked_grows, at_index_grows, emitted_by}
-use Rattle.flt_gen.proofs.Leads.{HasWords, Tops, Leads, leads_top, leads_on, leads_in, leads_to}
+use Rattle.flt_gen.proofs.Leads.{Extends, by_right, run, run_plain, HasWords, Tops, Leads, leads_top, leads_on, leads_in, leads_to}
 use Rattle.flt_gen.proofs.Numbers.{answer_for, into_any, field_runs, constant_is, operands_run, number_runs}
-use Rattle.flt_gen.proofs.Tails.{Extends, by_right}
 use Rattle.std.proofs.Math.Nat.{mod-eq_of_lt}
 use Rattle.flt_bpf.specs.declared.operation.AluOperation.{AluOperation}
 
@@ -53,9 +51,6 @@ less_is a b = grind (arith, nat_tests)
 
 at_most_is : (a b : ℕ) → not (nat_lt b a) ≡ nat_le a b
 at_most_is a b = grind (arith, nat_tests)
-
-in_range : (b c : Bool) (v w : ℕ) → b ≡ true → (if c then w else v) ≡ (if (b && not c) then v else w)
-in_range b c v w e = grind (arith, nat_tests)
 
 range_is : (b c : Bool) (v w : ℕ) → (if b then (if c then w else v) else w) ≡ (if (b && not c) then v else w)
 range_is b c v w = grind (arith, nat_tests)
@@ -120,7 +115,7 @@ module _ (p : List ℕ) (n : ℕ) where
   elementary_leads (Outcome true) hit miss v w c h m = h
   elementary_leads (Outcome false) hit miss v w c h m = m
   elementary_leads (Field t) hit miss v w c h m =
-      leads_top p n (emit_test t hit miss c) (pick (field_reads t p) v w)
+      leads_top p n _ (pick (field_reads t p) v w)
       (field_tops t.offset t.width (λ x. compares t.comparison (under_mask t.mask x) t.value) (emit_mask t.mask (emit_comparison t.comparison Constant t.value hit miss c)) v w (λ x.
       masked_tops HasWords (λ s a q. q) t.mask (emit_comparison t.comparison Constant t.value hit miss c) x _
       (comparison_tops t.comparison Constant t.value (under_mask t.mask x) t.value hit miss v w c (λ s q. q.1) (λ s q. refl) (leads_in p n (λ s q. q.0) h) (leads_in p n (λ s q. q.0) m))))
@@ -152,7 +147,7 @@ module _ (p : List ℕ) (n : ℕ) where
           top = λ _. omega arith;
           leads = at_most;
           right = λ t. let low = t refl in let above : nat_le i.low a ≡ true = grind (arith, nat_tests) in
-              in_range (nat_le i.low a) (nat_lt i.high a) v w above ∙ ap (λ b. if b then v else w) (inside_is (nat_le i.low a));
+              ap (λ b. if b then (if nat_lt i.high a then w else v) else w) (sym above) ∙ range_is (nat_le i.low a) (nat_lt i.high a) v w ∙ ap (λ b. if b then v else w) (inside_is (nat_le i.low a));
         }
         range false = record {
           value = if nat_le i.low a then (if nat_lt i.high a then w else v) else w;

@@ -1,14 +1,6 @@
--- The walk over the nodes of an expression makes its program.
-use Rattle.flt_gen.proofs.Common.{◌≡◌, ℕ, ◌-◌, List, [], ◌∷◌, length, take, get_or, suc, ◌≤◌, Some, None, Entry, Equal, Ether, refl, sym, ap, ◌∙◌, arith, reverse, take-suc, reverse-append, Node, Expression, expr_onto, Link, program_code, Walk, emit_node, emit_both_nodes, or_walk, emit_nodes, start_walk, insns_of}
-use Rattle.flt_gen.proofs.Walking.{expression_walked}
+-- The last of the nodes that are left are put, one or several at once.
+use Rattle.flt_gen.proofs.Common.{◌≡◌, ℕ, ◌-◌, List, [], ◌∷◌, length, take, get_or, suc, ◌≤◌, Some, None, Entry, Equal, Ether, refl, sym, ap, ◌∙◌, arith, reverse, take-suc, reverse-append, Node, Link, Walk, emit_node, emit_both_nodes, or_walk, emit_nodes}
 use Rattle.flt_gen.specs.inside.{Relations.relation, Relations.relation_in, Walk.emit_member}
-
--- the nodes of the tree, turned round, make the instructions of the expression's program
-pub program_is : (link : Link) (e : Expression) (ns : List Node) → reverse ns ≡ expr_onto e → insns_of (emit_nodes link start_walk (reverse ns)) ≡ program_code link e
-program_is link e ns h = ap (λ xs. insns_of (emit_nodes link start_walk xs)) h ∙ expression_walked link e
-
-is_some : (u v : Walk) → Some u ≡ Some v → u ≡ v
-is_some u v e = cc
 
 -- a relation is put at once
 relation_walked : (link : Link) (w : Walk) (a b c d : Node) (ns : List Node) (e : Entry) → relation_in (a ∷ b ∷ c ∷ d ∷ ns) ≡ Some e → emit_nodes link w (a ∷ b ∷ c ∷ d ∷ ns) ≡ emit_nodes link (emit_member link e w) ns
@@ -18,8 +10,8 @@ relation_walked link w _ _ _ _ ns e is = cc
 pub both_walked : (link : Link) (w v : Walk) (n m : Node) (ns : List Node) → relation_in (n ∷ m ∷ ns) ≡ None → emit_both_nodes link w n m ≡ Some v → emit_nodes link w (n ∷ m ∷ ns) ≡ emit_nodes link v ns
 both_walked link w v (Node.Compare Equal) (Node.Literal k) (Node.Load p s ∷ Node.Literal i ∷ ns) none e = cc
 both_walked link w v (Node.Apply o) (Node.Literal k) ns none e = ap (λ x. emit_nodes link (or_walk x (emit_node link (emit_node link w (Node.Apply o)) (Node.Literal k))) ns) e
-both_walked link w v (Node.Compare c) (Node.Literal k) ns none e = ap (λ x. emit_nodes link x ns) (is_some _ v e)
-both_walked link w v (Node.Load p s) (Node.Literal k) ns none e = ap (λ x. emit_nodes link x ns) (is_some _ v e)
+both_walked link w v (Node.Compare c) (Node.Literal k) ns none e = ap (λ x. emit_nodes link (or_walk x w) ns) e
+both_walked link w v (Node.Load p s) (Node.Literal k) ns none e = ap (λ x. emit_nodes link (or_walk x w) ns) e
 both_walked link w v _ _ ns none e = cc
 
 pub one_walked : (link : Link) (w : Walk) (n m : Node) (ns : List Node) → emit_both_nodes link w n m ≡ None → emit_nodes link w (n ∷ m ∷ ns) ≡ emit_nodes link (emit_node link w n) (m ∷ ns)

@@ -5,7 +5,7 @@ use Rattle.flt_gen.proofs.Grouping.{kept_none, grouped_stands}
 use Rattle.flt_gen.proofs.Exclusive.{or_no}
 use Rattle.flt_gen.proofs.Grows.{branches, Sound, none_by, FitsBy, more_by, emitted_by}
 use Rattle.flt_gen.proofs.Leads.{HasWords, Leads, leads_to}
-use Rattle.flt_gen.proofs.{Runs.pick, Runs.emitted_leads, Turned.program_is}
+use Rattle.flt_gen.proofs.{Runs.pick, Runs.emitted_leads, Walking.expression_walked}
 use Rattle.flt_bpf.specs.Check.{fault_of}
 use Rattle.flt_bpf.specs.{Instructions.operation_of, Machine.step, Valid.IsValid}
 use Rattle.flt_bpf.proofs.Checking.{parts}
@@ -124,7 +124,7 @@ made link e walked folded tree wide filled few w f n c =
     record { is = folded_code wide e link m.is; valid = m.valid }
   where
     same : wide ≡ program_code link (folded_expression e)
-    same = c ∙ program_is link (folded_expression e) walked (ap reverse w ∙ f ∙ ap (fold with_folded []) n ∙ nodes_folded e)
+    same = c ∙ ap (λ ns. insns_of (emit_nodes link start_walk ns)) (ap reverse w ∙ f ∙ ap (fold with_folded []) n ∙ nodes_folded e) ∙ expression_walked link (folded_expression e)
 
 -- after a round of the optimiser
 once_more : (link : Link) (e : Expression) (code short : List Insn) → bound_of e ≤ 32768 → IsRound short code → IsMadeOf code e link → IsMadeOf short e link

@@ -23,7 +23,7 @@ use Rattle.flt_gen.specs.Elementary.{with}
 use Rattle.flt_gen.specs.Formula.{Formula, Single, Compare, Both, Either, Except, Split, Sought, Numbers}
 use Rattle.flt_gen.specs.Numbers.{width_of}
 use Rattle.flt_gen.specs.declared.elementary.Elementary.{Elementary, TheVariants.Outcome, TheVariants.Field}
-use Rattle.flt_gen.specs.declared.elementary.{FieldTest.FieldTest, Interval.Interval, Offset.Offset}
+use Rattle.flt_gen.specs.declared.elementary.{Interval.Interval, Offset.Offset}
 use Rattle.flt_gen.specs.declared.elementary.{Offset.TheVariants.Fixed, Offset.TheVariants.AfterHeader, Sides.Sides}
 
 -- an instruction that isn't a test
@@ -96,12 +96,6 @@ emit_field (AfterHeader header k) width c =
 abbrev pub emit_mask : Option ℕ → List Insn → List Insn
 emit_mask None c = c
 emit_mask (Some mask) c = plain (Compute AluOperation.And Constant) mask ∷ c
-
--- a field is loaded, masked and compared
-abbrev pub emit_test : FieldTest → ℕ → ℕ → List Insn → List Insn
-emit_test t hit miss c =
-    emit_field t.offset t.width (emit_mask t.mask
-    (emit_comparison t.comparison Constant t.value hit miss c))
 
 -- the field as far past a fixed place as the number in A goes into A
 abbrev pub emit_base : ℕ → Width → List Insn → List Insn
@@ -181,11 +175,14 @@ block c entry = record { code = c; entry = entry }
 abbrev pub at_top : List Insn → Block
 at_top c = record { code = c; entry = length c }
 
--- an elementary test; one that the link type decides takes no code
+-- an elementary test: a field is loaded, masked and compared; what the link type decides takes no
+-- code
 abbrev pub emit_elementary : Elementary → ℕ → ℕ → List Insn → Block
 emit_elementary (Outcome true) hit miss c = block c hit
 emit_elementary (Outcome false) hit miss c = block c miss
-emit_elementary (Field t) hit miss c = at_top (emit_test t hit miss c)
+emit_elementary (Field t) hit miss c =
+    at_top (emit_field t.offset t.width (emit_mask t.mask
+    (emit_comparison t.comparison Constant t.value hit miss c)))
 
 -- whether A is in an interval, if it may be known to be no lower
 abbrev pub emit_interval : Bool → Interval → ℕ → ℕ → List Insn → Block
