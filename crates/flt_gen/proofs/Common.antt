@@ -47,7 +47,7 @@ pub use Rattle.flt_gen.specs.declared.elementary.Offset.TheVariants.{Fixed, Afte
 pub use Rattle.flt_gen.specs.declared.{elementary.Sides.Sides, group.Entry.Entry}
 pub use Rattle.flt_gen.specs.declared.port.Ports.TheVariants.{One, Between, Several}
 pub use Rattle.flt_gen.specs.declared.port.Transport.{Transport}
-pub use Rattle.flt_gen.specs.inside.Code.{accessor_offset, emit_indexed, Block, block, emit_all, low_of, plain, constant, computation, takes_constant, constant_operand, branch_insn, emit_branch, emit_comparison, emit_field, emit_mask, emit_accessor, emit_number, at_top, emit_interval, emit_chain, are_few, MOST_HALVINGS, emit_elementary, emit_formula, alu_operation, emit_base, emit_transport, emit_operands, emit_relation, emit_masked, emit_side, emit_others, emit_few, emit_index, emit_at_index, emit_second, emit_at_sides, emit_many, fewest_at_index, are_at_index, emit_among, emit_right}
+pub use Rattle.flt_gen.specs.inside.Code.{accessor_offset, constant_or, Block, block, emit_all, low_of, plain, constant, computation, takes_constant, constant_operand, branch_insn, emit_branch, emit_comparison, emit_field, emit_mask, emit_accessor, emit_number, at_top, emit_interval, emit_chain, are_few, MOST_HALVINGS, emit_elementary, emit_formula, alu_operation, emit_base, emit_transport, emit_operands, emit_relation, emit_masked, emit_side, emit_others, emit_few, emit_index, emit_at_index, emit_second, emit_at_sides, emit_many, fewest_at_index, are_at_index, emit_among}
 pub use Rattle.flt_gen.specs.inside.Counts.{first_ends, sought_tests, tests, nodes, words}
 pub use Rattle.flt_gen.specs.inside.Emitted.{protocols_of, relation_formula, qualified_needed, is_empty, is_idle, capture_test, last_test, needed_tests, ip6_needed, value_needed, equals, without_protocol}
 pub use Rattle.flt_gen.specs.inside.Folding.{negated_constant, applied_constant, number_or, negated_number, applied_number, folded_number, and_denied, joined_truth, folded_truth, folded_expression, node_or, with_negation, with_operator, Held, with_held, with_folded, hold, put_back}

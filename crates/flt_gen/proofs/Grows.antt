@@ -4,7 +4,7 @@ use Rattle.flt_gen.proofs.Ascending.{if_case, Searchable, Reached, Ready, Search
 use Rattle.flt_bpf.proofs.Codes.{code_is}
 use Rattle.flt_gen.proofs.Common.{and_parts, accessor_offset, alu_operation, ◌≡◌, ℕ, zero, suc, ◌+◌, ◌-◌, ◌*◌, ◌/◌, ◌<◌, ◌≤◌, List, [], ◌∷◌, length, take, drop, Bool, true, false, cond, Option, Some, None, refl, sym, ap, ◌∙◌, arith, length-drop, length-take, ◌≢◌, nat_lt, nat_le, ◌==◌, not, ◌&&◌, if◌then◌else◌, count_by, nat_tests, sum_by-cons, All-cons, Insn, Operand, Constant, IndexRegister, Operation, LoadAbsolute, LoadIndirect, Load, LoadHeaderLength, Store, Compute, Negate, Jump, JumpIf, CopyToIndex, Word, Accumulator, Index, Immediate, Memory, Length, Test, Width, fault_if_known, operation_fault, unless, ends_in_return, IsValidUnlessLong, code_of, is_branch, JUMP, HasNoJump, Comparison, Equal, NotEqual, Less, AtMost, Greater, AtLeast, Operator, Protocol, Tcp, Udp, Icmp, number_words, number_size, NumberTree, literal, len, named, load, negated, applied, Link, network_offset, Interval, Elementary, Outcome, Field, Offset, Fixed, AfterHeader, width_of, Formula, Single, Compare, Both, Either, Except, Split, Sought, Numbers, Sides, Direction, Source, Destination, And, Or, max, subst, plain, computation, takes_constant, constant, constant_operand, branch_insn, emit_branch, emit_comparison, emit_field, emit_mask, emit_accessor, emit_base, emit_number, Block, at_top, emit_interval, emit_chain, are_few, low_of, MOST_HALVINGS, emit_elementary, emit_formula, emit_masked, emit_side, emit_others, emit_few, emit_index, emit_at_index, emit_many, fewest_at_index, are_at_index, emit_among, words, nodes, first_ends, sought_tests, tests}
 use Rattle.flt_gen.proofs.Numbers.{operand_is}
-use Rattle.flt_gen.proofs.Leads.{Extends, extends_none, extends_put, extends_on, by_right, by_index}
+use Rattle.flt_gen.proofs.Leads.{Extends, extends_none, extends_put, extends_on, by_operand}
 use Rattle.flt_bpf.specs.{Check.constant_fault, Check.fault_of, Instructions.operation_of}
 use Rattle.flt_bpf.specs.declared.fault.CheckFault.{CheckFault, TheVariants.JumpOut, TheVariants.NoSuchWord}
 use Rattle.flt_bpf.specs.declared.operation.AluOperation.{AluOperation}
@@ -223,13 +223,13 @@ module _ (b : Bool) where
   number_grows link (negated a) slot few g =
       grows_more _ _ (omega arith) (omega arith) (number_grows link a slot few (grows_put Negate 0 refl refl refl g))
   number_grows link (load protocol size i) slot {c = c} {d = d} {m = m} {w = w} few g =
-      by_index (λ code. GrowsBy b c code (m + 6 * number_size (load protocol size i)) (w + 6 * number_size (load protocol size i))) (constant i) _ _
+      by_operand (λ code. GrowsBy b c code (m + 6 * number_size (load protocol size i)) (w + 6 * number_size (load protocol size i))) (constant i) _ _
       (λ k is. grows_more _ _ (omega arith) (omega arith) (field_grows (accessor_offset link protocol k) (width_of size) g))
       (grows_more _ _ (omega arith) (omega arith) (number_grows link i slot few (accessor_grows link protocol (width_of size) g)))
   number_grows link (applied operator l r) slot {c = c} {d = d} {m = m} {w = w} few g =
       grows_more _ _ (omega arith) (omega arith)
       (number_grows link l slot (omega arith)
-      (by_right (λ code. GrowsBy b c code (m + 4 + 6 * number_size r) (w + 4 + 6 * number_size r)) (constant_operand operator r) slot _ _
+      (by_operand (λ code. GrowsBy b c code (m + 4 + 6 * number_size r) (w + 4 + 6 * number_size r)) (constant_operand operator r) _ _
       (λ k is. grows_more _ _ (omega arith) (omega arith) (grows_put (computation operator Constant) k refl refl (constant_fine operator k (length d) (operand_is operator r k is).taken) g))
       (grows_more _ _ (omega arith) (omega arith)
       (grows_put (Store Accumulator) slot refl refl (word_fine slot (omega arith))
@@ -390,7 +390,7 @@ module _ (b : Bool) where
       more_by _ _ (omega arith) (omega arith)
       (fits_top
       (number_grows link l 0 (omega arith)
-      (by_right (λ code. GrowsBy b c code (4 + 6 * number_size r) (6 + 6 * number_size r)) (constant r) 0 _ _
+      (by_operand (λ code. GrowsBy b c code (4 + 6 * number_size r) (6 + 6 * number_size r)) (constant r) _ _
       (λ k is. grows_more _ _ (omega arith) (omega arith) (comparison_grows comparison Constant k hit miss c s h m))
       (grows_more _ _ (omega arith) (omega arith)
       (grows_put (Store Accumulator) 0 refl refl refl

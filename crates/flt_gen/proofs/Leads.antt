@@ -1,6 +1,6 @@
 -- Code that grew in front still stands at its end; what its first instruction does; and where it
 -- leads: its answer from a place on.
-use Rattle.flt_gen.proofs.Common.{emit_indexed, ◌≡◌, ℕ, suc, ◌-◌, ◌≤◌, List, ◌∷◌, length, drop, Option, Some, None, refl, sym, ap, ◌∙◌, arith, Insn, State, Operation, plain, emit_right, Store, Accumulator, answer_of, answer_after, answer_drop, code_of, does, does_if_known}
+use Rattle.flt_gen.proofs.Common.{constant_or, ◌≡◌, ℕ, suc, ◌-◌, ◌≤◌, List, ◌∷◌, length, drop, Option, Some, None, refl, sym, ap, ◌∙◌, arith, Insn, State, Operation, plain, answer_of, answer_after, answer_drop, code_of, does, does_if_known}
 use Rattle.flt_bpf.proofs.Codes.{code_is}
 use Rattle.flt_bpf.specs.{Instructions.operation_of, Machine.step}
 
@@ -26,15 +26,10 @@ extends_on a b =
       same = λ place l. b.same place (omega (arith, a.longer)) ∙ a.same place l;
     }
 
--- by what is after a left operand
-pub by_right : (P : List Insn → Type 0) (o : Option ℕ) (slot : ℕ) (short : ℕ → List Insn) (long : List Insn) → ((k : ℕ) → o ≡ Some k → P (short k)) → P (plain (Store Accumulator) slot ∷ long) → P (emit_right o slot short long)
-by_right P None slot short long one all = all
-by_right P (Some k) slot short long one all = one k refl
-
--- by the index of an accessor
-pub by_index : (P : List Insn → Type 0) (o : Option ℕ) (short : ℕ → List Insn) (long : List Insn) → ((k : ℕ) → o ≡ Some k → P (short k)) → P long → P (emit_indexed o short long)
-by_index P None short long one all = all
-by_index P (Some k) short long one all = one k refl
+-- by a constant operand or index
+pub by_operand : (P : List Insn → Type 0) (o : Option ℕ) (short : ℕ → List Insn) (long : List Insn) → ((k : ℕ) → o ≡ Some k → P (short k)) → P long → P (constant_or o short long)
+by_operand P None short long one all = all
+by_operand P (Some k) short long one all = one k refl
 
 -- a state with the words of memory that programs may use
 abbrev pub HasWords : State → Type 0

@@ -4,7 +4,7 @@ use Rattle.flt_gen.specs.inside.Code.{emit_search}
 use Rattle.flt_gen.proofs.Ascending.{if_case, Apart, Searchable, Reached, Ready, Searches, apart_without, within_without, searchable_apart, apart_take, apart_drop, lower_half, first_taken, upper_half}
 use Rattle.flt_gen.proofs.Common.{◌≡◌, ℕ, zero, suc, ◌+◌, ◌-◌, ◌/◌, ◌%◌, ◌^◌, ◌<◌, ◌≤◌, List, [], ◌∷◌, length, take, drop, Bool, true, false, Option, Some, None, refl, sym, ap, ◌∙◌, subst, arith, nat_le, nat_lt, ◌==◌, not, ◌&&◌, ◌||◌, if◌then◌else◌, bit_and, option_map, nat_tests, Insn, State, Width, Byte, Test, Operand, Constant, IndexRegister, LoadIndirect, Load, Immediate, LoadHeaderLength, Compute, JumpIf, Accumulator, Index, answer_of, answer_after, field, test_holds, operand_value, into, header_length, Comparison, Equal, NotEqual, Less, AtMost, Greater, AtLeast, number_words, NumberTree, Link, Offset, Fixed, AfterHeader, Interval, Sides, Direction, Source, Destination, And, Or, without, ap₂, Elementary, Outcome, Field, MatchResult, Yes, No, Rejected, reading_of, with, compares, field_at, under_mask, field_reads, elementary_reads, number, plain, constant, branch_insn, emit_elementary, emit_branch, emit_comparison, emit_field, emit_mask, emit_relation, Block, at_top, emit_interval, emit_chain, are_few, low_of, MOST_HALVINGS, emit_masked, emit_side, emit_others, emit_few, emit_second, emit_at_sides, emit_many, are_at_index, emit_among, emit_formula, words}
 use Rattle.flt_gen.proofs.Grows.{are_many, some_searched, source_lean, branch_grows, interval_fits, chain_fits, search_fits, side_fits, others_fits, masked_grows, at_index_grows, emitted_by}
-use Rattle.flt_gen.proofs.Leads.{Extends, by_right, run, run_plain, HasWords, Tops, Leads, leads_top, leads_on, leads_in, leads_to}
+use Rattle.flt_gen.proofs.Leads.{Extends, by_operand, run, run_plain, HasWords, Tops, Leads, leads_top, leads_on, leads_in, leads_to}
 use Rattle.flt_gen.proofs.Numbers.{answer_for, into_any, field_runs, constant_is, operands_run, number_runs}
 use Rattle.std.proofs.Math.Nat.{mod-eq_of_lt}
 use Rattle.flt_bpf.specs.declared.operation.AluOperation.{AluOperation}
@@ -402,7 +402,7 @@ module _ (p : List ℕ) (n : ℕ) where
   relation_tops : (link : Link) (comparison : Comparison) (l r : NumberTree) (hit miss v w : ℕ) (c : List Insn) → Leads p n HasWords c hit v → Leads p n HasWords c miss w → number_words l ≤ 16 → 1 + number_words r ≤ 16 → Tops p n HasWords (emit_relation link comparison l r hit miss c) (pick (relation_reads link comparison l r p n) v w)
   relation_tops link comparison l r hit miss v w c h m few_l few_r =
       λ s long. number_runs p n link l 0 _ (omega arith) s (λ x. pick (reading_of (with (number link r p n) (λ y. Some (compares comparison x y)))) v w) long
-      (λ x t k e. by_right (λ d. answer_of d p n 0 t ≡ Some (pick (reading_of (with (number link r p n) (λ y. Some (compares comparison x y)))) v w)) (constant r) 0 _ _
+      (λ x t k e. by_operand (λ d. answer_of d p n 0 t ≡ Some (pick (reading_of (with (number link r p n) (λ y. Some (compares comparison x y)))) v w)) (constant r) _ _
       (λ j is. comparison_tops {P = Has x} comparison Constant j x j hit miss v w c (λ u q. q.1) (λ u q. refl) (leads_in p n (λ u q. q.0) h) (leads_in p n (λ u q. q.0) m) t (k.long, e)
       ∙ ap Some (picked (compares comparison x j) v w)
       ∙ ap (λ o. Some (pick (reading_of (with o (λ y. Some (compares comparison x y)))) v w)) (sym (constant_is p n link r j is)))

@@ -1,5 +1,5 @@
 -- The walk over the nodes of a tree, the last first, puts the code of the tree's formula in front.
-use Rattle.flt_gen.proofs.Common.{Formula, Both, Either, Except, Compare, checked_formula, ◌+◌, if◌then◌else◌, ◌≡◌, ℕ, List, [], ◌∷◌, Bool, true, false, Option, Some, None, with, Equal, refl, sym, ap, ◌∙◌, Insn, And, Or, Comparison, Node, Apply, Literal, Not, Constant, IndexRegister, Operator, formula, Group, no_group, larger_group, entry, choice, or_any, or_group, group_formula, grouped_formula, NumberTree, literal, len, named, load, negated, applied, TruthTree, qualified, compared, denied, joined, Expression, empty, truth, number_onto, truth_onto, expr_onto, Link, Entry, protocols_of, relation_formula, accessor_tests, Protocol, plain, computation, takes_constant, emit_comparison, emit_operands, emit_right, emit_number, Block, emit_formula, emit_all, emit_accessor_tests, program_code, Walk, targets, finish_truth, finish_number, with_insns, finish_formula, flush_members, flush_group, emit_truth_node, emit_node, or_walk, start_walk, insns_of, emit_nodes}
+use Rattle.flt_gen.proofs.Common.{Formula, Both, Either, Except, Compare, checked_formula, ◌+◌, if◌then◌else◌, ◌≡◌, ℕ, List, [], ◌∷◌, Bool, true, false, Option, Some, None, with, Equal, refl, sym, ap, ◌∙◌, Insn, And, Or, Comparison, Node, Apply, Literal, Not, Constant, IndexRegister, Operator, formula, Group, no_group, larger_group, entry, choice, or_any, or_group, group_formula, grouped_formula, NumberTree, literal, len, named, load, negated, applied, TruthTree, qualified, compared, denied, joined, Expression, empty, truth, number_onto, truth_onto, expr_onto, Link, Entry, protocols_of, relation_formula, accessor_tests, Protocol, plain, computation, takes_constant, emit_comparison, emit_operands, constant_or, Store, Accumulator, emit_number, Block, emit_formula, emit_all, emit_accessor_tests, program_code, Walk, targets, finish_truth, finish_number, with_insns, finish_formula, flush_members, flush_group, emit_truth_node, emit_node, or_walk, start_walk, insns_of, emit_nodes}
 use Rattle.flt_gen.proofs.Decision.{guarded_emitted}
 use Rattle.flt_gen.specs.inside.Group.{is_empty, entry_formula, entry_of, leaf_formula}
 use Rattle.flt_gen.specs.inside.Relations.{relation_of}
@@ -17,7 +17,7 @@ abbrev with_number : Link → NumberTree → Walk → Walk
 with_number link a w = record w { code = emit_number link a w.slot w.code; accessors = protocols_of a w.accessors }
 
 -- an operator whose right operand is a constant, which its instruction may have or not
-constant_walked : (link : Link) (o : Operator) (k : ℕ) (a : NumberTree) (w : Walk) (d : List Node) → ((v : Walk) → emit_nodes link v (number_onto a d) ≡ emit_nodes link (finish_number link v.numbers (with_number link a v)) d) → (t : Bool) → emit_nodes link (or_walk (if t then Some (with_insns (plain (computation o Constant) k ∷ w.code) w) else None) (emit_node link (emit_node link w (Apply o)) (Literal k))) (number_onto a d) ≡ emit_nodes link (finish_number link w.numbers (record w { code = emit_number link a w.slot (emit_right (if t then Some k else None) w.slot (λ j. plain (computation o Constant) j ∷ w.code) (emit_number link (literal k) (w.slot + 1) (emit_operands w.slot (plain (computation o IndexRegister) 0 ∷ w.code)))); accessors = protocols_of a w.accessors })) d
+constant_walked : (link : Link) (o : Operator) (k : ℕ) (a : NumberTree) (w : Walk) (d : List Node) → ((v : Walk) → emit_nodes link v (number_onto a d) ≡ emit_nodes link (finish_number link v.numbers (with_number link a v)) d) → (t : Bool) → emit_nodes link (or_walk (if t then Some (with_insns (plain (computation o Constant) k ∷ w.code) w) else None) (emit_node link (emit_node link w (Apply o)) (Literal k))) (number_onto a d) ≡ emit_nodes link (finish_number link w.numbers (record w { code = emit_number link a w.slot (constant_or (if t then Some k else None) (λ j. plain (computation o Constant) j ∷ w.code) (plain (Store Accumulator) w.slot ∷ emit_number link (literal k) (w.slot + 1) (emit_operands w.slot (plain (computation o IndexRegister) 0 ∷ w.code)))); accessors = protocols_of a w.accessors })) d
 constant_walked link o k a w d left true = left _
 constant_walked link o k a w d left false = left _
 
