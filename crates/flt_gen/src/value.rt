@@ -13,7 +13,7 @@ use crate::intervals::Numbers;
 use crate::port::{PortTest, Ports};
 use cap_octet::Link;
 use flt_ast::{CompleteQualifiers, Value};
-use flt_words::{Protocol, ValueType};
+use flt_words::ValueType;
 use std::alloc::{AllocError, Allocator};
 
 impl<A: Allocator> Code<A> {
@@ -29,13 +29,9 @@ impl<A: Allocator> Code<A> {
         ensures { EmitsFormula link (qualified_needed link qualifiers value) to self.old result
             self.new }
     {
-        let CompleteQualifiers {
-            protocol,
-            direction,
-            value_type,
-        } = qualifiers;
+        let (protocol, direction) = (qualifiers.protocol, qualifiers.direction);
         let none = Numbers::none();
-        match (value_type, value) {
+        match (qualifiers.value_type, value) {
             (ValueType::Host, Value::Dotted(host, _)) => {
                 let wanted = Hosts::Net(direction, None, host.address);
                 self.emit_hosts(link, protocol, wanted, &none, to)

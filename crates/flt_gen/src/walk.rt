@@ -39,7 +39,7 @@ use crate::relation::last_relation;
 use crate::stack::Stack;
 use crate::waiting::{LeftTruth, Pending, Waiting, add_accessor};
 use cap_octet::Link;
-use flt_ast::{CompleteQualifiers, Node, Value};
+use flt_ast::Node;
 use flt_bpf::Wide;
 use flt_bpf::operation::{Operand, Operation, Register, Source};
 use flt_words::{Join, Protocol};
@@ -175,10 +175,9 @@ impl<A: Allocator + Clone> Walk<A> {
     {
         match node {
             Node::Join(join) => self.emit_join(link, *join),
-            Node::Qualified(qualifiers, value) => self.emit_entry(
-                link,
-                Entry::Value(*qualifiers, *value),
-            ),
+            Node::Qualified(qualifiers, value) => {
+                self.emit_entry(link, Entry::Value(*qualifiers, *value))
+            }
             Node::Literal(n) | Node::Named(n) => self.emit_leaf(link, Source::Immediate, *n),
             Node::Len => self.emit_leaf(link, Source::Length, 0),
             Node::Load(protocol, size) => {
