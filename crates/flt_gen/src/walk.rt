@@ -111,6 +111,7 @@ impl<A: Allocator + Clone> Walk<A> {
     }
 
     /// Emits the code of all nodes of a tree, from the last to the first.
+    #[tactic(auto, using(crate::proofs::Turned::node_steps))]
     pub fn emit_nodes(&mut self, link: Link, nodes: &[Node]) -> Result<(), AllocError>
         ensures { OnOk result (self.new ≡ emit_nodes link self.old (reverse nodes.now)) }
     {
