@@ -1,7 +1,16 @@
 -- The last of the nodes that are left are emitted, one or several at once: what is left to do then
 -- leads to the same walk.
-use Rattle.flt_gen.proofs.Common.{zero, ◌<◌, Check, length-take, ◌≡◌, ℕ, ◌-◌, List, [], ◌∷◌, length, take, get_or, suc, ◌≤◌, Some, None, Entry, Equal, Ether, refl, sym, ap, ◌∙◌, arith, reverse, take-suc, reverse-append, Node, Link, Walk, emit_node, emit_both_nodes, or_walk, emit_nodes}
+use Rattle.flt_gen.proofs.Common.{◌++◌, drop, length-drop, zero, ◌<◌, Check, length-take, ◌≡◌, ℕ, ◌-◌, List, [], ◌∷◌, length, take, get_or, suc, ◌≤◌, Some, None, Entry, Equal, Ether, refl, sym, ap, ◌∙◌, arith, reverse, take-suc, reverse-append, Node, Link, Walk, emit_node, emit_both_nodes, or_walk, emit_nodes}
 use Rattle.flt_gen.specs.inside.{Relations.relation, Relations.relation_in, Walk.emit_member}
+use Rattle.std.proofs.Math.Seq.{drop-append_seam}
+use Rattle.std.proofs.lemmas.List.{take-append-drop, length-reverse}
+
+-- what is left of a list, turned round
+pub reverse_taken : {A : Type 0} (xs : List A) (e : ℕ) → reverse (take e xs) ≡ drop (length (reverse xs) - e) (reverse xs)
+reverse_taken xs e =
+    let parts : reverse xs ≡ reverse (drop e xs) ++ reverse (take e xs) = ap reverse (sym (take-append-drop e xs)) ∙ reverse-append (take e xs) (drop e xs) in
+    let n : length (reverse xs) - e ≡ length (reverse (drop e xs)) = omega (arith, length-reverse xs, length-reverse (drop e xs), length-drop e xs) in
+    sym (ap (λ k. drop k (reverse xs)) n ∙ ap (λ ys. drop (length (reverse (drop e xs))) ys) parts ∙ drop-append_seam (reverse (drop e xs)) (reverse (take e xs)))
 
 -- a relation is put at once
 relation_walked : (link : Link) (w : Walk) (a b c d : Node) (ns : List Node) (e : Entry) → relation_in (a ∷ b ∷ c ∷ d ∷ ns) ≡ Some e → emit_nodes link w (a ∷ b ∷ c ∷ d ∷ ns) ≡ emit_nodes link (emit_member link e w) ns
