@@ -39,7 +39,7 @@ pub use Rattle.flt_gen.specs.Elementary.{Yes, No, reading_of, with, under_mask, 
 pub use Rattle.flt_gen.specs.Formula.{Formula, Single, Compare, Both, Either, Except, Split, Sought, is_in, is_within, no_interval, all_of, sides, Numbers, no_numbers, both, either, negation, reads, relation_reads, guarded_formula, checked_formula}
 pub use Rattle.flt_gen.specs.Laws.{word_mask, frame_kind, carries_kind, carries}
 pub use Rattle.flt_gen.specs.Numbers.{accessor_tests, width_of, base, number, result_of, accessors}
-pub use Rattle.flt_gen.specs.Primitives.{after, any_proto, mac_tests, check_formula, cast_formula, proto_formula, hosts_of_kind, hosts_formula, net_formula, net_test, ip6_formula, ether_host, port_formula, port_test, port_sides, transport, value_formula, sized_formula, qualified_formula, partial_mask, ip6_tests, address_test, ip6_test, address_places, port_is, port_between, port_places, following, ip_transport, ip6_transport}
+pub use Rattle.flt_gen.specs.Primitives.{after, any_proto, mac_tests, check_formula, cast_formula, proto_formula, hosts_of_kind, hosts_formula, net_formula, ip6_formula, ether_host, port_formula, port_test, port_sides, transport, value_formula, sized_formula, qualified_formula, partial_mask, ip6_tests, address_test, ip6_test, address_places, port_is, port_between, port_places, following, ip_transport, ip6_transport}
 pub use Rattle.flt_gen.specs.Reading.{formula, holds}
 pub use Rattle.flt_gen.specs.declared.elementary.Elementary.{Elementary, TheVariants.Outcome, TheVariants.Field}
 pub use Rattle.flt_gen.specs.declared.elementary.{FrameKind.FrameKind, Interval.Interval, Offset.Offset}
@@ -47,7 +47,7 @@ pub use Rattle.flt_gen.specs.declared.elementary.Offset.TheVariants.{Fixed, Afte
 pub use Rattle.flt_gen.specs.declared.{elementary.Sides.Sides, group.Entry.Entry}
 pub use Rattle.flt_gen.specs.declared.port.Ports.TheVariants.{One, Between, Several}
 pub use Rattle.flt_gen.specs.declared.port.Transport.{Transport}
-pub use Rattle.flt_gen.specs.inside.Code.{accessor_offset, emit_indexed, Block, block, emit_all, low_of, plain, constant, computation, takes_constant, constant_operand, branch_insn, emit_branch, emit_comparison, emit_field, emit_mask, emit_accessor, emit_number, at_top, emit_interval, emit_chain, are_few, MOST_HALVINGS, emit_elementary, emit_formula, alu_operation, emit_base, emit_transport, emit_operands, emit_test, emit_relation, emit_masked, emit_side, emit_others, emit_few, emit_index, emit_at_index, emit_second, emit_at_sides, emit_many, fewest_at_index, are_at_index, emit_among, emit_right}
+pub use Rattle.flt_gen.specs.inside.Code.{accessor_offset, constant_or, Block, block, emit_all, low_of, plain, constant, computation, takes_constant, constant_operand, branch_insn, emit_branch, emit_comparison, emit_field, emit_mask, emit_accessor, emit_number, at_top, emit_interval, emit_chain, are_few, MOST_HALVINGS, emit_elementary, emit_formula, alu_operation, emit_base, emit_transport, emit_operands, emit_relation, emit_masked, emit_side, emit_others, emit_few, emit_index, emit_at_index, emit_second, emit_at_sides, emit_many, fewest_at_index, are_at_index, emit_among}
 pub use Rattle.flt_gen.specs.inside.Counts.{first_ends, sought_tests, tests, nodes, words}
 pub use Rattle.flt_gen.specs.inside.Emitted.{protocols_of, relation_formula, qualified_needed, is_empty, is_idle, capture_test, last_test, needed_tests, ip6_needed, value_needed, equals, without_protocol}
 pub use Rattle.flt_gen.specs.inside.Folding.{negated_constant, applied_constant, number_or, negated_number, applied_number, folded_number, and_denied, joined_truth, folded_truth, folded_expression, node_or, with_negation, with_operator, Held, with_held, with_folded, hold, put_back}

@@ -1,13 +1,9 @@
 -- The counts of the table's formulas are at most those of the tree.
 use Rattle.flt_gen.proofs.Ascending.{Ready, Searches}
-use Rattle.flt_gen.proofs.Common.{◌≡◌, ℕ, ◌+◌, ◌-◌, ◌≤◌, max, min, List, [], ◌∷◌, length, Option, Some, None, refl, arith, Protocol, Source, Destination, And, Or, ValueType, Host, Net, Port, PortRange, Proto, Direction, Value, Link, FrameKind, Elementary, Sides, One, Between, ip_transport, ip6_transport, Formula, Single, Both, Either, Split, Sought, all_of, sides, Numbers, no_numbers, after, any_proto, mac_tests, check_formula, cast_formula, proto_formula, hosts_of_kind, hosts_formula, net_formula, net_test, ip6_formula, ether_host, port_formula, port_test, port_sides, transport, value_formula, sought_tests, tests, nodes, words}
-use Rattle.flt_words.specs.declared.token.Protocol.TheVariants as protocol
+use Rattle.flt_gen.proofs.Common.{◌≡◌, ℕ, ◌+◌, ◌-◌, ◌≤◌, max, min, List, [], ◌∷◌, length, Option, Some, None, refl, arith, Protocol, Source, Destination, And, Or, ValueType, Host, Net, Port, PortRange, Proto, Direction, Value, Link, FrameKind, Elementary, Sides, One, Between, ip_transport, ip6_transport, Formula, Single, Both, Either, Split, Sought, all_of, sides, Numbers, no_numbers, after, any_proto, mac_tests, check_formula, cast_formula, proto_formula, hosts_of_kind, hosts_formula, net_formula, ip6_formula, ether_host, port_formula, port_test, port_sides, transport, value_formula, sought_tests, tests, nodes, words}
 use Rattle.flt_words.specs.declared.token.Cast.{Cast, TheVariants.Broadcast, TheVariants.Multicast}
-use Rattle.flt_ast.specs.declared.qualifiers.Direction.TheVariants as direction
-use Rattle.flt_ast.specs.declared.value.Value.TheVariants as value
 use Rattle.flt_ast.specs.Counts as count
-use Rattle.flt_gen.specs.declared.elementary.FrameKind.TheVariants as kind
-use Rattle.flt_gen.specs.declared.{address.Hosts.Hosts, address.NetTest.NetTest, port.PortTest.PortTest}
+use Rattle.flt_gen.specs.declared.{address.Hosts.Hosts, port.PortTest.PortTest}
 
 -- a formula with at most s nodes of arithmetic, w words of memory and n tests, in which all numbers
 -- that are searched ascend
@@ -56,10 +52,10 @@ bare_all (t ∷ []) n l some = bare_some n some
 bare_all (t ∷ u ∷ ts) n l some = bare_within n (omega arith) (bare_after (bare_all (u ∷ ts) (n - 1) (omega arith) (omega arith)))
 
 pub bare_sides : (d : Direction) (s t : List Elementary) (n : ℕ) → length s ≤ n → length t ≤ n → 1 ≤ n → Bare (sides d s t) (count.side_tests d n)
-bare_sides (direction.One Source) s t n l m some = bare_all s n l some
-bare_sides (direction.One Destination) s t n l m some = bare_all t n m some
-bare_sides (direction.Both Or) s t n l m some = bare_either (bare_all s n l some) (bare_all t n m some)
-bare_sides (direction.Both And) s t n l m some = bare_both (bare_all s n l some) (bare_all t n m some)
+bare_sides (Direction.One Source) s t n l m some = bare_all s n l some
+bare_sides (Direction.One Destination) s t n l m some = bare_all t n m some
+bare_sides (Direction.Both Or) s t n l m some = bare_either (bare_all s n l some) (bare_all t n m some)
+bare_sides (Direction.Both And) s t n l m some = bare_both (bare_all s n l some) (bare_all t n m some)
 
 -- numbers that are looked for
 pub bare_sought : (d : Direction) (at : Sides) (numbers : Numbers) → Ready at numbers → Bare (Sought d at numbers) (sought_tests d numbers)
@@ -70,29 +66,29 @@ bare_proto : (link : Link) (n : ℕ) → Bare (any_proto link n) 4
 bare_proto link n = bare_either bare_pair bare_pair
 
 pub bare_check : (link : Link) (p : Protocol) → Bare (check_formula link p) (count.check_tests p)
-bare_check link protocol.Tcp = bare_proto link 6
-bare_check link protocol.Udp = bare_proto link 17
-bare_check link protocol.Icmp = bare_pair
-bare_check link protocol.Icmp6 = bare_pair
+bare_check link Protocol.Tcp = bare_proto link 6
+bare_check link Protocol.Udp = bare_proto link 17
+bare_check link Protocol.Icmp = bare_pair
+bare_check link Protocol.Icmp6 = bare_pair
 bare_check link _ = bare_one _
 
 bare_ether : (link : Link) (d : Direction) (a : ℕ) → Bare (ether_host link d a) (count.ether_tests d)
 bare_ether link d a = bare_after (bare_sides d (mac_tests 6 a) (mac_tests 0 a) 2 (omega arith) (omega arith) (omega arith))
 
 pub bare_cast : (link : Link) (p : Option Protocol) (c : Cast) → Bare (cast_formula link p c) (count.cast_tests c)
-bare_cast link None Broadcast = bare_ether link (direction.One Destination) 0xffff_ffff_ffff
-bare_cast link (Some protocol.Ether) Broadcast = bare_ether link (direction.One Destination) 0xffff_ffff_ffff
+bare_cast link None Broadcast = bare_ether link (Direction.One Destination) 0xffff_ffff_ffff
+bare_cast link (Some Protocol.Ether) Broadcast = bare_ether link (Direction.One Destination) 0xffff_ffff_ffff
 bare_cast link (Some _) Broadcast = bare_some _ (omega arith)
 bare_cast link None Multicast = bare_pair
-bare_cast link (Some protocol.Ether) Multicast = bare_pair
-bare_cast link (Some protocol.Ip) Multicast = bare_pair
-bare_cast link (Some protocol.Ip6) Multicast = bare_pair
+bare_cast link (Some Protocol.Ether) Multicast = bare_pair
+bare_cast link (Some Protocol.Ip) Multicast = bare_pair
+bare_cast link (Some Protocol.Ip6) Multicast = bare_pair
 bare_cast link (Some _) Multicast = bare_some _ (omega arith)
 
 bare_proto_value : (link : Link) (p : Option Protocol) (n : ℕ) → Bare (proto_formula link p n) (count.proto_tests p)
 bare_proto_value link None n = bare_proto link n
-bare_proto_value link (Some protocol.Ip) n = bare_pair
-bare_proto_value link (Some protocol.Ip6) n = bare_pair
+bare_proto_value link (Some Protocol.Ip) n = bare_pair
+bare_proto_value link (Some Protocol.Ip6) n = bare_pair
 bare_proto_value link (Some _) n = bare_some _ (omega arith)
 
 -- hosts of one kind, or of one of three
@@ -101,20 +97,20 @@ of_kinds None n = n + n + n
 of_kinds (Some p) n = n
 
 pub bare_hosts : (link : Link) (p : Option Protocol) (h : Hosts) (bs : Numbers) (n : ℕ) → 1 ≤ n → ((k : FrameKind) → Bare (hosts_of_kind link k h bs) n) → Bare (hosts_formula link p h bs) (of_kinds p n)
-bare_hosts link None h bs n some each = bare_within _ (omega arith) (bare_either (each kind.Ip) (bare_either (each kind.Arp) (each kind.Rarp)))
-bare_hosts link (Some protocol.Ip) h bs n some each = each kind.Ip
-bare_hosts link (Some protocol.Arp) h bs n some each = each kind.Arp
-bare_hosts link (Some protocol.Rarp) h bs n some each = each kind.Rarp
+bare_hosts link None h bs n some each = bare_within _ (omega arith) (bare_either (each FrameKind.Ip) (bare_either (each FrameKind.Arp) (each FrameKind.Rarp)))
+bare_hosts link (Some Protocol.Ip) h bs n some each = each FrameKind.Ip
+bare_hosts link (Some Protocol.Arp) h bs n some each = each FrameKind.Arp
+bare_hosts link (Some Protocol.Rarp) h bs n some each = each FrameKind.Rarp
 bare_hosts link (Some _) h bs n some each = bare_some _ some
 
 ip4_are : (p : Option Protocol) (d : Direction) → of_kinds p (1 + count.side_tests d 1) ≡ count.ip4_tests p d
 ip4_are None d = refl
 ip4_are (Some p) d = refl
 
-pub bare_net : (link : Link) (p : Option Protocol) (net : NetTest) → Bare (net_formula link p net) (count.ip4_tests p net.direction)
-bare_net link p net =
-    let e = ip4_are p net.direction in
-    bare_within _ (omega arith) (bare_hosts link p (Hosts.Net net) no_numbers _ (omega arith) (λ k. bare_after (bare_sides net.direction _ _ 1 (omega arith) (omega arith) (omega arith))))
+bare_net : (link : Link) (p : Option Protocol) (d : Direction) (mask : Option ℕ) (a : ℕ) → Bare (net_formula link p d mask a) (count.ip4_tests p d)
+bare_net link p d mask a =
+    let e = ip4_are p d in
+    bare_within _ (omega arith) (bare_hosts link p (Hosts.Net d mask a) no_numbers _ (omega arith) (λ k. bare_after (bare_sides d _ _ 1 (omega arith) (omega arith) (omega arith))))
 
 bare_ip6 : (link : Link) (d : Direction) (prefix : Option ℕ) (a : ℕ) → Bare (ip6_formula link d prefix a) (count.ip6_test_count d)
 bare_ip6 link d prefix a = bare_after (bare_sides d _ _ 4 (omega arith) (omega arith) (omega arith))
@@ -122,8 +118,8 @@ bare_ip6 link d prefix a = bare_after (bare_sides d _ _ 4 (omega arith) (omega a
 -- ports, by the tests of their sides
 bare_transport : (p : Option Protocol) (s t : Elementary) (f : Formula) (n : ℕ) → Bare f n → Bare (transport p s t f) (count.transport_tests p + n)
 bare_transport None s t f n h = bare_both (bare_either (bare_one s) (bare_one t)) h
-bare_transport (Some protocol.Tcp) s t f n h = bare_after h
-bare_transport (Some protocol.Udp) s t f n h = bare_after h
+bare_transport (Some Protocol.Tcp) s t f n h = bare_after h
+bare_transport (Some Protocol.Udp) s t f n h = bare_after h
 bare_transport (Some _) s t f n h = bare_some _ (omega arith)
 
 pub bare_ports : (link : Link) (wanted : PortTest) (bs : Numbers) (n : ℕ) → Bare (port_sides wanted.ports wanted.direction (ip_transport link) bs) n → Bare (port_sides wanted.ports wanted.direction (ip6_transport link) bs) n → Bare (port_formula link wanted bs) (1 + count.transport_tests wanted.protocol + 1 + n + (1 + count.transport_tests wanted.protocol + n))
@@ -131,22 +127,18 @@ bare_ports link wanted bs n ip ip6 =
     bare_within _ (omega arith)
     (bare_either (bare_after (bare_transport wanted.protocol _ _ _ _ (bare_after ip))) (bare_after (bare_transport wanted.protocol _ _ _ n ip6)))
 
-pub bare_port : (link : Link) (p : Option Protocol) (d : Direction) (n : ℕ) → Bare (port_formula link (port_test p d (One n)) no_numbers) (count.port_tests p d 1)
-bare_port link p d n = bare_ports link (port_test p d (One n)) no_numbers _ (bare_sides d _ _ 1 (omega arith) (omega arith) (omega arith)) (bare_sides d _ _ 1 (omega arith) (omega arith) (omega arith))
-
-bare_range : (link : Link) (p : Option Protocol) (d : Direction) (a b : ℕ) → Bare (port_formula link (port_test p d (Between a b)) no_numbers) (count.port_tests p d 2)
-bare_range link p d a b = bare_ports link (port_test p d (Between a b)) no_numbers _ (bare_sides d _ _ 2 (omega arith) (omega arith) (omega arith)) (bare_sides d _ _ 2 (omega arith) (omega arith) (omega arith))
-
 -- values
 pub bare_value : (link : Link) (k : ValueType) (p : Option Protocol) (d : Direction) (v : Value) → Bare (value_formula link k p d v) (count.typed_tests k p d v)
-bare_value link Host p d (value.Dotted a m) = bare_net link p (net_test d None a.address)
-bare_value link Host p d (value.Ip6 a n) = bare_ip6 link d None a
-bare_value link Host p d (value.Mac a) = bare_ether link d a
-bare_value link Net p d (value.Number n m) = bare_net link p (net_test d _ _)
-bare_value link Net p d (value.Dotted a m) = bare_net link p (net_test d _ _)
-bare_value link Net p d (value.Ip6 a n) = bare_ip6 link d n a
-bare_value link Port p d (value.Number n m) = bare_port link p d n
-bare_value link PortRange p d (value.Range a b) = bare_range link p d (min a b) (max a b)
-bare_value link Proto p d (value.Number n m) = bare_proto_value link p n
+bare_value link Host p d (Value.Dotted a m) = bare_net link p d None a.address
+bare_value link Host p d (Value.Ip6 a n) = bare_ip6 link d None a
+bare_value link Host p d (Value.Mac a) = bare_ether link d a
+bare_value link Net p d (Value.Number n m) = bare_net link p d _ _
+bare_value link Net p d (Value.Dotted a m) = bare_net link p d _ _
+bare_value link Net p d (Value.Ip6 a n) = bare_ip6 link d n a
+bare_value link Port p d (Value.Number n m) =
+    bare_ports link (port_test p d (One n)) no_numbers _ (bare_sides d _ _ 1 (omega arith) (omega arith) (omega arith)) (bare_sides d _ _ 1 (omega arith) (omega arith) (omega arith))
+bare_value link PortRange p d (Value.Range a b) =
+    bare_ports link (port_test p d (Between (min a b) (max a b))) no_numbers _ (bare_sides d _ _ 2 (omega arith) (omega arith) (omega arith)) (bare_sides d _ _ 2 (omega arith) (omega arith) (omega arith))
+bare_value link Proto p d (Value.Number n m) = bare_proto_value link p n
 bare_value link _ None d _ = bare_some _ (omega arith)
 bare_value link _ _ d _ = bare_some _ (omega arith)

@@ -1,8 +1,7 @@
 -- An expression with its arithmetic of numbers folded means the same, and counts no more.
-use Rattle.flt_gen.proofs.Common.{◌≡◌, ℕ, ◌+◌, ◌%◌, ◌^◌, ◌≤◌, List, [], ◌∷◌, false, Option, Some, None, refl, sym, ap, ap₂, ◌∙◌, arith, fold, or_assoc, ◌||◌, Operator, Protocol, field, Node, NumberTree, literal, load, negated, applied, TruthTree, compared, denied, joined, Expression, empty, truth, number_size, number_words, number_tests, truth_size, truth_words, truth_tests, bound_of, words_of, number_nodes, truth_nodes, expr_nodes, number_onto, truth_onto, expr_onto, is_unfilled, any_primitive, some_primitive, Link, MatchResult, Yes, with, reading_of, compares, width_of, base, number, result_of, accessors, Compare, both, either, negation, reads, checked_formula, constant, formula, holds, short_bound_of, negated_constant, applied_constant, number_or, negated_number, applied_number, folded_number, and_denied, joined_truth, folded_truth, folded_expression, node_or, with_negation, with_operator, Held, with_held, with_folded}
+use Rattle.flt_gen.proofs.Common.{◌≡◌, ℕ, ◌+◌, ◌%◌, ◌^◌, ◌≤◌, List, [], ◌∷◌, Option, Some, None, refl, sym, ap, ap₂, ◌∙◌, arith, fold, or_assoc, ◌||◌, Operator, Protocol, field, Node, NumberTree, literal, load, negated, applied, TruthTree, compared, denied, joined, Expression, empty, truth, number_size, number_words, number_tests, truth_size, truth_words, truth_tests, bound_of, words_of, number_nodes, truth_nodes, expr_nodes, number_onto, truth_onto, expr_onto, is_unfilled, any_primitive, some_primitive, Link, MatchResult, Yes, with, reading_of, compares, width_of, base, number, result_of, accessors, Compare, both, either, negation, reads, checked_formula, constant, formula, holds, short_bound_of, negated_constant, applied_constant, number_or, negated_number, applied_number, folded_number, and_denied, joined_truth, folded_truth, folded_expression, node_or, with_negation, with_operator, Held, with_held, with_folded}
 use Rattle.flt_gen.proofs.{Held.held_truth, Held.none_held, Held.back_truth, Numbers.constant_is, Once.both_again, Once.checked_same}
 use Rattle.flt_words.specs.declared.token.Join.{Join}
-use Rattle.flt_ast.specs.declared.node.Node.TheVariants as node
 
 -- by what is folded
 by_fold : (P : NumberTree → Type 0) (o : Option ℕ) (a : NumberTree) → ((k : ℕ) → o ≡ Some k → P (literal k)) → P a → P (number_or o a)
@@ -158,29 +157,23 @@ truth_folded (joined j a b) =
     }
 truth_folded a = itself a
 
-pub words_no_more : (e : Expression) → words_of (folded_expression e) ≤ words_of e
-words_no_more empty = omega arith
-words_no_more (truth a) = (truth_folded a).words
+-- an expression that is folded, in the place of itself
+pub record Folds (e : Expression) : Type 0 where
+  pub words : words_of (folded_expression e) ≤ words_of e
+  pub bound : bound_of (folded_expression e) ≤ bound_of e
+  pub short : short_bound_of (folded_expression e) ≤ short_bound_of e
+  pub filled : some_primitive is_unfilled (folded_expression e) ≡ some_primitive is_unfilled e
+  pub same : (p : List ℕ) (n : ℕ) (link : Link) → holds (folded_expression e) link p n ≡ holds e link p n
 
-pub bound_no_more : (e : Expression) → bound_of (folded_expression e) ≤ bound_of e
-bound_no_more empty = omega arith
-bound_no_more (truth a) = let h = truth_folded a in let s = h.size in let t = h.tests in omega arith
-
-pub short_no_more : (e : Expression) → short_bound_of (folded_expression e) ≤ short_bound_of e
-short_no_more empty = omega arith
-short_no_more (truth a) = let h = truth_folded a in let s = h.size in let t = h.tests in omega arith
-
-pub filled_folded : (e : Expression) → some_primitive is_unfilled e ≡ false → some_primitive is_unfilled (folded_expression e) ≡ false
-filled_folded empty h = h
-filled_folded (truth a) h = (truth_folded a).filled ∙ h
-
-pub holds_folded : (p : List ℕ) (n : ℕ) (link : Link) (e : Expression) → holds (folded_expression e) link p n ≡ holds e link p n
-holds_folded p n link empty = refl
-holds_folded p n link (truth a) = (truth_folded a).same p n link
+pub expression_folded : (e : Expression) → Folds e
+expression_folded empty = record { words = omega arith; bound = omega arith; short = omega arith; filled = refl; same = λ p n link. refl }
+expression_folded (truth a) =
+    let h = truth_folded a in
+    record { words = h.words; bound = omega (arith, h.size, h.tests); short = omega (arith, h.size, h.tests); filled = h.filled; same = h.same }
 
 -- ---- the nodes of the folded tree
 
-one_or_both : (o : Operator) (r : Option ℕ) (a b : NumberTree) (d : List Node) → node_or r d (node.Apply o ∷ number_onto b (number_onto a d)) ≡ number_onto (number_or r (applied o a b)) d
+one_or_both : (o : Operator) (r : Option ℕ) (a b : NumberTree) (d : List Node) → node_or r d (Node.Apply o ∷ number_onto b (number_onto a d)) ≡ number_onto (number_or r (applied o a b)) d
 one_or_both o None a b d = refl
 one_or_both o (Some k) a b d = refl
 
@@ -198,15 +191,15 @@ number_put (negated a) d rest = number_put a d _ ∙ ap (λ c. fold with_folded 
 number_put (applied o a b) d rest = number_put a d _ ∙ number_put b _ _ ∙ ap (λ c. fold with_folded c rest) (with_applied o (folded_number b) (folded_number a) d)
 number_put _ d rest = refl
 
-join_put : (j : Join) (b a : TruthTree) (d : List Node) → with_folded (truth_onto b (truth_onto a d)) (node.Join j) ≡ truth_onto (joined_truth j a b) d
+join_put : (j : Join) (b a : TruthTree) (d : List Node) → with_folded (truth_onto b (truth_onto a d)) (Node.Join j) ≡ truth_onto (joined_truth j a b) d
 join_put Join.Or b a d = refl
 join_put Join.And (denied b) a d =
     ap (λ (h : Held). with_held h.held h.rest) (held_truth b 0 [] (truth_onto a d) ∙ none_held 0 (truth_nodes b []) (truth_onto a d) refl) ∙ after b a d
   where
     after : (b a : TruthTree) (d : List Node) → with_held (truth_nodes b []) (truth_onto a d) ≡ truth_onto (joined_truth Join.And a (denied b)) d
-    after b (denied a) d = ap (λ ns. node.Not ∷ node.Join Join.Or ∷ ns) (back_truth b [] (truth_onto a d))
-    after b (joined Join.And x (denied a)) d = ap (λ ns. node.Join Join.And ∷ node.Not ∷ node.Join Join.Or ∷ ns) (back_truth b [] (truth_onto a (truth_onto x d)))
-    after b a d = ap (λ ns. node.Join Join.And ∷ node.Not ∷ ns) (back_truth b [] (truth_onto a d))
+    after b (denied a) d = ap (λ ns. Node.Not ∷ Node.Join Join.Or ∷ ns) (back_truth b [] (truth_onto a d))
+    after b (joined Join.And x (denied a)) d = ap (λ ns. Node.Join Join.And ∷ Node.Not ∷ Node.Join Join.Or ∷ ns) (back_truth b [] (truth_onto a (truth_onto x d)))
+    after b a d = ap (λ ns. Node.Join Join.And ∷ Node.Not ∷ ns) (back_truth b [] (truth_onto a d))
 join_put Join.And b a d = refl
 
 truth_put : (a : TruthTree) (d rest : List Node) → fold with_folded d (truth_nodes a rest) ≡ fold with_folded (truth_onto (folded_truth a) d) rest

@@ -1,16 +1,14 @@
 -- The code of a formula, in front of other code, which still stands at its end: it has no fault and
 -- no jump, and no more instructions and branches than are counted.
-use Rattle.flt_gen.proofs.Ascending.{if_case, Searchable, Reached, Ready, Searches, length_without, ends_few as first_few}
-use Rattle.flt_gen.proofs.Codes.{code_is}
+use Rattle.flt_gen.proofs.Ascending.{if_case, Searchable, Reached, Ready, Searches, length_without, ends_few}
+use Rattle.flt_bpf.proofs.Codes.{code_is}
 use Rattle.flt_gen.proofs.Common.{and_parts, accessor_offset, alu_operation, ◌≡◌, ℕ, zero, suc, ◌+◌, ◌-◌, ◌*◌, ◌/◌, ◌<◌, ◌≤◌, List, [], ◌∷◌, length, take, drop, Bool, true, false, cond, Option, Some, None, refl, sym, ap, ◌∙◌, arith, length-drop, length-take, ◌≢◌, nat_lt, nat_le, ◌==◌, not, ◌&&◌, if◌then◌else◌, count_by, nat_tests, sum_by-cons, All-cons, Insn, Operand, Constant, IndexRegister, Operation, LoadAbsolute, LoadIndirect, Load, LoadHeaderLength, Store, Compute, Negate, Jump, JumpIf, CopyToIndex, Word, Accumulator, Index, Immediate, Memory, Length, Test, Width, fault_if_known, operation_fault, unless, ends_in_return, IsValidUnlessLong, code_of, is_branch, JUMP, HasNoJump, Comparison, Equal, NotEqual, Less, AtMost, Greater, AtLeast, Operator, Protocol, Tcp, Udp, Icmp, number_words, number_size, NumberTree, literal, len, named, load, negated, applied, Link, network_offset, Interval, Elementary, Outcome, Field, Offset, Fixed, AfterHeader, width_of, Formula, Single, Compare, Both, Either, Except, Split, Sought, Numbers, Sides, Direction, Source, Destination, And, Or, max, subst, plain, computation, takes_constant, constant, constant_operand, branch_insn, emit_branch, emit_comparison, emit_field, emit_mask, emit_accessor, emit_base, emit_number, Block, at_top, emit_interval, emit_chain, are_few, low_of, MOST_HALVINGS, emit_elementary, emit_formula, emit_masked, emit_side, emit_others, emit_few, emit_index, emit_at_index, emit_many, fewest_at_index, are_at_index, emit_among, words, nodes, first_ends, sought_tests, tests}
 use Rattle.flt_gen.proofs.Numbers.{operand_is}
-use Rattle.flt_gen.proofs.Tails.{Extends, extends_none, extends_put, extends_on, by_right, by_index}
-use Rattle.flt_ast.specs.declared.qualifiers.Direction.TheVariants as direction
+use Rattle.flt_gen.proofs.Leads.{Extends, extends_none, extends_put, extends_on, by_operand}
 use Rattle.flt_bpf.specs.{Check.constant_fault, Check.fault_of, Instructions.operation_of}
 use Rattle.flt_bpf.specs.declared.fault.CheckFault.{CheckFault, TheVariants.JumpOut, TheVariants.NoSuchWord}
 use Rattle.flt_bpf.specs.declared.operation.AluOperation.{AluOperation}
 use Rattle.std.specs.Option.{is_none}
-use Rattle.flt_bpf.specs.declared.operation.Test.TheVariants as test
 use Rattle.flt_gen.specs.inside.Code.{emit_search}
 
 abbrev pub branches : List Insn → ℕ
@@ -20,12 +18,6 @@ branches c = count_by (λ i. is_branch (operation_of i.code)) c
 pub record Sound (c : List Insn) : Type 0 where
   pub valid : IsValidUnlessLong c
   pub no_jump : HasNoJump c
-
--- an operation that goes on with the next instruction
-abbrev is_plain : Operation → Bool
-is_plain Jump = false
-is_plain (JumpIf t o) = false
-is_plain _ = true
 
 abbrev jumps : Option Operation → Bool
 jumps (Some Jump) = true
@@ -55,14 +47,6 @@ sound_put o i c e other f s = record {
   };
   no_jump = All-cons (λ j. j.code ≢ JUMP) i c (no_jump o i e other) s.no_jump;
 }
-
-plain_no_jump : (o : Operation) → is_plain o ≡ true → jumps (Some o) ≡ false
-plain_no_jump Jump e = cc
-plain_no_jump _ e = refl
-
-plain_no_branch : (o : Operation) → is_plain o ≡ true → is_branch (Some o) ≡ false
-plain_no_branch (JumpIf t p) e = cc
-plain_no_branch _ e = refl
 
 -- what is known if it is asked for
 abbrev pub Asked : Bool → Type 0 → Type 0
@@ -136,13 +120,9 @@ first_of_half false zero is l = absurd (omega arith)
 first_of_half false (suc h) [] l = refl
 first_of_half _ _ _ l = refl
 
-ends_few : (from : Bool) (is : List Interval) → first_more from is ≤ 1
-ends_few true is = omega arith
-ends_few false is = first_few is
-
 rest_few : (is : List Interval) → 2 * length is - 1 + first_more false is ≤ 2 * length is
 rest_few [] = omega arith
-rest_few (i ∷ is) = let l = ends_few false (i ∷ is) in omega arith
+rest_few (i ∷ is) = let few = ends_few (i ∷ is) in omega arith
 
 -- the loads of a side: of a mask and the length of a header there is only one
 abbrev Lean : Option ℕ → Offset → Type 0
@@ -168,22 +148,18 @@ at_index_many w false n e = e
 at_index_many Word true n e = grind (arith, nat_tests)
 at_index_many _ true n e = grind (arith, nat_tests)
 
-one_or_two : (b : Bool) → 1 ≤ (if b then 2 else 1)
-one_or_two true = omega arith
-one_or_two false = omega arith
-
 module _ (b : Bool) where
-  none_by : {c : List Insn} → Asked b (Sound c) → GrowsBy b c c 0 0
+  pub none_by : {c : List Insn} → Asked b (Sound c) → GrowsBy b c c 0 0
   none_by {c = c} s = record { sound = s; tail = extends_none c; shorter = omega arith; lighter = omega arith }
 
   grows_more : {c d : List Insn} {m w : ℕ} (m' w' : ℕ) → m ≤ m' → w ≤ w' → GrowsBy b c d m w → GrowsBy b c d m' w'
   grows_more m' w' lm lw g = record { sound = g.sound; tail = g.tail; shorter = omega (arith, g.shorter); lighter = omega (arith, g.lighter) }
 
-  grows_put : {c d : List Insn} {m w : ℕ} (o : Operation) (k : ℕ) → is_plain o ≡ true → operation_fault o (plain o k) (length d) ≡ None → GrowsBy b c d m w → GrowsBy b c (plain o k ∷ d) (m + 1) (w + 1)
-  grows_put {d = d} o k p f g =
-      let n : branches (plain o k ∷ d) ≡ 0 + branches d = branch_count o (plain o k) d refl ∙ ap (λ x. cond x 1 0 + branches d) (plain_no_branch o p) in
+  grows_put : {c d : List Insn} {m w : ℕ} (o : Operation) (k : ℕ) → jumps (Some o) ≡ false → is_branch (Some o) ≡ false → operation_fault o (plain o k) (length d) ≡ None → GrowsBy b c d m w → GrowsBy b c (plain o k ∷ d) (m + 1) (w + 1)
+  grows_put {d = d} o k j p f g =
+      let n : branches (plain o k ∷ d) ≡ 0 + branches d = branch_count o (plain o k) d refl ∙ ap (λ x. cond x 1 0 + branches d) p in
       record {
-        sound = asked b (sound_put o (plain o k) d refl (plain_no_jump o p) f) g.sound;
+        sound = asked b (sound_put o (plain o k) d refl j f) g.sound;
         tail = extends_put (plain o k) g.tail;
         shorter = omega (arith, g.shorter);
         lighter = omega (arith, g.lighter);
@@ -205,30 +181,30 @@ module _ (b : Bool) where
       }
 
   comparison_grows : (comparison : Comparison) (operand : Operand) (k hit miss : ℕ) (c : List Insn) → Asked b (Sound c) → Asked b (Inside c hit) → Asked b (Inside c miss) → GrowsBy b c (emit_comparison comparison operand k hit miss c) 1 3
-  comparison_grows Equal operand k hit miss c s h m = branch_grows test.Equal operand k hit miss c s h m
-  comparison_grows NotEqual operand k hit miss c s h m = branch_grows test.Equal operand k miss hit c s m h
-  comparison_grows Less operand k hit miss c s h m = branch_grows test.AtLeast operand k miss hit c s m h
-  comparison_grows AtMost operand k hit miss c s h m = branch_grows test.Greater operand k miss hit c s m h
-  comparison_grows Greater operand k hit miss c s h m = branch_grows test.Greater operand k hit miss c s h m
-  comparison_grows AtLeast operand k hit miss c s h m = branch_grows test.AtLeast operand k hit miss c s h m
+  comparison_grows Equal operand k hit miss c s h m = branch_grows Test.Equal operand k hit miss c s h m
+  comparison_grows NotEqual operand k hit miss c s h m = branch_grows Test.Equal operand k miss hit c s m h
+  comparison_grows Less operand k hit miss c s h m = branch_grows Test.AtLeast operand k miss hit c s m h
+  comparison_grows AtMost operand k hit miss c s h m = branch_grows Test.Greater operand k miss hit c s m h
+  comparison_grows Greater operand k hit miss c s h m = branch_grows Test.Greater operand k hit miss c s h m
+  comparison_grows AtLeast operand k hit miss c s h m = branch_grows Test.AtLeast operand k hit miss c s h m
 
   field_grows : (place : Offset) (width : Width) {c d : List Insn} {m w : ℕ} → GrowsBy b c d m w → GrowsBy b c (emit_field place width d) (m + 2) (w + 2)
-  field_grows (Fixed k) width g = grows_more _ _ (omega arith) (omega arith) (grows_put (LoadAbsolute width) k refl refl g)
+  field_grows (Fixed k) width g = grows_more _ _ (omega arith) (omega arith) (grows_put (LoadAbsolute width) k refl refl refl g)
   field_grows (AfterHeader header k) width g =
-      grows_more _ _ (omega arith) (omega arith) (grows_put LoadHeaderLength header refl refl (grows_put (LoadIndirect width) k refl refl g))
+      grows_more _ _ (omega arith) (omega arith) (grows_put LoadHeaderLength header refl refl refl (grows_put (LoadIndirect width) k refl refl refl g))
 
   mask_grows : (mask : Option ℕ) {c d : List Insn} {m w : ℕ} → GrowsBy b c d m w → GrowsBy b c (emit_mask mask d) (m + 1) (w + 1)
   mask_grows None g = grows_more _ _ (omega arith) (omega arith) g
-  mask_grows (Some mask) g = grows_put (Compute AluOperation.And Constant) mask refl refl g
+  mask_grows (Some mask) g = grows_put (Compute AluOperation.And Constant) mask refl refl refl g
 
   base_grows : (at : ℕ) (width : Width) {c d : List Insn} {m w : ℕ} → GrowsBy b c d m w → GrowsBy b c (emit_base at width d) (m + 2) (w + 2)
   base_grows at width g =
-      grows_more _ _ (omega arith) (omega arith) (grows_put CopyToIndex 0 refl refl (grows_put (LoadIndirect width) at refl refl g))
+      grows_more _ _ (omega arith) (omega arith) (grows_put CopyToIndex 0 refl refl refl (grows_put (LoadIndirect width) at refl refl refl g))
 
   transport_grows : (at : ℕ) (width : Width) {c d : List Insn} {m w : ℕ} → GrowsBy b c d m w → GrowsBy b c (plain LoadHeaderLength at ∷ plain (Compute AluOperation.Add IndexRegister) 0 ∷ emit_base at width d) (m + 4) (w + 4)
   transport_grows at width g =
       grows_more _ _ (omega arith) (omega arith)
-      (grows_put LoadHeaderLength at refl refl (grows_put (Compute AluOperation.Add IndexRegister) 0 refl refl (base_grows at width g)))
+      (grows_put LoadHeaderLength at refl refl refl (grows_put (Compute AluOperation.Add IndexRegister) 0 refl refl refl (base_grows at width g)))
 
   accessor_grows : (link : Link) (protocol : Protocol) (width : Width) {c d : List Insn} {m w : ℕ} → GrowsBy b c d m w → GrowsBy b c (emit_accessor link protocol width d) (m + 4) (w + 4)
   accessor_grows link Tcp width g = transport_grows (network_offset link) width g
@@ -238,32 +214,32 @@ module _ (b : Bool) where
 
   -- the two operands are in A and X
   operands_grow : {c d : List Insn} {m w : ℕ} (slot : ℕ) → slot < 16 → GrowsBy b c d m w → GrowsBy b c (plain CopyToIndex 0 ∷ plain (Load Accumulator Memory) slot ∷ d) (m + 1 + 1) (w + 1 + 1)
-  operands_grow slot l g = grows_put CopyToIndex 0 refl refl (grows_put (Load Accumulator Memory) slot refl (word_fine slot l) g)
+  operands_grow slot l g = grows_put CopyToIndex 0 refl refl refl (grows_put (Load Accumulator Memory) slot refl refl (word_fine slot l) g)
 
   number_grows : (link : Link) (e : NumberTree) (slot : ℕ) {c d : List Insn} {m w : ℕ} → slot + number_words e ≤ 16 → GrowsBy b c d m w → GrowsBy b c (emit_number link e slot d) (m + 6 * number_size e) (w + 6 * number_size e)
-  number_grows link (literal k) slot few g = grows_more _ _ (omega arith) (omega arith) (grows_put (Load Accumulator Immediate) k refl refl g)
-  number_grows link (named k) slot few g = grows_more _ _ (omega arith) (omega arith) (grows_put (Load Accumulator Immediate) k refl refl g)
-  number_grows link len slot few g = grows_more _ _ (omega arith) (omega arith) (grows_put (Load Accumulator Length) 0 refl refl g)
+  number_grows link (literal k) slot few g = grows_more _ _ (omega arith) (omega arith) (grows_put (Load Accumulator Immediate) k refl refl refl g)
+  number_grows link (named k) slot few g = grows_more _ _ (omega arith) (omega arith) (grows_put (Load Accumulator Immediate) k refl refl refl g)
+  number_grows link len slot few g = grows_more _ _ (omega arith) (omega arith) (grows_put (Load Accumulator Length) 0 refl refl refl g)
   number_grows link (negated a) slot few g =
-      grows_more _ _ (omega arith) (omega arith) (number_grows link a slot few (grows_put Negate 0 refl refl g))
+      grows_more _ _ (omega arith) (omega arith) (number_grows link a slot few (grows_put Negate 0 refl refl refl g))
   number_grows link (load protocol size i) slot {c = c} {d = d} {m = m} {w = w} few g =
-      by_index (λ code. GrowsBy b c code (m + 6 * number_size (load protocol size i)) (w + 6 * number_size (load protocol size i))) (constant i) _ _
+      by_operand (λ code. GrowsBy b c code (m + 6 * number_size (load protocol size i)) (w + 6 * number_size (load protocol size i))) (constant i) _ _
       (λ k is. grows_more _ _ (omega arith) (omega arith) (field_grows (accessor_offset link protocol k) (width_of size) g))
       (grows_more _ _ (omega arith) (omega arith) (number_grows link i slot few (accessor_grows link protocol (width_of size) g)))
   number_grows link (applied operator l r) slot {c = c} {d = d} {m = m} {w = w} few g =
       grows_more _ _ (omega arith) (omega arith)
       (number_grows link l slot (omega arith)
-      (by_right (λ code. GrowsBy b c code (m + 4 + 6 * number_size r) (w + 4 + 6 * number_size r)) (constant_operand operator r) slot _ _
-      (λ k is. grows_more _ _ (omega arith) (omega arith) (grows_put (computation operator Constant) k refl (constant_fine operator k (length d) (operand_is operator r k is).taken) g))
+      (by_operand (λ code. GrowsBy b c code (m + 4 + 6 * number_size r) (w + 4 + 6 * number_size r)) (constant_operand operator r) _ _
+      (λ k is. grows_more _ _ (omega arith) (omega arith) (grows_put (computation operator Constant) k refl refl (constant_fine operator k (length d) (operand_is operator r k is).taken) g))
       (grows_more _ _ (omega arith) (omega arith)
-      (grows_put (Store Accumulator) slot refl (word_fine slot (omega arith))
+      (grows_put (Store Accumulator) slot refl refl (word_fine slot (omega arith))
       (number_grows link r (slot + 1) (omega arith)
-      (operands_grow slot (omega arith) (grows_put (computation operator IndexRegister) 0 refl refl g)))))))
+      (operands_grow slot (omega arith) (grows_put (computation operator IndexRegister) 0 refl refl refl g)))))))
 
   fits_top : {c d : List Insn} {m w : ℕ} → GrowsBy b c d m w → FitsBy b c (at_top d) m w
   fits_top {d = d} g = record { grows = g; entry = asked b (top_inside d) g.sound }
 
-  more_by : {c : List Insn} {e : Block} {m w : ℕ} (m' w' : ℕ) → m ≤ m' → w ≤ w' → FitsBy b c e m w → FitsBy b c e m' w'
+  pub more_by : {c : List Insn} {e : Block} {m w : ℕ} (m' w' : ℕ) → m ≤ m' → w ≤ w' → FitsBy b c e m w → FitsBy b c e m' w'
   more_by m' w' lm lw f = record { grows = grows_more m' w' lm lw f.grows; entry = f.entry }
 
   -- one part of the code in front of another
@@ -293,17 +269,17 @@ module _ (b : Bool) where
   pub interval_fits : (from : Bool) (i : Interval) (is : List Interval) (hit miss : ℕ) (c : List Insn) → Asked b (Sound c) → Asked b (Inside c hit) → Asked b (Inside c miss) → Searched c (emit_interval from i hit miss c) (1 + first_more from (i ∷ is))
   interval_fits from i is hit miss c s h m = by (i.low == i.high) refl
     where
-      above : FitsBy b c (at_top (emit_branch test.Greater Constant i.high miss hit c)) 1 3
-      above = branch_fits test.Greater i.high miss hit c (none_by s) m h
+      above : FitsBy b c (at_top (emit_branch Test.Greater Constant i.high miss hit c)) 1 3
+      above = branch_fits Test.Greater i.high miss hit c (none_by s) m h
 
-      range : (from : Bool) → (i.low == i.high) ≡ false → Searched c (let e = at_top (emit_branch test.Greater Constant i.high miss hit c) in if from then e else at_top (emit_branch test.AtLeast Constant i.low e.entry miss e.code)) (1 + first_more from (i ∷ is))
+      range : (from : Bool) → (i.low == i.high) ≡ false → Searched c (let e = at_top (emit_branch Test.Greater Constant i.high miss hit c) in if from then e else at_top (emit_branch Test.AtLeast Constant i.low e.entry miss e.code)) (1 + first_more from (i ∷ is))
       range true e = more_by _ _ (omega arith) (omega arith) above
       range false e =
           let two : first_more false (i ∷ is) ≡ 1 = ap (λ b. if b then 0 else 1) e in
-          more_by _ _ (omega arith) (omega arith) (branch_fits test.AtLeast i.low _ miss _ above.grows above.entry (inside_on _ above.grows m))
+          more_by _ _ (omega arith) (omega arith) (branch_fits Test.AtLeast i.low _ miss _ above.grows above.entry (inside_on _ above.grows m))
 
-      by : (equal : Bool) → (i.low == i.high) ≡ equal → Searched c (if equal then at_top (emit_branch test.Equal Constant i.low hit miss c) else (let e = at_top (emit_branch test.Greater Constant i.high miss hit c) in if from then e else at_top (emit_branch test.AtLeast Constant i.low e.entry miss e.code))) (1 + first_more from (i ∷ is))
-      by true e = more_by _ _ (omega arith) (omega arith) (branch_fits test.Equal i.low hit miss c (none_by s) h m)
+      by : (equal : Bool) → (i.low == i.high) ≡ equal → Searched c (if equal then at_top (emit_branch Test.Equal Constant i.low hit miss c) else (let e = at_top (emit_branch Test.Greater Constant i.high miss hit c) in if from then e else at_top (emit_branch Test.AtLeast Constant i.low e.entry miss e.code))) (1 + first_more from (i ∷ is))
+      by true e = more_by _ _ (omega arith) (omega arith) (branch_fits Test.Equal i.low hit miss c (none_by s) h m)
       by false e = range from e
 
   pub chain_fits : (from : Bool) (is : List Interval) (hit miss : ℕ) (c : List Insn) → Asked b (Sound c) → Asked b (Inside c hit) → Asked b (Inside c miss) → Searched c (emit_chain from is hit miss c) (2 * length is - 1 + first_more from is)
@@ -330,10 +306,10 @@ module _ (b : Bool) where
       (λ few. chain_fits from is hit miss c s h m)
       (λ many. let two = are_many is many in
       let first = first_of_half from half is (omega arith) in
-      more_by _ _ (omega arith) (omega arith) (branch_fits test.AtLeast (low_of (drop half is)) upper.entry lower.entry lower.code both.grows (inside_on _ fl.grows fu.entry) fl.entry))
+      more_by _ _ (omega arith) (omega arith) (branch_fits Test.AtLeast (low_of (drop half is)) upper.entry lower.entry lower.code both.grows (inside_on _ fl.grows fu.entry) fl.entry))
 
   load_grows : (place : Offset) (width : Width) (mask : Option ℕ) → Lean mask place → {c d : List Insn} {m w : ℕ} → GrowsBy b c d m w → GrowsBy b c (emit_field place width (emit_mask mask d)) (m + 2) (w + 2)
-  load_grows (Fixed k) width mask h g = grows_more _ _ (omega arith) (omega arith) (grows_put (LoadAbsolute width) k refl refl (mask_grows mask g))
+  load_grows (Fixed k) width mask h g = grows_more _ _ (omega arith) (omega arith) (grows_put (LoadAbsolute width) k refl refl refl (mask_grows mask g))
   load_grows (AfterHeader header k) width mask h {c = c} {d = d} {m = m} {w = w} g =
       subst (λ o. GrowsBy b c (emit_field (AfterHeader header k) width (emit_mask o d)) (m + 2) (w + 2)) (sym h) (field_grows (AfterHeader header k) width g)
 
@@ -343,7 +319,7 @@ module _ (b : Bool) where
   pub others_fits : (at : Sides) (numbers : Numbers) (is : List Interval) (hit miss : ℕ) (c : List Insn) → Lean numbers.mask at.source → Asked b (Sound c) → Asked b (Inside c hit) → Asked b (Inside c miss) → FitsBy b c (emit_others at numbers is hit miss c) (2 * length is + 2) (6 * length is + 2)
   others_fits at numbers [] hit miss c l s h m = more_by _ _ (omega arith) (omega arith) (record { grows = none_by s; entry = m })
   others_fits at numbers (i ∷ is) hit miss c l s h m =
-      let few = first_few (i ∷ is) in
+      let few = ends_few (i ∷ is) in
       more_by _ _ (omega arith) (omega arith) (side_fits at.source at.width numbers.mask (i ∷ is) hit miss c l s h m)
 
   few_fits : (at : Sides) (numbers : Numbers) (hit miss : ℕ) (c : List Insn) → Ready at numbers → Asked b (Sound c) → Asked b (Inside c hit) → Asked b (Inside c miss) → let t = 2 * max 1 (length numbers.all) + max (first_ends numbers.all) (first_ends (numbers.first ∷ [])) + 1 in FitsBy b c (emit_few at numbers hit miss c) (4 * t) (6 * t)
@@ -356,17 +332,17 @@ module _ (b : Bool) where
       let ff = side_fits at.source at.width numbers.mask (numbers.first ∷ []) hit all.entry all.code lean.0 fa.grows.sound (inside_on _ fa.grows (inside_on _ fo.grows h)) fa.entry in
       let some = some_searched numbers.all r.all in
       let fewer : length numbers.others ≤ length numbers.all = subst (λ (is : List Interval). length is ≤ length numbers.all) (sym r.others_are) (length_without numbers.first numbers.all) in
-      let one = first_few (numbers.first ∷ []) in
-      let two = first_few numbers.all in
+      let one = ends_few (numbers.first ∷ []) in
+      let two = ends_few numbers.all in
       more_by _ _ (omega arith) (omega arith) (fits_on (fits_on fo.grows fa).grows ff)
 
   pub at_index_grows : (place : Offset) (width : Width) (index : ℕ) {c d : List Insn} {m w : ℕ} → GrowsBy b c d m w → GrowsBy b c (emit_at_index place width index d) (m + 1) (w + 1)
-  at_index_grows (Fixed k) width index g = grows_put (LoadIndirect width) (k - index) refl refl g
-  at_index_grows (AfterHeader header k) width index g = grows_put (LoadIndirect width) k refl refl g
+  at_index_grows (Fixed k) width index g = grows_put (LoadIndirect width) (k - index) refl refl refl g
+  at_index_grows (AfterHeader header k) width index g = grows_put (LoadIndirect width) k refl refl refl g
 
   index_grows : (place : Offset) (index : ℕ) {c d : List Insn} {m w : ℕ} → GrowsBy b c d m w → GrowsBy b c (emit_index place index d) (m + 1) (w + 1)
-  index_grows (Fixed k) index g = grows_put (Load Index Immediate) index refl refl g
-  index_grows (AfterHeader header k) index g = grows_put LoadHeaderLength header refl refl g
+  index_grows (Fixed k) index g = grows_put (Load Index Immediate) index refl refl refl g
+  index_grows (AfterHeader header k) index g = grows_put LoadHeaderLength header refl refl refl g
 
   pub masked_grows : (mask : Option ℕ) (is : List Interval) (hit miss : ℕ) (c : List Insn) → Asked b (Sound c) → Asked b (Inside c hit) → Asked b (Inside c miss) → GrowsBy b c (emit_masked mask is hit miss c) (searched is + 1) (3 * searched is + 1)
   masked_grows mask is hit miss c s h m = mask_grows mask (search_fits MOST_HALVINGS false is hit miss c s h m).grows
@@ -374,27 +350,27 @@ module _ (b : Bool) where
   many_fits : (at : Sides) (numbers : Numbers) (hit miss : ℕ) (c : List Insn) → Ready at numbers → Asked b (Sound c) → Asked b (Inside c hit) → Asked b (Inside c miss) → let t = 2 * max 1 (length numbers.all) + max (first_ends numbers.all) (first_ends (numbers.first ∷ [])) + 2 in FitsBy b c (emit_many at numbers hit miss c) (4 * t) (6 * t)
   many_fits at numbers hit miss c r s h m =
       let none = emit_at_index at.destination at.width at.index (emit_masked numbers.mask numbers.all hit miss c) in
-      let later = emit_at_index at.destination at.width at.index (emit_branch test.AtLeast Constant 0 hit miss none) in
+      let later = emit_at_index at.destination at.width at.index (emit_branch Test.AtLeast Constant 0 hit miss none) in
       let one = emit_interval false numbers.first hit (length later) later in
       let fn = fits_top (at_index_grows at.destination at.width at.index (masked_grows numbers.mask numbers.all hit miss c s h m)) in
       let hn = inside_on _ fn.grows h in
-      let fl = fits_top (at_index_grows at.destination at.width at.index (branch_grows test.AtLeast Constant 0 hit miss none fn.grows.sound hn (inside_on _ fn.grows m))) in
+      let fl = fits_top (at_index_grows at.destination at.width at.index (branch_grows Test.AtLeast Constant 0 hit miss none fn.grows.sound hn (inside_on _ fn.grows m))) in
       let fi = interval_fits false numbers.first [] hit (length later) later fl.grows.sound (inside_on _ fl.grows hn) fl.entry in
       let fs = fits_top (index_grows at.source at.index (at_index_grows at.source at.width at.index (masked_grows numbers.mask numbers.all one.entry (length none) one.code fi.grows.sound fi.entry (inside_on _ fi.grows (inside_on _ fl.grows fn.entry))))) in
       let some = some_searched numbers.all r.all in
-      let one_more = first_few (numbers.first ∷ []) in
-      let two = first_few numbers.all in
+      let one_more = ends_few (numbers.first ∷ []) in
+      let two = ends_few numbers.all in
       more_by _ _ (omega arith) (omega arith) (fits_on (fits_on (fits_on fn.grows fl).grows fi).grows fs)
 
   among_fits : (d : Direction) (at : Sides) (numbers : Numbers) (hit miss : ℕ) (c : List Insn) → Ready at numbers → Asked b (Sound c) → Asked b (Inside c hit) → Asked b (Inside c miss) → FitsBy b c (emit_among d at numbers hit miss c) (4 * sought_tests d numbers) (6 * sought_tests d numbers)
-  among_fits (direction.One Source) at numbers hit miss c r s h m =
+  among_fits (Direction.One Source) at numbers hit miss c r s h m =
       let some = some_searched numbers.all r.all in
       more_by _ _ (omega arith) (omega arith) (side_fits at.source at.width numbers.mask numbers.all hit miss c (source_lean at.index numbers.mask at.source at.destination r.reached).0 s h m)
-  among_fits (direction.One Destination) at numbers hit miss c r s h m =
+  among_fits (Direction.One Destination) at numbers hit miss c r s h m =
       let some = some_searched numbers.all r.all in
       more_by _ _ (omega arith) (omega arith) (side_fits at.destination at.width numbers.mask numbers.all hit miss c (source_lean at.index numbers.mask at.source at.destination r.reached).1 s h m)
-  among_fits (direction.Both And) at numbers hit miss c r s h m = more_by _ _ (omega arith) (omega arith) (record { grows = none_by s; entry = m })
-  among_fits (direction.Both Or) at numbers hit miss c r s h m = by (are_at_index at numbers) refl
+  among_fits (Direction.Both And) at numbers hit miss c r s h m = more_by _ _ (omega arith) (omega arith) (record { grows = none_by s; entry = m })
+  among_fits (Direction.Both Or) at numbers hit miss c r s h m = by (are_at_index at numbers) refl
     where
       more : ℕ
       more = if nat_le 5 (length numbers.all) then 2 else 1
@@ -404,7 +380,9 @@ module _ (b : Bool) where
 
       by : (many : Bool) → are_at_index at numbers ≡ many → FitsBy b c (if many then emit_many at numbers hit miss c else emit_few at numbers hit miss c) (4 * (t + more)) (6 * (t + more))
       by true e = subst (λ five. let k = t + (if five then 2 else 1) in FitsBy b c (emit_many at numbers hit miss c) (4 * k) (6 * k)) (sym (at_index_many at.width (numbers.first.low == numbers.first.high) (length numbers.all) (and_parts (not at.is_alone) _ e).1)) (many_fits at numbers hit miss c r s h m)
-      by false e = let one = one_or_two (nat_le 5 (length numbers.all)) in more_by _ _ (omega arith) (omega arith) (few_fits at numbers hit miss c r s h m)
+      by false e =
+          let one : 1 ≤ more = if_case (λ k. 1 ≤ k) (nat_le 5 (length numbers.all)) 2 1 (λ f. omega arith) (λ f. omega arith) in
+          more_by _ _ (omega arith) (omega arith) (few_fits at numbers hit miss c r s h m)
 
   pub emitted_by : (link : Link) (f : Formula) (hit miss : ℕ) (c : List Insn) → words f ≤ 16 → Searches f → Asked b (Sound c) → Asked b (Inside c hit) → Asked b (Inside c miss) → FitsBy b c (emit_formula link f hit miss c) (4 * tests f + 6 * nodes f) (6 * (tests f + nodes f))
   emitted_by link (Single t) hit miss c few up s h m = more_by _ _ (omega arith) (omega arith) (elementary_fits t hit miss c s h m)
@@ -412,10 +390,10 @@ module _ (b : Bool) where
       more_by _ _ (omega arith) (omega arith)
       (fits_top
       (number_grows link l 0 (omega arith)
-      (by_right (λ code. GrowsBy b c code (4 + 6 * number_size r) (6 + 6 * number_size r)) (constant r) 0 _ _
+      (by_operand (λ code. GrowsBy b c code (4 + 6 * number_size r) (6 + 6 * number_size r)) (constant r) _ _
       (λ k is. grows_more _ _ (omega arith) (omega arith) (comparison_grows comparison Constant k hit miss c s h m))
       (grows_more _ _ (omega arith) (omega arith)
-      (grows_put (Store Accumulator) 0 refl refl
+      (grows_put (Store Accumulator) 0 refl refl refl
       (number_grows link r 1 (omega arith)
       (operands_grow 0 (omega arith) (comparison_grows comparison IndexRegister 0 hit miss c s h m))))))))
   emitted_by link (Both x y) hit miss c few up s h m =
@@ -437,16 +415,3 @@ module _ (b : Bool) where
       more_by _ _ (omega arith) (omega arith) (fits_on (fits_on f.grows g).grows (elementary_fits t yes.entry no.entry yes.code g.grows.sound g.entry (inside_on _ g.grows f.entry)))
   emitted_by link (Sought d at numbers) hit miss c few r s h m =
       more_by _ _ (omega arith) (omega arith) (among_fits d at numbers hit miss c r s h m)
-
--- where soundness is asked for
-abbrev pub Fits : List Insn → Block → ℕ → ℕ → Type 0
-Fits c e m w = FitsBy true c e m w
-
-pub grows_none : {c : List Insn} → Sound c → GrowsBy true c c 0 0
-grows_none s = none_by true s
-
-pub fits_more : {c : List Insn} {e : Block} {m w : ℕ} (m' w' : ℕ) → m ≤ m' → w ≤ w' → Fits c e m w → Fits c e m' w'
-fits_more m' w' lm lw f = more_by true m' w' lm lw f
-
-pub emitted_fits : (link : Link) (f : Formula) (hit miss : ℕ) (c : List Insn) → words f ≤ 16 → Searches f → Sound c → Inside c hit → Inside c miss → Fits c (emit_formula link f hit miss c) (4 * tests f + 6 * nodes f) (6 * (tests f + nodes f))
-emitted_fits link f hit miss c few up s h m = emitted_by true link f hit miss c few up s h m

@@ -1,6 +1,5 @@
 -- The nodes of a tree that are held, and put back.
 use Rattle.flt_gen.proofs.Common.{◌≡◌, ℕ, suc, ◌+◌, List, [], ◌∷◌, refl, ap, ◌∙◌, arith, Node, NumberTree, load, negated, applied, TruthTree, compared, denied, joined, number_nodes, truth_nodes, number_onto, truth_onto, hold, put_back}
-use Rattle.flt_ast.specs.declared.node.Node.TheVariants as node
 
 pub one_more : (need : ℕ) → need + 1 ≡ suc need
 one_more need = omega arith
@@ -13,28 +12,28 @@ none_held need held [] e = refl
 none_held need held (n ∷ ns) e = ap (λ k. hold k held (n ∷ ns)) e
 
 held_number : (a : NumberTree) (need : ℕ) (held d : List Node) → hold (suc need) held (number_onto a d) ≡ hold need (number_nodes a held) d
-held_number (load p s a) need held d = held_number a need (node.Load p s ∷ held) d
-held_number (negated a) need held d = held_number a need (node.Negate ∷ held) d
+held_number (load p s a) need held d = held_number a need (Node.Load p s ∷ held) d
+held_number (negated a) need held d = held_number a need (Node.Negate ∷ held) d
 held_number (applied o a b) need held d =
-    held_number b (suc need) (node.Apply o ∷ held) (number_onto a d) ∙ held_number a need (number_nodes b (node.Apply o ∷ held)) d
+    held_number b (suc need) (Node.Apply o ∷ held) (number_onto a d) ∙ held_number a need (number_nodes b (Node.Apply o ∷ held)) d
 held_number _ need held d = refl
 
 pub held_truth : (a : TruthTree) (need : ℕ) (held d : List Node) → hold (suc need) held (truth_onto a d) ≡ hold need (truth_nodes a held) d
 held_truth (compared c a b) need held d =
-    held_number b (suc need) (node.Compare c ∷ held) (number_onto a d) ∙ held_number a need (number_nodes b (node.Compare c ∷ held)) d
-held_truth (denied a) need held d = held_truth a need (node.Not ∷ held) d
+    held_number b (suc need) (Node.Compare c ∷ held) (number_onto a d) ∙ held_number a need (number_nodes b (Node.Compare c ∷ held)) d
+held_truth (denied a) need held d = held_truth a need (Node.Not ∷ held) d
 held_truth (joined j a b) need held d =
-    held_truth b (suc need) (node.Join j ∷ held) (truth_onto a d) ∙ held_truth a need (truth_nodes b (node.Join j ∷ held)) d
+    held_truth b (suc need) (Node.Join j ∷ held) (truth_onto a d) ∙ held_truth a need (truth_nodes b (Node.Join j ∷ held)) d
 held_truth _ need held d = refl
 
 back_number : (a : NumberTree) (held ns : List Node) → put_back (number_nodes a held) ns ≡ put_back held (number_onto a ns)
-back_number (load p s a) held ns = back_number a (node.Load p s ∷ held) ns
-back_number (negated a) held ns = back_number a (node.Negate ∷ held) ns
-back_number (applied o a b) held ns = back_number a (number_nodes b (node.Apply o ∷ held)) ns ∙ back_number b (node.Apply o ∷ held) (number_onto a ns)
+back_number (load p s a) held ns = back_number a (Node.Load p s ∷ held) ns
+back_number (negated a) held ns = back_number a (Node.Negate ∷ held) ns
+back_number (applied o a b) held ns = back_number a (number_nodes b (Node.Apply o ∷ held)) ns ∙ back_number b (Node.Apply o ∷ held) (number_onto a ns)
 back_number _ held ns = refl
 
 pub back_truth : (a : TruthTree) (held ns : List Node) → put_back (truth_nodes a held) ns ≡ put_back held (truth_onto a ns)
-back_truth (compared c a b) held ns = back_number a (number_nodes b (node.Compare c ∷ held)) ns ∙ back_number b (node.Compare c ∷ held) (number_onto a ns)
-back_truth (denied a) held ns = back_truth a (node.Not ∷ held) ns
-back_truth (joined j a b) held ns = back_truth a (truth_nodes b (node.Join j ∷ held)) ns ∙ back_truth b (node.Join j ∷ held) (truth_onto a ns)
+back_truth (compared c a b) held ns = back_number a (number_nodes b (Node.Compare c ∷ held)) ns ∙ back_number b (Node.Compare c ∷ held) (number_onto a ns)
+back_truth (denied a) held ns = back_truth a (Node.Not ∷ held) ns
+back_truth (joined j a b) held ns = back_truth a (truth_nodes b (Node.Join j ∷ held)) ns ∙ back_truth b (Node.Join j ∷ held) (truth_onto a ns)
 back_truth _ held ns = refl

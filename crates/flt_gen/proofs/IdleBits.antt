@@ -1,9 +1,7 @@
 -- The last bits that don't decide, by one bit less.
-use Rattle.std.proofs.Common.{◌≡◌, ℕ, zero, suc, [], ◌∷◌, map, ◌-◌, ◌*◌, ◌%◌, ◌^◌, ◌<◌, ◌≤◌, List, refl, sym, ap, ◌∙◌, arith, pow_mono}
-use Rattle.std.proofs.Math.Nat.{mod-eq_of_lt}
-use Rattle.std.specs.{List.list_all, Prelude.◌&&◌, Prelude.if◌then◌else◌}
-use Rattle.flt_gen.specs.declared.elementary.Interval.{Interval}
-use Rattle.flt_gen.specs.inside.Intervals.{is_aligned, idle_bits, cut}
+use Rattle.flt_gen.proofs.Common.{◌≡◌, ℕ, zero, suc, [], ◌∷◌, map, ◌-◌, ◌*◌, ◌%◌, ◌^◌, ◌<◌, ◌≤◌, List, refl, sym, ap, ◌∙◌, arith, ◌&&◌, if◌then◌else◌, Interval, is_aligned, idle_bits, cut}
+use Rattle.std.proofs.{Common.pow_mono, Math.Nat.mod-eq_of_lt}
+use Rattle.std.specs.List.{list_all}
 
 pub none_left : (k : ℕ) (first : Interval) (is : List Interval) → k ≡ 0 → idle_bits k first is ≡ 0
 none_left k first is e = ap (λ n. idle_bits n first is) e

@@ -1,12 +1,49 @@
--- Where code leads: its answer from a place on.
-use Rattle.flt_gen.proofs.Common.{◌≡◌, ℕ, ◌-◌, ◌≤◌, List, length, Some, sym, ap, ◌∙◌, arith, Insn, State, answer_of, answer_drop}
-use Rattle.flt_gen.proofs.Tails.{Extends}
+-- Code that grew in front still stands at its end; what its first instruction does; and where it
+-- leads: its answer from a place on.
+use Rattle.flt_gen.proofs.Common.{constant_or, ◌≡◌, ℕ, suc, ◌-◌, ◌≤◌, List, ◌∷◌, length, drop, Option, Some, None, refl, sym, ap, ◌∙◌, arith, Insn, State, Operation, plain, answer_of, answer_after, answer_drop, code_of, does, does_if_known}
+use Rattle.flt_bpf.proofs.Codes.{code_is}
+use Rattle.flt_bpf.specs.{Instructions.operation_of, Machine.step}
+
+-- a longer code is the same from the places of the shorter
+pub record Extends (c d : List Insn) : Type 0 where
+  pub longer : length c ≤ length d
+  pub same : (place : ℕ) → place ≤ length c → drop (length d - place) d ≡ drop (length c - place) c
+
+pub extends_none : (c : List Insn) → Extends c c
+extends_none c = record { longer = omega arith; same = λ place l. refl }
+
+pub extends_put : {c d : List Insn} (i : Insn) → Extends c d → Extends c (i ∷ d)
+extends_put {d = d} i e =
+    record {
+      longer = omega (arith, e.longer);
+      same = λ place l. (let more : length (i ∷ d) - place ≡ suc (length d - place) = omega (arith, e.longer) in ap (λ k. drop k (i ∷ d)) more) ∙ e.same place l;
+    }
+
+pub extends_on : {c d f : List Insn} → Extends c d → Extends d f → Extends c f
+extends_on a b =
+    record {
+      longer = omega (arith, a.longer, b.longer);
+      same = λ place l. b.same place (omega (arith, a.longer)) ∙ a.same place l;
+    }
+
+-- by a constant operand or index
+pub by_operand : (P : List Insn → Type 0) (o : Option ℕ) (short : ℕ → List Insn) (long : List Insn) → ((k : ℕ) → o ≡ Some k → P (short k)) → P long → P (constant_or o short long)
+by_operand P None short long one all = all
+by_operand P (Some k) short long one all = one k refl
 
 -- a state with the words of memory that programs may use
 abbrev pub HasWords : State → Type 0
 HasWords s = length s.memory ≡ 16
 
 module _ (p : List ℕ) (n : ℕ) where
+  -- what an instruction does in front of code
+  pub run : (o : Operation) (i : Insn) (c : List Insn) (s : State) → i.code ≡ code_of o → answer_of (i ∷ c) p n 0 s ≡ answer_after (answer_of c p n) (does o i p n s)
+  unfolding step
+  run o i c s e = ap (λ x. answer_after (answer_of c p n) (does_if_known x i p n s)) (ap operation_of e ∙ code_is o)
+
+  pub run_plain : (o : Operation) (k : ℕ) (c : List Insn) (s : State) → answer_of (plain o k ∷ c) p n 0 s ≡ answer_after (answer_of c p n) (does o (plain o k) p n s)
+  run_plain o k c s = run o (plain o k) c s refl
+
   -- in each of some states the code gives this answer from its top on
   abbrev pub Tops : (State → Type 0) → List Insn → ℕ → Type 0
   Tops P c v = (s : State) → P s → answer_of c p n 0 s ≡ Some v

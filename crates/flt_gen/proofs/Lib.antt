@@ -1,8 +1,5 @@
 pub mod Common
-pub mod Backwards
 pub mod Search
-pub mod Codes
-pub mod Tails
 pub mod Ascending
 pub mod Leads
 pub mod Exclusive

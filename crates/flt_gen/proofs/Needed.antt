@@ -1,13 +1,10 @@
 -- Words of IPv6 addresses of which no bit counts: the formula reads the same, and has no more
 -- tests.
 use Rattle.flt_gen.proofs.Ascending.{if_case}
-use Rattle.flt_gen.proofs.Common.{◌≡◌, ℕ, suc, ◌+◌, ◌-◌, ◌*◌, ◌/◌, ◌%◌, ◌^◌, ◌≤◌, List, [], ◌∷◌, length, true, false, Option, Some, None, refl, sym, ap, ap₂, ◌∙◌, arith, ◌==◌, ◌&&◌, nat_le, if◌then◌else◌, bit_and, nat_tests, Source, Destination, And, Or, Protocol, ValueType, Net, Direction, Value, first_bits, Word, big_endian_at, field, Link, Fixed, Elementary, MatchResult, reading_of, with, under_mask, kind_test, elementary_reads, network_offset, both, either, all_of, sides, reads, partial_mask, address_test, ip6_tests, ip6_formula, value_formula, is_empty, is_idle, capture_test, last_test, needed_tests, ip6_needed, value_needed}
+use Rattle.flt_gen.proofs.Common.{◌≡◌, ℕ, suc, ◌+◌, ◌-◌, ◌*◌, ◌/◌, ◌%◌, ◌^◌, ◌≤◌, List, [], ◌∷◌, length, true, false, Option, Some, None, refl, sym, ap, ap₂, ◌∙◌, arith, ◌==◌, ◌&&◌, nat_le, if◌then◌else◌, bit_and, nat_tests, Source, Destination, And, Or, Protocol, ValueType, Net, Direction, Value, first_bits, Word, big_endian_at, field, Link, Fixed, FrameKind, Elementary, MatchResult, reading_of, with, under_mask, kind_test, elementary_reads, network_offset, both, either, all_of, sides, reads, partial_mask, address_test, ip6_tests, ip6_formula, value_formula, is_empty, is_idle, capture_test, last_test, needed_tests, ip6_needed, value_needed}
 use Rattle.flt_gen.proofs.{Counted.Bare, Counted.bare_after, Counted.bare_sides, Counted.bare_value, Exclusive.and_yes}
 use Rattle.std.specs.Int.Bits.{and_zero_r}
-use Rattle.flt_ast.specs.declared.qualifiers.Direction.TheVariants as direction
-use Rattle.flt_ast.specs.declared.value.Value.TheVariants as value
 use Rattle.flt_ast.specs.Counts as count
-use Rattle.flt_gen.specs.declared.elementary.FrameKind.{FrameKind}
 
 -- no more tests
 fewer : (ts : List Elementary) → length (needed_tests ts) ≤ length ts
@@ -17,7 +14,7 @@ fewer (t ∷ u ∷ ts) =
 fewer _ = omega arith
 
 pub bare_needed : (link : Link) (k : ValueType) (p : Option Protocol) (d : Direction) (v : Value) → Bare (value_needed link k p d v) (count.typed_tests k p d v)
-bare_needed link Net p d (value.Ip6 a n) =
+bare_needed link Net p d (Value.Ip6 a n) =
     bare_after (bare_sides d _ _ 4 (fewer (ip6_tests n a (network_offset link + 8))) (fewer (ip6_tests n a (network_offset link + 24))) (omega arith))
 bare_needed link k p d v = bare_value link k p d v
 
@@ -90,10 +87,10 @@ module _ (link : Link) (p : List ℕ) (n : ℕ) where
   word_same prefix address at = needed_same at 0 (word_of prefix address 0 ∷ word_of prefix address 1 ∷ word_of prefix address 2 ∷ word_of prefix address 3 ∷ [])
 
   sides_same : (d : Direction) (s t u v : List Elementary) → reads link (all_of s) p n ≡ reads link (all_of u) p n → reads link (all_of t) p n ≡ reads link (all_of v) p n → reads link (sides d s t) p n ≡ reads link (sides d u v) p n
-  sides_same (direction.One Source) s t u v h k = h
-  sides_same (direction.One Destination) s t u v h k = k
-  sides_same (direction.Both Or) s t u v h k = ap (λ r. either r (reads link (all_of t) p n)) h ∙ ap (λ r. either (reads link (all_of u) p n) r) k
-  sides_same (direction.Both And) s t u v h k = ap (λ r. both r (reads link (all_of t) p n)) h ∙ ap (λ r. both (reads link (all_of u) p n) r) k
+  sides_same (Direction.One Source) s t u v h k = h
+  sides_same (Direction.One Destination) s t u v h k = k
+  sides_same (Direction.Both Or) s t u v h k = ap (λ r. either r (reads link (all_of t) p n)) h ∙ ap (λ r. either (reads link (all_of u) p n) r) k
+  sides_same (Direction.Both And) s t u v h k = ap (λ r. both r (reads link (all_of t) p n)) h ∙ ap (λ r. both (reads link (all_of u) p n) r) k
 
   ip6_same : (d : Direction) (prefix : Option ℕ) (address : ℕ) → reads link (ip6_needed link d prefix address) p n ≡ reads link (ip6_formula link d prefix address) p n
   ip6_same d prefix address =
@@ -101,5 +98,5 @@ module _ (link : Link) (p : List ℕ) (n : ℕ) where
       (sides_same d _ _ _ _ (word_same prefix address (network_offset link + 8)) (word_same prefix address (network_offset link + 24)))
 
   pub value_same : (k : ValueType) (q : Option Protocol) (d : Direction) (v : Value) → reads link (value_needed link k q d v) p n ≡ reads link (value_formula link k q d v) p n
-  value_same Net q d (value.Ip6 a m) = ip6_same d m a
+  value_same Net q d (Value.Ip6 a m) = ip6_same d m a
   value_same k q d v = refl

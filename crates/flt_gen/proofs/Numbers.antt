@@ -1,7 +1,6 @@
 -- What the code of arithmetic does.
-use Rattle.flt_gen.proofs.Codes.{run_plain}
 use Rattle.flt_gen.proofs.Common.{LoadAbsolute, accessor_offset, emit_field, ◌≡◌, ℕ, ◌+◌, ◌-◌, ◌%◌, ◌^◌, ◌<◌, ◌≤◌, List, ◌∷◌, length, Bool, true, false, Option, Some, None, refl, sym, ap, ap₂, ◌∙◌, subst, arith, slice_get, slice_set, nat_lt, if◌then◌else◌, option_map, nat_tests, get_or-set_same, get_or-set_other, Insn, State, Accumulator, Index, Width, Byte, Operand, Constant, IndexRegister, Goes, Lost, field, compute, operand_value, into, word_into, header_length, Operator, Protocol, Ether, Tcp, Udp, Icmp, NumberTree, literal, len, named, load, negated, applied, Link, Offset, Fixed, AfterHeader, with, field_at, network_offset, width_of, base, result_of, number, number_words, plain, alu_operation, computation, takes_constant, constant, constant_operand, emit_base, emit_transport, emit_accessor, emit_operands, emit_number, answer_of, answer_after, LoadIndirect, Load, LoadHeaderLength, Store, Negate, CopyToIndex, Immediate, Memory, Length}
-use Rattle.flt_gen.proofs.Tails.{by_right, by_index}
+use Rattle.flt_gen.proofs.Leads.{by_operand, run_plain}
 use Rattle.std.proofs.{Math.ListN.length-set, lemmas.Option.slice_get-get_or}
 use Rattle.flt_words.specs.declared.token.Operator.TheVariants.{Add}
 
@@ -136,7 +135,7 @@ module _ (p : List ℕ) (n : ℕ) where
       let x = header_length b in
       let place : (x + (l + v) % 2 ^ 32) % 2 ^ 32 ≡ (x + l + v) % 2 ^ 32 = omega arith in ap (λ at. field p at w) place
 
-  indexed_same : (link : Link) (protocol : Protocol) (w : Width) (v : ℕ) → field_at (accessor_offset link protocol v) w p ≡ with (base link protocol p) (λ at. field p ((at + v) % 2 ^ 32) w)
+  pub indexed_same : (link : Link) (protocol : Protocol) (w : Width) (v : ℕ) → field_at (accessor_offset link protocol v) w p ≡ with (base link protocol p) (λ at. field p ((at + v) % 2 ^ 32) w)
   indexed_same link Tcp w v = header_same _ (network_offset link) v w
   indexed_same link Udp w v = header_same _ (network_offset link) v w
   indexed_same link Icmp w v = header_same _ (network_offset link) v w
@@ -174,7 +173,7 @@ module _ (p : List ℕ) (n : ℕ) where
   number_runs link (named k) slot c few = λ s f long h. run_plain p n (Load Accumulator Immediate) k c s ∙ h k (record s { accumulator = k }) (record { long = long; kept = λ j l. refl }) refl
   number_runs link len slot c few = λ s f long h. run_plain p n (Load Accumulator Length) 0 c s ∙ h n (record s { accumulator = n }) (record { long = long; kept = λ j l. refl }) refl
   number_runs link (load protocol size i) slot c few =
-      λ s f long h. by_index (λ b. answer_of b p n 0 s ≡ Some (answer_for (number link (load protocol size i) p n) f)) (constant i) _ _
+      λ s f long h. by_operand (λ b. answer_of b p n 0 s ≡ Some (answer_for (number link (load protocol size i) p n) f)) (constant i) _ _
       (λ k is. indexed_runs link protocol (width_of size) c slot k s f (record { long = long; kept = λ j l. refl }) h
       ∙ ap (λ o. Some (answer_for (with o (λ v. with (base link protocol p) (λ at. field p ((at + v) % 2 ^ 32) (width_of size)))) f)) (sym (constant_is link i k is)))
       (number_runs link i slot (emit_accessor link protocol (width_of size) c) few s _ long (λ v t k e. accessor_runs link protocol (width_of size) c slot v s t f k e h)
@@ -185,7 +184,7 @@ module _ (p : List ℕ) (n : ℕ) where
       ∙ ap Some (for_with (number link a p n) (λ v. Some ((2 ^ 32 - v) % 2 ^ 32)) f)
   number_runs link (applied operator l r) slot c few =
       λ s f long h. number_runs link l slot _ (omega arith) s (λ x. answer_for (with (number link r p n) (λ y. result_of operator x y)) f) long
-      (λ x t k e. by_right (λ d. answer_of d p n 0 t ≡ Some (answer_for (with (number link r p n) (λ y. result_of operator x y)) f)) (constant_operand operator r) slot _ _
+      (λ x t k e. by_operand (λ d. answer_of d p n 0 t ≡ Some (answer_for (with (number link r p n) (λ y. result_of operator x y)) f)) (constant_operand operator r) _ _
       (λ j is. run_operator operator Constant j c t
       ∙ ap (λ a. answer_after (answer_of c p n) (into Accumulator (result_of operator a j) t)) e
       ∙ into_runs (result_of operator x j) c slot s t f k h

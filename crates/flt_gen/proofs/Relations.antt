@@ -1,23 +1,11 @@
 -- An entry reads as the value or comparison that it is, and has no more tests.
 use Rattle.flt_gen.proofs.Ascending.{Each}
-use Rattle.flt_gen.proofs.Common.{◌≡◌, ℕ, ◌+◌, ◌%◌, ◌^◌, ◌≤◌, ◌==◌, List, Option, Some, None, refl, sym, ap, ◌∙◌, arith, Equal, Protocol, Tcp, Udp, Icmp, Ether, literal, load, TruthTree, qualified, compared, accessor_test_count, truth_tests, Link, network_offset, Width, field, field_at, base, accessor_offset, accessor_tests, width_of, reading_of, with, Single, Compare, both, reads, formula, Entry}
-use Rattle.flt_gen.proofs.Counted.{Bare, bare_within, bare_one}
+use Rattle.flt_gen.proofs.Common.{◌≡◌, ℕ, ◌+◌, ◌≤◌, ◌==◌, List, Some, sym, ap, ◌∙◌, arith, Equal, literal, load, TruthTree, qualified, compared, accessor_test_count, truth_tests, Link, accessor_tests, width_of, reading_of, with, Single, Compare, both, reads, formula, Entry}
+use Rattle.flt_gen.proofs.{Counted.Bare, Counted.bare_within, Counted.bare_one, Numbers.indexed_same}
 use Rattle.flt_gen.proofs.Needed.{bare_needed, value_same}
 use Rattle.flt_gen.proofs.Once.{guarded_sizes, accessor_tests_are, all_read, guarded_read}
 use Rattle.flt_ast.specs.Counts.{value_tests}
 use Rattle.flt_gen.specs.inside.{Group.entry_formula, Group.entry_of, Relations.relation_test}
-
--- an accessor's field at a constant index
-after_header : (l i : ℕ) (w : Width) (p : List ℕ) (o : Option ℕ) → with o (λ x. field p ((x + (l + i) % 2 ^ 32) % 2 ^ 32) w) ≡ with (with o (λ x. Some (x + l))) (λ at. field p ((at + i) % 2 ^ 32) w)
-after_header l i w p None = refl
-after_header l i w p (Some x) = (let place : (x + (l + i) % 2 ^ 32) % 2 ^ 32 ≡ (x + l + i) % 2 ^ 32 = omega arith in ap (λ k. field p k w) place)
-
-field_is : (link : Link) (q : Protocol) (i : ℕ) (w : Width) (p : List ℕ) → field_at (accessor_offset link q i) w p ≡ with (base link q p) (λ at. field p ((at + i) % 2 ^ 32) w)
-field_is link Ether i w p = refl
-field_is link Tcp i w p = after_header (network_offset link) i w p _
-field_is link Udp i w p = after_header (network_offset link) i w p _
-field_is link Icmp i w p = after_header (network_offset link) i w p _
-field_is link _ i w p = refl
 
 -- how many tests an entry has
 abbrev pub entry_tests : Entry → ℕ
@@ -45,7 +33,7 @@ entry_is link (compared Equal (load q s (literal i)) (literal k)) =
       few = omega arith;
       same = λ p n.
           guarded_read link p n ts (Single t)
-          ∙ ap (λ o. both (all_read link p n ts) (reading_of (with o (λ x. Some (x == k))))) (field_is link q i (width_of s) p)
+          ∙ ap (λ o. both (all_read link p n ts) (reading_of (with o (λ x. Some (x == k))))) (indexed_same p n link q (width_of s) i)
           ∙ sym (guarded_read link p n ts (Compare Equal (load q s (literal i)) (literal k)));
     }
 entry_is link (compared _ _ _) = tt

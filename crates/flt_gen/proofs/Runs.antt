@@ -2,15 +2,11 @@
 use Rattle.flt_gen.specs.Formula.{choose, Formula, Single, Compare, Both, Either, Except, Split, Sought, Numbers, is_in, is_within, among_reads, captured_reads, either_reads, sought_reads, relation_reads, both, either, negation as exchanged, reads}
 use Rattle.flt_gen.specs.inside.Code.{emit_search}
 use Rattle.flt_gen.proofs.Ascending.{if_case, Apart, Searchable, Reached, Ready, Searches, apart_without, within_without, searchable_apart, apart_take, apart_drop, lower_half, first_taken, upper_half}
-use Rattle.flt_gen.proofs.Codes.{run, run_plain}
-use Rattle.flt_gen.proofs.Common.{◌≡◌, ℕ, zero, suc, ◌+◌, ◌-◌, ◌/◌, ◌%◌, ◌^◌, ◌<◌, ◌≤◌, List, [], ◌∷◌, length, take, drop, Bool, true, false, Option, Some, None, refl, sym, ap, ◌∙◌, subst, arith, nat_le, nat_lt, ◌==◌, not, ◌&&◌, ◌||◌, if◌then◌else◌, bit_and, option_map, nat_tests, Insn, State, Width, Byte, Test, Operand, Constant, IndexRegister, LoadIndirect, Load, Immediate, LoadHeaderLength, Compute, JumpIf, Accumulator, Index, answer_of, answer_after, field, test_holds, operand_value, into, header_length, Comparison, Equal, NotEqual, Less, AtMost, Greater, AtLeast, number_words, NumberTree, Link, Offset, Fixed, AfterHeader, Interval, Sides, Direction, Source, Destination, And, Or, without, ap₂, Elementary, Outcome, Field, MatchResult, Yes, No, Rejected, reading_of, with, compares, field_at, under_mask, field_reads, elementary_reads, number, plain, constant, branch_insn, emit_elementary, emit_branch, emit_comparison, emit_field, emit_mask, emit_test, emit_relation, Block, at_top, emit_interval, emit_chain, are_few, low_of, MOST_HALVINGS, emit_masked, emit_side, emit_others, emit_few, emit_second, emit_at_sides, emit_many, are_at_index, emit_among, emit_formula, words}
+use Rattle.flt_gen.proofs.Common.{◌≡◌, ℕ, zero, suc, ◌+◌, ◌-◌, ◌/◌, ◌%◌, ◌^◌, ◌<◌, ◌≤◌, List, [], ◌∷◌, length, take, drop, Bool, true, false, Option, Some, None, refl, sym, ap, ◌∙◌, subst, arith, nat_le, nat_lt, ◌==◌, not, ◌&&◌, ◌||◌, if◌then◌else◌, bit_and, option_map, nat_tests, Insn, State, Width, Byte, Test, Operand, Constant, IndexRegister, LoadIndirect, Load, Immediate, LoadHeaderLength, Compute, JumpIf, Accumulator, Index, answer_of, answer_after, field, test_holds, operand_value, into, header_length, Comparison, Equal, NotEqual, Less, AtMost, Greater, AtLeast, number_words, NumberTree, Link, Offset, Fixed, AfterHeader, Interval, Sides, Direction, Source, Destination, And, Or, without, ap₂, Elementary, Outcome, Field, MatchResult, Yes, No, Rejected, reading_of, with, compares, field_at, under_mask, field_reads, elementary_reads, number, plain, constant, branch_insn, emit_elementary, emit_branch, emit_comparison, emit_field, emit_mask, emit_relation, Block, at_top, emit_interval, emit_chain, are_few, low_of, MOST_HALVINGS, emit_masked, emit_side, emit_others, emit_few, emit_second, emit_at_sides, emit_many, are_at_index, emit_among, emit_formula, words}
 use Rattle.flt_gen.proofs.Grows.{are_many, some_searched, source_lean, branch_grows, interval_fits, chain_fits, search_fits, side_fits, others_fits, masked_grows, at_index_grows, emitted_by}
-use Rattle.flt_gen.proofs.Leads.{HasWords, Tops, Leads, leads_top, leads_on, leads_in, leads_to}
+use Rattle.flt_gen.proofs.Leads.{Extends, by_operand, run, run_plain, HasWords, Tops, Leads, leads_top, leads_on, leads_in, leads_to}
 use Rattle.flt_gen.proofs.Numbers.{answer_for, into_any, field_runs, constant_is, operands_run, number_runs}
-use Rattle.flt_gen.proofs.Tails.{Extends, by_right}
 use Rattle.std.proofs.Math.Nat.{mod-eq_of_lt}
-use Rattle.flt_ast.specs.declared.qualifiers.Direction.TheVariants as direction
-use Rattle.flt_bpf.specs.declared.operation.Test.TheVariants as test
 use Rattle.flt_bpf.specs.declared.operation.AluOperation.{AluOperation}
 
 -- one of two answers, by a reading; a rejected one ends the run with 0
@@ -56,9 +52,6 @@ less_is a b = grind (arith, nat_tests)
 at_most_is : (a b : ℕ) → not (nat_lt b a) ≡ nat_le a b
 at_most_is a b = grind (arith, nat_tests)
 
-in_range : (b c : Bool) (v w : ℕ) → b ≡ true → (if c then w else v) ≡ (if (b && not c) then v else w)
-in_range b c v w e = grind (arith, nat_tests)
-
 range_is : (b c : Bool) (v w : ℕ) → (if b then (if c then w else v) else w) ≡ (if (b && not c) then v else w)
 range_is b c v w = grind (arith, nat_tests)
 
@@ -97,15 +90,15 @@ module _ (p : List ℕ) (n : ℕ) where
 
   -- the machine's three tests and the six comparisons
   comparison_tops : {P : State → Type 0} (comparison : Comparison) (operand : Operand) (k a b hit miss v w : ℕ) (c : List Insn) → ((s : State) → P s → s.accumulator ≡ a) → ((s : State) → P s → operand_value operand k s.index ≡ b) → Leads p n P c hit v → Leads p n P c miss w → Tops p n P (emit_comparison comparison operand k hit miss c) (if compares comparison a b then v else w)
-  comparison_tops Equal operand k a b hit miss v w c e f h m = branch_tops test.Equal operand k a b hit miss v w c e f h m
+  comparison_tops Equal operand k a b hit miss v w c e f h m = branch_tops Test.Equal operand k a b hit miss v w c e f h m
   comparison_tops NotEqual operand k a b hit miss v w c e f h m =
-      λ s q. branch_tops test.Equal operand k a b miss hit w v c e f m h s q ∙ ap Some (exchanged_if (a == b) v w)
+      λ s q. branch_tops Test.Equal operand k a b miss hit w v c e f m h s q ∙ ap Some (exchanged_if (a == b) v w)
   comparison_tops Less operand k a b hit miss v w c e f h m =
-      λ s q. branch_tops test.AtLeast operand k a b miss hit w v c e f m h s q ∙ ap Some (exchanged_if (nat_le b a) v w ∙ ap (λ x. if x then v else w) (less_is a b))
+      λ s q. branch_tops Test.AtLeast operand k a b miss hit w v c e f m h s q ∙ ap Some (exchanged_if (nat_le b a) v w ∙ ap (λ x. if x then v else w) (less_is a b))
   comparison_tops AtMost operand k a b hit miss v w c e f h m =
-      λ s q. branch_tops test.Greater operand k a b miss hit w v c e f m h s q ∙ ap Some (exchanged_if (nat_lt b a) v w ∙ ap (λ x. if x then v else w) (at_most_is a b))
-  comparison_tops Greater operand k a b hit miss v w c e f h m = branch_tops test.Greater operand k a b hit miss v w c e f h m
-  comparison_tops AtLeast operand k a b hit miss v w c e f h m = branch_tops test.AtLeast operand k a b hit miss v w c e f h m
+      λ s q. branch_tops Test.Greater operand k a b miss hit w v c e f m h s q ∙ ap Some (exchanged_if (nat_lt b a) v w ∙ ap (λ x. if x then v else w) (at_most_is a b))
+  comparison_tops Greater operand k a b hit miss v w c e f h m = branch_tops Test.Greater operand k a b hit miss v w c e f h m
+  comparison_tops AtLeast operand k a b hit miss v w c e f h m = branch_tops Test.AtLeast operand k a b hit miss v w c e f h m
 
   -- what is loaded is asked for; where there is nothing the run ends with 0
   masked_tops : (Q : State → Type 0) → Keeps Q → (mask : Option ℕ) (c : List Insn) (x v : ℕ) → Tops p n (With Q (under_mask mask x)) c v → Tops p n (With Q x) (emit_mask mask c) v
@@ -122,7 +115,7 @@ module _ (p : List ℕ) (n : ℕ) where
   elementary_leads (Outcome true) hit miss v w c h m = h
   elementary_leads (Outcome false) hit miss v w c h m = m
   elementary_leads (Field t) hit miss v w c h m =
-      leads_top p n (emit_test t hit miss c) (pick (field_reads t p) v w)
+      leads_top p n _ (pick (field_reads t p) v w)
       (field_tops t.offset t.width (λ x. compares t.comparison (under_mask t.mask x) t.value) (emit_mask t.mask (emit_comparison t.comparison Constant t.value hit miss c)) v w (λ x.
       masked_tops HasWords (λ s a q. q) t.mask (emit_comparison t.comparison Constant t.value hit miss c) x _
       (comparison_tops t.comparison Constant t.value (under_mask t.mask x) t.value hit miss v w c (λ s q. q.1) (λ s q. refl) (leads_in p n (λ s q. q.0) h) (leads_in p n (λ s q. q.0) m))))
@@ -140,34 +133,34 @@ module _ (p : List ℕ) (n : ℕ) where
     interval_found a from i hit miss v w c order h m = by (i.low == i.high) refl
       where
         d : List Insn
-        d = emit_branch test.Greater Constant i.high miss hit c
+        d = emit_branch Test.Greater Constant i.high miss hit c
 
         at_most : Leads p n (With Q a) d (length d) (if nat_lt i.high a then w else v)
-        at_most = leads_top p n d _ (branch_tops test.Greater Constant i.high a i.high miss hit w v c (λ s q. q.1) (λ s q. refl) m h)
+        at_most = leads_top p n d _ (branch_tops Test.Greater Constant i.high a i.high miss hit w v c (λ s q. q.1) (λ s q. refl) m h)
 
         inside_is : (b : Bool) → (b && not (nat_lt i.high a)) ≡ (b && nat_le a i.high)
         inside_is b = ap (λ x. b && x) (at_most_is a i.high)
 
-        range : (from : Bool) → Found a from i.low 1 (is_in a i) (if from then at_top d else at_top (emit_branch test.AtLeast Constant i.low (length d) miss d)) v w
+        range : (from : Bool) → Found a from i.low 1 (is_in a i) (if from then at_top d else at_top (emit_branch Test.AtLeast Constant i.low (length d) miss d)) v w
         range true = record {
           value = if nat_lt i.high a then w else v;
           top = λ _. omega arith;
           leads = at_most;
           right = λ t. let low = t refl in let above : nat_le i.low a ≡ true = grind (arith, nat_tests) in
-              in_range (nat_le i.low a) (nat_lt i.high a) v w above ∙ ap (λ b. if b then v else w) (inside_is (nat_le i.low a));
+              ap (λ b. if b then (if nat_lt i.high a then w else v) else w) (sym above) ∙ range_is (nat_le i.low a) (nat_lt i.high a) v w ∙ ap (λ b. if b then v else w) (inside_is (nat_le i.low a));
         }
         range false = record {
           value = if nat_le i.low a then (if nat_lt i.high a then w else v) else w;
           top = λ _. omega arith;
-          leads = leads_top p n (emit_branch test.AtLeast Constant i.low (length d) miss d) _ (branch_tops test.AtLeast Constant i.low a i.low (length d) miss _ w d (λ s q. q.1) (λ s q. refl) at_most (leads_on p n (branch_grows false test.Greater Constant i.high miss hit c tt tt tt).tail m));
+          leads = leads_top p n (emit_branch Test.AtLeast Constant i.low (length d) miss d) _ (branch_tops Test.AtLeast Constant i.low a i.low (length d) miss _ w d (λ s q. q.1) (λ s q. refl) at_most (leads_on p n (branch_grows false Test.Greater Constant i.high miss hit c tt tt tt).tail m));
           right = λ _. range_is (nat_le i.low a) (nat_lt i.high a) v w ∙ ap (λ b. if b then v else w) (inside_is (nat_le i.low a));
         }
 
-        by : (b : Bool) → (i.low == i.high) ≡ b → Found a from i.low 1 (is_in a i) (if b then at_top (emit_branch test.Equal Constant i.low hit miss c) else (if from then at_top d else at_top (emit_branch test.AtLeast Constant i.low (length d) miss d))) v w
+        by : (b : Bool) → (i.low == i.high) ≡ b → Found a from i.low 1 (is_in a i) (if b then at_top (emit_branch Test.Equal Constant i.low hit miss c) else (if from then at_top d else at_top (emit_branch Test.AtLeast Constant i.low (length d) miss d))) v w
         by true e = record {
           value = if a == i.low then v else w;
           top = λ _. omega arith;
-          leads = leads_top p n (emit_branch test.Equal Constant i.low hit miss c) _ (branch_tops test.Equal Constant i.low a i.low hit miss v w c (λ s q. q.1) (λ s q. refl) h m);
+          leads = leads_top p n (emit_branch Test.Equal Constant i.low hit miss c) _ (branch_tops Test.Equal Constant i.low a i.low hit miss v w c (λ s q. q.1) (λ s q. refl) h m);
           right = λ _. let same : i.low ≡ i.high = grind (arith, nat_tests) in ap (λ b. if b then v else w) (one_number a i.low i.high same);
         }
         by false e = range from
@@ -211,8 +204,8 @@ module _ (p : List ℕ) (n : ℕ) where
         record {
           value = if nat_le pivot a then fu.value else fl.value;
           top = λ _. omega arith;
-          leads = leads_top p n (emit_branch test.AtLeast Constant pivot upper.entry lower.entry lower.code) _
-              (branch_tops test.AtLeast Constant pivot a pivot upper.entry lower.entry fu.value fl.value lower.code (λ s q. q.1) (λ s q. refl) (leads_on p n (search_fits false k from (take half is) hit miss upper.code tt tt tt).grows.tail fu.leads) fl.leads);
+          leads = leads_top p n (emit_branch Test.AtLeast Constant pivot upper.entry lower.entry lower.code) _
+              (branch_tops Test.AtLeast Constant pivot a pivot upper.entry lower.entry fu.value fl.value lower.code (λ s q. q.1) (λ s q. refl) (leads_on p n (search_fits false k from (take half is) hit miss upper.code tt tt tt).grows.tail fu.leads) fl.leads);
           right = λ t. halves_found a f half from is v w fu.value fl.value up (omega arith)
               (λ m. fu.right (λ _. m))
               (fl.right (λ e. subst (λ z. z ≤ a) (sym (first_taken half is some)) (t e)))
@@ -331,7 +324,7 @@ module _ (p : List ℕ) (n : ℕ) where
       none = emit_second sides (emit_masked numbers.mask numbers.all hit miss c)
 
       later : List Insn
-      later = emit_second sides (emit_branch test.AtLeast Constant 0 hit miss none)
+      later = emit_second sides (emit_branch Test.AtLeast Constant 0 hit miss none)
 
       one : Block
       one = emit_interval false numbers.first hit (length later) later
@@ -340,7 +333,7 @@ module _ (p : List ℕ) (n : ℕ) where
       none_longer = (at_index_grows false sides.destination at.width at.index (masked_grows false numbers.mask numbers.all hit miss c tt tt tt)).tail
 
       later_longer : Extends none later
-      later_longer = (at_index_grows false sides.destination at.width at.index (branch_grows false test.AtLeast Constant 0 hit miss none tt tt tt)).tail
+      later_longer = (at_index_grows false sides.destination at.width at.index (branch_grows false Test.AtLeast Constant 0 hit miss none tt tt tt)).tail
 
       here : (x : ℕ) → Leads p n (With (AtIndex i) x) none hit v
       here x = leads_on p n none_longer (leads_in p n (λ s q. q.0.0) h)
@@ -352,8 +345,8 @@ module _ (p : List ℕ) (n : ℕ) where
 
       later_leads : Leads p n (AtIndex i) later (length later) (answer_for destination (λ y. v))
       later_leads =
-          leads_top p n later _ (index_loaded i k at.width (emit_branch test.AtLeast Constant 0 hit miss none) (λ y. v)
-          (λ y s q. branch_tops {P = With (AtIndex i) y} test.AtLeast Constant 0 y 0 hit miss v w none (λ t r. r.1) (λ t r. refl) (here y) (leads_on p n none_longer (leads_in p n (λ t r. r.0.0) m)) s q
+          leads_top p n later _ (index_loaded i k at.width (emit_branch Test.AtLeast Constant 0 hit miss none) (λ y. v)
+          (λ y s q. branch_tops {P = With (AtIndex i) y} Test.AtLeast Constant 0 y 0 hit miss v w none (λ t r. r.1) (λ t r. refl) (here y) (leads_on p n none_longer (leads_in p n (λ t r. r.0.0) m)) s q
           ∙ ap (λ b. Some (if b then v else w)) (zero_low y)))
 
       found : (x : ℕ) → Tops p n (With (AtIndex i) x) (emit_masked numbers.mask numbers.all one.entry (length none) one.code) (if is_within (under_mask numbers.mask x) numbers.all then (if is_in (under_mask numbers.mask x) numbers.first then v else answer_for destination (λ y. v)) else answer_for destination all_value)
@@ -394,10 +387,10 @@ module _ (p : List ℕ) (n : ℕ) where
       by (AfterHeader g a) (Fixed b) l sub = absurd l
 
   among_leads : (d : Direction) (at : Sides) (numbers : Numbers) (hit miss v w : ℕ) (c : List Insn) → Ready at numbers → Leads p n HasWords c hit v → Leads p n HasWords c miss w → let e = emit_among d at numbers hit miss c in Leads p n HasWords e.code e.entry (pick (sought_reads d numbers (field_at at.source at.width p) (field_at at.destination at.width p)) v w)
-  among_leads (direction.One Source) at numbers hit miss v w c r h m = side_leads at.source at.width numbers.mask numbers.all hit miss v w c r.all h m
-  among_leads (direction.One Destination) at numbers hit miss v w c r h m = side_leads at.destination at.width numbers.mask numbers.all hit miss v w c r.all h m
-  among_leads (direction.Both And) at numbers hit miss v w c r h m = m
-  among_leads (direction.Both Or) at numbers hit miss v w c r h m =
+  among_leads (Direction.One Source) at numbers hit miss v w c r h m = side_leads at.source at.width numbers.mask numbers.all hit miss v w c r.all h m
+  among_leads (Direction.One Destination) at numbers hit miss v w c r h m = side_leads at.destination at.width numbers.mask numbers.all hit miss v w c r.all h m
+  among_leads (Direction.Both And) at numbers hit miss v w c r h m = m
+  among_leads (Direction.Both Or) at numbers hit miss v w c r h m =
       if_case (λ (e : Block). Leads p n HasWords e.code e.entry (pick (either_reads numbers (field_at at.source at.width p) (field_at at.destination at.width p)) v w)) (are_at_index at numbers) _ _
       (λ e. many_leads at numbers hit miss v w c r h m) (λ e. few_leads at numbers hit miss v w c r h m)
 
@@ -409,7 +402,7 @@ module _ (p : List ℕ) (n : ℕ) where
   relation_tops : (link : Link) (comparison : Comparison) (l r : NumberTree) (hit miss v w : ℕ) (c : List Insn) → Leads p n HasWords c hit v → Leads p n HasWords c miss w → number_words l ≤ 16 → 1 + number_words r ≤ 16 → Tops p n HasWords (emit_relation link comparison l r hit miss c) (pick (relation_reads link comparison l r p n) v w)
   relation_tops link comparison l r hit miss v w c h m few_l few_r =
       λ s long. number_runs p n link l 0 _ (omega arith) s (λ x. pick (reading_of (with (number link r p n) (λ y. Some (compares comparison x y)))) v w) long
-      (λ x t k e. by_right (λ d. answer_of d p n 0 t ≡ Some (pick (reading_of (with (number link r p n) (λ y. Some (compares comparison x y)))) v w)) (constant r) 0 _ _
+      (λ x t k e. by_operand (λ d. answer_of d p n 0 t ≡ Some (pick (reading_of (with (number link r p n) (λ y. Some (compares comparison x y)))) v w)) (constant r) _ _
       (λ j is. comparison_tops {P = Has x} comparison Constant j x j hit miss v w c (λ u q. q.1) (λ u q. refl) (leads_in p n (λ u q. q.0) h) (leads_in p n (λ u q. q.0) m) t (k.long, e)
       ∙ ap Some (picked (compares comparison x j) v w)
       ∙ ap (λ o. Some (pick (reading_of (with o (λ y. Some (compares comparison x y)))) v w)) (sym (constant_is p n link r j is)))

@@ -1,14 +1,11 @@
 -- Addresses or ports that are looked for together read as one after the other.
 use Rattle.flt_gen.proofs.Ascending.{if_case, Each, each_is, Ordered, within_joined}
-use Rattle.flt_gen.proofs.Common.{◌≡◌, ℕ, ◌+◌, ◌*◌, ◌^◌, ◌%◌, ◌<◌, ◌≤◌, List, [], ◌∷◌, length, map, Bool, true, false, Option, Some, None, refl, sym, ap, ap₂, ◌∙◌, arith, inl, inr, ◌==◌, ◌||◌, ◌&&◌, nat_le, min, max, bit_and, nat_tests, or-false, Protocol, Ip, Tcp, Udp, ValueType, Host, Net, Port, PortRange, Source, Destination, And, Or, Direction, CompleteQualifiers, Value, first_bits, Word, HalfWord, Offset, field, Link, type_offset, FrameKind, Elementary, Interval, One, Between, Several, Sides, Transport, MatchResult, Yes, No, Rejected, reading_of, with, field_at, under_mask, kind_test, elementary_reads, Formula, Sought, is_in, is_within, both, either, all_of, sides, Numbers, no_numbers, reads, address_places, address_test, partial_mask, port_is, port_between, port_places, port_sides, transport, following, ip_transport, ip6_transport, port_test, port_formula, net_test, net_formula, value_formula, joined_all, left_out, high_mask, cut, sought, is_address, net_numbers, member_of, several_formula}
+use Rattle.flt_gen.proofs.Common.{◌≡◌, ℕ, ◌+◌, ◌*◌, ◌^◌, ◌%◌, ◌<◌, ◌≤◌, List, [], ◌∷◌, length, map, Bool, true, false, Option, Some, None, refl, sym, ap, ap₂, ◌∙◌, arith, inl, inr, ◌==◌, ◌||◌, ◌&&◌, nat_le, min, max, bit_and, nat_tests, or-false, Protocol, Ip, Tcp, Udp, ValueType, Host, Net, Port, PortRange, Source, Destination, And, Or, Direction, CompleteQualifiers, Value, first_bits, Word, HalfWord, Offset, field, Link, type_offset, FrameKind, Elementary, Interval, One, Between, Several, Sides, Transport, MatchResult, Yes, No, Rejected, reading_of, with, field_at, under_mask, kind_test, elementary_reads, Formula, Sought, is_in, is_within, both, either, all_of, sides, Numbers, no_numbers, reads, address_places, address_test, partial_mask, port_is, port_between, port_places, port_sides, transport, following, ip_transport, ip6_transport, port_test, port_formula, net_formula, value_formula, joined_all, left_out, high_mask, cut, sought, is_address, net_numbers, member_of, several_formula}
 use Rattle.flt_gen.proofs.Exclusive.{or_no, both_either, kinds_exclude}
 use Rattle.flt_gen.proofs.Prefixes.{Idle, idle_sought, Small, cut_in, cut_within, net_hit}
 use Rattle.flt_gen.proofs.Runs.{one_number}
 use Rattle.std.specs.Prelude.{◌⊎◌}
 use Rattle.std.proofs.Math.Nat.{mod-lt}
-use Rattle.flt_words.specs.declared.token.Protocol.TheVariants.{Arp, Rarp}
-use Rattle.flt_ast.specs.declared.qualifiers.Direction.TheVariants as direction
-use Rattle.flt_ast.specs.declared.value.Value.TheVariants as value
 use Rattle.flt_ast.specs.Counts as count
 use Rattle.flt_ast.specs.declared.value.NetMask.{NetMask}
 use Rattle.flt_gen.specs.declared.elementary.FrameKind.TheVariants as kind
@@ -41,7 +38,7 @@ not_both true c f e = absurd (let t = f refl in cc)
 
 -- those that are looked for together: not both sides at once
 abbrev pub Merged : Direction → Type 0
-Merged (direction.Both And) = ⊥
+Merged (Direction.Both And) = ⊥
 Merged _ = Unit {0}
 
 -- what is read of a field that is there
@@ -53,16 +50,16 @@ exact b = reading_of (Some b)
 
 -- one member, and several, the first of which is f, on the sides that a direction asks for
 abbrev plain_reads : Direction → Option ℕ → Option ℕ → (ℕ → Bool) → MatchResult
-plain_reads (direction.One Source) s d f = read_by s f
-plain_reads (direction.One Destination) s d f = read_by d f
-plain_reads (direction.Both Or) s d f = either (read_by s f) (read_by d f)
-plain_reads (direction.Both And) s d f = both (read_by s f) (read_by d f)
+plain_reads (Direction.One Source) s d f = read_by s f
+plain_reads (Direction.One Destination) s d f = read_by d f
+plain_reads (Direction.Both Or) s d f = either (read_by s f) (read_by d f)
+plain_reads (Direction.Both And) s d f = both (read_by s f) (read_by d f)
 
 abbrev sides_read : Direction → Option ℕ → Option ℕ → (ℕ → Bool) → (ℕ → Bool) → MatchResult
-sides_read (direction.One Source) s d f a = read_by s a
-sides_read (direction.One Destination) s d f a = read_by d a
-sides_read (direction.Both Or) s d f a = either (both (read_by s a) (either (read_by s f) (read_by d (λ x. true)))) (read_by d a)
-sides_read (direction.Both And) s d f a = both (read_by s f) (read_by d f)
+sides_read (Direction.One Source) s d f a = read_by s a
+sides_read (Direction.One Destination) s d f a = read_by d a
+sides_read (Direction.Both Or) s d f a = either (both (read_by s a) (either (read_by s f) (read_by d (λ x. true)))) (read_by d a)
+sides_read (Direction.Both And) s d f a = both (read_by s f) (read_by d f)
 
 yes_and : (b c : Bool) → both (exact b) (exact c) ≡ exact (b && c)
 yes_and true c = refl
@@ -97,12 +94,12 @@ one_told _ _ _ = refl
 
 -- one more in front of those of which k is the first
 one_more : (d : Direction) (s t : Option ℕ) (m k o : ℕ → Bool) → Merged d → sides_read d s t m (λ x. m x || (k x || o x)) ≡ either (plain_reads d s t m) (sides_read d s t k (λ x. k x || o x))
-one_more (direction.One Source) s t m k o h = read_or s m (λ x. k x || o x)
-one_more (direction.One Destination) s t m k o h = read_or t m (λ x. k x || o x)
-one_more (direction.Both Or) None t m k o h = refl
-one_more (direction.Both Or) (Some x) None m k o h = one_told (m x) (k x) (o x)
-one_more (direction.Both Or) (Some x) (Some y) m k o h = both_told (m x) (k x) (o x) (m y) (k y || o y)
-one_more (direction.Both And) s t m k o h = absurd h
+one_more (Direction.One Source) s t m k o h = read_or s m (λ x. k x || o x)
+one_more (Direction.One Destination) s t m k o h = read_or t m (λ x. k x || o x)
+one_more (Direction.Both Or) None t m k o h = refl
+one_more (Direction.Both Or) (Some x) None m k o h = one_told (m x) (k x) (o x)
+one_more (Direction.Both Or) (Some x) (Some y) m k o h = both_told (m x) (k x) (o x) (m y) (k y || o y)
+one_more (Direction.Both And) s t m k o h = absurd h
 
 -- what holds and is one of two is that one
 absorbed : (r s : MatchResult) → both r (either r s) ≡ r
@@ -113,16 +110,16 @@ one_alone : (d : Direction) (s t : Option ℕ) (m : ℕ → Bool) → sides_read
 one_alone d s t m = ap (sides_read d s t m) (λ i x. or-false (m x) i) ∙ by d
   where
     by : (d : Direction) → sides_read d s t m m ≡ plain_reads d s t m
-    by (direction.Both Or) = ap (λ r. either r (read_by t m)) (absorbed (read_by s m) (read_by t (λ x. true)))
-    by (direction.One Source) = refl
+    by (Direction.Both Or) = ap (λ r. either r (read_by t m)) (absorbed (read_by s m) (read_by t (λ x. true)))
+    by (Direction.One Source) = refl
     by _ = refl
 
 sides_seen : (d : Direction) (s t : Option ℕ) (f g a b : ℕ → Bool) → ((x : ℕ) → s ≡ Some x → f x ≡ g x) → ((x : ℕ) → t ≡ Some x → f x ≡ g x) → ((x : ℕ) → s ≡ Some x → a x ≡ b x) → ((x : ℕ) → t ≡ Some x → a x ≡ b x) → sides_read d s t f a ≡ sides_read d s t g b
-sides_seen (direction.One Source) s t f g a b i j h k = read_seen s a b h
-sides_seen (direction.One Destination) s t f g a b i j h k = read_seen t a b k
-sides_seen (direction.Both Or) s t f g a b i j h k =
+sides_seen (Direction.One Source) s t f g a b i j h k = read_seen s a b h
+sides_seen (Direction.One Destination) s t f g a b i j h k = read_seen t a b k
+sides_seen (Direction.Both Or) s t f g a b i j h k =
     ap₂ either (ap₂ both (read_seen s a b h) (ap (λ r. either r (read_by t (λ x. true))) (read_seen s f g i))) (read_seen t a b k)
-sides_seen (direction.Both And) s t f g a b i j h k = ap₂ both (read_seen s f g i) (read_seen t f g j)
+sides_seen (Direction.Both And) s t f g a b i j h k = ap₂ both (read_seen s f g i) (read_seen t f g j)
 
 -- how many tests a member has at least by itself
 abbrev pub member_tests : ValueType → Option Protocol → Direction → ℕ
@@ -133,7 +130,7 @@ member_tests PortRange protocol d = count.port_tests protocol d 1
 member_tests _ protocol d = 1
 
 more_tests : (d : Direction) → count.side_tests d 1 ≤ count.side_tests d 2
-more_tests (direction.One s) = omega arith
+more_tests (Direction.One s) = omega arith
 more_tests _ = omega arith
 
 module _ (link : Link) (p : List ℕ) (n : ℕ) where
@@ -192,8 +189,8 @@ module _ (link : Link) (p : List ℕ) (n : ℕ) where
       either (both (kind_reads kind.Ip) (x (address_places link kind.Ip)))
       (either (both (kind_reads kind.Arp) (x (address_places link kind.Arp))) (both (kind_reads kind.Rarp) (x (address_places link kind.Rarp))))
   hosts_by (Some Ip) x = both (kind_reads kind.Ip) (x (address_places link kind.Ip))
-  hosts_by (Some Arp) x = both (kind_reads kind.Arp) (x (address_places link kind.Arp))
-  hosts_by (Some Rarp) x = both (kind_reads kind.Rarp) (x (address_places link kind.Rarp))
+  hosts_by (Some Protocol.Arp) x = both (kind_reads kind.Arp) (x (address_places link kind.Arp))
+  hosts_by (Some Protocol.Rarp) x = both (kind_reads kind.Rarp) (x (address_places link kind.Rarp))
   hosts_by (Some _) x = No
 
   abbrev ports_by : Option Protocol → (Sides → MatchResult) → MatchResult
@@ -217,8 +214,8 @@ module _ (link : Link) (p : List ℕ) (n : ℕ) where
       ∙ kinds (kind_reads kind.Ip) (x (address_places link kind.Ip)) (y (address_places link kind.Ip)) (either (both a (x u)) (both r (x v))) (either (both a (y u)) (both r (y v)))
       (λ e. (ap₂ (λ z w. either (both z (x u)) (both w (x v))) (only.1 e) (only.2 e), ap₂ (λ z w. either (both z (y u)) (both w (y v))) (only.1 e) (only.2 e)))
   hosts_join (Some Ip) x y = both_either (kind_reads kind.Ip) _ _
-  hosts_join (Some Arp) x y = both_either (kind_reads kind.Arp) _ _
-  hosts_join (Some Rarp) x y = both_either (kind_reads kind.Rarp) _ _
+  hosts_join (Some Protocol.Arp) x y = both_either (kind_reads kind.Arp) _ _
+  hosts_join (Some Protocol.Rarp) x y = both_either (kind_reads kind.Rarp) _ _
   hosts_join (Some _) x y = refl
 
   ports_join : (protocol : Option Protocol) (x y : Sides → MatchResult) → ports_by protocol (λ at. either (x at) (y at)) ≡ either (ports_by protocol x) (ports_by protocol y)
@@ -246,8 +243,8 @@ module _ (link : Link) (p : List ℕ) (n : ℕ) where
   hosts_same : (protocol : Option Protocol) (x y : Sides → MatchResult) → ((k : FrameKind) → x (address_places link k) ≡ y (address_places link k)) → hosts_by protocol x ≡ hosts_by protocol y
   hosts_same None x y e = ap₂ either (ap (both (kind_reads kind.Ip)) (e kind.Ip)) (ap₂ either (ap (both (kind_reads kind.Arp)) (e kind.Arp)) (ap (both (kind_reads kind.Rarp)) (e kind.Rarp)))
   hosts_same (Some Ip) x y e = ap (both (kind_reads kind.Ip)) (e kind.Ip)
-  hosts_same (Some Arp) x y e = ap (both (kind_reads kind.Arp)) (e kind.Arp)
-  hosts_same (Some Rarp) x y e = ap (both (kind_reads kind.Rarp)) (e kind.Rarp)
+  hosts_same (Some Protocol.Arp) x y e = ap (both (kind_reads kind.Arp)) (e kind.Arp)
+  hosts_same (Some Protocol.Rarp) x y e = ap (both (kind_reads kind.Rarp)) (e kind.Rarp)
   hosts_same (Some _) x y e = refl
 
   -- several, and one
@@ -302,8 +299,8 @@ module _ (link : Link) (p : List ℕ) (n : ℕ) where
         some x l = cut_within last x m (joined_all all) idle l ∙ within_joined x all o ∙ w x
 
         by : (e : Direction) → Merged e → sought_at at e (sought b m all) ≡ sides_read e (source_of at) (destination_of at) (λ x. is_within (u x) (cut last m ∷ [])) (λ x. is_within (u x) (map (cut last) (joined_all all)))
-        by (direction.Both And) q = absurd q
-        by (direction.One Source) q = refl
+        by (Direction.Both And) q = absurd q
+        by (Direction.One Source) q = refl
         by _ q = refl
 
     hosts_are : reads link (several_formula link q Host (sought b m all)) p n ≡ members_read Host q.protocol q.direction m ms
@@ -328,18 +325,18 @@ module _ (link : Link) (p : List ℕ) (n : ℕ) where
 
   -- the row of a member
   row_sides : (at : Sides) (d : Direction) (s t : List Elementary) (f : ℕ → Bool) → reads link (all_of s) p n ≡ read_by (source_of at) f → reads link (all_of t) p n ≡ read_by (destination_of at) f → reads link (sides d s t) p n ≡ plain_reads d (source_of at) (destination_of at) f
-  row_sides at (direction.One Source) s t f e h = e
-  row_sides at (direction.One Destination) s t f e h = h
-  row_sides at (direction.Both Or) s t f e h = ap₂ either e h
-  row_sides at (direction.Both And) s t f e h = ap₂ both e h
+  row_sides at (Direction.One Source) s t f e h = e
+  row_sides at (Direction.One Destination) s t f e h = h
+  row_sides at (Direction.Both Or) s t f e h = ap₂ either e h
+  row_sides at (Direction.Both And) s t f e h = ap₂ both e h
 
-  address_row : (protocol : Option Protocol) (d : Direction) (mask : Option ℕ) (a : ℕ) (f : ℕ → Bool) → ((x : ℕ) → x < 2 ^ 32 → (under_mask mask x == a) ≡ f x) → reads link (net_formula link protocol (net_test d mask a)) p n ≡ hosts_by protocol (λ at. plain_reads d (source_of at) (destination_of at) f)
+  address_row : (protocol : Option Protocol) (d : Direction) (mask : Option ℕ) (a : ℕ) (f : ℕ → Bool) → ((x : ℕ) → x < 2 ^ 32 → (under_mask mask x == a) ≡ f x) → reads link (net_formula link protocol d mask a) p n ≡ hosts_by protocol (λ at. plain_reads d (source_of at) (destination_of at) f)
   address_row protocol d mask a f e = kinds_are protocol ∙ hosts_same protocol row (λ at. plain_reads d (source_of at) (destination_of at) f) each
     where
       row : Sides → MatchResult
       row at = reads link (sides d (address_test mask a at.source ∷ []) (address_test mask a at.destination ∷ [])) p n
 
-      kinds_are : (protocol : Option Protocol) → reads link (net_formula link protocol (net_test d mask a)) p n ≡ hosts_by protocol row
+      kinds_are : (protocol : Option Protocol) → reads link (net_formula link protocol d mask a) p n ≡ hosts_by protocol row
       kinds_are (Some Ip) = refl
       kinds_are _ = refl
 
@@ -366,7 +363,7 @@ module _ (link : Link) (p : List ℕ) (n : ℕ) where
   IsMember k protocol d v m = (m.low ≤ m.high) × (member_tests k protocol d ≤ count.typed_tests k protocol d v) × (reads link (value_formula link k protocol d v) p n ≡ member_reads k protocol d m)
 
   abbrev IsNet : Option Protocol → Direction → ℕ → ℕ → Interval → Type 0
-  IsNet protocol d b a m = (m.low ≤ m.high) × (count.ip4_tests protocol d ≤ count.ip4_tests protocol d) × (reads link (net_formula link protocol (net_test d (partial_mask (first_bits 32 b)) a)) p n ≡ member_reads Net protocol d m)
+  IsNet protocol d b a m = (m.low ≤ m.high) × (count.ip4_tests protocol d ≤ count.ip4_tests protocol d) × (reads link (net_formula link protocol d (partial_mask (first_bits 32 b)) a) p n ≡ member_reads Net protocol d m)
 
   net_row : (protocol : Option Protocol) (d : Direction) (b a : ℕ) → Each (net_numbers (record { address = a; mask = first_bits 32 b })) (IsNet protocol d b a)
   net_row protocol d b a =
@@ -375,12 +372,12 @@ module _ (link : Link) (p : List ℕ) (n : ℕ) where
       (λ t. tt)
 
   pub member_is : (k : ValueType) (protocol : Option Protocol) (d : Direction) (v : Value) → Each (member_of k v) (IsMember k protocol d v)
-  member_is Host protocol d (value.Dotted x z) = (omega arith, omega arith, address_row protocol d None x.address _ (λ y s. one_number y x.address x.address refl))
-  member_is Net protocol d (value.Number x NetMask.Unwritten) = net_row protocol d 8 (x % 256 * 2 ^ 24)
-  member_is Net protocol d (value.Number x (NetMask.Prefix b)) = net_row protocol d b (x % 256 * 2 ^ 24)
-  member_is Net protocol d (value.Dotted x NetMask.Unwritten) = net_row protocol d (8 * x.parts) x.address
-  member_is Net protocol d (value.Dotted x (NetMask.Prefix b)) = net_row protocol d b x.address
-  member_is Port protocol d (value.Number x z) = (omega arith, omega arith, port_row protocol d (One x) (port_is x) _ (λ header. refl) (λ at. ap (read_by (field_at at HalfWord p)) (λ i y. one_number y x x refl i)))
-  member_is PortRange protocol d (value.Range a b) =
+  member_is Host protocol d (Value.Dotted x z) = (omega arith, omega arith, address_row protocol d None x.address _ (λ y s. one_number y x.address x.address refl))
+  member_is Net protocol d (Value.Number x NetMask.Unwritten) = net_row protocol d 8 (x % 256 * 2 ^ 24)
+  member_is Net protocol d (Value.Number x (NetMask.Prefix b)) = net_row protocol d b (x % 256 * 2 ^ 24)
+  member_is Net protocol d (Value.Dotted x NetMask.Unwritten) = net_row protocol d (8 * x.parts) x.address
+  member_is Net protocol d (Value.Dotted x (NetMask.Prefix b)) = net_row protocol d b x.address
+  member_is Port protocol d (Value.Number x z) = (omega arith, omega arith, port_row protocol d (One x) (port_is x) _ (λ header. refl) (λ at. ap (read_by (field_at at HalfWord p)) (λ i y. one_number y x x refl i)))
+  member_is PortRange protocol d (Value.Range a b) =
       (omega arith, (let more = more_tests d in omega arith), port_row protocol d (Between (min a b) (max a b)) (port_between (min a b) (max a b)) _ (λ header. refl) (λ at. both_ends (field_at at HalfWord p) (min a b) (max a b)))
   member_is _ protocol d _ = tt

@@ -1,62 +1,77 @@
--- The walk over the nodes of an expression makes its program.
-use Rattle.flt_gen.proofs.Common.{◌≡◌, ℕ, ◌-◌, List, [], ◌∷◌, length, drop, take, get_or, suc, ◌≤◌, Some, None, Entry, Equal, Ether, refl, sym, ap, ◌∙◌, arith, reverse, take-suc, reverse-append, Node, Expression, expr_onto, Link, expression_code, program_code, Walk, emit_node, emit_both_nodes, or_walk, emit_nodes, start_walk, insns_of}
-use Rattle.flt_gen.proofs.Walking.{expression_walked}
+-- The last of the nodes that are left are emitted, one or several at once: what is left to do then
+-- leads to the same walk.
+use Rattle.flt_gen.proofs.Common.{◌++◌, drop, length-drop, zero, ◌<◌, Check, length-take, ◌≡◌, ℕ, ◌-◌, List, [], ◌∷◌, length, take, get_or, suc, ◌≤◌, Some, None, Entry, Equal, Ether, refl, sym, ap, ◌∙◌, arith, reverse, take-suc, reverse-append, Node, Link, Walk, emit_node, emit_both_nodes, or_walk, emit_nodes}
 use Rattle.flt_gen.specs.inside.{Relations.relation, Relations.relation_in, Walk.emit_member}
-use Rattle.flt_ast.specs.declared.node.Node.TheVariants as node
+use Rattle.std.proofs.Math.Seq.{drop-append_seam}
+use Rattle.std.proofs.lemmas.List.{take-append-drop, length-reverse}
 
--- by the nodes of the tree turned round
-abbrev pub Turned : Expression → List Node → Type 0
-Turned e ns = reverse ns ≡ expr_onto e
-
--- the instructions are those of the expression's program
-pub program_is : (link : Link) (e : Expression) (ns : List Node) → Turned e ns → insns_of (emit_nodes link start_walk (reverse ns)) ≡ program_code link e
-program_is link e ns h =
-    let x = emit_nodes link start_walk (expr_onto e) in
-    let c = (expression_walked link e).code in
-    let y = (expression_walked link e).entry in
-    ap insns_of (ap (emit_nodes link start_walk) h)
-    ∙ ap (λ d. drop (length d - x.to.yes) d) c
-    ∙ ap (λ k. drop (length (expression_code link e).code - k) (expression_code link e).code) y
-
-is_some : (u v : Walk) → Some u ≡ Some v → u ≡ v
-is_some u v e = cc
+-- what is left of a list, turned round
+pub reverse_taken : {A : Type 0} (xs : List A) (e : ℕ) → reverse (take e xs) ≡ drop (length (reverse xs) - e) (reverse xs)
+reverse_taken xs e =
+    let parts : reverse xs ≡ reverse (drop e xs) ++ reverse (take e xs) = ap reverse (sym (take-append-drop e xs)) ∙ reverse-append (take e xs) (drop e xs) in
+    let n : length (reverse xs) - e ≡ length (reverse (drop e xs)) = omega (arith, length-reverse xs, length-reverse (drop e xs), length-drop e xs) in
+    sym (ap (λ k. drop k (reverse xs)) n ∙ ap (λ ys. drop (length (reverse (drop e xs))) ys) parts ∙ drop-append_seam (reverse (drop e xs)) (reverse (take e xs)))
 
 -- a relation is put at once
 relation_walked : (link : Link) (w : Walk) (a b c d : Node) (ns : List Node) (e : Entry) → relation_in (a ∷ b ∷ c ∷ d ∷ ns) ≡ Some e → emit_nodes link w (a ∷ b ∷ c ∷ d ∷ ns) ≡ emit_nodes link (emit_member link e w) ns
-relation_walked link w (node.Compare Equal) (node.Literal k) (node.Load p s) (node.Literal i) ns e is = (let same : relation p s i k ≡ e = cc in ap (λ x. emit_nodes link (emit_member link x w) ns) same)
+relation_walked link w (Node.Compare Equal) (Node.Literal k) (Node.Load p s) (Node.Literal i) ns e is = (let same : relation p s i k ≡ e = cc in ap (λ x. emit_nodes link (emit_member link x w) ns) same)
 relation_walked link w _ _ _ _ ns e is = cc
 
-pub both_walked : (link : Link) (w v : Walk) (n m : Node) (ns : List Node) → relation_in (n ∷ m ∷ ns) ≡ None → emit_both_nodes link w n m ≡ Some v → emit_nodes link w (n ∷ m ∷ ns) ≡ emit_nodes link v ns
-both_walked link w v (node.Compare Equal) (node.Literal k) (node.Load p s ∷ node.Literal i ∷ ns) none e = cc
-both_walked link w v (node.Apply o) (node.Literal k) ns none e = ap (λ x. emit_nodes link (or_walk x (emit_node link (emit_node link w (node.Apply o)) (node.Literal k))) ns) e
-both_walked link w v (node.Compare c) (node.Literal k) ns none e = ap (λ x. emit_nodes link x ns) (is_some _ v e)
-both_walked link w v (node.Load p s) (node.Literal k) ns none e = ap (λ x. emit_nodes link x ns) (is_some _ v e)
+both_walked : (link : Link) (w v : Walk) (n m : Node) (ns : List Node) → relation_in (n ∷ m ∷ ns) ≡ None → emit_both_nodes link w n m ≡ Some v → emit_nodes link w (n ∷ m ∷ ns) ≡ emit_nodes link v ns
+both_walked link w v (Node.Compare Equal) (Node.Literal k) (Node.Load p s ∷ Node.Literal i ∷ ns) none e = cc
+both_walked link w v (Node.Apply o) (Node.Literal k) ns none e = ap (λ x. emit_nodes link (or_walk x (emit_node link (emit_node link w (Node.Apply o)) (Node.Literal k))) ns) e
+both_walked link w v (Node.Compare c) (Node.Literal k) ns none e = ap (λ x. emit_nodes link (or_walk x w) ns) e
+both_walked link w v (Node.Load p s) (Node.Literal k) ns none e = ap (λ x. emit_nodes link (or_walk x w) ns) e
 both_walked link w v _ _ ns none e = cc
 
-pub one_walked : (link : Link) (w : Walk) (n m : Node) (ns : List Node) → emit_both_nodes link w n m ≡ None → emit_nodes link w (n ∷ m ∷ ns) ≡ emit_nodes link (emit_node link w n) (m ∷ ns)
-one_walked link w (node.Apply o) (node.Literal k) ns e = ap (λ x. emit_nodes link (or_walk x (emit_node link (emit_node link w (node.Apply o)) (node.Literal k))) ns) e
-one_walked link w (node.Compare c) (node.Literal k) ns e = cc
-one_walked link w (node.Load p s) (node.Literal k) ns e = cc
-one_walked link w (node.Compare Equal) _ ns e = refl
+one_walked : (link : Link) (w : Walk) (n m : Node) (ns : List Node) → emit_both_nodes link w n m ≡ None → emit_nodes link w (n ∷ m ∷ ns) ≡ emit_nodes link (emit_node link w n) (m ∷ ns)
+one_walked link w (Node.Apply o) (Node.Literal k) ns e = ap (λ x. emit_nodes link (or_walk x (emit_node link (emit_node link w (Node.Apply o)) (Node.Literal k))) ns) e
+one_walked link w (Node.Compare c) (Node.Literal k) ns e = cc
+one_walked link w (Node.Load p s) (Node.Literal k) ns e = cc
+one_walked link w (Node.Compare Equal) _ ns e = refl
 one_walked link w _ _ ns e = refl
 
-pub last_walked : (link : Link) (w : Walk) (n : Node) → emit_nodes link w (n ∷ []) ≡ emit_node link w n
-last_walked link w (node.Apply o) = refl
-last_walked link w (node.Compare Equal) = refl
+last_walked : (link : Link) (w : Walk) (n : Node) → emit_nodes link w (n ∷ []) ≡ emit_node link w n
+last_walked link w (Node.Apply o) = refl
+last_walked link w (Node.Compare Equal) = refl
 last_walked link w _ = refl
 
 -- the last of the nodes that are left, and the last two
-pub one_put : (ns : List Node) (j i : ℕ) (other : Node) → j ≡ suc i → j ≤ length ns → reverse (take j ns) ≡ get_or ns i other ∷ reverse (take i ns)
+one_put : (ns : List Node) (j i : ℕ) (other : Node) → j ≡ suc i → j ≤ length ns → reverse (take j ns) ≡ get_or ns i other ∷ reverse (take i ns)
 one_put ns j i other e within =
     ap (λ k. reverse (take k ns)) e ∙ ap reverse (take-suc ns i other (omega arith)) ∙ reverse-append (take i ns) (get_or ns i other ∷ [])
 
-pub two_put : (ns : List Node) (j i h : ℕ) (other : Node) → j ≡ suc i → i ≡ suc h → j ≤ length ns → reverse (take j ns) ≡ get_or ns i other ∷ get_or ns h other ∷ reverse (take h ns)
+two_put : (ns : List Node) (j i h : ℕ) (other : Node) → j ≡ suc i → i ≡ suc h → j ≤ length ns → reverse (take j ns) ≡ get_or ns i other ∷ get_or ns h other ∷ reverse (take h ns)
 two_put ns j i h other e f within = one_put ns j i other e within ∙ ap (λ xs. get_or ns i other ∷ xs) (one_put ns i h other f (omega arith))
 
-pub relation_put : (link : Link) (ns : List Node) (j : ℕ) (w : Walk) (e : Entry) → 4 ≤ j → j ≤ length ns → relation_in (reverse (take j ns)) ≡ Some e → emit_nodes link (emit_member link e w) (reverse (take (j - 4) ns)) ≡ emit_nodes link w (reverse (take j ns))
+pub relation_put : (link : Link) (ns : List Node) (j : ℕ) (w : Walk) (e : Entry) → 4 ≤ length (take j ns) → j ≤ length ns → relation_in (reverse (take j ns)) ≡ Some e → emit_nodes link (emit_member link e w) (reverse (take (j - 4) ns)) ≡ emit_nodes link w (reverse (take j ns))
 relation_put link ns j w e some within is =
-    let other = node.Check Ether in
+    let other = Node.Check Ether in
+    let long = length-take j ns in
     let four =
     two_put ns j (j - 1) (j - 2) other (omega arith) (omega arith) within
     ∙ ap (λ xs. get_or ns (j - 1) other ∷ get_or ns (j - 2) other ∷ xs) (two_put ns (j - 2) (j - 3) (j - 4) other (omega arith) (omega arith) (omega arith)) in
     sym (ap (emit_nodes link w) four ∙ relation_walked link w _ _ _ _ (reverse (take (j - 4) ns)) e (ap relation_in (sym four) ∙ is))
+
+-- what is left to do after so many nodes
+abbrev left_walk : Link → List Node → ℕ → Walk → Walk
+left_walk link ns k w = emit_nodes link w (reverse (take k ns))
+
+pub first_put : (link : Link) (ns : List Node) (left : ℕ) (w : Walk) → 0 < left → left ≤ length ns → left - 1 ≡ 0 → left_walk link ns (left - 1) (emit_node link w (get_or ns (left - 1) (Check Ether))) ≡ left_walk link ns left w
+first_put link ns (suc zero) w some within first =
+    sym (ap (emit_nodes link w) (one_put ns (suc zero) zero (Check Ether) refl within) ∙ last_walked link w (get_or ns zero (Check Ether)))
+first_put link ns _ w some within first = absurd (omega arith)
+
+pub node_put : (link : Link) (ns : List Node) (left : ℕ) (w : Walk) → 0 < left - 1 → left ≤ length ns → emit_both_nodes link w (get_or ns (left - 1) (Check Ether)) (get_or ns (left - 1 - 1) (Check Ether)) ≡ None → left_walk link ns (left - 1) (emit_node link w (get_or ns (left - 1) (Check Ether))) ≡ left_walk link ns left w
+node_put link ns left w some within none =
+    let one = one_put ns (left - 1) (left - 1 - 1) (Check Ether) (omega arith) (omega arith) in
+    let two = two_put ns left (left - 1) (left - 1 - 1) (Check Ether) (omega arith) (omega arith) within in
+    sym (ap (emit_nodes link w) two ∙ one_walked link w (get_or ns (left - 1) (Check Ether)) (get_or ns (left - 1 - 1) (Check Ether)) (reverse (take (left - 1 - 1) ns)) none ∙ ap (emit_nodes link (emit_node link w (get_or ns (left - 1) (Check Ether)))) (sym one))
+
+pub both_put : (link : Link) (ns : List Node) (left : ℕ) (w v : Walk) → 0 < left - 1 → left ≤ length ns → relation_in (reverse (take left ns)) ≡ None → emit_both_nodes link w (get_or ns (left - 1) (Check Ether)) (get_or ns (left - 1 - 1) (Check Ether)) ≡ Some v → left_walk link ns (left - 1 - 1) v ≡ left_walk link ns left w
+both_put link ns left w v some within none both =
+    let two = two_put ns left (left - 1) (left - 1 - 1) (Check Ether) (omega arith) (omega arith) within in
+    sym (ap (emit_nodes link w) two ∙ both_walked link w v (get_or ns (left - 1) (Check Ether)) (get_or ns (left - 1 - 1) (Check Ether)) (reverse (take (left - 1 - 1) ns)) (ap relation_in (sym two) ∙ none) both)
+
+-- of what is left after each way to emit the last nodes
+pub ruleset node_steps = (first_put, node_put, both_put, relation_put)

@@ -1,7 +1,5 @@
 -- The walk over the nodes of a tree, the last first, puts the code of the tree's formula in front.
-use Rattle.flt_gen.proofs.Common.{◌+◌, if◌then◌else◌, ◌≡◌, ℕ, List, [], ◌∷◌, Bool, true, false, Option, Some, None, with, Equal, refl, sym, ap, ◌∙◌, Insn, And, Or, Comparison, Node, Apply, Literal, Not, Constant, IndexRegister, Operator, formula, Group, no_group, larger_group, entry, choice, or_any, or_group, group_formula, grouped_formula, NumberTree, literal, len, named, load, negated, applied, TruthTree, qualified, compared, denied, joined, Expression, empty, truth, number_onto, truth_onto, expr_onto, Link, Entry, protocols_of, relation_formula, accessor_tests, Protocol, plain, computation, takes_constant, emit_comparison, emit_operands, emit_right, emit_number, Block, emit_formula, emit_all, emit_accessor_tests, expression_code, Walk, targets, finish_truth, finish_number, with_insns, finish_formula, flush_members, flush_group, emit_truth_node, emit_node, or_walk, start_walk, emit_nodes}
-use Rattle.flt_ast.specs.declared.node.Node.TheVariants.{Compare}
-use Rattle.flt_gen.specs.Formula.{Formula, Both, Either, Except, Compare as compare, checked_formula}
+use Rattle.flt_gen.proofs.Common.{Formula, Both, Either, Except, Compare, checked_formula, ◌+◌, if◌then◌else◌, ◌≡◌, ℕ, List, [], ◌∷◌, Bool, true, false, Option, Some, None, with, Equal, refl, sym, ap, ◌∙◌, Insn, And, Or, Comparison, Node, Apply, Literal, Not, Constant, IndexRegister, Operator, formula, Group, no_group, larger_group, entry, choice, or_any, or_group, group_formula, grouped_formula, NumberTree, literal, len, named, load, negated, applied, TruthTree, qualified, compared, denied, joined, Expression, empty, truth, number_onto, truth_onto, expr_onto, Link, Entry, protocols_of, relation_formula, accessor_tests, Protocol, plain, computation, takes_constant, emit_comparison, emit_operands, constant_or, Store, Accumulator, emit_number, Block, emit_formula, emit_all, emit_accessor_tests, program_code, Walk, targets, finish_truth, finish_number, with_insns, finish_formula, flush_members, flush_group, emit_truth_node, emit_node, or_walk, start_walk, insns_of, emit_nodes}
 use Rattle.flt_gen.proofs.Decision.{guarded_emitted}
 use Rattle.flt_gen.specs.inside.Group.{is_empty, entry_formula, entry_of, leaf_formula}
 use Rattle.flt_gen.specs.inside.Relations.{relation_of}
@@ -19,7 +17,7 @@ abbrev with_number : Link → NumberTree → Walk → Walk
 with_number link a w = record w { code = emit_number link a w.slot w.code; accessors = protocols_of a w.accessors }
 
 -- an operator whose right operand is a constant, which its instruction may have or not
-constant_walked : (link : Link) (o : Operator) (k : ℕ) (a : NumberTree) (w : Walk) (d : List Node) → ((v : Walk) → emit_nodes link v (number_onto a d) ≡ emit_nodes link (finish_number link v.numbers (with_number link a v)) d) → (t : Bool) → emit_nodes link (or_walk (if t then Some (with_insns (plain (computation o Constant) k ∷ w.code) w) else None) (emit_node link (emit_node link w (Apply o)) (Literal k))) (number_onto a d) ≡ emit_nodes link (finish_number link w.numbers (record w { code = emit_number link a w.slot (emit_right (if t then Some k else None) w.slot (λ j. plain (computation o Constant) j ∷ w.code) (emit_number link (literal k) (w.slot + 1) (emit_operands w.slot (plain (computation o IndexRegister) 0 ∷ w.code)))); accessors = protocols_of a w.accessors })) d
+constant_walked : (link : Link) (o : Operator) (k : ℕ) (a : NumberTree) (w : Walk) (d : List Node) → ((v : Walk) → emit_nodes link v (number_onto a d) ≡ emit_nodes link (finish_number link v.numbers (with_number link a v)) d) → (t : Bool) → emit_nodes link (or_walk (if t then Some (with_insns (plain (computation o Constant) k ∷ w.code) w) else None) (emit_node link (emit_node link w (Apply o)) (Literal k))) (number_onto a d) ≡ emit_nodes link (finish_number link w.numbers (record w { code = emit_number link a w.slot (constant_or (if t then Some k else None) (λ j. plain (computation o Constant) j ∷ w.code) (plain (Store Accumulator) w.slot ∷ emit_number link (literal k) (w.slot + 1) (emit_operands w.slot (plain (computation o IndexRegister) 0 ∷ w.code)))); accessors = protocols_of a w.accessors })) d
 constant_walked link o k a w d left true = left _
 constant_walked link o k a w d left false = left _
 
@@ -68,18 +66,18 @@ entry_walked link e group (Some more) c to ts d = refl
 -- a comparison after the group that waits: a constant that is its right operand is in the test
 abbrev comparison_walked : Link → Comparison → NumberTree → Walk → List Node → Walk
 comparison_walked link k (literal j) w d = emit_nodes link (with_insns (emit_comparison k Constant j w.to.yes w.to.no w.code) w) d
-comparison_walked link k b w d = emit_nodes link (emit_truth_node link w (Compare k)) (number_onto b d)
+comparison_walked link k b w d = emit_nodes link (emit_truth_node link w (Node.Compare k)) (number_onto b d)
 
-compare_walked : (link : Link) (k : Comparison) (a b : NumberTree) (w : Walk) (d : List Node) → relation_of k a b ≡ None → emit_nodes link w (Compare k ∷ number_onto b (number_onto a d)) ≡ comparison_walked link k b (flush_group link w) (number_onto a d)
+compare_walked : (link : Link) (k : Comparison) (a b : NumberTree) (w : Walk) (d : List Node) → relation_of k a b ≡ None → emit_nodes link w (Node.Compare k ∷ number_onto b (number_onto a d)) ≡ comparison_walked link k b (flush_group link w) (number_onto a d)
 compare_walked link Equal (load p s (literal i)) (literal j) w d none = cc
 compare_walked link _ _ (literal j) w d none = refl
 compare_walked link _ _ _ w d none = refl
 
 relation_walked : (link : Link) (k : Comparison) (a b : NumberTree) (c : List Insn) (to : Targets) (ts : List LeftTruth) (d : List Node) → comparison_walked link k b (between c to ts) (number_onto a d) ≡ emit_nodes link (emit_of link (relation_formula link k a b) c to ts) d
 relation_walked link k a b c to ts d =
-    both b ∙ ap (λ (e : Block). emit_nodes link (finish_truth e (between c to ts)) d) (sym (checked_emitted link (protocols_of a (protocols_of b [])) (compare k a b) to.yes to.no c))
+    both b ∙ ap (λ (e : Block). emit_nodes link (finish_truth e (between c to ts)) d) (sym (checked_emitted link (protocols_of a (protocols_of b [])) (Compare k a b) to.yes to.no c))
   where
-    both : (r : NumberTree) → comparison_walked link k r (between c to ts) (number_onto a d) ≡ (let e = emit_formula link (compare k a r) to.yes to.no c in emit_nodes link (finish_truth (emit_accessor_tests link (protocols_of a (protocols_of r [])) e.entry to.no e.code) (between c to ts)) d)
+    both : (r : NumberTree) → comparison_walked link k r (between c to ts) (number_onto a d) ≡ (let e = emit_formula link (Compare k a r) to.yes to.no c in emit_nodes link (finish_truth (emit_accessor_tests link (protocols_of a (protocols_of r [])) e.entry to.no e.code) (between c to ts)) d)
     both (literal j) = number_walked link a _ d
     both (named j) = number_walked link a _ d
     both len = number_walked link a _ d
@@ -168,13 +166,7 @@ truth_walked link (joined Or a b) group =
     λ c to ts d. either_walked link a b (λ more. truth_walked link a more) (λ more. truth_walked link b more) ts d group c to (entry_of b) refl
 truth_walked link a group = leaf_walked link (formula link a) group
 
--- the walk over a whole expression ends with its code, entered where both targets are
-pub record Ends (w : Walk) (e : Block) : Type 0 where
-  pub code : w.code ≡ e.code
-  pub entry : w.to.yes ≡ e.entry
-
-pub expression_walked : (link : Link) (e : Expression) → Ends (emit_nodes link start_walk (expr_onto e)) (expression_code link e)
-expression_walked link empty = record { code = refl; entry = refl }
-expression_walked link (truth a) =
-    let h = truth_walked link a no_group start_walk.code start_walk.to [] [] in
-    record { code = ap (λ (w : Walk). w.code) h; entry = ap (λ (w : Walk). w.to.yes) h }
+-- the walk over a whole expression makes its program
+pub expression_walked : (link : Link) (e : Expression) → insns_of (emit_nodes link start_walk (expr_onto e)) ≡ program_code link e
+expression_walked link empty = refl
+expression_walked link (truth a) = ap insns_of (truth_walked link a no_group start_walk.code start_walk.to [] [])

@@ -1,15 +1,14 @@
 -- The wide code of an expression decides it, within its bounds; and so does what replaces it.
-use Rattle.flt_gen.proofs.Common.{◌≡◌, ℕ, ◌+◌, ◌-◌, ◌*◌, ◌≤◌, List, [], ◌∷◌, length, drop, take, false, cond, Some, refl, sym, ap, ◌∙◌, subst, arith, fold, length-drop, ◌≢◌, ◌↔◌, reverse, All-cons, All-drop, All-nil, sum_by-take-drop, Insn, ReturnConstant, answer_of, IsValidUnlessLong, is_branch, JUMP, HasNoJump, IsShort, start, valid_if_short, faultless_drop, ends_drop, answer_drop, machine_answers, Node, tests_of, nodes_of, words_of, bound_of, expr_nodes, is_unfilled, some_primitive, Expression, empty, truth, Link, MatchResult, Yes, plain, IsProgramOf, short_bound_of, holds, with_folded, folded_expression, no_group, grouped_formula, returns_code, expression_code, program_code, emit_nodes, start_walk, insns_of}
-use Rattle.flt_gen.proofs.Folded.{words_no_more, bound_no_more, short_no_more, filled_folded, nodes_folded, holds_folded}
+use Rattle.flt_gen.proofs.Common.{◌≡◌, ℕ, ◌+◌, ◌-◌, ◌*◌, ◌≤◌, List, [], ◌∷◌, length, drop, take, true, false, cond, Some, refl, sym, ap, ◌∙◌, subst, arith, fold, length-drop, ◌≢◌, ◌↔◌, reverse, All-cons, All-drop, All-nil, sum_by-take-drop, Insn, ReturnConstant, answer_of, IsValidUnlessLong, is_branch, JUMP, HasNoJump, IsShort, start, valid_if_short, faultless_drop, ends_drop, answer_drop, machine_answers, Node, tests_of, nodes_of, words_of, bound_of, expr_nodes, is_unfilled, some_primitive, Expression, empty, truth, Link, MatchResult, Yes, plain, IsProgramOf, short_bound_of, holds, with_folded, folded_expression, no_group, grouped_formula, returns_code, expression_code, program_code, emit_nodes, start_walk, insns_of}
+use Rattle.flt_gen.proofs.Folded.{expression_folded, nodes_folded}
 use Rattle.flt_gen.proofs.Grouping.{kept_none, grouped_stands}
 use Rattle.flt_gen.proofs.Exclusive.{or_no}
-use Rattle.flt_gen.proofs.Grows.{branches, Sound, grows_none, Fits, fits_more, emitted_fits}
+use Rattle.flt_gen.proofs.Grows.{branches, Sound, none_by, FitsBy, more_by, emitted_by}
 use Rattle.flt_gen.proofs.Leads.{HasWords, Leads, leads_to}
-use Rattle.flt_gen.proofs.{Runs.pick, Runs.emitted_leads, Turned.program_is}
+use Rattle.flt_gen.proofs.{Runs.pick, Runs.emitted_leads, Walking.expression_walked}
 use Rattle.flt_bpf.specs.Check.{fault_of}
 use Rattle.flt_bpf.specs.{Instructions.operation_of, Machine.step, Valid.IsValid}
 use Rattle.flt_bpf.proofs.Checking.{parts}
-use Rattle.flt_short.specs.{Alike.Shortens, Threads.Threads}
 use Rattle.flt_gen.specs.inside.Round.{IsRound}
 use Rattle.flt_short.proofs.Likeness.{met_of}
 
@@ -25,6 +24,11 @@ pub record IsCodeOf (code : List Insn) (e : Expression) (link : Link) : Type 0 w
   pub short : length code ≤ short_bound_of e
   pub bounded : length code + 2 * branches code ≤ bound_of e
   pub decides : (p : List ℕ) (n : ℕ) → Decided code e link p n
+
+-- such code that is valid, unless it is too long
+pub record IsMadeOf (code : List Insn) (e : Expression) (link : Link) : Type 0 where
+  pub is : IsCodeOf code e link
+  pub valid : IsValidUnlessLong code
 
 returns_sound : Sound returns_code
 unfolding fault_of operation_of
@@ -50,12 +54,12 @@ pick_right Yes = (λ h. refl, λ e z. absurd (omega arith))
 pick_right _ = (λ h. absurd (h refl), λ e. cc)
 
 -- how the code of an expression stands on the two returns, and where it leads
-fits : (link : Link) (e : Expression) → some_primitive is_unfilled e ≡ false → words_of e ≤ 16 → Fits returns_code (expression_code link e) (4 * tests_of e + 6 * nodes_of e) (6 * (tests_of e + nodes_of e))
-fits link empty filled few = fits_more _ _ (omega arith) (omega arith) (record { grows = grows_none returns_sound; entry = record { low = omega arith; upper_bound = omega arith } })
+fits : (link : Link) (e : Expression) → some_primitive is_unfilled e ≡ false → words_of e ≤ 16 → FitsBy true returns_code (expression_code link e) (4 * tests_of e + 6 * nodes_of e) (6 * (tests_of e + nodes_of e))
+fits link empty filled few = more_by true _ _ (omega arith) (omega arith) (record { grows = none_by true returns_sound; entry = record { low = omega arith; upper_bound = omega arith } })
 fits link (truth a) filled few =
     let s = grouped_stands link a no_group kept_none filled in
-    fits_more _ _ (omega (arith, s.tests_fit, s.nodes_fit)) (omega (arith, s.tests_fit, s.nodes_fit))
-    (emitted_fits link (grouped_formula link no_group a) 2 1 returns_code (omega (arith, s.words_fit)) s.searches returns_sound (record { low = omega arith; upper_bound = omega arith }) (record { low = omega arith; upper_bound = omega arith }))
+    more_by true _ _ (omega (arith, s.tests_fit, s.nodes_fit)) (omega (arith, s.tests_fit, s.nodes_fit))
+    (emitted_by true link (grouped_formula link no_group a) 2 1 returns_code (omega (arith, s.words_fit)) s.searches returns_sound (record { low = omega arith; upper_bound = omega arith }) (record { low = omega arith; upper_bound = omega arith }))
 
 leads : (link : Link) (e : Expression) → some_primitive is_unfilled e ≡ false → words_of e ≤ 16 → (p : List ℕ) (n : ℕ) → Leads p n HasWords (expression_code link e).code (expression_code link e).entry (pick (holds e link p n) 262144 0)
 leads link empty filled few p n = hit_leads p n
@@ -69,41 +73,38 @@ branches_drop : (c : List Insn) (k : ℕ) → branches (drop k c) ≤ branches c
 branches_drop c k =
     let parts : branches (take k c) + branches (drop k c) ≡ branches c = sum_by-take-drop (λ i. cond (is_branch (operation_of i.code)) 1 0) c k in omega arith
 
-program_decides : (link : Link) (e : Expression) → some_primitive is_unfilled e ≡ false → words_of e ≤ 16 → IsCodeOf (program_code link e) e link
-program_decides link e filled few =
+program_made : (link : Link) (e : Expression) → some_primitive is_unfilled e ≡ false → words_of e ≤ 16 → IsMadeOf (program_code link e) e link
+program_made link e filled few =
     let x = expression_code link e in
     let k = length x.code - x.entry in
-    let g = (fits link e filled few).grows in
-    record {
-      no_jump = All-drop (λ i. i.code ≢ JUMP) k x.code g.sound.no_jump;
-      short = omega (arith, g.shorter, length-drop k x.code);
-      bounded = omega (arith, g.lighter, no_branches, length-drop k x.code, branches_drop x.code k);
-      decides = λ p n. record {
-        answer = pick (holds e link p n) 262144 0;
-        answered = answer_drop x.code p n k start ∙ (leads link e filled few p n).by start refl;
-        right = pick_right (holds e link p n);
-      };
-    }
-
-program_sound : (link : Link) (e : Expression) → some_primitive is_unfilled e ≡ false → words_of e ≤ 16 → IsValidUnlessLong (program_code link e)
-program_sound link e filled few =
-    let x = expression_code link e in
     let f = fits link e filled few in
-    let v = f.grows.sound.valid in
+    let g = f.grows in
     record {
-      faultless = faultless_drop x.code (length x.code - x.entry) v.faultless;
-      ends = ends_drop x.code (length x.code - x.entry) (omega (arith, f.entry.low, f.entry.upper_bound)) v.ends;
+      is = record {
+        no_jump = All-drop (λ i. i.code ≢ JUMP) k x.code g.sound.no_jump;
+        short = omega (arith, g.shorter, length-drop k x.code);
+        bounded = omega (arith, g.lighter, no_branches, length-drop k x.code, branches_drop x.code k);
+        decides = λ p n. record {
+          answer = pick (holds e link p n) 262144 0;
+          answered = answer_drop x.code p n k start ∙ (leads link e filled few p n).by start refl;
+          right = pick_right (holds e link p n);
+        };
+      };
+      valid = record {
+        faultless = faultless_drop x.code k g.sound.valid.faultless;
+        ends = ends_drop x.code k (omega (arith, f.entry.low, f.entry.upper_bound)) g.sound.valid.ends;
+      };
     }
 
 -- code of the folded expression is code of the expression
 folded_code : (code : List Insn) (e : Expression) (link : Link) → IsCodeOf code (folded_expression e) link → IsCodeOf code e link
 folded_code code e link h = record {
   no_jump = h.no_jump;
-  short = omega (arith, h.short, short_no_more e);
-  bounded = omega (arith, h.bounded, bound_no_more e);
+  short = omega (arith, h.short, (expression_folded e).short);
+  bounded = omega (arith, h.bounded, (expression_folded e).bound);
   decides = λ p n.
       let d = h.decides p n in
-      record { answer = d.answer; answered = d.answered; right = subst (λ r. (d.answer ≢ 0) ↔ (r ≡ Yes)) (holds_folded p n link e) d.right };
+      record { answer = d.answer; answered = d.answered; right = subst (λ r. (d.answer ≢ 0) ↔ (r ≡ Yes)) ((expression_folded e).same p n link) d.right };
 }
 
 -- such code with the same answers in its place, which is no longer and has no more branches
@@ -115,51 +116,29 @@ replaced_code new old e link h no_jump shorter fewer runs = record {
   decides = λ p n. let d = h.decides p n in record { answer = d.answer; answered = runs p n d.answer d.answered; right = d.right };
 }
 
-threaded_code : (new old : List Insn) (e : Expression) (link : Link) → Threads new old → IsCodeOf old e link → IsCodeOf new e link
-threaded_code new old e link t h =
-    replaced_code new old e link h (t.no_jump h.no_jump) (omega (arith, t.same_length)) (omega (arith, t.branches)) (λ p n answer is. t.runs p n ∙ is)
-
-shortened_code : (new old : List Insn) (e : Expression) (link : Link) → Shortens new old → IsCodeOf old e link → IsCodeOf new e link
-shortened_code new old e link r h =
-    replaced_code new old e link h (r.no_jump h.no_jump) r.shorter r.fewer (λ p n answer is.
-    let was = machine_answers old p n answer is in
-    let now = r.runs p n answer was.met was.answered in
-    (met_of p n new (length new) 0 0 start answer now.count now.answered).answer)
-
-valid_unless_long : (c : List Insn) → IsValid c → IsValidUnlessLong c
-valid_unless_long c v = let q = parts c v in record { faultless = q.faultless; ends = q.ends }
-
--- code made of an expression's nodes, which are folded before
-pub record IsMadeOf (code : List Insn) (e : Expression) (link : Link) : Type 0 where
-  pub is : IsCodeOf code e link
-  pub valid : IsValidUnlessLong code
-
 made : (link : Link) (e : Expression) (walked folded tree : List Node) (wide : List Insn) → some_primitive is_unfilled e ≡ false → words_of e ≤ 16 → walked ≡ folded → reverse folded ≡ fold with_folded [] tree → tree ≡ expr_nodes e → wide ≡ insns_of (emit_nodes link start_walk (reverse walked)) → IsMadeOf wide e link
 made link e walked folded tree wide filled few w f n c =
-    record {
-      is = folded_code wide e link (subst (λ x. IsCodeOf x d link) (sym same) (program_decides link d full words_few));
-      valid = subst IsValidUnlessLong (sym same) (program_sound link d full words_few);
-    }
+    let d = folded_expression e in
+    let h = expression_folded e in
+    let m = subst (λ code. IsMadeOf code d link) (sym same) (program_made link d (h.filled ∙ filled) (omega (arith, h.words))) in
+    record { is = folded_code wide e link m.is; valid = m.valid }
   where
-    d : Expression
-    d = folded_expression e
-
-    full : some_primitive is_unfilled d ≡ false
-    full = filled_folded e filled
-
-    words_few : words_of d ≤ 16
-    words_few = omega (arith, words_no_more e)
-
-    same : wide ≡ program_code link d
-    same = c ∙ program_is link d walked (ap reverse w ∙ f ∙ ap (fold with_folded []) n ∙ nodes_folded e)
+    same : wide ≡ program_code link (folded_expression e)
+    same = c ∙ ap (λ ns. insns_of (emit_nodes link start_walk ns)) (ap reverse w ∙ f ∙ ap (fold with_folded []) n ∙ nodes_folded e) ∙ expression_walked link (folded_expression e)
 
 -- after a round of the optimiser
 once_more : (link : Link) (e : Expression) (code short : List Insn) → bound_of e ≤ 32768 → IsRound short code → IsMadeOf code e link → IsMadeOf short e link
 once_more link e code short within r m =
-    let is = threaded_code r.moved code e link r.threads m.is in
+    let t = r.threads in
+    let s = r.shortens in
+    let is = replaced_code r.moved code e link m.is (t.no_jump m.is.no_jump) (omega (arith, t.same_length)) (omega (arith, t.branches)) (λ p n answer was. t.runs p n ∙ was) in
+    let v = parts short (s.valid (valid_if_short r.moved (t.sound m.valid) (omega (arith, is.bounded)))) in
     record {
-      is = shortened_code short r.moved e link r.shortens is;
-      valid = valid_unless_long short (r.shortens.valid (valid_if_short r.moved (r.threads.sound m.valid) (omega (arith, is.bounded))));
+      is = replaced_code short r.moved e link is (s.no_jump is.no_jump) s.shorter s.fewer (λ p n answer i.
+          let was = machine_answers r.moved p n answer i in
+          let now = s.runs p n answer was.met was.answered in
+          (met_of p n short (length short) 0 0 start answer now.count now.answered).answer);
+      valid = record { faultless = v.faultless; ends = v.ends };
     }
 
 -- and after two

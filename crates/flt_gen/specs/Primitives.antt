@@ -13,7 +13,7 @@ use Rattle.flt_ast.specs.declared.qualifiers.{CompleteQualifiers.CompleteQualifi
 use Rattle.flt_ast.specs.declared.value.{Ip4Net.Ip4Net, Value.Value}
 use Rattle.flt_gen.specs.Elementary.{with, is_at, compares_at, compares_under, has_type, kind_test, first_fragment, has_ip_proto, has_ip6_proto}
 use Rattle.flt_gen.specs.Formula.{Formula, Single, Compare, Both, Either, Sought, all_of, sides, Numbers, no_numbers}
-use Rattle.flt_gen.specs.declared.{address.Hosts.Hosts, address.NetTest.NetTest, elementary.Elementary.Elementary}
+use Rattle.flt_gen.specs.declared.{address.Hosts.Hosts, elementary.Elementary.Elementary}
 use Rattle.flt_gen.specs.declared.elementary.{Elementary.TheVariants.Outcome, FrameKind.FrameKind}
 use Rattle.flt_gen.specs.declared.elementary.FrameKind.TheVariants.{Ethernet, Ip, Ip6, Arp, Rarp}
 use Rattle.flt_gen.specs.declared.elementary.Offset.{Offset, TheVariants.Fixed, TheVariants.AfterHeader}
@@ -127,10 +127,10 @@ address_places link kind = record {
 -- the addresses of a header of a kind, as a direction asks for them, are those of hosts: all in a
 -- network, or several, which are these numbers
 abbrev pub hosts_sides : Link → FrameKind → Hosts → Numbers → Formula
-hosts_sides link kind (Hosts.Net net) numbers =
+hosts_sides link kind (Hosts.Net direction mask address) numbers =
     let at = address_places link kind in
-    sides net.direction (address_test net.mask net.address at.source ∷ [])
-    (address_test net.mask net.address at.destination ∷ [])
+    sides direction (address_test mask address at.source ∷ [])
+    (address_test mask address at.destination ∷ [])
 hosts_sides link kind (Hosts.Several direction) numbers =
     Sought direction (address_places link kind) numbers
 
@@ -149,13 +149,11 @@ hosts_formula link None wanted numbers =
     (Either (hosts_of_kind link Arp wanted numbers) (hosts_of_kind link Rarp wanted numbers))
 hosts_formula link (Some _) wanted numbers = Single (Outcome false)
 
--- the hosts of a network, in the headers that a protocol, or none, allows
-abbrev pub net_formula : Link → Option Protocol → NetTest → Formula
-net_formula link protocol net = hosts_formula link protocol (Hosts.Net net) no_numbers
-
--- a test of this address, as far as the mask goes
-abbrev pub net_test : Direction → Option ℕ → ℕ → NetTest
-net_test direction mask address = record { direction = direction; mask = mask; address = address }
+-- the hosts with this address, as far as the mask goes, in the headers that a protocol, or none,
+-- allows
+abbrev pub net_formula : Link → Option Protocol → Direction → Option ℕ → ℕ → Formula
+net_formula link protocol direction mask address =
+    hosts_formula link protocol (Hosts.Net direction mask address) no_numbers
 
 -- IPv6 addresses and networks: four words
 
@@ -266,7 +264,7 @@ port_test protocol direction ports =
 -- the hosts of the network of IPv4 that a value means; no, if it means none
 abbrev pub ip4_formula : Link → Option Protocol → Direction → Option Ip4Net → Formula
 ip4_formula link protocol direction (Some net) =
-    net_formula link protocol (net_test direction (partial_mask net.mask) net.address)
+    net_formula link protocol direction (partial_mask net.mask) net.address
 ip4_formula link protocol direction None = Single (Outcome false)
 
 -- `net` with a network of IPv4 or IPv6
@@ -278,7 +276,7 @@ net_value_formula link protocol direction v = ip4_formula link protocol directio
 -- a value with these qualifiers: the ends of a range may stand in either order
 abbrev pub value_formula : Link → ValueType → Option Protocol → Direction → Value → Formula
 value_formula link Host protocol direction (Value.Dotted dotted mask) =
-    net_formula link protocol (net_test direction None dotted.address)
+    net_formula link protocol direction None dotted.address
 value_formula link Host protocol direction (Value.Ip6 address prefix) =
     ip6_formula link direction None address
 value_formula link Host protocol direction (Value.Mac address) = ether_host link direction address

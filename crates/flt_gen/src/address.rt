@@ -20,20 +20,12 @@ use flt_bpf::operation::Width;
 use flt_words::{Comparison, Protocol};
 use std::alloc::{AllocError, Allocator};
 
-/// A test of IPv4 addresses: the sides, the mask where not the whole address counts, and the
-/// address.
-#[derive(Clone, Copy)]
-pub struct NetTest {
-    pub direction: Direction,
-    pub mask: Option<u32>,
-    pub address: u32,
-}
-
 /// The hosts of IPv4 that are looked for.
 #[derive(Clone, Copy)]
 pub enum Hosts {
-    /// Those of a network, which may be a single one.
-    Net(NetTest),
+    /// Those of a network, which may be a single one, on these sides: its mask, where not the whole
+    /// address counts, and its address.
+    Net(Direction, Option<u32>, u32),
     /// Several numbers, on these sides.
     Several(Direction),
 }
@@ -143,10 +135,10 @@ impl<A: Allocator> Code<A> {
     {
         let at = address_places(link, kind);
         let yes = match wanted {
-            Hosts::Net(net) => {
-                let source = address_test(net.mask, net.address, at.source);
-                let destination = address_test(net.mask, net.address, at.destination);
-                self.emit_sides(net.direction, false, &[source], &[destination], to)?
+            Hosts::Net(direction, mask, address) => {
+                let source = address_test(mask, address, at.source);
+                let destination = address_test(mask, address, at.destination);
+                self.emit_sides(direction, false, &[source], &[destination], to)?
             }
             Hosts::Several(direction) => self.emit_among(direction, at, numbers, to)?,
         };

@@ -80,13 +80,9 @@ impl<A: Allocator> Code<A> {
         if is_above {
             return Ok(self.top());
         }
-        let (yes, no) = (self.top(), to.no);
-        self.emit_branch(
-            Test::AtLeast,
-            Operand::Constant,
-            item.low,
-            Targets { yes, no },
-        )?;
+        let yes = self.top();
+        let to = Targets { yes, ..to };
+        self.emit_branch(Test::AtLeast, Operand::Constant, item.low, to)?;
         Ok(self.top())
     }
 

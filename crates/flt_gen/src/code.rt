@@ -114,6 +114,7 @@ impl<A: Allocator> Code<A> {
     }
 
     /// The instructions from the place `entry` on, in their order: what stands in front of it goes.
+    #[tactic(auto, using(crate::proofs::Turned::reverse_taken))]
     pub fn into_insns(self, entry: usize) -> Vec<Wide, A>
         ensures { result.items ≡ drop (length self - entry) self }
     {

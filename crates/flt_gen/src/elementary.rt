@@ -91,13 +91,8 @@ pub fn is_at(at: u32, width: Width, value: u32) -> Elementary
 fn is_masked(at: u32, width: Width, mask: u32, value: u32) -> Elementary
     ensures { result ≡ is_masked at width mask value }
 {
-    compares_under(
-        Some(mask),
-        Offset::Fixed(at),
-        width,
-        Comparison::Equal,
-        value,
-    )
+    let offset = Offset::Fixed(at);
+    compares_under(Some(mask), offset, width, Comparison::Equal, value)
 }
 
 /// The field at `offset` compares with a number as `comparison` says.

@@ -1,8 +1,8 @@
 //! Emits the parts of arithmetic, which the walk puts together: operators, the code between
 //! operands, accessors, and the tests that accessors need. (Numbers, `len`, `-` and the order of
-//! the parts are in walk.rt, from `emit_number_node` on.) An *accessor*, such as `tcp[13]` or
-//! `ip[2:2]`, reads bytes of a header. Its index is arithmetic too, and is in A when the code of
-//! the accessor begins.
+//! the parts are in walk.rt, in `emit_node`.) An *accessor*, such as `tcp[13]` or `ip[2:2]`, reads
+//! bytes of a header. Its index is arithmetic too, and is in A when the code of the accessor
+//! begins.
 //!
 //! Code grows from its end (`Code`): in each body here the last call emits what a run executes
 //! first.

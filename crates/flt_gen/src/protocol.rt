@@ -144,17 +144,13 @@ impl<A: Allocator> Code<A> {
             (Cast::Multicast, Some(Protocol::Ip)) => {
                 // The first byte of the destination address: groups begin at 224.0.0.0.
                 let first = Offset::Fixed(network_offset(link) + 16);
-                (
-                    FrameKind::Ip,
-                    compares_at(first, Width::Byte, Comparison::AtLeast, 224),
-                )
+                let is_group = compares_at(first, Width::Byte, Comparison::AtLeast, 224);
+                (FrameKind::Ip, is_group)
             }
             (Cast::Multicast, Some(Protocol::Ip6)) => {
                 // The first byte of an IPv6 destination address: groups are ff00::/8.
-                (
-                    FrameKind::Ip6,
-                    is_at(network_offset(link) + 24, Width::Byte, 255),
-                )
+                let is_group = is_at(network_offset(link) + 24, Width::Byte, 255);
+                (FrameKind::Ip6, is_group)
             }
             (_, Some(_)) => return Ok(to.no),
         };

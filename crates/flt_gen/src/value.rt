@@ -7,13 +7,13 @@
 
 ghost use Rattle.flt_gen.specs.inside.{Emits.EmitsFormula, Emitted.qualified_needed};
 
-use crate::address::{Hosts, NetTest, partial_mask};
+use crate::address::{Hosts, partial_mask};
 use crate::code::{Code, Targets};
 use crate::intervals::Numbers;
 use crate::port::{PortTest, Ports};
 use cap_octet::Link;
 use flt_ast::{CompleteQualifiers, Value};
-use flt_words::{Protocol, ValueType};
+use flt_words::ValueType;
 use std::alloc::{AllocError, Allocator};
 
 impl<A: Allocator> Code<A> {
@@ -29,21 +29,12 @@ impl<A: Allocator> Code<A> {
         ensures { EmitsFormula link (qualified_needed link qualifiers value) to self.old result
             self.new }
     {
-        let CompleteQualifiers {
-            protocol,
-            direction,
-            value_type,
-        } = qualifiers;
+        let (protocol, direction) = (qualifiers.protocol, qualifiers.direction);
         let none = Numbers::none();
-        match (value_type, value) {
+        match (qualifiers.value_type, value) {
             (ValueType::Host, Value::Dotted(host, _)) => {
-                let (mask, address) = (None, host.address);
-                let net = NetTest {
-                    direction,
-                    mask,
-                    address,
-                };
-                self.emit_hosts(link, protocol, Hosts::Net(net), &none, to)
+                let wanted = Hosts::Net(direction, None, host.address);
+                self.emit_hosts(link, protocol, wanted, &none, to)
             }
             (ValueType::Host, Value::Ip6(address, _)) => {
                 self.emit_ip6(link, direction, None, address, to)
@@ -57,13 +48,8 @@ impl<A: Allocator> Code<A> {
             (ValueType::Net, value) => match value.ip4_net() {
                 None => Ok(to.no),
                 Some(net) => {
-                    let (mask, address) = (partial_mask(net.mask), net.address);
-                    let net = NetTest {
-                        direction,
-                        mask,
-                        address,
-                    };
-                    self.emit_hosts(link, protocol, Hosts::Net(net), &none, to)
+                    let wanted = Hosts::Net(direction, partial_mask(net.mask), net.address);
+                    self.emit_hosts(link, protocol, wanted, &none, to)
                 }
             },
             (ValueType::Port, Value::Number(port, _)) => {

@@ -19,12 +19,11 @@
 //! - `tcp[..]` and 13, a constant index, become one load. Its protocol goes into `accessors`.
 //!   Nothing waits in `numbers`, so their tests are emitted in front (`finish_relation`).
 
-ghost use Rattle.std.specs.Prelude.{◌≡◌, true, Some, None, if◌then◌else◌, OnOk, IfOk, reverse};
+ghost use Rattle.std.specs.Prelude.{◌≡◌, Some, None, if◌then◌else◌, OnOk, IfOk, reverse};
 ghost use Rattle.flt_gen.specs.inside.Walk.{start_walk, insns_of, emit_nodes, emit_both_nodes};
-ghost use Rattle.flt_gen.specs.inside.Walk.{emit_load_at, emit_operator_with, emit_comparison_with};
 ghost use Rattle.flt_gen.specs.inside.Walk.{emit_node, emit_join, emit_entry, emit_truth_node};
-ghost use Rattle.flt_gen.specs.inside.Walk.{emit_apart, is_truth_node, begin_left, begin_right, flush_group};
-ghost use Rattle.flt_gen.specs.inside.Walk.{finish_formula, finish_truth, is_number_node};
+ghost use Rattle.flt_gen.specs.inside.Walk.{emit_apart, begin_left, begin_right, flush_group};
+ghost use Rattle.flt_gen.specs.inside.Walk.{finish_formula, finish_truth};
 ghost use Rattle.flt_gen.specs.inside.Walk.{emit_leaf, begin_operands, finish_number};
 ghost use Rattle.flt_gen.specs.inside.{Code.block, Walk.finish_relation, Group.entry_formula};
 ghost use Rattle.flt_gen.specs.inside.Group.{no_group, larger_group, group_formula};
@@ -40,10 +39,10 @@ use crate::relation::last_relation;
 use crate::stack::Stack;
 use crate::waiting::{LeftTruth, Pending, Waiting, add_accessor};
 use cap_octet::Link;
-use flt_ast::{CompleteQualifiers, Node, Value};
+use flt_ast::Node;
 use flt_bpf::Wide;
 use flt_bpf::operation::{Operand, Operation, Register, Source};
-use flt_words::{Comparison, Join, Operator, Protocol};
+use flt_words::{Join, Protocol};
 use std::alloc::{AllocError, Allocator};
 use std::marker::Model;
 
@@ -112,6 +111,7 @@ impl<A: Allocator + Clone> Walk<A> {
     }
 
     /// Emits the code of all nodes of a tree, from the last to the first.
+    #[tactic(auto, using(crate::proofs::Turned::node_steps))]
     pub fn emit_nodes(&mut self, link: Link, nodes: &[Node]) -> Result<(), AllocError>
         ensures { OnOk result (self.new ≡ emit_nodes link self.old (reverse nodes.now)) }
     {
@@ -143,83 +143,54 @@ impl<A: Allocator + Clone> Walk<A> {
         ensures same { IfOk result (λ fits. self.new ≡ (if fits then self.new else self.old)) }
     {
         match (node, right) {
-            (Node::Apply(operator), Node::Literal(n)) => { self.emit_operator_with(*operator, *n) }
+            (Node::Apply(operator), Node::Literal(n)) => {
+                if !takes_constant(*operator, *n) {
+                    return Ok(false);
+                }
+                self.code
+                    .emit_plain(computation(*operator, Operand::Constant), *n)?;
+                Ok(true)
+            }
             (Node::Compare(comparison), Node::Literal(n)) => {
-                self.emit_comparison_with(link, *comparison, *n)?;
+                self.flush_group(link)?;
+                self.code
+                    .emit_comparison(*comparison, Operand::Constant, *n, self.to)?;
                 Ok(true)
             }
             (Node::Load(protocol, size), Node::Literal(n)) => {
-                self.emit_load_at(link, *protocol, *size, *n)?;
+                let offset = accessor_offset(link, *protocol, *n);
+                self.code.emit_field(offset, width_of(*size))?;
+                self.numbers.push(Waiting::Index(*protocol))?;
+                self.finish_number(link)?;
                 Ok(true)
             }
             _ => Ok(false),
         }
     }
 
-    /// Emits an accessor with a constant index.
-    fn emit_load_at(
-        &mut self,
-        link: Link,
-        protocol: Protocol,
-        size: u32,
-        index: u32,
-    ) -> Result<(), AllocError>
-        ensures { OnOk result (self.new ≡ emit_load_at link protocol size index self.old) }
-    {
-        let offset = accessor_offset(link, protocol, index);
-        self.code.emit_field(offset, width_of(size))?;
-        self.numbers.push(Waiting::Index(protocol))?;
-        self.finish_number(link)
-    }
-
-    /// Emits an operator with a constant as its right operand. `false`: its instruction may not
-    /// have it, and nothing is emitted.
-    fn emit_operator_with(&mut self, operator: Operator, constant: u32) -> Result<bool, AllocError>
-        ensures emits { IfOk result (λ fits. emit_operator_with operator constant self.old
-            ≡ (if fits then Some self.new else None)) }
-        ensures same { IfOk result (λ fits. self.new ≡ (if fits then self.new else self.old)) }
-    {
-        if !takes_constant(operator, constant) {
-            return Ok(false);
-        }
-        self.code
-            .emit_plain(computation(operator, Operand::Constant), constant)?;
-        Ok(true)
-    }
-
-    /// Emits a comparison with a constant as its right operand.
-    fn emit_comparison_with(
-        &mut self,
-        link: Link,
-        comparison: Comparison,
-        constant: u32,
-    ) -> Result<(), AllocError>
-        ensures { OnOk result
-            (emit_comparison_with comparison constant (flush_group link self.old) ≡ Some self.new) }
-    {
-        self.flush_group(link)?;
-        self.code
-            .emit_comparison(comparison, Operand::Constant, constant, self.to)
-    }
-
     /// Emits one more node, the one before those that were emitted. A group that waits is emitted
     /// first, unless the node is a value or an `or`, which may go on with it, or arithmetic, of
-    /// which the comparison did so.
+    /// which the comparison did so. The value of arithmetic is in A then.
     fn emit_node(&mut self, link: Link, node: &Node) -> Result<(), AllocError>
         ensures { OnOk result (self.new ≡ emit_node link self.old node.now) }
     {
         match node {
             Node::Join(join) => self.emit_join(link, *join),
-            Node::Qualified(qualifiers, value) => self.emit_entry(
-                link,
-                Entry::Value(*qualifiers, *value),
-            ),
-            Node::Literal(_)
-            | Node::Named(_)
-            | Node::Len
-            | Node::Load(_, _)
-            | Node::Negate
-            | Node::Apply(_) => { self.emit_number_node(link, node) }
+            Node::Qualified(qualifiers, value) => {
+                self.emit_entry(link, Entry::Value(*qualifiers, *value))
+            }
+            Node::Literal(n) | Node::Named(n) => self.emit_leaf(link, Source::Immediate, *n),
+            Node::Len => self.emit_leaf(link, Source::Length, 0),
+            Node::Load(protocol, size) => {
+                emit_accessor(&mut self.code, link, *protocol, width_of(*size))?;
+                self.numbers.push(Waiting::Index(*protocol))
+            }
+            Node::Negate => self.code.emit_plain(Operation::Negate, 0),
+            Node::Apply(operator) => {
+                self.code
+                    .emit_plain(computation(*operator, Operand::IndexRegister), 0)?;
+                self.begin_operands(self.slot)
+            }
             _ => {
                 self.flush_group(link)?;
                 self.emit_truth_node(link, node)
@@ -302,17 +273,15 @@ impl<A: Allocator + Clone> Walk<A> {
         Ok(())
     }
 
-    /// Emits a primitive or a negation. A value whose qualifiers aren't filled in matches no
-    /// packet; a `Checked` expression has none.
+    /// Emits a primitive, a negation or a comparison. Any other node matches no packet, as a value
+    /// whose qualifiers aren't filled in; a `Checked` expression has none.
     fn emit_truth_node(&mut self, link: Link, node: &Node) -> Result<(), AllocError>
-        requires truth { is_truth_node node.now ≡ true }
         ensures { OnOk result (self.new ≡ emit_truth_node link self.old node.now) }
     {
         let entry = match node {
             Node::Check(protocol) => self.code.emit_check(link, *protocol, self.to)?,
             Node::Cast(protocol, cast) => self.code.emit_cast(link, *protocol, *cast, self.to)?,
             Node::Sized(size, number) => self.code.emit_length_test(*size, *number, self.to)?,
-            Node::Bare(_) | Node::Valued(_, _) => self.to.no,
             Node::Not => {
                 self.to = self.to.exchanged();
                 return Ok(());
@@ -322,7 +291,7 @@ impl<A: Allocator + Clone> Walk<A> {
                     .emit_comparison(*comparison, Operand::IndexRegister, 0, self.to)?;
                 return self.begin_operands(0);
             }
-            _ => unreachable!(),
+            _ => self.to.no,
         };
         self.finish_truth(entry);
         Ok(())
@@ -390,28 +359,6 @@ impl<A: Allocator + Clone> Walk<A> {
             },
         };
         self.to = Targets { yes, no };
-    }
-
-    /// Emits a node of arithmetic, whose value is in A then.
-    fn emit_number_node(&mut self, link: Link, node: &Node) -> Result<(), AllocError>
-        requires { is_number_node node.now ≡ true }
-        ensures { OnOk result (self.new ≡ emit_node link self.old node.now) }
-    {
-        match node {
-            Node::Literal(n) | Node::Named(n) => self.emit_leaf(link, Source::Immediate, *n),
-            Node::Len => self.emit_leaf(link, Source::Length, 0),
-            Node::Load(protocol, size) => {
-                emit_accessor(&mut self.code, link, *protocol, width_of(*size))?;
-                self.numbers.push(Waiting::Index(*protocol))
-            }
-            Node::Negate => self.code.emit_plain(Operation::Negate, 0),
-            Node::Apply(operator) => {
-                self.code
-                    .emit_plain(computation(*operator, Operand::IndexRegister), 0)?;
-                self.begin_operands(self.slot)
-            }
-            _ => unreachable!(),
-        }
     }
 
     /// Emits the load of a number, or of the packet's original length, into A.

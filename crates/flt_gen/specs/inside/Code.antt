@@ -23,7 +23,7 @@ use Rattle.flt_gen.specs.Elementary.{with}
 use Rattle.flt_gen.specs.Formula.{Formula, Single, Compare, Both, Either, Except, Split, Sought, Numbers}
 use Rattle.flt_gen.specs.Numbers.{width_of}
 use Rattle.flt_gen.specs.declared.elementary.Elementary.{Elementary, TheVariants.Outcome, TheVariants.Field}
-use Rattle.flt_gen.specs.declared.elementary.{FieldTest.FieldTest, Interval.Interval, Offset.Offset}
+use Rattle.flt_gen.specs.declared.elementary.{Interval.Interval, Offset.Offset}
 use Rattle.flt_gen.specs.declared.elementary.{Offset.TheVariants.Fixed, Offset.TheVariants.AfterHeader, Sides.Sides}
 
 -- an instruction that isn't a test
@@ -97,12 +97,6 @@ abbrev pub emit_mask : Option ℕ → List Insn → List Insn
 emit_mask None c = c
 emit_mask (Some mask) c = plain (Compute AluOperation.And Constant) mask ∷ c
 
--- a field is loaded, masked and compared
-abbrev pub emit_test : FieldTest → ℕ → ℕ → List Insn → List Insn
-emit_test t hit miss c =
-    emit_field t.offset t.width (emit_mask t.mask
-    (emit_comparison t.comparison Constant t.value hit miss c))
-
 -- the field as far past a fixed place as the number in A goes into A
 abbrev pub emit_base : ℕ → Width → List Insn → List Insn
 emit_base at width c = plain CopyToIndex 0 ∷ plain (LoadIndirect width) at ∷ c
@@ -129,43 +123,39 @@ accessor_offset link Udp k = AfterHeader (network_offset link) ((network_offset 
 accessor_offset link Icmp k = AfterHeader (network_offset link) ((network_offset link + k) % 2 ^ 32)
 accessor_offset link _ k = Fixed ((network_offset link + k) % 2 ^ 32)
 
--- an accessor's field goes into A: at a constant index, or else after the code of the index
-abbrev pub emit_indexed : Option ℕ → (ℕ → List Insn) → List Insn → List Insn
-emit_indexed (Some k) short long = short k
-emit_indexed None short long = long
+-- the code of an instruction with a constant operand or index in it, or else, if there is none, the
+-- code that computes that
+abbrev pub constant_or : Option ℕ → (ℕ → List Insn) → List Insn → List Insn
+constant_or (Some k) short long = short k
+constant_or None short long = long
 
 -- the right operand, which is in A, goes into X, and the left one comes back into A from its word
 abbrev pub emit_operands : ℕ → List Insn → List Insn
 emit_operands slot c = plain CopyToIndex 0 ∷ plain (Load Accumulator Memory) slot ∷ c
 
--- what is after a left operand: an instruction with the right one in it; or the left one goes into
--- a word, and then the right one is computed
-abbrev pub emit_right : Option ℕ → ℕ → (ℕ → List Insn) → List Insn → List Insn
-emit_right (Some k) slot short long = short k
-emit_right None slot short long = plain (Store Accumulator) slot ∷ long
-
--- arithmetic's value goes into A; the words from slot on are free for it
+-- arithmetic's value goes into A; the words from slot on are free for it. A left operand goes into a
+-- word before a right one is computed
 abbrev pub emit_number : Link → NumberTree → ℕ → List Insn → List Insn
 emit_number link (literal k) slot c = plain (Load Accumulator Immediate) k ∷ c
 emit_number link (named k) slot c = plain (Load Accumulator Immediate) k ∷ c
 emit_number link len slot c = plain (Load Accumulator Length) 0 ∷ c
 emit_number link (load protocol size i) slot c =
-    emit_indexed (constant i) (λ k. emit_field (accessor_offset link protocol k) (width_of size) c)
+    constant_or (constant i) (λ k. emit_field (accessor_offset link protocol k) (width_of size) c)
     (emit_number link i slot (emit_accessor link protocol (width_of size) c))
 emit_number link (negated a) slot c = emit_number link a slot (plain Negate 0 ∷ c)
 emit_number link (applied operator l r) slot c =
-    emit_number link l slot (emit_right (constant_operand operator r) slot
+    emit_number link l slot (constant_or (constant_operand operator r)
     (λ k. plain (computation operator Constant) k ∷ c)
-    (emit_number link r (slot + 1)
+    (plain (Store Accumulator) slot ∷ emit_number link r (slot + 1)
     (emit_operands slot (plain (computation operator IndexRegister) 0 ∷ c))))
 
 -- two numbers are computed and compared, and the code goes on at one of two places
 abbrev pub emit_relation : Link → Comparison → NumberTree → NumberTree → ℕ → ℕ → List Insn
     → List Insn
 emit_relation link comparison l r hit miss c =
-    emit_number link l 0 (emit_right (constant r) 0
+    emit_number link l 0 (constant_or (constant r)
     (λ k. emit_comparison comparison Constant k hit miss c)
-    (emit_number link r 1 (emit_operands 0
+    (plain (Store Accumulator) 0 ∷ emit_number link r 1 (emit_operands 0
     (emit_comparison comparison IndexRegister 0 hit miss c))))
 
 -- code, and the place at which it is entered
@@ -181,11 +171,14 @@ block c entry = record { code = c; entry = entry }
 abbrev pub at_top : List Insn → Block
 at_top c = record { code = c; entry = length c }
 
--- an elementary test; one that the link type decides takes no code
+-- an elementary test: a field is loaded, masked and compared; what the link type decides takes no
+-- code
 abbrev pub emit_elementary : Elementary → ℕ → ℕ → List Insn → Block
 emit_elementary (Outcome true) hit miss c = block c hit
 emit_elementary (Outcome false) hit miss c = block c miss
-emit_elementary (Field t) hit miss c = at_top (emit_test t hit miss c)
+emit_elementary (Field t) hit miss c =
+    at_top (emit_field t.offset t.width (emit_mask t.mask
+    (emit_comparison t.comparison Constant t.value hit miss c)))
 
 -- whether A is in an interval, if it may be known to be no lower
 abbrev pub emit_interval : Bool → Interval → ℕ → ℕ → List Insn → Block

@@ -10,7 +10,7 @@ use Rattle.flt_ast.specs.declared.{qualifiers.Direction.Direction, value.Value.V
 use Rattle.cap_octet.specs.{Link.network_offset, declared.link.Link.Link}
 use Rattle.flt_gen.specs.Elementary.{kind_test}
 use Rattle.flt_gen.specs.Formula.{Formula, Compare, checked_formula, sides}
-use Rattle.flt_gen.specs.Primitives.{after, ip6_tests, net_value_formula, value_formula}
+use Rattle.flt_gen.specs.Primitives.{after, ip6_tests, value_formula}
 use Rattle.flt_gen.specs.declared.elementary.Elementary.{Elementary}
 use Rattle.flt_gen.specs.declared.elementary.Elementary.TheVariants.{Outcome, Field}
 use Rattle.flt_gen.specs.declared.elementary.FrameKind.{FrameKind}
@@ -97,15 +97,10 @@ ip6_needed link direction prefix address =
     (needed_sides direction (ip6_tests prefix address (network_offset link + 8))
     (ip6_tests prefix address (network_offset link + 24)))
 
--- `net` with a network of IPv4 or IPv6, without the tests that decide nothing
-abbrev pub net_needed : Link → Option Protocol → Direction → Value → Formula
-net_needed link protocol direction (Value.Ip6 address prefix) =
-    ip6_needed link direction prefix address
-net_needed link protocol direction v = net_value_formula link protocol direction v
-
 -- a value with these qualifiers, without the tests that decide nothing
 abbrev pub value_needed : Link → ValueType → Option Protocol → Direction → Value → Formula
-value_needed link Net protocol direction v = net_needed link protocol direction v
+value_needed link Net protocol direction (Value.Ip6 address prefix) =
+    ip6_needed link direction prefix address
 value_needed link value_type protocol direction v =
     value_formula link value_type protocol direction v
 

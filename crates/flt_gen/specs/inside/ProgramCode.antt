@@ -26,10 +26,6 @@ expression_code link empty = record { code = returns_code; entry = 2 }
 expression_code link (truth a) =
     emit_formula link (grouped_formula link no_group a) 2 1 returns_code
 
--- the instructions from the entry on
-abbrev pub from_entry : Block → List Insn
-from_entry e = drop (length e.code - e.entry) e.code
-
--- the program of an expression
+-- the program of an expression: the instructions from the entry on
 abbrev pub program_code : Link → Expression → List Insn
-program_code link e = from_entry (expression_code link e)
+program_code link e = let b = expression_code link e in drop (length b.code - b.entry) b.code

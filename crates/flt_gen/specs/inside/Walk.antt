@@ -1,12 +1,12 @@
 -- The walk over the nodes of an expression, from the last to the first.
-use Rattle.std.specs.Prelude.{not, ℕ, ◌+◌, List, [], ◌∷◌, length, drop, ◌-◌, if◌then◌else◌, Bool, true, false, Option, Some, None}
+use Rattle.std.specs.Prelude.{ℕ, ◌+◌, List, [], ◌∷◌, length, drop, ◌-◌, if◌then◌else◌, Bool, Option, Some, None}
 use Rattle.flt_bpf.specs.declared.insn.Insn.{Insn}
 use Rattle.flt_bpf.specs.declared.operation.Operand.TheVariants.{Constant, IndexRegister}
 use Rattle.flt_bpf.specs.declared.operation.Operation.TheVariants.{Load, Store, Negate}
 use Rattle.flt_bpf.specs.declared.operation.{Register.TheVariants.Accumulator, Source.Source}
 use Rattle.flt_bpf.specs.declared.operation.Source.TheVariants.{Immediate, Length}
-use Rattle.flt_words.specs.declared.token.{Comparison.Comparison, Comparison.TheVariants.Equal, Join.Join, Join.TheVariants.And, Join.TheVariants.Or}
-use Rattle.flt_words.specs.declared.token.{Operator.Operator, Protocol.Protocol}
+use Rattle.flt_words.specs.declared.token.{Comparison.TheVariants.Equal, Join.Join, Join.TheVariants.And, Join.TheVariants.Or}
+use Rattle.flt_words.specs.declared.token.Protocol.{Protocol}
 use Rattle.flt_ast.specs.declared.{node.Node.Node}
 use Rattle.cap_octet.specs.declared.link.Link.{Link}
 use Rattle.flt_gen.specs.{Formula.Formula, Numbers.width_of}
@@ -147,7 +147,7 @@ abbrev pub emit_join : Link → Join → Walk → Walk
 emit_join link Or w = record (begin_right w.pending w) { pending = Pending.Or }
 emit_join link And w = begin_left And (flush_group link w)
 
--- a primitive or a negation
+-- a primitive, a negation or a comparison; any other node matches no packet
 abbrev pub emit_truth_node : Link → Walk → Node → Walk
 emit_truth_node link w (Node.Check protocol) = finish_formula link (check_formula link protocol) w
 emit_truth_node link w (Node.Cast protocol c) = finish_formula link (cast_formula link protocol c) w
@@ -178,49 +178,20 @@ emit_node link w (Node.Apply operator) =
     begin_operands w.slot (plain (computation operator IndexRegister) 0 ∷ w.code) w
 emit_node link w n = emit_truth_node link (flush_group link w) n
 
--- an operator with a constant as its right operand, and the left one is next; none if its
--- instruction may not have this constant
-abbrev pub emit_operator_with : Operator → ℕ → Walk → Option Walk
-emit_operator_with operator k w =
-    if takes_constant operator k
-    then Some (with_insns (plain (computation operator Constant) k ∷ w.code) w)
-    else None
-
--- a comparison with a constant as its right operand, and the left one is next
-abbrev pub emit_comparison_with : Comparison → ℕ → Walk → Option Walk
-emit_comparison_with comparison k w =
-    Some (with_insns (emit_comparison comparison Constant k w.to.yes w.to.no w.code) w)
-
--- an accessor with a constant index
-abbrev pub emit_load_at : Link → Protocol → ℕ → ℕ → Walk → Walk
-emit_load_at link protocol size k w =
-    finish_number link (Index protocol ∷ w.numbers)
-    (with_insns (emit_field (accessor_offset link protocol k) (width_of size) w.code) w)
-
 -- an operator, a comparison or an accessor, and its right operand or index, a constant, at once;
 -- none if the nodes are others, or the instruction may not have this constant
 abbrev pub emit_both_nodes : Link → Walk → Node → Node → Option Walk
-emit_both_nodes link w (Node.Apply operator) (Node.Literal k) = emit_operator_with operator k w
+emit_both_nodes link w (Node.Apply operator) (Node.Literal k) =
+    if takes_constant operator k
+    then Some (with_insns (plain (computation operator Constant) k ∷ w.code) w)
+    else None
 emit_both_nodes link w (Node.Compare comparison) (Node.Literal k) =
-    emit_comparison_with comparison k (flush_group link w)
-emit_both_nodes link w (Node.Load p s) (Node.Literal k) = Some (emit_load_at link p s k w)
+    let v = flush_group link w in
+    Some (with_insns (emit_comparison comparison Constant k v.to.yes v.to.no v.code) v)
+emit_both_nodes link w (Node.Load p s) (Node.Literal k) =
+    Some (finish_number link (Index p ∷ w.numbers)
+    (with_insns (emit_field (accessor_offset link p k) (width_of s) w.code) w))
 emit_both_nodes link w _ _ = None
-
--- a node of arithmetic
-abbrev pub is_number_node : Node → Bool
-is_number_node (Node.Literal n) = true
-is_number_node (Node.Named n) = true
-is_number_node Node.Len = true
-is_number_node (Node.Load protocol size) = true
-is_number_node Node.Negate = true
-is_number_node (Node.Apply operator) = true
-is_number_node _ = false
-
--- a node of truths, except values with all their qualifiers and for joins
-abbrev pub is_truth_node : Node → Bool
-is_truth_node (Node.Qualified q v) = false
-is_truth_node (Node.Join join) = false
-is_truth_node n = not (is_number_node n)
 
 -- the two returns are there, and nothing waits
 abbrev pub start_walk : Walk

@@ -1,6 +1,5 @@
 -- The nodes so far are folded.
-use Rattle.std.proofs.Common.{◌≡◌, [], take, fold}
-use Rattle.flt_gen.specs.inside.Folding.{with_folded}
+use Rattle.flt_gen.proofs.Common.{◌≡◌, [], take, fold, with_folded}
 use Rattle.flt_gen.proofs.folding.folded_nodes.Given as goal
 
 abbrev pub invariant-loop-node : goal.invariant-loop-node

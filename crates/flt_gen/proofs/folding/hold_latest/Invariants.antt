@@ -1,6 +1,5 @@
 -- What is left to hold is of the same.
-use Rattle.std.proofs.Common.{◌≡◌, [], length}
-use Rattle.flt_gen.specs.inside.Folding.{hold}
+use Rattle.flt_gen.proofs.Common.{◌≡◌, [], length, hold}
 use Rattle.flt_gen.proofs.folding.hold_latest.Given as goal
 
 abbrev pub invariant-nodes : goal.invariant-nodes

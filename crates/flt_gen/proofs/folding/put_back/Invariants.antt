@@ -1,6 +1,5 @@
 -- What is left is put back.
-use Rattle.std.proofs.Common.{◌≡◌, length}
-use Rattle.flt_gen.specs.inside.Folding.{put_back}
+use Rattle.flt_gen.proofs.Common.{◌≡◌, length, put_back}
 use Rattle.flt_gen.proofs.folding.put_back.Given as goal
 
 abbrev pub invariant-held : goal.invariant-held

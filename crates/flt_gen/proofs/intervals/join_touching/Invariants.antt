@@ -1,6 +1,5 @@
 -- What is joined so far, and the rest after it.
-use Rattle.std.proofs.Common.{◌≡◌, ◌-◌, ◌≤◌, ◌++◌, length, drop}
-use Rattle.flt_gen.specs.inside.Intervals.{joined_from, joined_all}
+use Rattle.flt_gen.proofs.Common.{◌≡◌, ◌-◌, ◌≤◌, ◌++◌, length, drop, joined_from, joined_all}
 use Rattle.flt_gen.proofs.intervals.join_touching.Given as goal
 
 abbrev pub invariant-touching : goal.invariant-touching

@@ -1,6 +1,5 @@
 -- What is cut and put so far, and the rest after it.
-use Rattle.std.proofs.Common.{◌≡◌, ◌-◌, ◌≤◌, ◌++◌, length, drop, map}
-use Rattle.flt_gen.specs.inside.Intervals.{cut, without}
+use Rattle.flt_gen.proofs.Common.{◌≡◌, ◌-◌, ◌≤◌, ◌++◌, length, drop, map, cut, without}
 use Rattle.flt_gen.proofs.intervals.put_cut.Given as goal
 
 abbrev pub invariant-cut : goal.invariant-cut

@@ -1,6 +1,5 @@
 -- The frames' test in front of the words of both sides.
-use Rattle.flt_gen.proofs.Common.{ℕ, ◌+◌, ◌∙◌, sym, ap, ap₂, subst, List, Elementary, Block}
-use Rattle.flt_gen.specs.{Primitives.ip6_tests}
+use Rattle.flt_gen.proofs.Common.{ℕ, ◌+◌, ◌∙◌, sym, ap, ap₂, subst, List, Elementary, Block, ip6_tests}
 use Rattle.flt_gen.specs.inside.{Code.emit_formula, Code.emit_elementary, Emits.Emits, Emitted.needed_sides}
 use Rattle.flt_gen.proofs.code.Code.emit_ip6.Goals as goal
 

@@ -1,6 +1,5 @@
 -- What is left to do leads to the same walk, and fewer and fewer accessors wait.
-use Rattle.std.proofs.Common.{◌≡◌, length}
-use Rattle.flt_gen.specs.inside.Walk.{finish_number}
+use Rattle.flt_gen.proofs.Common.{◌≡◌, length, finish_number}
 use Rattle.flt_gen.proofs.walk.Walk.finish_number.Given as goal
 
 abbrev pub invariant-waiting : goal.invariant-waiting
