@@ -1,9 +1,9 @@
 -- Decision trees of cases: they read as one case after the other, and have few tests.
 use Rattle.flt_gen.proofs.Ascending.{if_case, each_is}
-use Rattle.flt_gen.proofs.Common.{◌≡◌, ℕ, zero, suc, ◌+◌, ◌-◌, ◌*◌, ◌^◌, ◌<◌, ◌≤◌, List, [], ◌∷◌, ◌++◌, length, map, max, length-take, take, drop, Bool, true, false, Option, Some, None, refl, sym, ap, ap₂, ◌∙◌, subst, arith, add-one, ◌==◌, ◌&&◌, nat_lt, nat_le, bit_and, nat_tests, and_parts, pow_pos, and_le_r, Tcp, Direction, Link, first_bits, Word, HalfWord, Byte, Width, Offset, Fixed, Equal, Elementary, Field, MatchResult, Yes, No, Rejected, reading_of, with, field_at, under_mask, compares, elementary_reads, network_offset, Formula, both, either, all_of, reads, partial_mask}
+use Rattle.flt_gen.proofs.Common.{◌≡◌, ℕ, zero, suc, ◌+◌, ◌-◌, ◌*◌, ◌^◌, ◌<◌, ◌≤◌, List, [], ◌∷◌, ◌++◌, length, map, max, length-take, take, drop, Bool, true, false, Option, Some, None, refl, sym, ap, ap₂, ◌∙◌, subst, arith, add-one, field, is_empty, is_idle, capture_test, last_test, needed_tests, ◌==◌, ◌&&◌, nat_lt, nat_le, bit_and, nat_tests, and_parts, pow_pos, and_le_r, Tcp, Direction, Link, first_bits, Word, HalfWord, Byte, Width, Offset, Fixed, Equal, Elementary, Field, MatchResult, Yes, No, Rejected, reading_of, with, field_at, under_mask, compares, elementary_reads, network_offset, Formula, both, either, all_of, reads, partial_mask}
 use Rattle.flt_gen.proofs.Counted.{Bare, bare_within, bare_all, bare_one, bare_some, bare_both, bare_either, bare_split}
 use Rattle.flt_gen.proofs.Exclusive.{both_either, or_no, either_assoc, and_yes}
-use Rattle.flt_gen.proofs.{Needed.all_put, Once.equal_are, Together.word_small}
+use Rattle.flt_gen.proofs.{Needed.all_put, Needed.later_none, Needed.idle_holds, Needed.fewer, Once.equal_are, Together.word_small}
 use Rattle.std.specs.{List.list_all, List.insert, Prelude.slice_get}
 use Rattle.flt_gen.specs.Formula.{choose, Split}
 use Rattle.flt_gen.specs.declared.cases.Bound.{Bound, TheVariants.Below, TheVariants.From, TheVariants.Exactly}
@@ -18,15 +18,20 @@ use Rattle.std.proofs.lemmas.{List.length-map, List.map-append, List.take-append
 
 -- ---- which words cases have
 
--- the word of a field whose mask isn't whole has a fixed place
-abbrev Masked : Offset × Width → Option ℕ → Type 0
-Masked f None = Unit {0}
-Masked f (Some m) = (m < 2 ^ 32) × (f.1 ≡ Word) × ((k : ℕ) × (f.0 ≡ Fixed k))
+-- where a field isn't captured, the next one isn't
+abbrev Later : Offset × Width → List (Offset × Width) → Type 0
+Later f [] = Unit {0}
+Later f (g ∷ gs) = (p : List ℕ) → field_at f.0 f.1 p ≡ None → field_at g.0 g.1 p ≡ None
+
+-- the word of a field whose mask isn't whole has a fixed place, and the next field comes later
+abbrev Masked : Offset × Width → List (Offset × Width) → Option ℕ → Type 0
+Masked f fs None = Unit {0}
+Masked f fs (Some m) = (m < 2 ^ 32) × (f.1 ≡ Word) × ((k : ℕ) × (f.0 ≡ Fixed k)) × Later f fs
 
 -- tests for equality of these fields
 abbrev pub Shape : List (Offset × Width) → List Elementary → Type 0
 Shape [] [] = Unit {0}
-Shape (f ∷ fs) (Field t ∷ ts) = (t.offset ≡ f.0) × (t.width ≡ f.1) × (t.comparison ≡ Equal) × Masked f t.mask × Shape fs ts
+Shape (f ∷ fs) (Field t ∷ ts) = (t.offset ≡ f.0) × (t.width ≡ f.1) × (t.comparison ≡ Equal) × Masked f fs t.mask × Shape fs ts
 Shape _ _ = ⊥
 
 abbrev pub Shapes : List (Offset × Width) → List (List Elementary) → Type 0
@@ -46,16 +51,19 @@ fields_of link d (IpProto n) = (Fixed (network_offset link + 9), Byte) ∷ []
 fields_of link d (Ip6Proto n) = (Fixed (network_offset link + 6), Byte) ∷ []
 fields_of link d (Case.Relation r) = (accessor_offset link r.protocol r.index, width_of r.size) ∷ []
 
-masked_part : (k : ℕ) (prefix : Option ℕ) (word : ℕ) → Masked (Fixed k, Word) (with prefix (λ bits. partial_mask (first_bits 32 (bits - 32 * word))))
-masked_part k None word = tt
-masked_part k (Some bits) word =
+masked_part : (k : ℕ) (fs : List (Offset × Width)) (prefix : Option ℕ) (word : ℕ) → Later (Fixed k, Word) fs → Masked (Fixed k, Word) fs (with prefix (λ bits. partial_mask (first_bits 32 (bits - 32 * word))))
+masked_part k fs None word later = tt
+masked_part k fs (Some bits) word later =
     let some = pow_pos (32 - (bits - 32 * word)) in
-    if_case (Masked (Fixed k, Word)) (first_bits 32 (bits - 32 * word) == 2 ^ 32 - 1) None (Some (first_bits 32 (bits - 32 * word))) (λ e. tt) (λ e. (omega (arith, some), refl, (k, refl)))
+    if_case (Masked (Fixed k, Word) fs) (first_bits 32 (bits - 32 * word) == 2 ^ 32 - 1) None (Some (first_bits 32 (bits - 32 * word))) (λ e. tt) (λ e. (omega (arith, some), refl, (k, refl), later))
 
 pub shape_of : (link : Link) (d : Direction) (c : Case) → Shape (fields_of link d c) (case_tests link d c)
 shape_of link d (Mac a) = (refl, refl, refl, tt, (refl, refl, refl, tt, tt))
 shape_of link d (Ip6 n a) =
-    (refl, refl, refl, masked_part _ n 0, (refl, refl, refl, masked_part _ n 1, (refl, refl, refl, masked_part _ n 2, (refl, refl, refl, masked_part _ n 3, tt))))
+    let at = network_offset link + ip6_place d in
+    let word : ℕ → Offset × Width = λ k. (Fixed (at + 4 * k), Word) in
+    let later : (k : ℕ) (p : List ℕ) → field p (at + 4 * k) Word ≡ None → field p (at + 4 * suc k) Word ≡ None = λ k p. later_none link p 0 at k in
+    (refl, refl, refl, masked_part _ (word 1 ∷ word 2 ∷ word 3 ∷ []) n 0 (later 0), (refl, refl, refl, masked_part _ (word 2 ∷ word 3 ∷ []) n 1 (later 1), (refl, refl, refl, masked_part _ (word 3 ∷ []) n 2 (later 2), (refl, refl, refl, masked_part _ [] n 3 tt, tt))))
 shape_of link d (EitherIp6 a) =
     (refl, refl, refl, tt, (refl, refl, refl, tt, (refl, refl, refl, tt, (refl, refl, refl, tt, tt))))
 shape_of link d _ = (refl, refl, refl, tt, tt)
@@ -230,9 +238,9 @@ module _ (link : Link) (p : List ℕ) (n : ℕ) where
   test_read : (f : Offset × Width) (fs : List (Offset × Width)) (t : FieldTest) (ts : List Elementary) → Shape (f ∷ fs) (Field t ∷ ts) → told (Field t ∷ ts) ≡ both (by_field f t.mask t.value) (told ts)
   test_read f fs t ts h = all_put link p n (Field t) ts ∙ ap (λ r. both r (told ts)) (word_read f t h.0 h.1 h.2)
 
-  small_word : (f : Offset × Width) (mask : Option ℕ) (x : ℕ) → Masked f mask → field_at f.0 f.1 p ≡ Some x → (m : ℕ) → mask ≡ Some m → (m < 2 ^ 32) × (x < 2 ^ 32)
-  small_word f None x h e m is = cc
-  small_word f (Some k) x h e m is = (each_is (Some k) (λ z. z < 2 ^ 32) m h.0 is, word_small p (h.2).0 x (ap₂ (λ o w. field_at o w p) (sym (h.2).1) (sym h.1) ∙ e))
+  small_word : (f : Offset × Width) (fs : List (Offset × Width)) (mask : Option ℕ) (x : ℕ) → Masked f fs mask → field_at f.0 f.1 p ≡ Some x → (m : ℕ) → mask ≡ Some m → (m < 2 ^ 32) × (x < 2 ^ 32)
+  small_word f fs None x h e m is = cc
+  small_word f fs (Some k) x h e m is = (each_is (Some k) (λ z. z < 2 ^ 32) m h.0 is, word_small p (h.2).0 x (ap₂ (λ o w. field_at o w p) (sym (h.2).1) (sym h.1) ∙ e))
 
   missed : (f : Offset × Width) (mask : Option ℕ) (v x : ℕ) (r : MatchResult) → field_at f.0 f.1 p ≡ Some x → (under_mask mask x == v) ≡ false → both (by_field f mask v) r ≡ No
   missed f mask v x r e miss = ap (λ o. both (reading_of (with o (λ y. Some (under_mask mask y == v)))) r) e ∙ ap (λ b. both (reading_of (Some b)) r) miss
@@ -242,7 +250,7 @@ module _ (link : Link) (p : List ℕ) (n : ℕ) where
   none_past f fs b x ((Field t ∷ ts) ∷ rs) h a e l =
       let k = and_parts (keeps b (Some (Field t))) (all_rows b rs) a in
       ap₂ either
-      (test_read f fs t ts h.0 ∙ missed f t.mask t.value x (told ts) e (miss t b t.mask t.value x (small_word f t.mask x (h.0).3 e) k.0 l))
+      (test_read f fs t ts h.0 ∙ missed f t.mask t.value x (told ts) e (miss t b t.mask t.value x (small_word f fs t.mask x (h.0).3 e) k.0 l))
       (none_past f fs b x rs h.1 k.1 e l)
   none_past f fs b x (_ ∷ rs) h a e l = absurd h.0
 
@@ -290,6 +298,47 @@ module _ (link : Link) (p : List ℕ) (n : ℕ) where
   all_over ([] ∷ rs) h some = refl
   all_over ((t ∷ ts) ∷ rs) h some = absurd h.0
 
+  -- ---- tests that decide nothing are left out
+
+  idle_later : (f g : Offset × Width) (gs : List (Offset × Width)) (mask : Option ℕ) (v : ℕ) → (is_empty mask && v == 0) ≡ true → Masked f (g ∷ gs) mask → field_at f.0 f.1 p ≡ None → field_at g.0 g.1 p ≡ None
+  idle_later f g gs None v e h = cc
+  idle_later f g gs (Some m) v e h = h.3 p
+
+  idle_yes : (f : Offset × Width) (mask : Option ℕ) (v x : ℕ) → (is_empty mask && v == 0) ≡ true → field_at f.0 f.1 p ≡ Some x → by_field f mask v ≡ Yes
+  idle_yes f mask v x e is = ap (λ o. reading_of (with o (λ y. Some (under_mask mask y == v)))) is ∙ ap (λ b. reading_of (Some b)) (idle_holds mask v x e)
+
+  -- an idle test in front of others
+  idle_read : (f g : Offset × Width) (gs : List (Offset × Width)) (t u : FieldTest) (us : List Elementary) → Shape (f ∷ g ∷ gs) (Field t ∷ Field u ∷ us) → is_idle (Field t) ≡ true → told (Field t ∷ Field u ∷ us) ≡ told (Field u ∷ us)
+  idle_read f g gs t u us h e = test_read f (g ∷ gs) t (Field u ∷ us) h ∙ by (field_at f.0 f.1 p) refl
+    where
+      by : (o : Option ℕ) → field_at f.0 f.1 p ≡ o → both (by_field f t.mask t.value) (told (Field u ∷ us)) ≡ told (Field u ∷ us)
+      by None is =
+          ap (λ o. both (reading_of (with o (λ y. Some (under_mask t.mask y == t.value)))) (told (Field u ∷ us))) is
+          ∙ sym (test_read g gs u us h.4 ∙ ap (λ o. both (reading_of (with o (λ y. Some (under_mask u.mask y == u.value)))) (told us)) (idle_later f g gs t.mask t.value e h.3 is))
+      by (Some x) is = ap (λ r. both r (told (Field u ∷ us))) (idle_yes f t.mask t.value x e is)
+
+  last_read : (f : Offset × Width) (t : FieldTest) → Shape (f ∷ []) (Field t ∷ []) → elementary_reads (last_test (Field t)) p ≡ elementary_reads (Field t) p
+  last_read f t h =
+      if_case (λ u. elementary_reads u p ≡ elementary_reads (Field t) p) (is_idle (Field t)) (capture_test (Field t)) (Field t) (λ e. by e (field_at t.offset t.width p) refl) (λ e. refl)
+    where
+      by : is_idle (Field t) ≡ true → (o : Option ℕ) → field_at t.offset t.width p ≡ o → elementary_reads (capture_test (Field t)) p ≡ elementary_reads (Field t) p
+      by e None is = ap (λ o. reading_of (with o (λ y. Some (nat_le 0 y)))) is ∙ sym (ap (λ o. reading_of (with o (λ y. Some (compares t.comparison (under_mask t.mask y) t.value)))) is)
+      by e (Some x) is =
+          let low : nat_le 0 x ≡ true = grind (arith, nat_tests) in
+          ap (λ o. reading_of (with o (λ y. Some (nat_le 0 y)))) is ∙ ap (λ b. reading_of (Some b)) low
+          ∙ sym (word_read f t h.0 h.1 h.2 ∙ idle_yes f t.mask t.value x e (ap₂ (λ o w. field_at o w p) (sym h.0) (sym h.1) ∙ is))
+
+  pub needed_read : (fs : List (Offset × Width)) (r : List Elementary) → Shape fs r → told (needed_tests r) ≡ told r
+  needed_read [] [] h = refl
+  needed_read (f ∷ []) (Field t ∷ []) h = last_read f t h
+  needed_read (f ∷ g ∷ gs) (Field t ∷ Field u ∷ us) h =
+      let more = needed_read (g ∷ gs) (Field u ∷ us) h.4 in
+      if_case (λ xs. told xs ≡ told (Field t ∷ Field u ∷ us)) (is_idle (Field t)) (needed_tests (Field u ∷ us)) (Field t ∷ needed_tests (Field u ∷ us))
+      (λ e. more ∙ sym (idle_read f g gs t u us h e)) (λ e. all_put link p n (Field t) (needed_tests (Field u ∷ us)) ∙ ap (both (elementary_reads (Field t) p)) more)
+  needed_read (f ∷ []) (Field t ∷ u ∷ us) h = absurd h.4
+  needed_read (f ∷ g ∷ gs) (Field t ∷ _) h = absurd h.4
+  needed_read _ _ h = absurd h
+
   -- ---- cases in another order
 
   swapped : (a b z : MatchResult) → (a ≡ Yes → b ≡ Rejected → ⊥) → (b ≡ Yes → a ≡ Rejected → ⊥) → either a (either b z) ≡ either b (either a z)
@@ -327,15 +376,15 @@ module _ (link : Link) where
   abbrev Good : ℕ → List (Offset × Width) → List (List Elementary) → Formula → Type 0
   Good few fs rs f = ((p : List ℕ) (n : ℕ) → reads link f p n ≡ read_all link p n rs) × (0 < length fs → 0 < length rs → Bare f (sizes rs + (length rs - max 1 few)))
 
-  row_bare : (fs : List (Offset × Width)) (r : List Elementary) → Shape fs r → 0 < length fs → Bare (all_of r) (length r)
-  row_bare fs r h some = let e = shape_length fs r h in bare_all r (length r) (omega arith) (omega arith)
+  row_bare : (fs : List (Offset × Width)) (r : List Elementary) → Shape fs r → 0 < length fs → Bare (all_of (needed_tests r)) (length r)
+  row_bare fs r h some = let e = shape_length fs r h in let few = fewer r in bare_all (needed_tests r) (length r) (omega arith) (omega arith)
 
   chain_good : (few : ℕ) (by : Case → List Elementary) (w : ℕ) (fs : List (Offset × Width)) (cs : List Case) → Shapes fs (rows by w cs) → Good few fs (rows by w cs) (chain by w cs)
   chain_good few by w fs [] h = (λ p n. refl, λ some l. absurd (omega arith))
-  chain_good few by w fs (c ∷ []) h = (λ p n. sym (or_no _), λ some l. bare_within _ (omega arith) (row_bare fs (drop w (by c)) h.0 some))
+  chain_good few by w fs (c ∷ []) h = (λ p n. needed_read link p n fs (drop w (by c)) h.0 ∙ sym (or_no _), λ some l. bare_within _ (omega arith) (row_bare fs (drop w (by c)) h.0 some))
   chain_good few by w fs (c ∷ d ∷ cs) h =
       let more = chain_good few by w fs (d ∷ cs) h.1 in
-      (λ p n. ap (either (reads link (all_of (drop w (by c))) p n)) (more.0 p n), λ some l. bare_within _ (omega arith) (bare_either (row_bare fs (drop w (by c)) h.0 some) (more.1 some (omega arith))))
+      (λ p n. ap₂ either (needed_read link p n fs (drop w (by c)) h.0) (more.0 p n), λ some l. bare_within _ (omega arith) (bare_either (row_bare fs (drop w (by c)) h.0 some) (more.1 some (omega arith))))
 
   same_good : (few : ℕ) (next : Formula) (fs : List (Offset × Width)) (r : List Elementary) (rs : List (List Elementary)) → Shapes fs (r ∷ rs) → all_rows (Exactly (lowest (first r))) (r ∷ rs) ≡ true → ((gs : List (Offset × Width)) → Shapes gs (map rest (r ∷ rs)) → Good few gs (map rest (r ∷ rs)) next) → Good few fs (r ∷ rs) (same_word (first r) (first (rest r)) next)
   same_good few next fs [] rs h a ok = cc

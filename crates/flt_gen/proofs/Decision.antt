@@ -7,6 +7,7 @@ use Rattle.flt_gen.specs.Formula.{Formula, Single, Both, Split, all_of, guarded_
 use Rattle.flt_gen.specs.{Primitives.ip6_tests, declared.cases.Bound.TheVariants.Exactly, declared.cases.Case.Case, declared.group.Entry.Entry}
 use Rattle.flt_gen.specs.declared.elementary.Elementary.{Elementary}
 use Rattle.flt_gen.specs.inside.Cases.{case_front, case_tests, cases_formula, sides_decision, either_ip6, asked, share_third, MOST_DECISIONS, chain, decided, decision, all_keep, is_parted, middle, test_at, lowest, from_test, same_word, FEW_HOSTS}
+use Rattle.flt_gen.specs.inside.Emitted.{needed_tests, last_test, is_idle}
 use Rattle.flt_gen.specs.inside.{Code.Block, Code.emit_all, Code.emit_elementary, Code.emit_formula, Emits.Emits}
 use Rattle.flt_gen.proofs.Ascending.{if_case}
 use Rattle.flt_bpf.specs.declared.insn.Insn.{Insn}
@@ -39,16 +40,16 @@ guarded_emitted link [] f hit miss c = refl
 guarded_emitted link (t ∷ ts) f hit miss c = ap (λ (e : Block). emit_elementary t e.entry miss e.code) (guarded_emitted link ts f hit miss c)
 
 -- a case in front of others, of all that are searched or of some
-chain_emitted : (link : Link) (tests : Case → List Elementary) (word : ℕ) (cs : List Case) (other : Case) (hit miss : ℕ) (c : List Insn) → 1 ≤ length cs → let e = emit_formula link (chain tests word (drop 1 cs)) hit miss c in emit_formula link (chain tests word cs) hit miss c ≡ emit_all (drop word (tests (get_or cs 0 other))) hit e.entry e.code
+chain_emitted : (link : Link) (tests : Case → List Elementary) (word : ℕ) (cs : List Case) (other : Case) (hit miss : ℕ) (c : List Insn) → 1 ≤ length cs → let e = emit_formula link (chain tests word (drop 1 cs)) hit miss c in emit_formula link (chain tests word cs) hit miss c ≡ emit_all (needed_tests (drop word (tests (get_or cs 0 other)))) hit e.entry e.code
 chain_emitted link tests word [] other hit miss c l = absurd (omega arith)
-chain_emitted link tests word (d ∷ []) other hit miss c l = all_emitted link (drop word (tests d)) hit miss c
-chain_emitted link tests word (d ∷ x ∷ xs) other hit miss c l = let e = emit_formula link (chain tests word (x ∷ xs)) hit miss c in all_emitted link (drop word (tests d)) hit e.entry e.code
+chain_emitted link tests word (d ∷ []) other hit miss c l = all_emitted link (needed_tests (drop word (tests d))) hit miss c
+chain_emitted link tests word (d ∷ x ∷ xs) other hit miss c l = let e = emit_formula link (chain tests word (x ∷ xs)) hit miss c in all_emitted link (needed_tests (drop word (tests d))) hit e.entry e.code
 
 pub turn_emitted : (r : Result ℕ AllocError) (new : List Insn) (link : Link) (tests : Case → List Elementary) (word : ℕ) (cs : List Case) (other : Case) (hit miss : ℕ) (c : List Insn) (e : Block) → 1 ≤ length cs → emit_formula link (chain tests word (drop 1 cs)) hit miss c ≡ e
-    → Emits r (emit_all (drop word (tests (get_or cs 0 other))) hit e.entry e.code) new → Emits r (emit_formula link (chain tests word cs) hit miss c) new
+    → Emits r (emit_all (needed_tests (drop word (tests (get_or cs 0 other)))) hit e.entry e.code) new → Emits r (emit_formula link (chain tests word cs) hit miss c) new
 turn_emitted r new link tests word cs other hit miss c e l is done =
     subst (λ (f : Block). Emits r f new)
-    (sym (chain_emitted link tests word cs other hit miss c l ∙ ap (λ (f : Block). emit_all (drop word (tests (get_or cs 0 other))) hit f.entry f.code) is)) done
+    (sym (chain_emitted link tests word cs other hit miss c l ∙ ap (λ (f : Block). emit_all (needed_tests (drop word (tests (get_or cs 0 other)))) hit f.entry f.code) is)) done
 
 pub cases_put : (link : Link) (d : Direction) (key : ℕ) (cs : List Case) (es : List Entry) (other : Case) → 1 ≤ length cs → cases_formula link d key cs es ≡ guarded_formula (case_front link (get_or cs 0 other)) (sides_decision link d key (get_or cs 0 other) cs es)
 cases_put link d key [] es other l = absurd (omega arith)
@@ -79,6 +80,29 @@ tests_from [] zero t e = cc
 tests_from [] (suc word) t e = cc
 tests_from (u ∷ ts) zero t e = (let same : u ≡ t = cc in ap (λ (x : Elementary). x ∷ ts) same)
 tests_from (u ∷ ts) (suc word) t e = (let next : suc word + 1 ≡ suc (word + 1) = omega arith in tests_from ts word t e ∙ ap (λ k. t ∷ drop k (u ∷ ts)) (sym next))
+
+none_from : (ts : List Elementary) (word : ℕ) → slice_get ts word ≡ None → drop word ts ≡ []
+none_from [] zero e = refl
+none_from [] (suc word) e = refl
+none_from (t ∷ ts) zero e = cc
+none_from (t ∷ ts) (suc word) e = none_from ts word e
+
+-- the last test, and one in front of others
+pub last_needed : (ts : List Elementary) (word : ℕ) (t : Elementary) → slice_get ts word ≡ Some t → is_none (slice_get ts (word + 1)) ≡ true → needed_tests (drop word ts) ≡ last_test t ∷ []
+last_needed ts word t e last = ap needed_tests (tests_from ts word t e ∙ ap (λ us. t ∷ us) (by (slice_get ts (word + 1)) refl last))
+  where
+    by : (o : Option Elementary) → slice_get ts (word + 1) ≡ o → is_none o ≡ true → drop (word + 1) ts ≡ []
+    by None f last = none_from ts (word + 1) f
+    by (Some u) f last = cc
+
+pub next_needed : (ts : List Elementary) (word : ℕ) (t : Elementary) (b : Bool) → slice_get ts word ≡ Some t → is_none (slice_get ts (word + 1)) ≡ false → is_idle t ≡ b → needed_tests (drop word ts) ≡ (if b then needed_tests (drop (word + 1) ts) else t ∷ needed_tests (drop (word + 1) ts))
+next_needed ts word t b e more idle = by (slice_get ts (word + 1)) refl more ∙ ap (λ c. if c then needed_tests (drop (word + 1) ts) else t ∷ needed_tests (drop (word + 1) ts)) idle
+  where
+    by : (o : Option Elementary) → slice_get ts (word + 1) ≡ o → is_none o ≡ false → needed_tests (drop word ts) ≡ (if is_idle t then needed_tests (drop (word + 1) ts) else t ∷ needed_tests (drop (word + 1) ts))
+    by None f more = cc
+    by (Some u) f more =
+        let next = tests_from ts (word + 1) u f in
+        ap needed_tests (tests_from ts word t e ∙ ap (λ us. t ∷ us) next) ∙ ap (λ us. if is_idle t then needed_tests us else t ∷ needed_tests us) (sym next)
 
 -- the parts of a decision
 module _ (few k : ℕ) (by : Case → List Elementary) (w : ℕ) (cs : List Case) (some : 0 < k) (many : few < length cs) where

@@ -7,7 +7,7 @@ use Rattle.std.specs.Int.Bits.{and_zero_r}
 use Rattle.flt_ast.specs.Counts as count
 
 -- no more tests
-fewer : (ts : List Elementary) → length (needed_tests ts) ≤ length ts
+pub fewer : (ts : List Elementary) → length (needed_tests ts) ≤ length ts
 fewer (t ∷ u ∷ ts) =
     let h = fewer (u ∷ ts) in
     if_case (λ xs. length xs ≤ length (t ∷ u ∷ ts)) (is_idle t) (needed_tests (u ∷ ts)) (t ∷ needed_tests (u ∷ ts)) (λ e. omega arith) (λ e. omega arith)
@@ -21,7 +21,7 @@ bare_needed link k p d v = bare_value link k p d v
 -- ---- the same reading
 
 -- an idle test is yes of each number
-idle_holds : (mask : Option ℕ) (a v : ℕ) → (is_empty mask && a == 0) ≡ true → (under_mask mask v == a) ≡ true
+pub idle_holds : (mask : Option ℕ) (a v : ℕ) → (is_empty mask && a == 0) ≡ true → (under_mask mask v == a) ≡ true
 idle_holds None a v e = cc
 idle_holds (Some m) a v e =
     let no_bits : m ≡ 0 = grind (arith, nat_tests) in
@@ -44,7 +44,7 @@ module _ (link : Link) (p : List ℕ) (n : ℕ) where
   all_put t [] = sym (and_yes (elementary_reads t p))
   all_put t (u ∷ ts) = refl
 
-  later_none : (at k : ℕ) → field p (at + 4 * k) Word ≡ None → field p (at + 4 * suc k) Word ≡ None
+  pub later_none : (at k : ℕ) → field p (at + 4 * k) Word ≡ None → field p (at + 4 * suc k) Word ≡ None
   later_none at k e =
       if_case (λ o. o ≡ None → field p (at + 4 * suc k) Word ≡ None) (nat_le (at + 4 * k + 4) (length p)) _ _ (λ t f. cc)
       (λ t f. let past : nat_le (at + 4 * suc k + 4) (length p) ≡ false = grind (arith, nat_tests) in ap (λ b. if b then Some (big_endian_at p (at + 4 * suc k) Word) else None) past) e

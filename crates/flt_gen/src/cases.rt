@@ -8,11 +8,12 @@ ghost use Rattle.flt_gen.specs.inside.Cases.{case_of, same_words, key_of, insert
 ghost use Rattle.flt_gen.specs.inside.Cases.{case_tests, lowest, reach, word_test, keeps, all_keep};
 ghost use Rattle.flt_gen.specs.inside.Cases.{test_at, from_test, middle, is_parted, chain};
 ghost use Rattle.flt_gen.specs.inside.{Emits.Emits, Code.emit_all, Code.emit_formula};
+ghost use Rattle.flt_gen.specs.inside.Emitted.{needed_tests};
 ghost use Rattle.flt_gen.specs.inside.Cases.{decision, cases_formula, either_ip6, sides_decision};
 ghost use Rattle.flt_gen.specs.inside.Cases.{few_of, unasked, asked, share_third};
 ghost use Rattle.flt_gen.specs.inside.Emits.{EmitsFormula};
 
-use crate::address::{ip6_test, ip6_tests};
+use crate::address::{ip6_test, ip6_tests, is_idle, last_test};
 use crate::code::{Code, Targets};
 use crate::elementary::{
     Elementary, FieldTest, FrameKind, has_ip_proto, has_ip6_proto, kind_test, network_offset,
@@ -279,8 +280,9 @@ fn few_of(one: Case, count: usize) -> usize
 }
 
 impl<A: Allocator> Code<A> {
-    /// Emits the tests of a case from a word on, which all have to hold. Returns the place where
-    /// they begin; for no test that is `to.yes`. It calls itself for each: they are few.
+    /// Emits the tests of a case from a word on, which all have to hold, but for those that decide
+    /// nothing. Returns the place where they begin; for no test that is `to.yes`. It calls itself
+    /// for each: they are few.
     fn emit_case_from(
         &mut self,
         link: Link,
@@ -290,12 +292,19 @@ impl<A: Allocator> Code<A> {
         to: Targets,
     ) -> Result<usize, AllocError>
         ensures { Emits result
-            (emit_all (drop word (case_tests link direction case)) to.yes to.no self.old) self.new }
+            (emit_all (needed_tests (drop word (case_tests link direction case))) to.yes to.no
+            self.old) self.new }
     {
         let Some(test) = word_test(link, direction, case, word) else {
             return Ok(to.yes);
         };
+        if word_test(link, direction, case, word + 1).is_none() {
+            return self.emit_elementary(last_test(test), to);
+        }
         let yes = self.emit_case_from(link, direction, word + 1, case, to)?;
+        if is_idle(test) {
+            return Ok(yes);
+        }
         self.emit_elementary(test, Targets { yes, no: to.no })
     }
 

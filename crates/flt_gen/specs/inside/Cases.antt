@@ -12,7 +12,7 @@ use Rattle.cap_octet.specs.{Link.network_offset, declared.link.Link.Link}
 use Rattle.flt_gen.specs.Elementary.{with, kind_test, has_ip_proto, has_ip6_proto}
 use Rattle.flt_gen.specs.Formula.{Formula, Single, Both, Either, Except, Split, all_of, guarded_formula}
 use Rattle.flt_gen.specs.{Numbers.accessor_tests, Primitives.mac_tests, Primitives.ip6_test, Primitives.ip6_tests}
-use Rattle.flt_gen.specs.inside.{Emitted.equals, Relations.relation_test}
+use Rattle.flt_gen.specs.inside.{Emitted.equals, Emitted.needed_tests, Relations.relation_test}
 use Rattle.flt_gen.specs.declared.cases.Bound.{Bound}
 use Rattle.flt_gen.specs.declared.cases.Bound.TheVariants.{Below, From, Exactly}
 use Rattle.flt_gen.specs.declared.cases.Case.{Case}
@@ -120,11 +120,12 @@ all_keep tests word b cs = list_all (λ c. keeps b (word_test tests word c)) cs
 abbrev pub test_at : (Case → List Elementary) → ℕ → List Case → ℕ → Option Elementary
 test_at tests word cs at = with (slice_get cs at) (word_test tests word)
 
--- one case after the other
+-- one case after the other, without the tests that decide nothing
 abbrev pub chain : (Case → List Elementary) → ℕ → List Case → Formula
 chain tests word [] = Single (Outcome false)
-chain tests word (c ∷ []) = all_of (drop word (tests c))
-chain tests word (c ∷ d ∷ cs) = Either (all_of (drop word (tests c))) (chain tests word (d ∷ cs))
+chain tests word (c ∷ []) = all_of (needed_tests (drop word (tests c)))
+chain tests word (c ∷ d ∷ cs) =
+    Either (all_of (needed_tests (drop word (tests c)))) (chain tests word (d ∷ cs))
 
 -- a word is a number at least
 abbrev pub from_test : Option Elementary → ℕ → Elementary
