@@ -1,10 +1,9 @@
 -- What is known holds of the packet and of the registers.
-use Rattle.flt_short.proofs.Common.{◌≡◌, ℕ, zero, suc, ◌+◌, ◌≤◌, List, [], ◌∷◌, length, true, false, Option, Some, None, refl, sym, ap, ◌∙◌, subst, arith, ◌⊎◌, inl, inr, ◌==◌, if◌then◌else◌, slice_set, nat_tests, State, Operation, Insn, Next, Goes, does, into, word_into, with_register, goes_on_or_rejects, compute, Field, Held, Known, same_optional, same_field, claims_nothing, Implies, JoinsClaims, same_held, common_header, holds_field, known_after, masked_held, masked_by, and_parts, loaded, masked, value_of, IsThere, is_said, Says, HeldHolds, IndexHolds, Holds, HoldsAt, JoinsBy, JoinsFact, JoinsFacts, Arrives}
+use Rattle.flt_short.proofs.Common.{◌≡◌, ℕ, zero, suc, ◌+◌, ◌≤◌, List, [], ◌∷◌, length, true, false, Option, Some, None, sym, ap, ◌∙◌, subst, arith, ◌⊎◌, inl, inr, ◌==◌, if◌then◌else◌, slice_set, nat_tests, State, Operation, Insn, Next, Goes, does, goes_on_or_rejects, compute, Field, Held, Known, same_optional, same_field, claims_nothing, Implies, JoinsClaims, same_held, common_header, holds_field, known_after, masked_held, and_parts, loaded, masked, value_of, IsThere, is_said, Says, HeldHolds, IndexHolds, Holds, HoldsAt, JoinsBy, JoinsFact, JoinsFacts, Arrives}
 use Rattle.std.proofs.Common.{◌<◌, All, get_or, take}
 use Rattle.std.proofs.lemmas.List.{take_more_set, take_all}
 use Rattle.std.proofs.lemmas.List.Elements.{All-set, All-push}
 use Rattle.flt_bpf.specs.{Instructions.operation_of, declared.operation.AluOperation.AluOperation}
-use Rattle.flt_bpf.specs.declared.operation.{Register.Register}
 use Rattle.flt_short.specs.declared.facts.Claim.{Claim}
 use Rattle.flt_short.specs.declared.facts.Fact.{Fact}
 use Rattle.flt_short.specs.declared.facts.Held.TheVariants as held
@@ -17,17 +16,10 @@ pub same_number : (v b : ℕ) → v ≡ b → (v == b) ≡ true
 same_number v b e = grind (arith, nat_tests)
 
 pub same_masks : (a b : Option ℕ) → same_optional a b ≡ true → a ≡ b
-same_masks None None e = refl
-same_masks (Some a) (Some b) e = ap Some (numbers a b e)
-same_masks _ _ e = cc
+same_masks a b e = grind (arith, nat_tests)
 
 pub same_value : (p : List ℕ) (n : ℕ) (f g : Field) → same_field f g ≡ true → value_of p n f ≡ value_of p n g
-same_value p n f g e =
-    let q : (f.code ≡ g.code) × (f.k ≡ g.k) × (same_optional f.mask g.mask ≡ true) = grind (arith, nat_tests) in
-    let code = q.0 in
-    let k = q.1 in
-    let mask = same_masks f.mask g.mask q.2 in
-    cc
+same_value p n f g e = grind (arith, nat_tests, same_masks)
 
 implied : (c d : Claim) (o : Option ℕ) → Implies c d → is_said c o ≡ true → is_said d o ≡ true
 implied c d None i h = i.1 h
@@ -106,21 +98,8 @@ module _ (p : List ℕ) (len : ℕ) where
   After k (Goes far t) = (far ≡ 0) × Holds p len k t
   After k _ = Unit {0}
 
-  went : (k : Known) (r : Register) (o : Option ℕ) (s : State) → ((v : ℕ) → o ≡ Some v → Holds p len k (with_register r v s)) → After k (into r o s)
-  went k r None s f = tt
-  went k r (Some v) s f = (refl, f v refl)
-
-  word_went : (k : Known) (r : Register) (o : Option ℕ) (s : State) → ((v : ℕ) → Holds p len k (with_register r v s)) → After k (word_into r o s)
-  word_went k r None s f = tt
-  word_went k r (Some v) s f = (refl, f v)
-
   pub masks : (h : Held) (m v : ℕ) (s : State) → HeldHolds p len h s → compute AluOperation.And s.accumulator m ≡ Some v → HeldHolds p len (masked_held h m) (record s { accumulator = v })
-  masks (held.Field f) m v s x e = by f.mask refl
-    where
-      by : (o : Option ℕ) → f.mask ≡ o → HeldHolds p len (masked_by o f m) (record s { accumulator = v })
-      by (Some old) q = tt
-      by None q = ap (masked (Some m)) (ap (λ o. masked o (loaded (operation_of f.code) p len f.k)) (sym q) ∙ x) ∙ e
-  masks _ m v s x e = tt
+  masks h m v s x e = grind arith
 
   pub after : (op : Operation) (k : Known) (i : Insn) (s : State) → operation_of i.code ≡ Some op → goes_on_or_rejects op ≡ true → Holds p len k s → After (known_after (Some op) k i) (does op i p len s)
   after op k i s e f y = grind (arith, masks)

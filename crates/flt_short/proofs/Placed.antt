@@ -16,9 +16,7 @@ pub record Grows (c d : List Insn) (most : ℕ) : Type 0 where
   few : length d ≤ length c + most
 
 test_grows : (a b : Bool) (i : Insn) (hit miss : ℕ) (l : PlacedCode) → Grows l.code (with_test_by a b i hit miss l).code 3
-test_grows true true i hit miss l = record { more = omega arith; few = omega arith }
-test_grows false false i hit miss l = record { more = omega arith; few = omega arith }
-test_grows _ _ i hit miss l = record { more = omega arith; few = omega arith }
+test_grows a b i hit miss l = record { more = grind arith; few = grind arith }
 
 pub emitted_grows : (op : Option Operation) (i : Insn) (l : PlacedCode) → Grows l.code (with_insn op i l).code (1 + 2 * cond (is_branch op) 1 0)
 unfolding with_test
