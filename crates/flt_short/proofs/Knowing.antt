@@ -1,18 +1,12 @@
 -- What is known holds of the packet and of the registers.
-use Rattle.flt_short.proofs.Common.{◌≡◌, ℕ, zero, suc, ◌+◌, ◌≤◌, List, [], ◌∷◌, length, Bool, true, false, Option, Some, None, refl, sym, ap, ◌∙◌, subst, arith, ◌⊎◌, inl, inr, ◌==◌, if◌then◌else◌, slice_set, nat_tests, State, Operation, Insn, Next, Goes, does, into, word_into, with_register, goes_on_or_rejects, compute, Field, Held, Known, same_optional, same_field, claims_nothing, Implies, JoinsClaims, same_held, common_header, holds_field, known_after, masked_held, masked_by, and_parts, loaded, loaded_at, masked, value_of, IsThere, is_said, Says, HeldHolds, IndexHolds, Holds, HoldsAt, JoinsBy, JoinsFact, JoinsFacts, Arrives}
+use Rattle.flt_short.proofs.Common.{◌≡◌, ℕ, zero, suc, ◌+◌, ◌≤◌, List, [], ◌∷◌, length, true, false, Option, Some, None, sym, ap, ◌∙◌, subst, arith, ◌⊎◌, inl, inr, ◌==◌, if◌then◌else◌, slice_set, nat_tests, State, Operation, Insn, Next, Goes, does, goes_on_or_rejects, compute, Field, Held, Known, same_optional, same_field, claims_nothing, Implies, JoinsClaims, same_held, common_header, holds_field, known_after, masked_held, and_parts, loaded, masked, value_of, IsThere, is_said, Says, HeldHolds, IndexHolds, Holds, HoldsAt, JoinsBy, JoinsFact, JoinsFacts, Arrives}
 use Rattle.std.proofs.Common.{◌<◌, All, get_or, take}
 use Rattle.std.proofs.lemmas.List.{take_more_set, take_all}
 use Rattle.std.proofs.lemmas.List.Elements.{All-set, All-push}
 use Rattle.flt_bpf.specs.{Instructions.operation_of, declared.operation.AluOperation.AluOperation}
-use Rattle.flt_bpf.specs.declared.operation.{Register.Register}
 use Rattle.flt_short.specs.declared.facts.Claim.{Claim}
 use Rattle.flt_short.specs.declared.facts.Fact.{Fact}
 use Rattle.flt_short.specs.declared.facts.Held.TheVariants as held
-
--- by a test
-pub by_test : {A : Type 0} (P : A → Type 0) (b : Bool) (x y : A) → (b ≡ true → P x) → (b ≡ false → P y) → P (if b then x else y)
-by_test P true x y t f = t refl
-by_test P false x y t f = f refl
 
 -- claims
 pub numbers : (a b : ℕ) → (a == b) ≡ true → a ≡ b
@@ -22,17 +16,10 @@ pub same_number : (v b : ℕ) → v ≡ b → (v == b) ≡ true
 same_number v b e = grind (arith, nat_tests)
 
 pub same_masks : (a b : Option ℕ) → same_optional a b ≡ true → a ≡ b
-same_masks None None e = refl
-same_masks (Some a) (Some b) e = ap Some (numbers a b e)
-same_masks _ _ e = cc
+same_masks a b e = grind (arith, nat_tests)
 
 pub same_value : (p : List ℕ) (n : ℕ) (f g : Field) → same_field f g ≡ true → value_of p n f ≡ value_of p n g
-same_value p n f g e =
-    let q : (f.code ≡ g.code) × (f.k ≡ g.k) × (same_optional f.mask g.mask ≡ true) = grind (arith, nat_tests) in
-    let code = q.0 in
-    let k = q.1 in
-    let mask = same_masks f.mask g.mask q.2 in
-    cc
+same_value p n f g e = grind (arith, nat_tests, same_masks)
 
 implied : (c d : Claim) (o : Option ℕ) → Implies c d → is_said c o ≡ true → is_said d o ≡ true
 implied c d None i h = i.1 h
@@ -61,13 +48,10 @@ joined_all first ys xs at l h p n (inr f) = subst (All (Says p n)) (take_all at 
 
 -- what is captured
 said_some : (c : Claim) (o : Option ℕ) → claims_nothing c ≡ false → is_said c o ≡ true → (v : ℕ) × (o ≡ Some v)
-said_some c (Some v) n h = (v, refl)
-said_some c None n h = absurd (let clash : true ≡ false = sym h ∙ n in cc)
+said_some c o n h = grind arith
 
 held_there : (mask o : Option ℕ) (a : ℕ) → masked mask o ≡ Some a → (v : ℕ) × (o ≡ Some v)
-held_there mask (Some v) a e = (v, refl)
-held_there None None a e = cc
-held_there (Some m) None a e = cc
+held_there mask o a e = grind arith
 
 module _ (p : List ℕ) (len : ℕ) where
   there_of : (f : Field) (code k v : ℕ) → value_of p len f ≡ Some v → f.code ≡ code → f.k ≡ k → IsThere p len code k
@@ -89,23 +73,13 @@ module _ (p : List ℕ) (len : ℕ) where
 
   -- A and X
   pub same_holds : (g h : Held) (s : State) → same_held g h ≡ true → HeldHolds p len h s → HeldHolds p len g s
-  same_holds (held.Field f) (held.Field g) s e x = same_value p len f g e ∙ x
-  same_holds (held.AtIndex c k) (held.AtIndex d j) s e x =
-      let q : (c ≡ d) × (k ≡ j) = grind (arith, nat_tests) in
-      ap (λ m. loaded_at (operation_of m) p s.index k) q.0 ∙ ap (loaded_at (operation_of d) p s.index) q.1 ∙ x
-  same_holds _ _ s e x = cc
+  same_holds g h s e x = grind (arith, nat_tests, same_value)
 
   joins_held : (one other : Held) (s : State) → HeldHolds p len one s ⊎ HeldHolds p len other s → HeldHolds p len (if same_held one other then one else held.Unknown) s
-  joins_held one other s h =
-      by_test (λ z. HeldHolds p len z s) (same_held one other) one held.Unknown
-      (λ e. elim h [ inl x ↦ x | inr x ↦ same_holds one other s e x ])
-      (λ _. tt)
+  joins_held one other s h = grind (arith, same_holds)
 
   joins_index : (a b : Option ℕ) (n : ℕ) → IndexHolds p a n ⊎ IndexHolds p b n → IndexHolds p (common_header a b) n
-  joins_index a b n h =
-      by_test (λ o. IndexHolds p o n) (same_optional a b) a None
-      (λ e. elim h [ inl x ↦ x | inr x ↦ subst (λ o. IndexHolds p o n) (sym (same_masks a b e)) x ])
-      (λ _. tt)
+  joins_index a b n h = grind (arith, same_masks)
 
   joins_by : (h : Held) (k came new : Known) (s : State) → JoinsBy h k came new → (HeldHolds p len h s × Holds p len k s) ⊎ Holds p len came s → Holds p len new s
   joins_by held.Unreached k came new s e d = elim d [ inl x ↦ absurd x.0 | inr y ↦ subst (λ z. Holds p len z s) (sym e) y ]
@@ -124,21 +98,8 @@ module _ (p : List ℕ) (len : ℕ) where
   After k (Goes far t) = (far ≡ 0) × Holds p len k t
   After k _ = Unit {0}
 
-  went : (k : Known) (r : Register) (o : Option ℕ) (s : State) → ((v : ℕ) → o ≡ Some v → Holds p len k (with_register r v s)) → After k (into r o s)
-  went k r None s f = tt
-  went k r (Some v) s f = (refl, f v refl)
-
-  word_went : (k : Known) (r : Register) (o : Option ℕ) (s : State) → ((v : ℕ) → Holds p len k (with_register r v s)) → After k (word_into r o s)
-  word_went k r None s f = tt
-  word_went k r (Some v) s f = (refl, f v)
-
   pub masks : (h : Held) (m v : ℕ) (s : State) → HeldHolds p len h s → compute AluOperation.And s.accumulator m ≡ Some v → HeldHolds p len (masked_held h m) (record s { accumulator = v })
-  masks (held.Field f) m v s x e = by f.mask refl
-    where
-      by : (o : Option ℕ) → f.mask ≡ o → HeldHolds p len (masked_by o f m) (record s { accumulator = v })
-      by (Some old) q = tt
-      by None q = ap (masked (Some m)) (ap (λ o. masked o (loaded (operation_of f.code) p len f.k)) (sym q) ∙ x) ∙ e
-  masks _ m v s x e = tt
+  masks h m v s x e = grind arith
 
   pub after : (op : Operation) (k : Known) (i : Insn) (s : State) → operation_of i.code ≡ Some op → goes_on_or_rejects op ≡ true → Holds p len k s → After (known_after (Some op) k i) (does op i p len s)
   after op k i s e f y = grind (arith, masks)

@@ -65,16 +65,14 @@ abbrev Same : Bool → ℕ → ℕ → Type 0
 Same b u v = b ≡ true → u ≡ v
 
 implied_same : (b a : Bool) (u v : ℕ) → (not b || a) ≡ true → Same a u v → Same b u v
-implied_same true a u v e h = λ z. h e
-implied_same false a u v e h = λ z. cc
+implied_same b a u v e h = grind arith
 
 -- the old value where it is read
 abbrev read : Bool → ℕ → ℕ → ℕ
 read b u v = if b then v else u
 
 read_is : (b : Bool) (u v : ℕ) → Same b u v → u ≡ read b u v
-read_is true u v h = h refl
-read_is false u v h = refl
+read_is b u v h = grind arith
 
 read_same : (b sets a : Bool) (u v : ℕ) → sets ≡ false → Same a u v → Same (sets || a) (read b u v) v
 read_same b sets a u v e h = grind arith
@@ -272,8 +270,7 @@ module _ (p : List ℕ) (n : ℕ) where
     Left = AsGood (code_from c l.place) (i ∷ is) p n 0 0 (other s a x) s
 
     kept : (b c : Bool) (u v w : ℕ) → Same b u v → (c ≡ true → w ≡ v) → Same (b && c) u w
-    kept true c u v w h g = λ e. h refl ∙ sym (g e)
-    kept false c u v w h g = λ e. cc
+    kept b c u v w h g = grind arith
 
     -- an operation that can't fail: A and X are others, if it sets them
     set_left : (op : Operation) (v w : ℕ) → operation_of i.code ≡ Some op → does op i p n s ≡ Goes 0 (other s v w) → (not (sets_accumulator op) ≡ true → v ≡ s.accumulator) → (not (sets_index op) ≡ true → w ≡ s.index) → lands_at c ls 0 l.place (l.accumulator && not (sets_accumulator op)) (l.index && not (sets_index op)) ≡ true → Left

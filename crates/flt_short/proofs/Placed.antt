@@ -16,9 +16,7 @@ pub record Grows (c d : List Insn) (most : ℕ) : Type 0 where
   few : length d ≤ length c + most
 
 test_grows : (a b : Bool) (i : Insn) (hit miss : ℕ) (l : PlacedCode) → Grows l.code (with_test_by a b i hit miss l).code 3
-test_grows true true i hit miss l = record { more = omega arith; few = omega arith }
-test_grows false false i hit miss l = record { more = omega arith; few = omega arith }
-test_grows _ _ i hit miss l = record { more = omega arith; few = omega arith }
+test_grows a b i hit miss l = record { more = grind arith; few = grind arith }
 
 pub emitted_grows : (op : Option Operation) (i : Insn) (l : PlacedCode) → Grows l.code (with_insn op i l).code (1 + 2 * cond (is_branch op) 1 0)
 unfolding with_test
@@ -63,24 +61,22 @@ short_stays (i ∷ is) none short =
     let now = emitted_plain (operation_of i.code) i (placed_code is) refl (All-head (λ j. j.code ≢ JUMP) i is none) before.no_jump (omega (arith, before.short)) in
     record { no_jump = now.no_jump; short = omega (arith, now.short, before.short) }
 
+-- a jump at which the test in front goes on
+led : (all : List Insn) (b : Insn) (k place : ℕ) → slice_get all 0 ≡ Some b → is_branch (operation_of b.code) ≡ true → (1 + b.jt ≡ place) ⊎ (1 + b.jf ≡ place) → 1 + MOST_OFFSET < place + 1 + k → (jump : Insn) → Some (record { code = JUMP; jt = 0; jf = 0; k = k }) ≡ Some jump → IsNeeded all place jump
+led all b k place there branches leads far jump e =
+    let same : record { code = JUMP; jt = 0; jf = 0; k = k } ≡ jump = cc in
+    subst (IsNeeded all place) same (record { from = 0; branch = b; there = there; branches = branches; leads = leads; far = far })
+
 -- a test and a jump for one of its ways
-needed_one : (c : List Insn) (i : Insn) (jt jf to : ℕ) → i.code ≢ JUMP → is_branch (operation_of i.code) ≡ true → (jt ≡ 0) ⊎ (jf ≡ 0) → MOST_OFFSET < length c - to → JumpsAreNeeded c → JumpsAreNeeded (with_offsets i jt jf ∷ with_jump to c)
+needed_one : (c : List Insn) (i : Insn) (jt jf to : ℕ) → i.code ≢ JUMP → is_branch (operation_of i.code) ≡ true → (1 + jt ≡ 1) ⊎ (1 + jf ≡ 1) → MOST_OFFSET < length c - to → JumpsAreNeeded c → JumpsAreNeeded (with_offsets i jt jf ∷ with_jump to c)
 needed_one c i jt jf to other branches way far h = record { each = at }
   where
     all : List Insn
     all = with_offsets i jt jf ∷ with_jump to c
 
-    leads : (jt ≡ 0) ⊎ (jf ≡ 0) → (0 + 1 + jt ≡ 1) ⊎ (0 + 1 + jf ≡ 1)
-    leads (inl e) = inl (omega arith)
-    leads (inr e) = inr (omega arith)
-
     at : (place : ℕ) (jump : Insn) → slice_get all place ≡ Some jump → jump.code ≡ JUMP → IsNeeded all place jump
     at zero jump g e = let same : with_offsets i jt jf ≡ jump = cc in absurd (other (ap (λ j. j.code) same ∙ e))
-    at (suc zero) jump g e =
-        let first : Insn = record { code = JUMP; jt = 0; jf = 0; k = length c - to } in
-        let same : first ≡ jump = cc in
-        let offset : length c - to ≡ jump.k = ap (λ j. j.k) same in
-        record { from = 0; branch = with_offsets i jt jf; there = refl; branches = branches; leads = leads way; far = omega arith }
+    at (suc zero) jump g e = led all (with_offsets i jt jf) (length c - to) 1 refl branches way (omega arith) jump g
     at (suc (suc place)) jump g e = jump_later (with_jump to c) _ (suc place) jump (jump_later c _ place jump (h.each place jump g e))
 
 -- a test and a jump for each of its ways
@@ -92,16 +88,8 @@ needed_two c i jt jf hit miss other branches zero_jt one_jf far_hit far_miss h =
 
     at : (place : ℕ) (jump : Insn) → slice_get all place ≡ Some jump → jump.code ≡ JUMP → IsNeeded all place jump
     at zero jump g e = let same : with_offsets i jt jf ≡ jump = cc in absurd (other (ap (λ j. j.code) same ∙ e))
-    at (suc zero) jump g e =
-        let first : Insn = record { code = JUMP; jt = 0; jf = 0; k = length (with_jump miss c) - hit } in
-        let same : first ≡ jump = cc in
-        let offset : length (with_jump miss c) - hit ≡ jump.k = ap (λ j. j.k) same in
-        record { from = 0; branch = with_offsets i jt jf; there = refl; branches = branches; leads = inl (omega arith); far = omega arith }
-    at (suc (suc zero)) jump g e =
-        let second : Insn = record { code = JUMP; jt = 0; jf = 0; k = length c - miss } in
-        let same : second ≡ jump = cc in
-        let offset : length c - miss ≡ jump.k = ap (λ j. j.k) same in
-        record { from = 0; branch = with_offsets i jt jf; there = refl; branches = branches; leads = inr (omega arith); far = omega arith }
+    at (suc zero) jump g e = led all (with_offsets i jt jf) (length (with_jump miss c) - hit) 1 refl branches (inl (omega arith)) (omega arith) jump g
+    at (suc (suc zero)) jump g e = led all (with_offsets i jt jf) (length c - miss) 2 refl branches (inr (omega arith)) (omega arith) jump g
     at (suc (suc (suc place))) jump g e = jump_later _ _ (suc (suc place)) jump (jump_later _ _ (suc place) jump (jump_later c _ place jump (h.each place jump g e)))
 
 needed_test : (i : Insn) (hit miss : ℕ) (l : PlacedCode) → i.code ≢ JUMP → is_branch (operation_of i.code) ≡ true → JumpsAreNeeded l.code → (a b d : Bool) → d ≡ is_near l hit MOST_OFFSET → b ≡ is_near l miss (if d then MOST_OFFSET else MOST_OFFSET - 1) → a ≡ is_near (with_way b miss l) hit MOST_OFFSET → JumpsAreNeeded (with_test_by a b i hit miss l).code
@@ -409,9 +397,7 @@ faultless_laid (i ∷ is) h =
 
 -- the end of code
 last_end : (op : Option Operation) (i : Insn) → operation_of i.code ≡ op → is_return op ≡ true → ends_in_return (with_insn op i (placed_code [])).code ≡ true
-last_end (Some ReturnConstant) i e r = ap is_return e
-last_end (Some ReturnAccumulator) i e r = ap is_return e
-last_end _ i e r = cc
+last_end op i e r = grind arith
 
 ends_laid : (wide : List Insn) → ends_in_return wide ≡ true → ends_in_return (laid_out wide) ≡ true
 ends_laid [] e = e
