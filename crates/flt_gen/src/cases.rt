@@ -280,7 +280,7 @@ fn few_of(one: Case, count: usize) -> usize
 }
 
 impl<A: Allocator> Code<A> {
-    /// Emits the tests of a case from a word on, which all have to hold, but for those that decide
+    /// Emits the tests of a case from a word on, which all have to hold, without those that decide
     /// nothing. Returns the place where they begin; for no test that is `to.yes`. It calls itself
     /// for each: they are few.
     fn emit_case_from(

@@ -39,8 +39,8 @@ const FEWEST_RANGES: usize = 3;
 /// How many cases are decided together at least: fewer are shorter one after the other.
 const FEWEST_CASES: usize = 8;
 
-/// How many addresses and networks of IPv6 on one side are: a word of a network of which no bit
-/// counts is loaded there, but not one after the other.
+/// How many addresses and networks of IPv6 on one side are: fewer may be longer, if networks contain
+/// others of the list.
 const FEWEST_ADDRESSES: usize = 20;
 
 /// A member: a value with its qualifiers, or a relation.
