@@ -6,3 +6,6 @@ pub mod Lines
 pub mod Lists
 pub mod Wholes
 pub mod Negations
+pub mod Indexes
+pub mod Marks
+pub mod Trees

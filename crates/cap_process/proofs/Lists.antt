@@ -1,6 +1,6 @@
 -- What is counted, kept and searched of packets that come one after another, and how the verdicts on them end a job.
-use Rattle.cap_process.proofs.Common.{map-append, ◌≡◌, ℕ, zero, suc, drop, ◌+◌, ◌-◌, ◌^◌, ◌<◌, ◌≤◌, ◌==◌, ◌&&◌, Bool, true, false, if◌then◌else◌, nat_le, min, max, Option, None, Some, option_or, unwrap_or, List, [], ◌∷◌, ◌++◌, length, refl, sym, ◌∙◌, ap, arith, subst, nat_tests, append_assoc, append-nil, sum_by-append, take-nil, sum_by, IfSome, Captured, Fault, TimeOutOfRange, Kind, Placed, Ending, End, Decision, Keep, Rule, rule_decides, Mark, mark_of, has_same, last, last-last, Event, Packet, InputEnd, SequenceEnd, Complete, FaultIn, end_of, packet_events, Policy, Count, Filter, KeepAll, Edit, EditRule, Judgement, Verdict, PassLast, Pass, Skip, Refuse, SelectorState, initial_state, edited_packet_with, filters, is_last, is_selected, judge, judge_by, shifted_time, passes, refuses, selects, skip_judgement, unique, with_mark, Tally, tally_with, Report, Form, AsReports, JobProgress, no_progress, form_refuses, unless_refused, decide, apply_verdict, next_progress, end_input, end_with, apply_events, is_repeated, packets_selected, unique_after, is_count, kept_by, event_packets, packets_written, written_unless, first_refusal, end_by_decision, is_reached, rule_end, at_most, end_at_time, first_without_time, packets_of, tally_of}
-use Rattle.cap_process.proofs.{Outcomes.progress-ended, Selectors.upper_bound}
+use Rattle.cap_process.proofs.Common.{map-append, ◌≡◌, ℕ, zero, suc, drop, ◌+◌, ◌-◌, ◌^◌, ◌<◌, ◌≤◌, ◌==◌, ◌&&◌, Bool, true, false, if◌then◌else◌, nat_le, min, max, Option, None, Some, option_or, unwrap_or, List, [], ◌∷◌, ◌++◌, length, refl, sym, ◌∙◌, ap, arith, subst, nat_tests, append_assoc, append-nil, sum_by-append, take-nil, sum_by, IfSome, Captured, Fault, TimeOutOfRange, Kind, Placed, Ending, End, Decision, Keep, Rule, rule_decides, Mark, mark_of, has_same, last, Event, Packet, InputEnd, SequenceEnd, Complete, FaultIn, end_of, packet_events, Policy, Count, Filter, KeepAll, Edit, EditRule, Judgement, Verdict, PassLast, Pass, Skip, Refuse, SelectorState, initial_state, edited_packet_with, filters, is_last, is_selected, judge, judge_by, shifted_time, passes, refuses, selects, skip_judgement, unique, with_mark, Tally, tally_with, Report, Form, AsReports, JobProgress, no_progress, form_refuses, unless_refused, decide, apply_verdict, next_progress, end_input, end_with, apply_events, is_repeated, packets_selected, unique_after, is_count, kept_by, event_packets, packets_written, written_unless, first_refusal, end_by_decision, is_reached, rule_end, at_most, end_at_time, first_without_time, packets_of, tally_of}
+use Rattle.cap_process.proofs.{Marks.last-last, Outcomes.progress-ended, Selectors.upper_bound}
 use Rattle.std.proofs.lemmas.List.{length-append}
 use Rattle.cap_filter.specs.FilterRules as chosen
 use Rattle.cap_process.specs.Lists.{CountsAll, EndsWithoutTime, HasLastMarks, PassesFiltered, ascends, final, greatest, packets_kept as kept, least, marks, times}

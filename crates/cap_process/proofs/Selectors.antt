@@ -1,5 +1,6 @@
 -- What a selector returns.
-use Rattle.cap_process.proofs.Common.{◌≡◌, ℕ, ◌+◌, ◌^◌, ◌<◌, ◌≤◌, nat_le, Bool, true, false, length, if◌then◌else◌, List, Option, None, Some, Ok, refl, sym, ◌∙◌, ap, arith, nat_tests, Captured, TooManyPackets, WindowView, Mark, Policy, Edit, Filter, KeepAll, Count, SelectorState, Judgement, Pass, PassLast, Skip, is_too_many, judge, judge_by, refuses, is_last, Tally, tally_with, is_count, spent_by, spent_by_verdict, marks_in, places, state_of, PolicyState, IsWindowFor, ReturnsVerdict, count_limit, TakesTally, verdict_if, verdict_of, IsVerdict, ◌↔◌, ◌-◌, not, IsTrue, [], ◌∷◌, ◌++◌, Contains, has_same, last, mark_of, window, answers-has_same, unique, skip_judgement, passes}
+use Rattle.cap_process.proofs.Common.{◌≡◌, ℕ, ◌+◌, ◌^◌, ◌<◌, ◌≤◌, nat_le, Bool, true, false, length, if◌then◌else◌, List, Option, None, Some, Ok, refl, sym, ◌∙◌, ap, arith, nat_tests, Captured, TooManyPackets, WindowView, Mark, Policy, Edit, Filter, KeepAll, Count, SelectorState, Judgement, Pass, PassLast, Skip, is_too_many, judge, judge_by, refuses, is_last, Tally, tally_with, is_count, spent_by, spent_by_verdict, marks_in, places, state_of, PolicyState, IsWindowFor, ReturnsVerdict, count_limit, TakesTally, verdict_if, verdict_of, IsVerdict, ◌↔◌, ◌-◌, not, IsTrue, [], ◌∷◌, ◌++◌, Contains, has_same, last, mark_of, window, unique, skip_judgement, passes}
+use Rattle.cap_process.proofs.Marks.{answers-has_same}
 use Rattle.flt_bpf.specs.Content.{Content}
 use Rattle.cap_process.specs.declared.selector.Verdict as code
 

@@ -2,6 +2,8 @@ pub mod Outcome
 pub mod Output
 pub mod Selector
 pub mod Lists
+pub mod Marks
+pub mod Window
 pub mod Whole
 pub mod Reports
 pub mod Verdict

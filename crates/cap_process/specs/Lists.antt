@@ -4,7 +4,7 @@ use Rattle.std.specs.Prelude.{◌≡◌, ℕ, ◌+◌, ◌-◌, ◌^◌, ◌<◌
 use Rattle.cap_octet.specs.{Packet.Captured, declared.fault.Fault.TheVariants.TimeOutOfRange}
 use Rattle.cap_io.specs.{Capture.Placed, Sequence.SequenceEnd, Sequence.FaultIn, Sequence.packet_events}
 use Rattle.cap_filter.specs.FilterRules.{Decision, Keep, Skip, Refuse, Rule, rule_decides}
-use Rattle.cap_window.specs.{Marks.mark_of, Marks.has_same, Marks.last, declared.mark.Mark.Mark}
+use Rattle.cap_process.specs.{Marks.mark_of, Marks.has_same, Marks.last, declared.mark.Mark.Mark}
 use Rattle.cap_process.specs.{Outcome.AsReports, Outcome.no_progress, Outcome.apply_events, Reports.Tally}
 use Rattle.cap_process.specs.Verdict.{Count, Filter, Edit, EditRule, edited_packet_with, is_selected, shifted_time}
 

@@ -1,7 +1,7 @@
 -- The view of a selector.
 use Rattle.std.specs.Prelude.{◌≡◌, ℕ, ◌-◌, ◌^◌, ◌≤◌, Bool, true, false, if◌then◌else◌, List, [], ◌∷◌, map, Option, None, ◌*◌, Some}
 use Rattle.cap_octet.specs.{Link.all_links, Packet.Captured}
-use Rattle.cap_window.specs.{View.WindowView, declared.mark.Mark.Mark}
+use Rattle.cap_process.specs.{Window.WindowView, declared.mark.Mark.Mark}
 use Rattle.flt_bpf.specs.Content.{Content}
 use Rattle.cap_command.specs.declared.command.Edit as command_edit
 use Rattle.flt_ast.specs.Tree.{empty, truth}

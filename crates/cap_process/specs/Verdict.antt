@@ -7,7 +7,7 @@ use Rattle.cap_command.specs.{Command.PACKET_NUMBER_END, Command.is_kept, declar
 use Rattle.cap_filter.specs.FilterRules as chosen
 use Rattle.cap_filter.specs.FilterRules.{Decision, Rule, rule_decides}
 use Rattle.cap_process.specs.Reports.{Tally, nothing_counted, tally_with}
-use Rattle.cap_window.specs.{Marks.mark_of, Marks.has_same, Marks.last, declared.mark.Mark.Mark}
+use Rattle.cap_process.specs.{Marks.mark_of, Marks.has_same, Marks.last, declared.mark.Mark.Mark}
 
 -- ---- policies
 

@@ -8,10 +8,10 @@ ghost use Rattle.cap_process.specs.{Reports.Tally, Verdict.unique, Verdict.witho
 ghost use Rattle.cap_process.specs.Selector.{marks_in, edit_rule_of, state_of};
 ghost use Rattle.cap_process.specs.inside.Selector.{IsWindowFor, ReturnsVerdict};
 
+use crate::window::Window;
 use cap_command::{Edit, Shift};
 use cap_octet::date::TIME_END;
 use cap_octet::{Fault, Packet};
-use cap_window::Window;
 use std::alloc::Allocator;
 
 /// Whether a time is `start` or later; without a `start` each is. Both are in nanoseconds.

@@ -16,10 +16,10 @@ ghost use Rattle.cap_process.specs.Verdict.{judge_by, Filter as AskedFilter, ini
 
 use crate::edit::edit_packet;
 use crate::tally::Tally;
+use crate::window::Window;
 use cap_command::{Edit, PACKET_NUMBER_END};
 use cap_filter::filter::Filter;
 use cap_octet::{Fault, Packet};
-use cap_window::Window;
 use std::alloc::{AllocError, Allocator};
 use std::marker::Model;
 

@@ -1,7 +1,7 @@
 -- The state of a selector, and its change by one verdict.
 use Rattle.std.specs.Prelude.{◌≡◌, ℕ, ◌+◌, ◌-◌, ◌^◌, ◌≤◌, Bool, true, false, length, Option, None, Result, Ok, Err, Some, ◌<◌}
 use Rattle.cap_octet.specs.{Packet.Captured, declared.fault.Fault.Fault}
-use Rattle.cap_window.specs.View.{WindowView}
+use Rattle.cap_process.specs.Window.{WindowView}
 use Rattle.cap_process.specs.declared.selector.Verdict as code
 use Rattle.cap_process.specs.declared.selector.Verdict.TheVariants as code_verdict
 use Rattle.cap_process.specs.Reports.{Tally, nothing_counted}

@@ -2,7 +2,7 @@
 use Rattle.std.specs.{Cmp.Lexicographic.pointwise, List.list_any}
 use Rattle.std.specs.Prelude.{ℕ, ◌-◌, ◌==◌, ◌&&◌, Bool, List, length, drop, nat_eq}
 use Rattle.md5.specs.Md5.{md5}
-use Rattle.cap_window.specs.declared.mark.Mark.{Mark}
+use Rattle.cap_process.specs.declared.mark.Mark.{Mark}
 
 -- the mark of captured bytes: how many there are, and their MD5
 abbrev pub mark_of : List ℕ → Mark

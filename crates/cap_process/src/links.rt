@@ -1,6 +1,6 @@
 //! The trees of the index: one binary tree for each hash, with its newest mark at the root.
 ghost use Rattle.std.specs.Prelude.{◌≡◌, ℕ, ◌-◌, ◌<◌, ◌^◌, length};
-ghost use Rattle.cap_window.specs.inside.Index.{IsHung, IsPutOnTop, mark_bit};
+ghost use Rattle.cap_process.specs.inside.Index.{IsHung, IsPutOnTop, mark_bit};
 
 use crate::mark::{Mark, is_same_mark};
 use circular_buffer::HeapCircularBuffer;
@@ -17,7 +17,7 @@ pub struct Links {
 
 impl Links {
     ghost use Rattle.std.specs.Prelude.{◌≡◌, ◌+◌, ◌^◌, ◌-◌, min, not};
-    ghost use Rattle.cap_window.specs.inside.Index.{link_by_bit};
+    ghost use Rattle.cap_process.specs.inside.Index.{link_by_bit};
 
     /// The link to the tree of the marks with this bit.
     #[inline]

@@ -1,6 +1,6 @@
 //! The marks of the last packets, with an index that finds an equal one at once.
 ghost use Rattle.std.specs.Prelude.{◌≡◌, ℕ, ◌+◌, ◌-◌, ◌^◌, ◌<◌, ◌≤◌, EachIndex, slice_index};
-ghost use Rattle.cap_window.specs.inside.Index.{hash_of};
+ghost use Rattle.cap_process.specs.inside.Index.{hash_of};
 
 use crate::links::{Links, mark_bit, place_newest};
 use crate::mark::{Mark, is_same_mark, mark_of};
@@ -33,7 +33,7 @@ pub struct Window<A: Allocator> {
 }
 
 impl<A: Allocator> Model for Window<A> {
-    ghost use Rattle.cap_window.specs.{View.WindowView, View.window, inside.Index.IsSoundIndex};
+    ghost use Rattle.cap_process.specs.{Window.WindowView, Window.window, inside.Index.IsSoundIndex};
 
     ghost Value = { WindowView };
 
@@ -46,7 +46,7 @@ impl<A: Allocator> Model for Window<A> {
 impl<A: Allocator> Window<A> {
     ghost use Rattle.std.specs.Prelude.{◌≡◌, ◌+◌, ◌^◌, ◌<◌, ◌↔◌, [], ◌∷◌, ◌++◌, length, IsTrue};
     ghost use Rattle.std.specs.{Prelude.IfOk, List.Contains};
-    ghost use Rattle.cap_window.specs.{View.window, Marks.last, Marks.mark_of};
+    ghost use Rattle.cap_process.specs.{Window.window, Marks.last, Marks.mark_of};
 
     /// A window for `capacity` packets' marks. It takes all its memory here: 28 bytes for each,
     /// and 4 for each of its heads, which are as many, rounded up to a power of two, and 2^20 at

@@ -1,6 +1,6 @@
-use Rattle.cap_window.proofs.Common.{[], arith, refl, ◌≡◌, ◌∙◌, ap, sym, get_or, ◌-◌, ◌<◌, ◌≤◌, length, get_or_default, get_or_from_slice_get, slice_get-get_or, option_copied, links_at, mark_at}
-use Rattle.cap_window.proofs.{Marks.is_there, Trees.ended, Trees.least, Trees.past_top, Trees.top_of}
-use Rattle.cap_window.proofs.window.Window.contains.Goals as goal
+use Rattle.cap_process.proofs.Common.{[], arith, refl, ◌≡◌, ◌∙◌, ap, sym, get_or, ◌-◌, ◌<◌, ◌≤◌, length, get_or_default, get_or_from_slice_get, slice_get-get_or, option_copied, links_at, mark_at}
+use Rattle.cap_process.proofs.{Marks.is_there, Trees.ended, Trees.least, Trees.past_top, Trees.top_of}
+use Rattle.cap_process.proofs.window.Window.contains.Goals as goal
 
 pub loop-step-init : goal.loop-step-init
 loop-step-init g c =

@@ -1,6 +1,6 @@
 -- What a contract sees of a window.
 use Rattle.std.specs.Prelude.{ℕ, List}
-use Rattle.cap_window.specs.declared.mark.Mark.{Mark}
+use Rattle.cap_process.specs.declared.mark.Mark.{Mark}
 
 -- the marks from the oldest on, and how many there may be
 pub record WindowView : Type 0 where

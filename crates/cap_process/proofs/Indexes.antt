@@ -1,7 +1,7 @@
 -- The index stays an index when a mark comes, when the oldest goes, and when all get new numbers.
-use Rattle.cap_window.proofs.Common.{◌≡◌, ◌≢◌, ℕ, zero, suc, ◌+◌, ◌-◌, ◌^◌, ◌<◌, ◌≤◌, inl, inr, List, [], ◌∷◌, ◌++◌, length, get_or, drop, refl, sym, ap, ◌∙◌, arith, set, length-append, length-drop, eq-zero-or-pos, cases_order, get_or-append_right, get_or-set_other, get_or-set_same, length-set, take, Links, Mark, IsHung, IsIndex, IsPutOnTop, IsSoundIndex, IsWay, Ends, Goes, Agrees, hash_of, mark_at, last}
+use Rattle.cap_process.proofs.Common.{◌≡◌, ◌≢◌, ℕ, zero, suc, ◌+◌, ◌-◌, ◌^◌, ◌<◌, ◌≤◌, inl, inr, List, [], ◌∷◌, ◌++◌, length, get_or, drop, refl, sym, ap, ◌∙◌, arith, set, length-append, length-drop, eq-zero-or-pos, cases_order, get_or-append_right, get_or-set_other, get_or-set_same, length-set, take, Links, Mark, IsHung, IsIndex, IsPutOnTop, IsSoundIndex, IsWay, Ends, Goes, Agrees, hash_of, mark_at, last}
 use Rattle.std.proofs.lemmas.Grind.{common_steps, get_or-set_at}
-use Rattle.cap_window.proofs.Trees.{appended, dropped, raised, relinked}
+use Rattle.cap_process.proofs.Trees.{appended, dropped, raised, relinked}
 use Rattle.std.proofs.lemmas.Nat.{and_le_r}
 use Rattle.std.specs.Int.{w32, from_le_bytes}
 

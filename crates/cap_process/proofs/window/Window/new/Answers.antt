@@ -1,6 +1,6 @@
 use Rattle.std.proofs.{Common.arith, lemmas.Grind.common_steps}
-use Rattle.cap_window.proofs.Indexes.{sound_new}
-use Rattle.cap_window.proofs.window.Window.new.Goals as goal
+use Rattle.cap_process.proofs.Indexes.{sound_new}
+use Rattle.cap_process.proofs.window.Window.new.Goals as goal
 
 pub invariant_of-result : goal.invariant_of-result
 invariant_of-result g c =

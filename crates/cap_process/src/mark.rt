@@ -1,6 +1,6 @@
 //! Marks: what a window keeps of a packet and compares.
 ghost use Rattle.std.specs.Prelude.{◌≡◌, ◌^◌, ◌<◌, ◌↔◌, length, IsTrue};
-ghost use Rattle.cap_window.specs.Marks.{mark_of};
+ghost use Rattle.cap_process.specs.Marks.{mark_of};
 
 use md5::{Digest, Md5};
 

@@ -1,5 +1,5 @@
 use Rattle.std.proofs.Common.{◌≡◌, ℕ, ◌-◌, ◌<◌, ◌≤◌, get_or}
-use Rattle.cap_window.proofs.window.subtract_from_all.Given as goal
+use Rattle.cap_process.proofs.window.subtract_from_all.Given as goal
 
 abbrev pub invariant-loop-number : goal.invariant-loop-number
 invariant-loop-number l = record {

@@ -1,5 +1,5 @@
 -- The ways of searches, as marks and links change.
-use Rattle.cap_window.proofs.Common.{◌≡◌, ◌≢◌, ℕ, zero, suc, ◌+◌, ◌-◌, ◌^◌, ◌<◌, ◌≤◌, ◌⊎◌, inl, inr, Bool, true, false, not, List, [], ◌∷◌, ◌++◌, length, refl, sym, ap, ◌∙◌, arith, min, set, cases_order, get_or_append_left, length-append, get_or-set_other, get_or-set_same, IsWay, Ends, Goes, Agrees, Lacks, IsHung, IsOnTop, IsPutOnTop, IsSameOutside, mark_bit, link_by_bit, links_at, mark_at, Links, Mark}
+use Rattle.cap_process.proofs.Common.{◌≡◌, ◌≢◌, ℕ, zero, suc, ◌+◌, ◌-◌, ◌^◌, ◌<◌, ◌≤◌, ◌⊎◌, inl, inr, Bool, true, false, not, List, [], ◌∷◌, ◌++◌, length, refl, sym, ap, ◌∙◌, arith, min, set, cases_order, get_or_append_left, length-append, get_or-set_other, get_or-set_same, IsWay, Ends, Goes, Agrees, Lacks, IsHung, IsOnTop, IsPutOnTop, IsSameOutside, mark_bit, link_by_bit, links_at, mark_at, Links, Mark}
 
 below_or : (a b : ℕ) → (a < b) ⊎ (b ≤ a)
 below_or a b = elim (cases_order a b) [ inl e ↦ inr (omega arith) | inr (inl lt) ↦ inl lt | inr (inr gt) ↦ inr (omega arith) ]

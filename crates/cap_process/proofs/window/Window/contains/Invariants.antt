@@ -1,6 +1,6 @@
 -- What is left to search: the mark is nowhere from `limit` on.
-use Rattle.cap_window.proofs.Common.{◌+◌, ◌≤◌, length, IsWay, Lacks}
-use Rattle.cap_window.proofs.window.Window.contains.Given as goal
+use Rattle.cap_process.proofs.Common.{◌+◌, ◌≤◌, length, IsWay, Lacks}
+use Rattle.cap_process.proofs.window.Window.contains.Given as goal
 
 abbrev pub decreases-loop-step : goal.decreases-loop-step
 decreases-loop-step g l = l.limit

@@ -7,7 +7,7 @@
 -- for any mark goes.
 use Rattle.std.specs.{Int.w32, Int.from_le_bytes, List.slice_index_or}
 use Rattle.std.specs.Prelude.{◌≡◌, ◌≢◌, ℕ, ◌+◌, ◌-◌, ◌/◌, ◌%◌, ◌^◌, ◌<◌, ◌≤◌, ◌==◌, Bool, true, false, nat_lt, if◌then◌else◌, List, [], length, slice_index, take, bit_and}
-use Rattle.cap_window.specs.declared.{links.Links.Links, mark.Mark.Mark}
+use Rattle.cap_process.specs.declared.{links.Links.Links, mark.Mark.Mark}
 
 -- The bit of a mark at a depth. The depths 0 to 127 are the bits of its digest, from the last byte
 -- to the first; those from 128 on are the 32 bits of its length, repeated. The lowest bit of each

@@ -1,7 +1,7 @@
 -- The mark at `place` takes the place of one `step` places before it.
-use Rattle.cap_window.proofs.Common.{◌≡◌, ℕ, ◌+◌, ◌-◌, ◌<◌, length, IsHung}
-use Rattle.cap_window.proofs.Trees.{IsPlacing}
-use Rattle.cap_window.proofs.links.place_newest.Given as goal
+use Rattle.cap_process.proofs.Common.{◌≡◌, ℕ, ◌+◌, ◌-◌, ◌<◌, length, IsHung}
+use Rattle.cap_process.proofs.Trees.{IsPlacing}
+use Rattle.cap_process.proofs.links.place_newest.Given as goal
 
 abbrev pub decreases-loop-step : goal.decreases-loop-step
 decreases-loop-step g l = l.place

@@ -1,6 +1,6 @@
-use Rattle.cap_window.proofs.Common.{arith, refl, ◌≡◌, ◌∙◌, get_or, set, ◌+◌, ◌-◌, ◌<◌, ◌≤◌, length, take, drop, ◌++◌, List, ℕ, ap, get_or_default, take-append-le, take_all, hash_of, Links}
-use Rattle.cap_window.proofs.Indexes.{IsLowered, sound_hung, sound_push}
-use Rattle.cap_window.proofs.window.Window.push.Goals as goal
+use Rattle.cap_process.proofs.Common.{arith, refl, ◌≡◌, ◌∙◌, get_or, set, ◌+◌, ◌-◌, ◌<◌, ◌≤◌, length, take, drop, ◌++◌, List, ℕ, ap, get_or_default, take-append-le, take_all, hash_of, Links}
+use Rattle.cap_process.proofs.Indexes.{IsLowered, sound_hung, sound_push}
+use Rattle.cap_process.proofs.window.Window.push.Goals as goal
 
 pub invariant_of-self : goal.invariant_of-self
 invariant_of-self g c =

@@ -1,6 +1,6 @@
-use Rattle.cap_window.proofs.Common.{◌≡◌, ◌==◌, ◌∙◌, ℕ, zero, suc, true, false, ◌-◌, ◌<◌, sym, ap, refl, arith, length, not, length-set, get_or_from_slice_get, option_copied, mark_bit, links_at, mark_at}
-use Rattle.cap_window.proofs.Trees.{after_links, placing_end, placing_equal, placing_next, step_at}
-use Rattle.cap_window.proofs.links.place_newest.Goals as goal
+use Rattle.cap_process.proofs.Common.{◌≡◌, ◌==◌, ◌∙◌, ℕ, zero, suc, true, false, ◌-◌, ◌<◌, sym, ap, refl, arith, length, not, length-set, get_or_from_slice_get, option_copied, mark_bit, links_at, mark_at}
+use Rattle.cap_process.proofs.Trees.{after_links, placing_end, placing_equal, placing_next, step_at}
+use Rattle.cap_process.proofs.links.place_newest.Goals as goal
 
 nonzero : (n : ℕ) → (n == 0) ≡ false → 0 < n
 nonzero zero e = absurd (let never : true ≡ false = e in cc)

@@ -1,4 +1,0 @@
-pub mod Common
-pub mod Indexes
-pub mod Marks
-pub mod Trees

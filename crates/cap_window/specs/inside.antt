@@ -1,2 +1,0 @@
--- Helpers for functions and proofs of this crate and of other crates: no promise rests on them.
-pub mod Index
