@@ -17,7 +17,6 @@ const MOST_LINE_BYTES: usize = 25;
 /// Writes the listing of a program: the line of its length, and one line for each instruction. It
 /// takes no memory. An error is a failure of the output in this call, and reports how many bytes,
 /// fewer than all, were written before it.
-#[tactic(auto, using(crate::proofs::Checking::parts))]
 pub fn write_listing<A: Allocator, O: Output>(
     program: &Program<A>,
     output: &mut O,

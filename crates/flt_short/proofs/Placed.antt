@@ -4,7 +4,7 @@
 use Rattle.flt_short.proofs.Common.{◌≡◌, ℕ, ◌+◌, ◌-◌, ◌*◌, ◌<◌, ◌≤◌, List, [], ◌∷◌, length, true, cond, Option, Some, refl, sym, arith, ◌≢◌, nat_le, count_by, nat_tests, All-cons, All-head, All-tail, Insn, Operation, Jump, JumpIf, is_branch, JUMP, MOST_OFFSET, HasNoJump, IsShort, back_of_code, PlacedCode, with_offsets, with_test_by, with_insn, placed_code, laid_out, zero, suc, Bool, false, ap, ◌∙◌, inl, inr, ◌⊎◌, slice_get, if◌then◌else◌, IsNeeded, JumpsAreNeeded, with_jump, is_near, with_way, way, place_at, subst, ◌==◌, ◌&&◌, nat_lt, All, All-take, All-replicate, State, answer_of, emitted, with_noted_jump, jump_near, None, ReturnConstant, ReturnAccumulator, Test, Operand, does_if_known, test_holds, operand_value, answer_after, ends_in_return, Load, Compute, Memory, unless, fault_if_known, is_return, IsFaultless, IsValidUnlessLong, Constant, plain_both, known_step, length-drop}
 use Rattle.std.proofs.lemmas.List.Sums.{count_by-le-length, sum_by-cons}
 use Rattle.std.specs.Prelude.{slice_index}
-use Rattle.flt_bpf.proofs.{Jumps.jump_later, Jumps.needed_put, Suffix.valid_if_short}
+use Rattle.flt_bpf.proofs.{Jumps.jump_later, Jumps.needed_put}
 use Rattle.flt_bpf.specs.{Check.fault_of, Instructions.operation_of, Machine.step}
 use Rattle.flt_bpf.specs.declared.fault.CheckFault.TheVariants.{JumpOut}
 use Rattle.flt_short.specs.declared.layout.PlacedJump.{PlacedJump}
@@ -407,6 +407,3 @@ ends_laid (i ∷ j ∷ is) e =
 
 pub sound_laid : (wide : List Insn) → IsValidUnlessLong wide → IsValidUnlessLong (laid_out wide)
 sound_laid wide h = record { faultless = faultless_laid wide h.faultless; ends = ends_laid wide h.ends }
-
--- what the layout's contract says
-pub ruleset layout_facts = (same_answers, at_least, at_most, short_stays, laid_needed, sound_laid, valid_if_short)

@@ -427,7 +427,6 @@ fn replacement<A: Allocator>(
 /// Replaces code by code that returns the same on each packet, in no more instructions. If no such
 /// code is found, for example because a run reaches a jump (`ja`), the old code is returned. The
 /// error is a failed allocation, or an allocator that can't be cloned.
-#[tactic(auto, using(crate::proofs::Likeness::itself))]
 pub fn shortened<A: Allocator + Clone>(
     alloc: A,
     insns: Vec<Wide, A>,

@@ -1,7 +1,7 @@
 -- Line by line the listing is written, and where the output fails a front of it was.
 use Rattle.flt_bpf.proofs.Assembling.{line_bytes, stopped_front, stopped_told, more_told, more_size}
 use Rattle.flt_bpf.proofs.Checking.{parts}
-use Rattle.flt_bpf.proofs.Common.{length, ◌∙◌, arith, rules, length-decimal-le}
+use Rattle.flt_bpf.proofs.Common.{length, ◌∙◌, arith, rules, length-decimal-le, common_steps}
 use Rattle.flt_bpf.proofs.writing.write_listing.Goals as goal
 
 pub put_number-start-requires-clause-room : goal.put_number-start-requires-clause-room
@@ -28,3 +28,12 @@ loop-insn-preserved g c =
       room = search rules;
       exact = λ tells. more_told _ _ _ c.insns-insns.result.now c.loop-insn.insn-index _ _ c.loop-insn-test.true bytes (c.loop-insn.invariant.exact tells) (c.in_default.ensures.exact tells);
     }
+
+pub loop-insn-init : goal.loop-insn-init
+loop-insn-init g c = record { bounded = omega arith; size = grind (arith, common_steps); failed = grind arith; room = c.in_ok-write_all.ensures.room; exact = λ tells. let told = c.in_ok-write_all.ensures.exact tells in grind (arith, common_steps) }
+
+pub overflow_add-result : goal.overflow_add-result
+overflow_add-result g c = let short = (parts c.insns-insns.result.now c.insns-insns.ensures.valid).short in grind arith
+
+pub overflow_add-written : goal.overflow_add-written
+overflow_add-written g c = let short = (parts c.insns-insns.result.now c.insns-insns.ensures.valid).short in omega arith
