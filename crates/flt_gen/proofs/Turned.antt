@@ -3,7 +3,7 @@
 use Rattle.flt_gen.proofs.Common.{◌++◌, drop, length-drop, zero, ◌<◌, Check, length-take, ◌≡◌, ℕ, ◌-◌, List, [], ◌∷◌, length, take, get_or, suc, ◌≤◌, Some, None, Entry, Equal, Ether, refl, sym, ap, ◌∙◌, arith, reverse, take-suc, reverse-append, Node, Link, Walk, emit_node, emit_both_nodes, or_walk, emit_nodes}
 use Rattle.flt_gen.specs.inside.{Relations.relation, Relations.relation_in, Walk.emit_member}
 use Rattle.std.proofs.Math.Seq.{drop-append_seam}
-use Rattle.std.proofs.lemmas.List.{take-append-drop, length-reverse}
+use Rattle.std.proofs.lemmas.List.{take_all, take-append-drop, length-reverse}
 
 -- what is left of a list, turned round
 pub reverse_taken : {A : Type 0} (xs : List A) (e : ℕ) → reverse (take e xs) ≡ drop (length (reverse xs) - e) (reverse xs)
@@ -43,6 +43,12 @@ one_put ns j i other e within =
 
 two_put : (ns : List Node) (j i h : ℕ) (other : Node) → j ≡ suc i → i ≡ suc h → j ≤ length ns → reverse (take j ns) ≡ get_or ns i other ∷ get_or ns h other ∷ reverse (take h ns)
 two_put ns j i h other e f within = one_put ns j i other e within ∙ ap (λ xs. get_or ns i other ∷ xs) (one_put ns i h other f (omega arith))
+
+pub last_four : (ns : List Node) → 4 ≤ length ns → reverse ns ≡ get_or ns (length ns - 1) (Check Ether) ∷ get_or ns (length ns - 2) (Check Ether) ∷ get_or ns (length ns - 3) (Check Ether) ∷ get_or ns (length ns - 4) (Check Ether) ∷ reverse (take (length ns - 4) ns)
+last_four ns l =
+    ap reverse (sym (take_all (length ns) ns (omega arith)))
+    ∙ two_put ns (length ns) (length ns - 1) (length ns - 2) (Check Ether) (omega arith) (omega arith) (omega arith)
+    ∙ ap (λ xs. get_or ns (length ns - 1) (Check Ether) ∷ get_or ns (length ns - 2) (Check Ether) ∷ xs) (two_put ns (length ns - 2) (length ns - 3) (length ns - 4) (Check Ether) (omega arith) (omega arith) (omega arith))
 
 pub relation_put : (link : Link) (ns : List Node) (j : ℕ) (w : Walk) (e : Entry) → 4 ≤ length (take j ns) → j ≤ length ns → relation_in (reverse (take j ns)) ≡ Some e → emit_nodes link (emit_member link e w) (reverse (take (j - 4) ns)) ≡ emit_nodes link w (reverse (take j ns))
 relation_put link ns j w e some within is =
