@@ -12,22 +12,25 @@ reverse_taken xs e =
     let n : length (reverse xs) - e ≡ length (reverse (drop e xs)) = omega (arith, length-reverse xs, length-reverse (drop e xs), length-drop e xs) in
     sym (ap (λ k. drop k (reverse xs)) n ∙ ap (λ ys. drop (length (reverse (drop e xs))) ys) parts ∙ drop-append_seam (reverse (drop e xs)) (reverse (take e xs)))
 
+never : {A B : Type 0} (v : A) → None ≡ Some v → B
+never v e = cc
+
 -- a relation is put at once
 relation_walked : (link : Link) (w : Walk) (a b c d : Node) (ns : List Node) (e : Entry) → relation_in (a ∷ b ∷ c ∷ d ∷ ns) ≡ Some e → emit_nodes link w (a ∷ b ∷ c ∷ d ∷ ns) ≡ emit_nodes link (emit_member link e w) ns
 relation_walked link w (Node.Compare Equal) (Node.Literal k) (Node.Load p s) (Node.Literal i) ns e is = (let same : relation p s i k ≡ e = cc in ap (λ x. emit_nodes link (emit_member link x w) ns) same)
-relation_walked link w _ _ _ _ ns e is = cc
+relation_walked link w _ _ _ _ ns e is = never e is
 
 both_walked : (link : Link) (w v : Walk) (n m : Node) (ns : List Node) → relation_in (n ∷ m ∷ ns) ≡ None → emit_both_nodes link w n m ≡ Some v → emit_nodes link w (n ∷ m ∷ ns) ≡ emit_nodes link v ns
-both_walked link w v (Node.Compare Equal) (Node.Literal k) (Node.Load p s ∷ Node.Literal i ∷ ns) none e = cc
+both_walked link w v (Node.Compare Equal) (Node.Literal k) (Node.Load p s ∷ Node.Literal i ∷ ns) none e = never _ (sym none)
 both_walked link w v (Node.Apply o) (Node.Literal k) ns none e = ap (λ x. emit_nodes link (or_walk x (emit_node link (emit_node link w (Node.Apply o)) (Node.Literal k))) ns) e
 both_walked link w v (Node.Compare c) (Node.Literal k) ns none e = ap (λ x. emit_nodes link (or_walk x w) ns) e
 both_walked link w v (Node.Load p s) (Node.Literal k) ns none e = ap (λ x. emit_nodes link (or_walk x w) ns) e
-both_walked link w v _ _ ns none e = cc
+both_walked link w v _ _ ns none e = never v e
 
 one_walked : (link : Link) (w : Walk) (n m : Node) (ns : List Node) → emit_both_nodes link w n m ≡ None → emit_nodes link w (n ∷ m ∷ ns) ≡ emit_nodes link (emit_node link w n) (m ∷ ns)
 one_walked link w (Node.Apply o) (Node.Literal k) ns e = ap (λ x. emit_nodes link (or_walk x (emit_node link (emit_node link w (Node.Apply o)) (Node.Literal k))) ns) e
-one_walked link w (Node.Compare c) (Node.Literal k) ns e = cc
-one_walked link w (Node.Load p s) (Node.Literal k) ns e = cc
+one_walked link w (Node.Compare c) (Node.Literal k) ns e = never _ (sym e)
+one_walked link w (Node.Load p s) (Node.Literal k) ns e = never _ (sym e)
 one_walked link w (Node.Compare Equal) _ ns e = refl
 one_walked link w _ _ ns e = refl
 
