@@ -1,5 +1,4 @@
 -- The last four nodes come first in a list that is turned round.
-use Rattle.flt_gen.proofs.Common.{◌≡◌, ◌-◌, ◌≤◌, List, ◌∷◌, length, take, get_or, reverse, refl, arith, Node, Check, Ether}
 use Rattle.std.proofs.Common.{rules}
 use Rattle.flt_gen.proofs.relation.last_relation.Goals as goal
 use Rattle.flt_gen.proofs.Turned.{last_four}
