@@ -81,7 +81,7 @@ tests_from [] (suc word) t e = cc
 tests_from (u ∷ ts) zero t e = (let same : u ≡ t = cc in ap (λ (x : Elementary). x ∷ ts) same)
 tests_from (u ∷ ts) (suc word) t e = (let next : suc word + 1 ≡ suc (word + 1) = omega arith in tests_from ts word t e ∙ ap (λ k. t ∷ drop k (u ∷ ts)) (sym next))
 
-none_from : (ts : List Elementary) (word : ℕ) → slice_get ts word ≡ None → drop word ts ≡ []
+pub none_from : (ts : List Elementary) (word : ℕ) → slice_get ts word ≡ None → drop word ts ≡ []
 none_from [] zero e = refl
 none_from [] (suc word) e = refl
 none_from (t ∷ ts) zero e = cc

@@ -3,7 +3,7 @@
 //! halves, and then the next ones. Each test loads its word; `flt_short` leaves out repeated loads.
 //! Hosts of IPv6 on either side that have the first two words in common are a tree for each side.
 
-ghost use Rattle.std.specs.Prelude.{◌≡◌, drop, length, reverse, OnOk};
+ghost use Rattle.std.specs.Prelude.{◌≡◌, drop, length, reverse, OnOk, count_by, nat_lt};
 ghost use Rattle.flt_gen.specs.inside.Cases.{case_of, same_words, key_of, insert_case, case_front};
 ghost use Rattle.flt_gen.specs.inside.Cases.{case_tests, lowest, reach, word_test, keeps, all_keep};
 ghost use Rattle.flt_gen.specs.inside.Cases.{test_at, from_test, middle, is_parted, chain};
@@ -134,9 +134,16 @@ pub fn put_case<A: Allocator>(cases: &mut Vec<Case, A>, new: Case) -> Result<(),
     ensures { OnOk result (cases.new.items ≡ insert_case new cases.old.items) }
 {
     let key = key_of(new);
-    let at = cases.iter().filter(|case| key_of(**case) < key).count();
-    cases.insert(at, new)?;
-    Ok(())
+    let mut at = 0;
+    for case in &*cases {
+        if key_of(*case) < key {
+            at += 1;
+        }
+    }
+    match cases.insert(at, new) {
+        Ok(()) => Ok(()),
+        Err(_) => Err(AllocError),
+    }
 }
 
 /// The test of a word of a case; `None` past its last one.
@@ -214,7 +221,12 @@ fn from_test(test: Option<Elementary>, number: u32) -> Elementary
 fn all_keep(link: Link, direction: Direction, word: usize, bound: Bound, cases: &[Case]) -> bool
     ensures { result ≡ all_keep (case_tests link direction) word bound cases.now }
 {
-    cases.iter().all(|case| keeps(bound, word_test(link, direction, *case, word)))
+    for case in cases {
+        if !keeps(bound, word_test(link, direction, *case, word)) {
+            return false;
+        }
+    }
+    true
 }
 
 /// The test of a word of the case at a place, if there is one.
@@ -233,18 +245,31 @@ fn test_at(
     }
 }
 
+/// How many of some cases have a word that is lower than a number.
+fn count_lower(link: Link, direction: Direction, word: usize, cases: &[Case], number: u64) -> usize
+    ensures { result ≡ count_by
+        (λ c. nat_lt (lowest (word_test (case_tests link direction) word c)) number) cases.now }
+{
+    let mut count = 0;
+    for case in cases {
+        if u64::from(lowest(word_test(link, direction, *case, word))) < number {
+            count += 1;
+        }
+    }
+    count
+}
+
 /// The place of the case with which the upper half begins: the first whose word isn't lower than
 /// that of the middle one, or if that is the first of all, the first whose word is higher.
 fn middle(link: Link, direction: Direction, word: usize, cases: &[Case]) -> usize
     ensures { result ≡ middle (case_tests link direction) word cases.now }
 {
-    let number = lowest(test_at(link, direction, word, cases, cases.len() / 2));
-    let of = |case: &Case| lowest(word_test(link, direction, *case, word));
-    let at = cases.iter().filter(|case| of(case) < number).count();
+    let number = lowest(test_at(link, direction, word, cases, cases.len() / 2)).into();
+    let at = count_lower(link, direction, word, cases, number);
     if at > 0 {
         return at;
     }
-    cases.iter().filter(|case| of(case) <= number).count()
+    count_lower(link, direction, word, cases, number + 1)
 }
 
 /// Whether cases from a place on are parted from those before by their words.

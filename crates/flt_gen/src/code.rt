@@ -84,13 +84,12 @@ impl<A: Allocator> Code<A> {
     pub fn emit_plain(&mut self, operation: Operation, k: u32) -> Result<(), AllocError>
         ensures { OnOk result (self.new ≡ plain operation k ∷ self.old) }
     {
-        self.backwards.push(Wide {
-            code: operation.code(),
-            yes: 0,
-            no: 0,
-            k,
-        })?;
-        Ok(())
+        let code = operation.code();
+        let (yes, no) = (0, 0);
+        match self.backwards.push(Wide { code, yes, no, k }) {
+            Ok(()) => Ok(()),
+            Err(_) => Err(AllocError),
+        }
     }
 
     /// Puts a test of A and an operand in front, which goes on at one of two places.
@@ -104,13 +103,11 @@ impl<A: Allocator> Code<A> {
         ensures { OnOk result (self.new ≡ emit_branch test operand k to.yes to.no self.old) }
     {
         let (yes, no) = (self.distance(to.yes)?, self.distance(to.no)?);
-        self.backwards.push(Wide {
-            code: Operation::JumpIf(test, operand).code(),
-            yes,
-            no,
-            k,
-        })?;
-        Ok(())
+        let code = Operation::JumpIf(test, operand).code();
+        match self.backwards.push(Wide { code, yes, no, k }) {
+            Ok(()) => Ok(()),
+            Err(_) => Err(AllocError),
+        }
     }
 
     /// The instructions from the place `entry` on, in their order: what stands in front of it goes.

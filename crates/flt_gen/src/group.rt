@@ -176,15 +176,6 @@ fn place_among(numbers: &[Interval], new: Interval) -> usize
     at
 }
 
-/// Puts an interval among others, so that they still ascend.
-fn put_among<A: Allocator>(numbers: &mut Vec<Interval, A>, new: Interval) -> Result<(), AllocError>
-    ensures { OnOk result (numbers.new.items ≡ insert_ascending new numbers.old.items) }
-{
-    let at = place_among(numbers, new);
-    numbers.insert(at, new)?;
-    Ok(())
-}
-
 impl<A: Allocator> Group<A> {
     /// Takes all members out.
     pub fn clear(&mut self)
@@ -277,7 +268,8 @@ impl<A: Allocator> Group<A> {
         }
         match member_of(qualifiers.value_type, value) {
             Some(new) if self.goes_with(qualifiers) => {
-                put_among(&mut self.all, new)?;
+                let at = place_among(&self.all, new);
+                self.all.insert(at, new)?;
                 self.entries.push(entry)?;
                 self.qualifiers = qualifiers;
                 self.is_plain = new.low == new.high && self.is_plain;

@@ -2,7 +2,7 @@
 //! are looked at.
 
 ghost use Rattle.std.specs.List.{list_all};
-ghost use Rattle.std.specs.Prelude.{◌≡◌, ◌≤◌, map, OnOk, IfOk};
+ghost use Rattle.std.specs.Prelude.{◌≡◌, ◌≤◌, map, count_by, OnOk, IfOk};
 ghost use Rattle.flt_gen.specs.inside.Intervals.{joined_all, sought, is_aligned, idle_bits};
 ghost use Rattle.flt_gen.specs.Formula.{no_numbers};
 ghost use Rattle.flt_gen.specs.inside.Intervals.{is_block, left_out, high_mask, cut, without};
@@ -74,8 +74,10 @@ fn join_touching<A: Allocator>(
         }
         at += 1;
     }
-    joined.push(last)?;
-    Ok(())
+    match joined.push(last) {
+        Ok(()) => Ok(()),
+        Err(_) => Err(AllocError),
+    }
 }
 
 /// Whether an interval is a row of blocks, if each number is in a block with those that differ from
@@ -90,7 +92,12 @@ fn is_aligned(last: u32, item: Interval) -> bool
 fn are_aligned(last: u32, items: &[Interval]) -> bool
     ensures { result ≡ list_all (is_aligned last) items.now }
 {
-    items.iter().all(|item| is_aligned(last, *item))
+    for item in items {
+        if !is_aligned(last, *item) {
+            return false;
+        }
+    }
+    true
 }
 
 /// The longest last bits, at most this many, that don't decide which numbers are in intervals.
@@ -109,11 +116,17 @@ fn idle_bits(bits: u32, first: Interval, items: &[Interval]) -> u32
     idle_bits(bits - 1, first, items)
 }
 
-/// Whether an interval has as many numbers as a block.
-fn is_block(last: u32, item: Interval) -> bool
-    ensures { result ≡ is_block last item }
+/// How many of some intervals have as many numbers as a block.
+fn count_blocks(last: u32, items: &[Interval]) -> usize
+    ensures { result ≡ count_by (is_block last) items.now }
 {
-    item.high.saturating_sub(item.low) == last
+    let mut blocks = 0;
+    for item in items {
+        if item.high.saturating_sub(item.low) == last {
+            blocks += 1;
+        }
+    }
+    blocks
 }
 
 /// The last bits that aren't looked at, if any may be left out: none, if that doesn't make single
@@ -121,12 +134,14 @@ fn is_block(last: u32, item: Interval) -> bool
 fn left_out(is_masked: bool, first: Interval, items: &[Interval]) -> u32
     ensures { result ≡ left_out is_masked first items.now }
 {
-    let last = idle_bits(31, first, items);
-    if is_masked && items.iter().filter(|item| is_block(last, **item)).count() > 1 {
-        last
-    } else {
-        0
+    if !is_masked {
+        return 0;
     }
+    let last = idle_bits(31, first, items);
+    if count_blocks(last, items) > 1 {
+        return last;
+    }
+    0
 }
 
 /// The mask without the last bits, or `None` if there are none of these.

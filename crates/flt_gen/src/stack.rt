@@ -33,8 +33,10 @@ impl<T: Drop, A: Allocator> Stack<T, A> {
     pub fn push(&mut self, entry: T) -> Result<(), AllocError>
         ensures { OnOk result (self.new ≡ entry ∷ self.old) }
     {
-        self.entries.push(entry)?;
-        Ok(())
+        match self.entries.push(entry) {
+            Ok(()) => Ok(()),
+            Err(_) => Err(AllocError),
+        }
     }
 
     /// Takes the latest entry out; `None` if there is none.

@@ -142,25 +142,28 @@ impl<A: Allocator + Clone> Walk<A> {
             ≡ (if fits then Some self.new else None)) }
         ensures same { IfOk result (λ fits. self.new ≡ (if fits then self.new else self.old)) }
     {
-        match (node, right) {
-            (Node::Apply(operator), Node::Literal(n)) => {
-                if !takes_constant(*operator, *n) {
+        let Node::Literal(n) = *right else {
+            return Ok(false);
+        };
+        match *node {
+            Node::Apply(operator) => {
+                if !takes_constant(operator, n) {
                     return Ok(false);
                 }
                 self.code
-                    .emit_plain(computation(*operator, Operand::Constant), *n)?;
+                    .emit_plain(computation(operator, Operand::Constant), n)?;
                 Ok(true)
             }
-            (Node::Compare(comparison), Node::Literal(n)) => {
+            Node::Compare(comparison) => {
                 self.flush_group(link)?;
                 self.code
-                    .emit_comparison(*comparison, Operand::Constant, *n, self.to)?;
+                    .emit_comparison(comparison, Operand::Constant, n, self.to)?;
                 Ok(true)
             }
-            (Node::Load(protocol, size), Node::Literal(n)) => {
-                let offset = accessor_offset(link, *protocol, *n);
-                self.code.emit_field(offset, width_of(*size))?;
-                self.numbers.push(Waiting::Index(*protocol))?;
+            Node::Load(protocol, size) => {
+                let offset = accessor_offset(link, protocol, n);
+                self.code.emit_field(offset, width_of(size))?;
+                self.numbers.push(Waiting::Index(protocol))?;
                 self.finish_number(link)?;
                 Ok(true)
             }

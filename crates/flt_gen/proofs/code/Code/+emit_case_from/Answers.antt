@@ -1,9 +1,9 @@
 -- A test in front of others, of which those that decide nothing are left out.
 use Rattle.flt_gen.proofs.Common.{◌≡◌, ◌+◌, ◌∙◌, true, false, sym, ap, subst, List, Elementary, Block, is_idle}
-use Rattle.flt_gen.proofs.Decision.{last_needed, next_needed}
+use Rattle.flt_gen.proofs.Decision.{none_from, last_needed, next_needed}
 use Rattle.std.specs.Prelude.{is_none, slice_get}
 use Rattle.std.proofs.Common.{rules}
-use Rattle.flt_gen.specs.inside.{Cases.case_tests, Code.emit_all, Code.emit_elementary, Emits.Emits}
+use Rattle.flt_gen.specs.inside.{Cases.case_tests, Emitted.needed_tests, Code.emit_all, Code.emit_elementary, Emits.Emits}
 use Rattle.flt_gen.proofs.code.Code.+emit_case_from.Goals as goal
 
 pub returns-then-is_none : goal.returns-then-is_none
@@ -37,3 +37,8 @@ returns g t c =
     (sym (ap (λ (ts : List Elementary). emit_all ts a.to.yes a.to.no a.self.now) (next_needed by a.word c.in-Some.test false (sym c.word_test.ensures ∙ c.in-Some.is) more idle)
     ∙ ap (λ (e : Block). emit_elementary c.in-Some.test e.entry a.to.no e.code) c.in_ok-yes.ensures))
     r.ensures
+
+pub returns-in_default : goal.returns-in_default
+returns-in_default g t c =
+    let a = c.args in
+    ap (λ (ts : List Elementary). emit_all (needed_tests ts) a.to.yes a.to.no a.self.now) (none_from (case_tests a.link a.direction a.case) a.word (sym c.word_test.ensures ∙ c.in_default.is))

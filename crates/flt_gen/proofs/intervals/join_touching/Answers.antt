@@ -1,0 +1,7 @@
+-- One more interval is joined or put.
+use Rattle.std.proofs.lemmas.Grind.{common_steps}
+use Rattle.std.proofs.Common.{arith}
+use Rattle.flt_gen.proofs.intervals.join_touching.Goals as goal
+
+pub touching-preserved : goal.touching-preserved
+touching-preserved g c = grind (arith, common_steps)
