@@ -9,7 +9,7 @@ ghost use Rattle.capkit.specs.inside.Arguments.{app_by, with_name, rule_by, shap
 ghost use Rattle.capkit.specs.{Arguments.with_shapes, inside.Arguments.subcommand_of_name};
 
 use crate::examples::{LINE_HELP, VERSION};
-use crate::options::{Argument, COMMANDS, CommandRow, Name, Value};
+use crate::options::{Argument, CommandRow, Name, Value, commands};
 use clap::builder::ValueParser;
 use clap::{Arg, ArgAction, ArgMatches, Command, Error};
 use std::alloc::{AllocError, Global};
@@ -156,7 +156,7 @@ fn whole_line<'a>(alloc: Global) -> Result<Command<'a>, AllocError>
         formats: FORMATS.as_slice(),
         links: LINKS.as_slice(),
     };
-    line_with_commands(alloc, &COMMANDS, choices)
+    line_with_commands(alloc, commands(), choices)
 }
 
 /// Parses the words after the program's name, and returns clap's matches of them. An error is

@@ -2,7 +2,7 @@
 //! and what each command is for. It is found by the text of the refusal, as the version of clap
 //! that is built in writes it.
 
-use crate::options::COMMANDS;
+use crate::options::commands;
 use std::alloc::AllocError;
 
 /// What clap's refusal of an option that it doesn't know begins with.
@@ -87,21 +87,25 @@ fn hint_for_option(command: &str, option: &str) -> Option<&'static str> {
 /// The hint for a refusal of clap's with this text: the text shows the option and, in its usage,
 /// the command. `None` if it isn't the refusal of an unknown option, or the option has no hint.
 pub(crate) fn hint_for_refusal(refusal: &str) -> Option<&'static str> {
-    let (option, following) = refusal.strip_prefix(UNKNOWN)?.split_once("'")?;
-    let (_, usage) = following.split_once(USAGE_OF)?;
-    let (command, _) = usage.split_once(" ")?;
-    let name = match option.as_bytes() {
-        [b'-', b'0'..=b'9'] => NEGATIVE,
-        _ => option,
-    };
-    hint_for_option(command, name)
+    if let Some(text) = refusal.strip_prefix(UNKNOWN)
+        && let Some((option, following)) = text.split_once("'")
+        && let Some((_, usage)) = following.split_once(USAGE_OF)
+        && let Some((command, _)) = usage.split_once(" ")
+    {
+        let name = match option.as_bytes() {
+            [b'-', b'0'..=b'9'] => NEGATIVE,
+            _ => option,
+        };
+        return hint_for_option(command, name);
+    }
+    None
 }
 
 /// Adds to a text the list of the commands with what they do, as the help of the program has it. An
 /// error means that memory ran out.
 pub(crate) fn add_commands(text: &mut String) -> Result<(), AllocError> {
     text.push_str("\nCommands:\n")?;
-    for row in &COMMANDS {
+    for row in commands() {
         writeln!(text, "  {:<7}  {}", row.name, row.about)?;
     }
     Ok(())

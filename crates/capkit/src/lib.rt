@@ -5,7 +5,7 @@
 //! [`Line`], which is a command with the names that it is run over, or a [`Usage`], which is the
 //! reason for a refusal.
 //!
-//! - `options::COMMANDS` has the subcommands with their options and help, an `options::Argument`
+//! - `options::commands` returns the subcommands with their options and help, an `options::Argument`
 //!   each; `ids` has the names by which their values are read.
 //! - `arguments::matches_of` parses words by these tables, and returns clap's matches.
 //! - `line` has a command's words as a [`Line`], by the module of its subcommand, as `edit_line`.

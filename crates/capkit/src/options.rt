@@ -1,4 +1,8 @@
 //! The subcommands and their arguments, as tables.
+ghost use Rattle.std.specs.Prelude.{◌≡◌, map};
+ghost use Rattle.clap.specs.declared.builder.value_parser.ValueParser.TheVariants.{Names};
+ghost use Rattle.capkit.specs.declared.arguments.Choices.{Choices};
+ghost use Rattle.capkit.specs.{Arguments.line_shapes, inside.Arguments.shape_by};
 
 use crate::examples::{COMPILE_HELP, EDIT_HELP, INFOS_HELP, MERGE_HELP, PRINT_HELP};
 use crate::ids;
@@ -275,4 +279,13 @@ const COMPILE: CommandRow = CommandRow {
 };
 
 /// The subcommands, in the order in which help lists them.
-pub static COMMANDS: [CommandRow; 5] = [EDIT, MERGE, INFOS, PRINT, COMPILE];
+static COMMANDS: [CommandRow; 5] = [EDIT, MERGE, INFOS, PRINT, COMPILE];
+
+/// The rows of the subcommands. Only this function names the table: the proof of a function that
+/// does has its texts at each step.
+pub fn commands() -> &'static [CommandRow]
+    ensures { (choices : Choices) → map (shape_by choices) result.now
+        ≡ line_shapes (Names choices.formats) (Names choices.links) }
+{
+    &COMMANDS
+}

@@ -42,9 +42,6 @@ fn is_drawable(rt: &HostRuntime) -> bool {
     }
 }
 
-/// What the system shows of the process.
-const STATUS: &str = "/proc/self/stat";
-
 /// Whether a process is in the foreground of its terminal, by what the system shows of it: fields,
 /// of which the second is a name in parentheses, the fifth the group of the process, and the eighth
 /// the group that has the terminal. True if there are no such fields.
@@ -64,7 +61,7 @@ pub fn is_in_foreground(status: &str) -> bool {
 
 /// Whether this process is in the foreground of its terminal; true even if that can't be known.
 fn is_in_its_foreground(rt: &HostRuntime) -> bool {
-    match fs::read_to_string(rt, STATUS) {
+    match fs::read_to_string(rt, "/proc/self/stat") {
         Ok(status) => is_in_foreground(&status),
         Err(_) => true,
     }

@@ -55,7 +55,7 @@ pub fn refuse(rt: &(impl AllocGlobal + Print + Errors), usage: Usage) -> u8
     match &usage {
         Usage::Refused(error) if error.use_stderr() => tell_refusal(rt, error),
         Usage::Refused(answer) => is_written = print_answer(rt, answer),
-        Usage::Memory => tell(rt, format_args!("{usage}")),
+        Usage::Memory => tell(rt, Stop::NoMemory),
         fault => tell(rt, format_args!("usage: {fault}")),
     }
     status_of(&usage, is_written)

@@ -22,7 +22,9 @@ const LAST_STREAM: i32 = 2;
 fn open_beside_streams(rt: &HostRuntime, how: &OpenOptions, path: &str) -> Option<File>
     ensures { IfSome result (λ file. is_beside_streams (file_raw_fd file) ≡ true) }
 {
-    let opened = how.open(rt, path).ok()?;
+    let Ok(opened) = how.open(rt, path) else {
+        return None;
+    };
     if opened.as_raw_fd() > LAST_STREAM {
         return Some(opened);
     }

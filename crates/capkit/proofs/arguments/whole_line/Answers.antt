@@ -1,4 +1,4 @@
-use Rattle.std.proofs.{Common.ap, Common.map, lemmas.Result.IfOk-weaker}
+use Rattle.capkit.proofs.Common.{◌∙◌, ap, map, with_shapes, line_without_commands, IfOk-weaker}
 use Rattle.clap.specs.declared.builder.value_parser.ValueParser.TheVariants.{Names}
 use Rattle.cap_octet.specs.{Format.all_formats, Link.all_links}
 use Rattle.capkit.proofs.arguments.whole_line.Goals as goal
@@ -13,5 +13,5 @@ returns c =
       links,
       ap (map (λ name. name.now)) c.as_slice.ensures,
       ap (map (λ name. name.now)) c.as_slice-2.ensures,
-      is,
+      is ∙ ap (with_shapes line_without_commands) (c.commands.ensures _),
     )) c.line_with_commands.ensures

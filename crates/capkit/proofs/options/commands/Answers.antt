@@ -1,0 +1,5 @@
+use Rattle.std.proofs.Common.{refl}
+use Rattle.capkit.proofs.options.commands.Goals as goal
+
+pub returns : goal.returns
+returns c choices = refl
