@@ -15,9 +15,9 @@ abbrev pub IsOwn : Fault → Type 0
 IsOwn fault = is_own fault ≡ true
 
 -- it counts no failure
-own-unfailed : (fault : Fault) → IsOwn fault → read_failures {X = ℕ} (Err fault) ≡ 0
-own-unfailed ReadFailed own = (cc)
-own-unfailed fault own = refl
+pub own-unfailed : (X : Type 0) (fault : Fault) → IsOwn fault → read_failures {X = X} (Err fault) ≡ 0
+own-unfailed X ReadFailed own = (cc)
+own-unfailed X fault own = refl
 
 abbrev AreOwn : List (Bool × Fault) → Type 0
 AreOwn rows = AreAll IsOwn rows
@@ -52,7 +52,7 @@ own-fault frame interfaces block fault is =
 pub entry-own : (frame : Frame) (interfaces : List Described) (block : List ℕ) (fault : Fault) → IsEntryFault frame interfaces block fault → read_failures {X = ℕ} (Err fault) ≡ 0
 entry-own frame interfaces block fault is =
     elim is [
-      | inl fails ↦ own-unfailed fault (own-fault frame interfaces block fault fails)
+      | inl fails ↦ own-unfailed ℕ fault (own-fault frame interfaces block fault fails)
       | inr memory ↦ rw memory.0 refl
     ]
 

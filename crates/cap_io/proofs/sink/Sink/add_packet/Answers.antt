@@ -27,12 +27,3 @@ returns-in_default-state-clause-bytes g c = λ tells.
       | in-Pcapng+in_ok-interface-in-Pcapng w ↦ rw (w.written-is, w.self-inside-is) (block-adds _ _ _ _ _ _ _ _ _ w.in-Pcapng.is w.in_ok-interface-in-Pcapng.ensures.number (w.write_block-written.ensures.appended tells))
     ]) in
     rw c.in-Ok.is at exact
-
-pub returns-in_default-clause-answer : goal.returns-in_default-clause-answer
-returns-in_default-clause-answer g c = ?
-
-pub returns-in-Empty-clause-answer : goal.returns-in-Empty-clause-answer
-returns-in-Empty-clause-answer g c = ?
-
-pub returns-in_default-state-clause-answer : goal.returns-in_default-state-clause-answer
-returns-in_default-state-clause-answer g c = ?
