@@ -4,8 +4,8 @@ use Rattle.cap_io.proofs.Cuts.{AreUnits-append}
 use Rattle.cap_io.proofs.Units.{FitUnits-append, FitUnits-wider, one_unit_fits, one_unit}
 use Rattle.cap_pcapng.specs.{Comment.comment_in, declared.effect.Span.Span}
 use Rattle.cap_io.specs.declared.{file_state.NextUnit.NextUnit, source.Stage.Stage}
-use Rattle.cap_io.specs.{Source.KeepsBounds, inside.Source.NextBounds}
-use Rattle.std.specs.Result.{OnOk}
+use Rattle.cap_io.specs.{Source.KeepsBounds, inside.Source.Continues, inside.Source.NextBounds, inside.Source.past_unit}
+use Rattle.std.specs.Result.{OnErr, OnOk}
 
 -- ---- no unit is gone over
 
@@ -193,6 +193,24 @@ bounds-next old new (Err fault) given failures sure enough block held room count
   given = given; failures = failures; sure = sure; enough = enough; block = block; held = held; room = room; counted = counted; broken = is;
   packet = λ e. absurd (cc); ended = λ e. absurd (cc); found = λ e. absurd (cc); passed = λ size e. absurd (cc);
 }
+
+-- ---- from past the current unit
+
+pub past-between : (old between : SourceView) → old.phase ≡ Reading → between ≡ past_unit old → IsBetween between
+past-between old between reading is = rw is (record { phase = reading; block = refl; packet = refl })
+
+pub past-continues : (old between new : SourceView) (r : Result Bool Fault) → between ≡ past_unit old → Continues between r new → Continues old r new
+past-continues old between new (Ok true) is c = FindsPacket-then old (past_unit old) new (stays old (past_unit old) refl refl (omega arith)) refl (rw is at c)
+past-continues old between new (Ok false) is c = FindsEnd-then old (past_unit old) new (stays old (past_unit old) refl refl (omega arith)) refl (rw is at c)
+past-continues old between new (Err fault) is c = IsBroken-then old (past_unit old) new fault (stays old (past_unit old) refl refl (omega arith)) refl (omega arith) (rw is at c)
+
+pub past-bounds : (old between new : SourceView) (r : Result Bool Fault) → between ≡ past_unit old → KeepsBounds between r new → KeepsBounds old r new
+past-bounds old between new r is kept =
+    let k = rw is at kept in
+    let place : end_offset (past_unit old) ≡ end_offset old = omega arith in
+    let P : ℕ → Type 0 = λ e. OnOk r (new.given + e ≡ old.given + end_offset new) in
+    let Q : ℕ → Type 0 = λ e. OnErr r ((old.given + end_offset new ≤ new.given + e) × (new.given + e ≤ old.given + end_offset new + most_in_unit)) in
+    record { given = k.given; failures = k.failures; sure = k.sure; enough = k.enough; block = k.block; held = k.held; room = k.room; progress = k.progress; bounded = k.bounded; packet = k.packet; counted = subst P place k.counted; broken = subst Q place k.broken }
 
 -- ---- the packet in hand
 
