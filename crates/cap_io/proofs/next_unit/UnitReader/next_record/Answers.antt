@@ -37,27 +37,27 @@ returns g c =
     let size : length c.read_rest.new.buffer ≡ c.make_room.new.buffer.len = c.read_rest.auto.buffer ∙ c.as_mut_slice.ensures.len in
     let moves = moves-then true (Ok tt) (sym c.read_front.auto.front) (rw c.if-not-branch.false at c.in_ok-read_front.ensures.moves) c.in_ok-read_rest.ensures.moves in
     rw c.record_spans-self.ensures (record {
-  moves = record { counted = moves.counted; grown = moves.grown; bounded = moves.bounded; at_most = tt; failed = moves.failed; sure = moves.sure; enough = moves.enough; told = moves.told };
-  sized = (
-    record {
-      bytes = omega arith;
-      options = omega arith;
-      there = rw (take_at c.read_rest.new.buffer _ c.make_room.new.buffer.len size) (omega (arith, size, c.in_ok-make_room.ensures.room));
-      some = omega arith;
-      small = omega (arith, c.in_ok-found.ensures.short);
-      time = c.in_ok-found.ensures.in_range;
-    },
-    moves.bounded (omega arith),
-  );
-  consistent = rw c.requires tt;
-  known = rw c.requires tt;
-  ok = λ t. rw c.requires
-      (record_came _ _ _ _ c.read_front.new.front (take (16 + c.in_ok-found.found.captured) c.read_rest.new.buffer) _ c.in_ok-found.found _ (rw c.if-not-branch.false at (c.in_ok-read_front.ensures.ok t)) c.read_front.auto.front
-      (fields_came _ _ _ _ c.read_record.ensures.answer c.in_ok-found.was) refl (search rules) c.in_ok-read_rest.ensures.same (c.in_ok-read_rest.ensures.ok t) (rw (take_at c.read_rest.new.buffer _ c.make_room.new.buffer.len size) refl));
-  err = tt;
-  kept = tt;
-  grown = rw (take_at c.read_rest.new.buffer _ c.make_room.new.buffer.len size) (omega (arith, size, c.make_room.ensures.grown, c.make_room.new.buffer.ok.0));
-  bounded = λ most. rw (take_at c.read_rest.new.buffer _ c.make_room.new.buffer.len size) (omega (arith, size, c.make_room.ensures.bounded (omega (arith, c.in_ok-found.ensures.short)) most, c.make_room.new.buffer.ok.0));
-  fits = rw c.requires (rw (take_at c.read_rest.new.buffer _ c.make_room.new.buffer.len size) (omega (arith, size, c.in_ok-make_room.ensures.room)));
-  memory = λ e. absurd (no-error e);
-})
+      moves = record { counted = moves.counted; grown = moves.grown; bounded = moves.bounded; at_most = tt; failed = moves.failed; sure = moves.sure; enough = moves.enough; told = moves.told };
+      sized = (
+        record {
+          bytes = omega arith;
+          options = omega arith;
+          there = rw (take_at c.read_rest.new.buffer _ c.make_room.new.buffer.len size) (omega (arith, size, c.in_ok-make_room.ensures.room));
+          some = omega arith;
+          small = omega (arith, c.in_ok-found.ensures.short);
+          time = c.in_ok-found.ensures.in_range;
+        },
+        moves.bounded (omega arith),
+      );
+      consistent = rw c.requires tt;
+      known = rw c.requires tt;
+      ok = λ t. rw c.requires
+          (record_came _ _ _ _ c.read_front.new.front (take (16 + c.in_ok-found.found.captured) c.read_rest.new.buffer) _ c.in_ok-found.found _ (rw c.if-not-branch.false at (c.in_ok-read_front.ensures.ok t)) c.read_front.auto.front
+          (fields_came _ _ _ _ c.read_record.ensures.answer c.in_ok-found.was) refl (search rules) c.in_ok-read_rest.ensures.same (c.in_ok-read_rest.ensures.ok t) (rw (take_at c.read_rest.new.buffer _ c.make_room.new.buffer.len size) refl));
+      err = tt;
+      kept = tt;
+      grown = rw (take_at c.read_rest.new.buffer _ c.make_room.new.buffer.len size) (omega (arith, size, c.make_room.ensures.grown, c.make_room.new.buffer.ok.0));
+      bounded = λ most. rw (take_at c.read_rest.new.buffer _ c.make_room.new.buffer.len size) (omega (arith, size, c.make_room.ensures.bounded (omega (arith, c.in_ok-found.ensures.short)) most, c.make_room.new.buffer.ok.0));
+      fits = rw c.requires (rw (take_at c.read_rest.new.buffer _ c.make_room.new.buffer.len size) (omega (arith, size, c.in_ok-make_room.ensures.room)));
+      memory = λ e. absurd (no-error e);
+    })
