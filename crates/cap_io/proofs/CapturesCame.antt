@@ -303,26 +303,8 @@ moves-failed {X = X} {Y = Y} {device = device} {old = old} fault moves less =
 -- two reads of one unit, of which the first one succeeded, moved the device as one
 pub moves-then : {I X Y : Type 0} {device : Ghosts I} {old mid new : I} {front least most : ℕ} {first : Y → ℕ} {count : X → ℕ} (y : Y) (r : Result X Fault) → first y ≡ front → Moves device old mid 0 first least (Ok y)
     → Moves device mid new front count most r → Moves device old new 0 count most r
-moves-then {front = front} {count = count} y (Ok x) is one two = record {
-  counted = omega (arith, is, one.counted, two.counted);
-  grown = omega (arith, one.grown, two.grown);
-  at_most = tt;
-  failed = omega (arith, one.failed, two.failed);
-  sure = two.sure ∙ one.sure;
-  enough = two.enough;
-  told = λ t. two.told t ∙ one.told t;
-  bounded = λ some. elim (cases_lt front (count x)) [ inl less ↦ two.bounded less | inr all ↦ omega (arith, some, all, one.bounded (omega (arith, is, some, all)), two.counted) ];
-}
-moves-then y (Err fault) is one two = record {
-  counted = tt;
-  grown = omega (arith, one.grown, two.grown);
-  bounded = tt;
-  at_most = omega (arith, is, one.counted, two.at_most);
-  failed = omega (arith, one.failed, two.failed);
-  sure = two.sure ∙ one.sure;
-  enough = two.enough;
-  told = λ t. two.told t ∙ one.told t;
-}
+moves-then {front = front} {count = count} y (Ok x) is one two = record { counted = omega (arith, is, one.counted, two.counted); grown = omega (arith, one.grown, two.grown); at_most = tt; failed = omega (arith, one.failed, two.failed); sure = two.sure ∙ one.sure; enough = two.enough; told = λ t. two.told t ∙ one.told t; bounded = λ some. elim (cases_lt front (count x)) [ inl less ↦ two.bounded less | inr all ↦ omega (arith, some, all, one.bounded (omega (arith, is, some, all)), two.counted) ] }
+moves-then y (Err fault) is one two = record { counted = tt; grown = omega (arith, one.grown, two.grown); bounded = tt; at_most = omega (arith, is, one.counted, two.at_most); failed = omega (arith, one.failed, two.failed); sure = two.sure ∙ one.sure; enough = two.enough; told = λ t. two.told t ∙ one.told t }
 
 -- after a read that succeeded no unit came
 pub moves-ended : {I X Y : Type 0} {device : Ghosts I} {old mid : I} {least most : ℕ} {first : Y → ℕ} {count : X → ℕ} (y : Y) (fault : Fault) → read_failures {X = X} (Err fault) ≡ 0 → first y ≤ most → Moves device old mid 0 first least (Ok y)

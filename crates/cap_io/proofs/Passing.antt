@@ -155,48 +155,9 @@ found_by (Err fault) = Err fault
 
 pub bounds-then : (first old new : SourceView) (read : Result NextUnit Fault) → first.given ≤ old.given → old.failures ≡ first.failures → old.sure ≡ first.sure → first.room ≤ old.room
     → old.given + end_offset first ≡ first.given + end_offset old → NextBounds old read new → KeepsBounds first (found_by read) new
-bounds-then first old new (Ok NextUnit.Packet) given failures sure room counted next = record {
-  given = omega (arith, given, next.given);
-  failures = omega (arith, failures, next.failures);
-  sure = next.sure ∙ sure;
-  enough = next.enough;
-  block = next.block;
-  held = next.held;
-  room = omega (arith, room, next.room);
-  progress = λ e. omega (arith, given, (next.packet refl).0);
-  bounded = λ e. (next.packet refl).1;
-  packet = λ e. (next.packet refl).2;
-  counted = omega (arith, counted, next.counted);
-  broken = tt;
-}
-bounds-then first old new (Ok unit) given failures sure room counted next = record {
-  given = omega (arith, given, next.given);
-  failures = omega (arith, failures, next.failures);
-  sure = next.sure ∙ sure;
-  enough = next.enough;
-  block = next.block;
-  held = next.held;
-  room = omega (arith, room, next.room);
-  progress = λ e. absurd (cc);
-  bounded = λ e. absurd (cc);
-  packet = λ e. absurd (cc);
-  counted = omega (arith, counted, next.counted);
-  broken = tt;
-}
-bounds-then first old new (Err fault) given failures sure room counted next = record {
-  given = omega (arith, given, next.given);
-  failures = omega (arith, failures, next.failures);
-  sure = next.sure ∙ sure;
-  enough = next.enough;
-  block = next.block;
-  held = next.held;
-  room = omega (arith, room, next.room);
-  progress = λ e. absurd (cc);
-  bounded = λ e. absurd (cc);
-  packet = λ e. absurd (cc);
-  counted = tt;
-  broken = (omega (arith, counted, next.broken.0), omega (arith, counted, next.broken.1));
-}
+bounds-then first old new (Ok NextUnit.Packet) given failures sure room counted next = record { given = omega (arith, given, next.given); failures = omega (arith, failures, next.failures); sure = next.sure ∙ sure; enough = next.enough; block = next.block; held = next.held; room = omega (arith, room, next.room); progress = λ e. omega (arith, given, (next.packet refl).0); bounded = λ e. (next.packet refl).1; packet = λ e. (next.packet refl).2; counted = omega (arith, counted, next.counted); broken = tt }
+bounds-then first old new (Ok unit) given failures sure room counted next = record { given = omega (arith, given, next.given); failures = omega (arith, failures, next.failures); sure = next.sure ∙ sure; enough = next.enough; block = next.block; held = next.held; room = omega (arith, room, next.room); progress = λ e. absurd (cc); bounded = λ e. absurd (cc); packet = λ e. absurd (cc); counted = omega (arith, counted, next.counted); broken = tt }
+bounds-then first old new (Err fault) given failures sure room counted next = record { given = omega (arith, given, next.given); failures = omega (arith, failures, next.failures); sure = next.sure ∙ sure; enough = next.enough; block = next.block; held = next.held; room = omega (arith, room, next.room); progress = λ e. absurd (cc); bounded = λ e. absurd (cc); packet = λ e. absurd (cc); counted = tt; broken = (omega (arith, counted, next.broken.0), omega (arith, counted, next.broken.1)) }
 
 -- what `read_unit` knows of the unit that it read
 abbrev IsRead : SourceView → Result NextUnit Fault → SourceView → Type 0
@@ -207,66 +168,10 @@ IsRead old (Err fault) new = (old.given + end_offset new ≤ new.given + end_off
 
 pub bounds-next : (old new : SourceView) (read : Result NextUnit Fault) → old.given ≤ new.given → new.failures ≡ old.failures + read_failures read → new.sure ≡ old.sure → (0 < new.failures → HasGiven new.sure new.given)
     → length new.block ≤ new.room → new.room ≤ most_in_unit → old.room ≤ new.room → OnOk read (new.given + end_offset old ≡ old.given + end_offset new) → IsRead old read new → NextBounds old read new
-bounds-next old new (Ok NextUnit.Packet) given failures sure enough block held room counted is = record {
-  given = given;
-  failures = failures;
-  sure = sure;
-  enough = enough;
-  block = block;
-  held = held;
-  room = room;
-  counted = counted;
-  broken = tt;
-  packet = λ e. is.0;
-  ended = λ e. absurd (cc);
-  found = λ e. is.1;
-  passed = λ size e. absurd (cc);
-}
-bounds-next old new (Ok (NextUnit.Other size)) given failures sure enough block held room counted is = record {
-  given = given;
-  failures = failures;
-  sure = sure;
-  enough = enough;
-  block = block;
-  held = held;
-  room = room;
-  counted = counted;
-  broken = tt;
-  packet = λ e. absurd (cc);
-  ended = λ e. absurd (cc);
-  found = λ e. absurd (cc);
-  passed = λ size e. is;
-}
-bounds-next old new (Ok NextUnit.End) given failures sure enough block held room counted is = record {
-  given = given;
-  failures = failures;
-  sure = sure;
-  enough = enough;
-  block = block;
-  held = held;
-  room = room;
-  counted = counted;
-  broken = tt;
-  packet = λ e. absurd (cc);
-  ended = λ e. is;
-  found = λ e. absurd (cc);
-  passed = λ size e. absurd (cc);
-}
-bounds-next old new (Err fault) given failures sure enough block held room counted is = record {
-  given = given;
-  failures = failures;
-  sure = sure;
-  enough = enough;
-  block = block;
-  held = held;
-  room = room;
-  counted = counted;
-  broken = is;
-  packet = λ e. absurd (cc);
-  ended = λ e. absurd (cc);
-  found = λ e. absurd (cc);
-  passed = λ size e. absurd (cc);
-}
+bounds-next old new (Ok NextUnit.Packet) given failures sure enough block held room counted is = record { given = given; failures = failures; sure = sure; enough = enough; block = block; held = held; room = room; counted = counted; broken = tt; packet = λ e. is.0; ended = λ e. absurd (cc); found = λ e. is.1; passed = λ size e. absurd (cc) }
+bounds-next old new (Ok (NextUnit.Other size)) given failures sure enough block held room counted is = record { given = given; failures = failures; sure = sure; enough = enough; block = block; held = held; room = room; counted = counted; broken = tt; packet = λ e. absurd (cc); ended = λ e. absurd (cc); found = λ e. absurd (cc); passed = λ size e. is }
+bounds-next old new (Ok NextUnit.End) given failures sure enough block held room counted is = record { given = given; failures = failures; sure = sure; enough = enough; block = block; held = held; room = room; counted = counted; broken = tt; packet = λ e. absurd (cc); ended = λ e. is; found = λ e. absurd (cc); passed = λ size e. absurd (cc) }
+bounds-next old new (Err fault) given failures sure enough block held room counted is = record { given = given; failures = failures; sure = sure; enough = enough; block = block; held = held; room = room; counted = counted; broken = is; packet = λ e. absurd (cc); ended = λ e. absurd (cc); found = λ e. absurd (cc); passed = λ size e. absurd (cc) }
 
 -- ---- from past the current unit
 
