@@ -56,29 +56,17 @@ returns-clause-lent g c = λ is.
           (ap (take size) same ∙ unit) enters));
     })
 
-pub returns-in_default-first_chunk-clause-lent : goal.returns-in_default-first_chunk-clause-lent
-returns-in_default-first_chunk-clause-lent g c = λ is. absurd (false≢true is)
+pub returns-in_default-first_chunk : goal.returns-in_default-first_chunk
+returns-in_default-first_chunk g c = record { lent = λ is. absurd (false≢true is); nothing = λ _. (refl, refl, refl) }
 
-pub returns-in_default-first_chunk-clause-nothing : goal.returns-in_default-first_chunk-clause-nothing
-returns-in_default-first_chunk-clause-nothing g c = λ _. (refl, refl, refl)
+pub returns-in_default-frame : goal.returns-in_default-frame
+returns-in_default-frame g c = record { lent = λ is. absurd (false≢true is); nothing = λ _. (refl, refl, refl) }
 
-pub returns-in_default-frame-clause-lent : goal.returns-in_default-frame-clause-lent
-returns-in_default-frame-clause-lent g c = λ is. absurd (false≢true is)
+pub returns-then-size-room : goal.returns-then-size-room
+returns-then-size-room g c = record { lent = λ is. absurd (false≢true is); nothing = λ _. (refl, refl, refl) }
 
-pub returns-in_default-frame-clause-nothing : goal.returns-in_default-frame-clause-nothing
-returns-in_default-frame-clause-nothing g c = λ _. (refl, refl, refl)
-
-pub returns-then-size-room-clause-lent : goal.returns-then-size-room-clause-lent
-returns-then-size-room-clause-lent g c = λ is. absurd (false≢true is)
-
-pub returns-then-size-room-clause-nothing : goal.returns-then-size-room-clause-nothing
-returns-then-size-room-clause-nothing g c = λ _. (refl, refl, refl)
-
-pub returns-in_default-block_effect-2-clause-lent : goal.returns-in_default-block_effect-2-clause-lent
-returns-in_default-block_effect-2-clause-lent g c = λ is. absurd (false≢true is)
-
-pub returns-in_default-block_effect-2-clause-nothing : goal.returns-in_default-block_effect-2-clause-nothing
-returns-in_default-block_effect-2-clause-nothing g c = λ _. (refl, refl, refl)
+pub returns-in_default-block_effect-2 : goal.returns-in_default-block_effect-2
+returns-in_default-block_effect-2 g c = record { lent = λ is. absurd (false≢true is); nothing = λ _. (refl, refl, refl) }
 
 pub returns-then-not-lend-clause-lent : goal.returns-then-not-lend-clause-lent
 returns-then-not-lend-clause-lent g c = λ is. absurd (false≢true is)
