@@ -2,7 +2,7 @@
 use Rattle.std.proofs.lemmas.Bool.{cases_lt}
 use Rattle.cap_io.proofs.BlocksCame.{BlockCame, BlockMissing, Describes}
 use Rattle.cap_io.proofs.Came.{Taken-following, error_is, most_taken-file}
-use Rattle.cap_io.proofs.Common.{◌≡◌, ℕ, ◌+◌, ◌<◌, ◌≤◌, ◌^◌, IsTrue, Result, Ok, Err, inl, inr, Bool, true, false, List, [], ◌∷◌, ◌++◌, length, take, Option, Some, None, is_some, refl, sym, ap, ◌∙◌, subst, arith, unwrap_or, if◌then◌else◌, nat_le, slice_get, option_map, option_or, option_to_list, length-append, length-take-le, All-nil, Captured, Fault, Truncated, Order, Little, u32_in, Head, Parts, SectionParts, EnhancedParts, SimpleParts, body_in, parts_in, parts_in_body, frame_in, is_section, magic_order, order_in, type_in, type_of_block, Described, FitSection, IsBlock, Section, frame_after, interfaces_before, order_before, packet_by, packets_in, parts_after, section_after, section_by, unit_fault, passes, unit_fault-few, Frame, PacketSpans, FileState, Enters, KnowsIfAny, held_packet, section_of, Declared, Nothing, PcapFile, PcapngFile, Front, IsUnit, a_pcap_header, a_first_block, a_block, file_after, first_link_after, front_of, is_pcapng, TakesMemory, declared_by, NoMemory, most_in_unit, read_failures, most_taken, packet_in_unit, decisive_length, block_length, BeginsBlock, FrontMissing, HasInterface, HeaderCame, IsSized, IsConsistent, PacketCame, ReadsUnit, NoUnitCame, RestMissing, UnitCame, UnitPassed, known_first_link, known_order, section_before, unit_size, span_bytes, is_interface}
+use Rattle.cap_io.proofs.Common.{◌≡◌, ℕ, ◌+◌, ◌<◌, ◌≤◌, ◌^◌, IsTrue, Result, Ok, Err, inl, inr, Bool, true, false, List, [], ◌∷◌, ◌++◌, length, take, Option, Some, None, is_some, refl, sym, ap, ◌∙◌, subst, arith, unwrap_or, if◌then◌else◌, nat_le, slice_get, option_map, option_or, option_to_list, length-append, length-take-le, All-nil, Captured, Fault, ReadFailed, Truncated, Order, Little, u32_in, Head, Parts, SectionParts, EnhancedParts, SimpleParts, body_in, parts_in, parts_in_body, frame_in, is_section, magic_order, order_in, type_in, type_of_block, Described, FitSection, IsBlock, Section, frame_after, interfaces_before, order_before, packet_by, packets_in, parts_after, section_after, section_by, unit_fault, passes, unit_fault-few, Frame, PacketSpans, FileState, Enters, KnowsIfAny, held_packet, section_of, Declared, Nothing, PcapFile, PcapngFile, Front, IsUnit, a_pcap_header, a_first_block, a_block, file_after, first_link_after, front_of, is_pcapng, TakesMemory, declared_by, NoMemory, most_in_unit, read_failures, most_taken, packet_in_unit, decisive_length, block_length, BeginsBlock, FrontMissing, HasInterface, HeaderCame, IsSized, IsConsistent, PacketCame, ReadsUnit, NoUnitCame, RestMissing, UnitCame, UnitPassed, known_first_link, known_order, section_before, unit_size, span_bytes, is_interface}
 use Rattle.cap_io.proofs.Fronts.{block_unless, front_of-following, front_of-pcapng, front_of_block-none, is_pcapng-append, most_taken-block, decisive_length-pcapng, decisive_block_length, decisive_block_length-few, is_section-append}
 use Rattle.cap_io.proofs.Units.{and_second, first-section}
 use Rattle.cap_pcapng.specs.declared.frames.BlockType.{BlockType}
@@ -286,6 +286,31 @@ pub begun-front : (file : FileState) (interfaces : List Described) (unread unrea
     → NoUnitCame (declared_by file interfaces) unread unread' fault
 begun-front (state.Pcapng order first) interfaces unread unread' fault begun m = block_front first (section_of order interfaces) unread unread' fault m
 begun-front _ interfaces unread unread' fault begun m = absurd (cc)
+
+same_failures : (X Y : Type 0) (fault : Fault) → read_failures {X = X} (Err fault) ≡ read_failures {X = Y} (Err fault)
+same_failures X Y ReadFailed = refl
+same_failures X Y fault = refl
+
+pub no-error : {X E : Type 0} {x : X} {e : E} → Ok x ≡ Err e → ⊥
+no-error e = (cc)
+
+-- a call that failed while it read a unit moved its device as the whole did
+pub moves-failed : {I X Y : Type 0} {device : Ghosts I} {old new : I} {front most most' : ℕ} {count : X → ℕ} {count' : Y → ℕ} (fault : Fault) → Moves device old new front count most (Err fault) → most ≤ most'
+    → Moves device old new front count' most' (Err fault)
+moves-failed {X = X} {Y = Y} {device = device} {old = old} fault moves less =
+    record { counted = tt; grown = moves.grown; bounded = tt; at_most = omega (arith, moves.at_most, less); failed = moves.failed ∙ ap (λ n. device.failures old + n) (same_failures X Y fault); sure = moves.sure; enough = moves.enough; told = moves.told }
+
+-- two reads of one unit, of which the first one succeeded, moved the device as one
+pub moves-then : {I X Y : Type 0} {device : Ghosts I} {old mid new : I} {front least most : ℕ} {first : Y → ℕ} {count : X → ℕ} (y : Y) (r : Result X Fault) → first y ≡ front → Moves device old mid 0 first least (Ok y)
+    → Moves device mid new front count most r → Moves device old new 0 count most r
+moves-then {front = front} {count = count} y (Ok x) is one two = record { counted = omega (arith, is, one.counted, two.counted); grown = omega (arith, one.grown, two.grown); at_most = tt; failed = omega (arith, one.failed, two.failed); sure = two.sure ∙ one.sure; enough = two.enough; told = λ t. two.told t ∙ one.told t; bounded = λ some. elim (cases_lt front (count x)) [ inl less ↦ two.bounded less | inr all ↦ omega (arith, some, all, one.bounded (omega (arith, is, some, all)), two.counted) ] }
+moves-then y (Err fault) is one two = record { counted = tt; grown = omega (arith, one.grown, two.grown); bounded = tt; at_most = omega (arith, is, one.counted, two.at_most); failed = omega (arith, one.failed, two.failed); sure = two.sure ∙ one.sure; enough = two.enough; told = λ t. two.told t ∙ one.told t }
+
+-- after a read that succeeded no unit came
+pub moves-ended : {I X Y : Type 0} {device : Ghosts I} {old mid : I} {least most : ℕ} {first : Y → ℕ} {count : X → ℕ} (y : Y) (fault : Fault) → read_failures {X = X} (Err fault) ≡ 0 → first y ≤ most → Moves device old mid 0 first least (Ok y)
+    → Moves device old mid 0 count most (Err fault)
+moves-ended y fault none less one =
+    record { counted = tt; grown = one.grown; bounded = tt; at_most = omega (arith, one.counted, less); failed = omega (arith, one.failed, none); sure = one.sure; enough = one.enough; told = one.told }
 
 -- no unit was read
 pub reads-no_unit : {I A : Type 0} (device : Ghosts I) (old : UnitReader I A) (front : List ℕ) (fault : Fault) (new : UnitReader I A) → Moves device old.input new.input (length front) (unit_size new.spans) most_in_unit (Err fault)

@@ -1,8 +1,8 @@
 -- A record that a device had at hand.
 use Rattle.cap_io.proofs.Came.{fields_came, record_came}
 use Rattle.cap_io.proofs.Common.{rules, subst, ◌≡◌, ℕ, Bool, true, IsTrue, is_some, ◌+◌, ◌^◌, ◌<◌, ◌≤◌, List, ◌++◌, length, take, drop, Ok, refl, sym, ap, ◌∙◌, arith, length-take, length-take-le, take-take, take-append-drop, append_assoc, HasGiven, checked, first_failing, Head, RecordHead, field_checks, record_header_in, PacketSpans, most_in_unit, packet_in_unit, PacketCame, record_spans, Declared, PcapFile, SourceView, Phase, Reading, Advances, FitsBuffer, HasInterface, Option, Some, None, option_map, Captured, end_offset, TakesIfAtHand, TakesNext, false}
-use Rattle.cap_io.proofs.Passing.{FindsPacket-next, time-held}
-use Rattle.cap_io.specs.Source.{Steps}
+use Rattle.cap_io.proofs.Passing.{FindsPacket-next, bounds-then, time-held}
+use Rattle.cap_io.specs.{Source.Steps, declared.file_state.NextUnit.NextUnit}
 
 -- bytes that begin with others begin alike
 pub begins-same : (bytes front : List ℕ) (size : ℕ) → take (length front) bytes ≡ front → size ≤ length front → take size front ≡ take size bytes
@@ -59,7 +59,7 @@ if-at-hand tells old new true reading found nothing =
     let takes = found refl in
     let bounds = takes.bounds in (
       subst (λ (p : Phase). IsTrue tells → Advances p old (Ok true) new) (sym reading) takes.packet,
-      subst (λ (p : Phase). Steps p old (Ok true) new) (sym reading) (search rules),
+      subst (λ (p : Phase). Steps p old (Ok true) new) (sym reading) (bounds-then old old new (Ok NextUnit.Packet) (omega arith) refl refl (omega arith) refl bounds),
       bounds.found refl,
     )
 if-at-hand tells old new false reading found nothing = nothing refl

@@ -1,6 +1,7 @@
 -- Which faults checks tell: none of them that the device failed, or that memory ran out.
-use Rattle.cap_io.proofs.Common.{◌≡◌, ℕ, inl, inr, Bool, true, false, List, Option, Some, Err, refl, arith, first_failing, Fault, NoMemory, ReadFailed, Order, Parts, SectionParts, InterfaceParts, EnhancedParts, SimpleParts, SkippedParts, block_checks, body_checks, body_in, parts_in, Head, header_checks, header_fault, field_checks, frame_checks, Described, checks_among, Frame, IsBlockFault, AddsInterface, IsEntryFault, read_failures}
-use Rattle.cap_pcapng.specs.declared.frames.BlockType.{BlockType}
+use Rattle.cap_io.proofs.Common.{◌≡◌, ◌<◌, ◌++◌, [], ◌∷◌, length, None, ap, length-append, ltb-true, most_interfaces, is_interface, section_by, section_of, Section, Enters, ℕ, inl, inr, Bool, true, false, List, Option, Some, Err, refl, arith, first_failing, Fault, NoMemory, ReadFailed, Order, Parts, SectionParts, InterfaceParts, EnhancedParts, SimpleParts, SkippedParts, block_checks, body_checks, body_in, parts_in, Head, header_checks, header_fault, field_checks, frame_checks, Described, checks_among, Frame, IsBlockFault, AddsInterface, IsEntryFault, read_failures}
+use Rattle.cap_octet.specs.declared.fault.Fault.TheVariants.{TooManyInterfaces}
+use Rattle.cap_pcapng.specs.{Block.option_checks, declared.frames.BlockType.BlockType}
 use Rattle.cap_pcapng.proofs.Faults.{AreAll, all_failing, all_of_options}
 
 -- ---- no check tells that the device failed, or that memory ran out
@@ -15,9 +16,9 @@ abbrev pub IsOwn : Fault → Type 0
 IsOwn fault = is_own fault ≡ true
 
 -- it counts no failure
-own-unfailed : (fault : Fault) → IsOwn fault → read_failures {X = ℕ} (Err fault) ≡ 0
-own-unfailed ReadFailed own = (cc)
-own-unfailed fault own = refl
+pub own-unfailed : (X : Type 0) (fault : Fault) → IsOwn fault → read_failures {X = X} (Err fault) ≡ 0
+own-unfailed X ReadFailed own = (cc)
+own-unfailed X fault own = refl
 
 abbrev AreOwn : List (Bool × Fault) → Type 0
 AreOwn rows = AreAll IsOwn rows
@@ -52,7 +53,7 @@ own-fault frame interfaces block fault is =
 pub entry-own : (frame : Frame) (interfaces : List Described) (block : List ℕ) (fault : Fault) → IsEntryFault frame interfaces block fault → read_failures {X = ℕ} (Err fault) ≡ 0
 entry-own frame interfaces block fault is =
     elim is [
-      | inl fails ↦ own-unfailed fault (own-fault frame interfaces block fault fails)
+      | inl fails ↦ own-unfailed ℕ fault (own-fault frame interfaces block fault fails)
       | inr memory ↦ rw memory.0 refl
     ]
 
@@ -81,3 +82,21 @@ own-header text fault fails = all_failing IsOwn (header_checks text) fault (refl
 
 pub entry-not_failed : (frame : Frame) (interfaces : List Described) (block : List ℕ) (fault : Fault) → IsEntryFault frame interfaces block fault → fault ≡ ReadFailed → ⊥
 entry-not_failed frame interfaces block fault is failed = let own : read_failures {X = ℕ} (Err ReadFailed) ≡ 0 = rw failed at (entry-own frame interfaces block fault is) in omega (arith, own)
+
+-- ---- a fault of an interface that passed all checks
+
+first_met : (met : Bool) (fault : Fault) (rows : List (Bool × Fault)) → first_failing ((met, fault) ∷ rows) ≡ None → met ≡ true
+first_met true fault rows none = refl
+first_met false fault rows none = (cc)
+
+one_more : (order : Order) (interfaces : List Described) (d : Described) (parts : Parts) → section_by (Some (section_of order interfaces)) order parts ≡ section_of order (interfaces ++ d ∷ [])
+    → first_failing (checks_among interfaces parts) ≡ None → (length interfaces < most_interfaces) × (is_interface parts ≡ true)
+one_more order interfaces d (InterfaceParts link snap own options) section among = (ltb-true _ _ (first_met _ TooManyInterfaces (option_checks (InterfaceParts link snap own options)) among), refl)
+one_more order interfaces d parts section among =
+    absurd (omega (arith, ap (λ (s : Section). length s.interfaces) section, length-append interfaces (d ∷ [])))
+
+pub adds-one : (frame : Frame) (interfaces : List Described) (block : List ℕ) (d : Described) (fault : Fault) → Enters frame interfaces block None (interfaces ++ d ∷ []) → (length interfaces < most_interfaces → fault ≡ NoMemory)
+    → IsEntryFault frame interfaces block fault
+adds-one frame interfaces block d fault enters memory =
+    let one = one_more frame.order interfaces d (parts_in frame block) enters.section enters.among in
+    inr (memory one.0, record { passes = enters.passes; among = enters.among; describes = one.1 })

@@ -1,5 +1,6 @@
-use Rattle.cap_io.proofs.Common.{◌≡◌, ◌+◌, ◌≤◌, ◌++◌, ℕ, Ok, List, length, take, drop, sym, ap, ap₂, ◌∙◌, subst, arith, rules, checked, first_failing, field_checks, record_header_in}
+use Rattle.cap_io.proofs.Common.{◌≡◌, refl, ◌+◌, ◌≤◌, ◌++◌, ℕ, Ok, List, length, take, drop, sym, ap, ap₂, ◌∙◌, subst, arith, rules, checked, first_failing, field_checks, record_header_in}
 use Rattle.cap_io.proofs.Hands.{begins-long, begins-same, lent-first, record-taken}
+use Rattle.std.proofs.lemmas.Bool.{false≢true}
 use Rattle.cap_io.proofs.pcap.lend_record.Goals as goal
 
 pub returns-clause-lent : goal.returns-clause-lent
@@ -32,3 +33,12 @@ returns-clause-lent g c = λ is.
           (lent-first unread hand size (let S : List ℕ → Type 0 = λ l. take (length l) unread ≡ l in subst S same (c.next_bytes-hand.ensures.exact t)) lends.there
           ∙ ap₂ (λ (x y : List ℕ). x ++ y) held (ap₂ drop (sym lends.is) (sym lends.rest)));
     })
+
+pub returns-in_default : goal.returns-in_default
+returns-in_default g c = record { lent = λ is. absurd (false≢true is); nothing = λ _. (refl, refl, refl) }
+
+pub returns-in_default-read_record : goal.returns-in_default-read_record
+returns-in_default-read_record g c = record { lent = λ is. absurd (false≢true is); nothing = λ _. (refl, refl, refl) }
+
+pub returns-then-size-room-clause-lent : goal.returns-then-size-room-clause-lent
+returns-then-size-room-clause-lent g c = λ is. absurd (false≢true is)

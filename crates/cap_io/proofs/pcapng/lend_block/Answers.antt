@@ -3,6 +3,7 @@ use Rattle.cap_io.proofs.CapturesCame.{packet-block}
 use Rattle.cap_io.proofs.Common.{rules, IsTrue, [], ◌≡◌, ◌≤◌, ◌++◌, ℕ, List, Some, length, take, drop, refl, sym, ap, ap₂, ◌∙◌, subst, arith, take-take, take-append-drop, append_assoc, length-take-le, section_of, PacketCame, PcapngFile}
 use Rattle.cap_io.proofs.Hands.{begins-long, begins-same, lent-first}
 use Rattle.cap_io.specs.declared.file_state.FileState.{FileState}
+use Rattle.std.proofs.lemmas.Bool.{false≢true}
 use Rattle.cap_io.proofs.pcapng.lend_block.Goals as goal
 
 pub returns-clause-lent : goal.returns-clause-lent
@@ -54,3 +55,24 @@ returns-clause-lent g c = λ is.
           (block_came (Some (section_of order table)) (Some order) table table (front ++ (drop 12 block ++ left)) left _ held frame (Some spans) refl refl least there came
           (ap (take size) same ∙ unit) enters));
     })
+
+pub returns-in_default-first_chunk : goal.returns-in_default-first_chunk
+returns-in_default-first_chunk g c = record { lent = λ is. absurd (false≢true is); nothing = λ _. (refl, refl, refl) }
+
+pub returns-in_default-frame : goal.returns-in_default-frame
+returns-in_default-frame g c = record { lent = λ is. absurd (false≢true is); nothing = λ _. (refl, refl, refl) }
+
+pub returns-then-size-room : goal.returns-then-size-room
+returns-then-size-room g c = record { lent = λ is. absurd (false≢true is); nothing = λ _. (refl, refl, refl) }
+
+pub returns-in_default-block_effect-2 : goal.returns-in_default-block_effect-2
+returns-in_default-block_effect-2 g c = record { lent = λ is. absurd (false≢true is); nothing = λ _. (refl, refl, refl) }
+
+pub returns-then-not-lend-clause-lent : goal.returns-then-not-lend-clause-lent
+returns-then-not-lend-clause-lent g c = λ is. absurd (false≢true is)
+
+pub returns-in_default : goal.returns-in_default
+returns-in_default g c = record { lent = λ is. absurd (false≢true is); nothing = λ _. (refl, refl, refl) }
+
+pub returns-in_default-block_effect : goal.returns-in_default-block_effect
+returns-in_default-block_effect g c = record { lent = λ is. absurd (false≢true is); nothing = λ _. (refl, refl, refl) }

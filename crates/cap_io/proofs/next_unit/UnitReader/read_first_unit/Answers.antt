@@ -1,7 +1,7 @@
 use Rattle.std.proofs.Common.{rules, [], refl, sym, ◌∙◌, arith}
 use Rattle.std.proofs.lemmas.Result.{err_from_is_err_and}
 use Rattle.cap_io.proofs.Came.{NoUnitCame-following, first_of, joined_front, section_of_bytes}
-use Rattle.cap_io.proofs.CapturesCame.{ReadsUnit-following, reads-no_unit, UnitPassed-following, header_passed, rest_of_front}
+use Rattle.cap_io.proofs.CapturesCame.{no-error, ReadsUnit-following, reads-no_unit, UnitPassed-following, header_passed, rest_of_front}
 use Rattle.cap_io.proofs.next_unit.UnitReader.read_first_unit.Goals as goal
 
 pub returns-in_err-read_rest : goal.returns-in_err-read_rest
@@ -39,5 +39,5 @@ returns-then-not-begins_section g c = record {
   grown = omega arith;
   bounded = λ most. most;
   fits = rw c.requires.unknown (omega arith);
-  memory = λ e. (cc);
+  memory = λ e. absurd (no-error e);
 }

@@ -1,5 +1,6 @@
-use Rattle.cap_io.proofs.Common.{◌+◌, ◌∙◌, Err, arith, length, refl, ap, ap₂, err_from_is_err_and, length-take, declared_by, SourceView, block_at, packet_at, unit_at, view_of}
-use Rattle.cap_io.proofs.Passing.{FindsEnd-next, FindsPacket-next, IsBroken-next, SkipsUnits-next, no-unit-end, stage_between}
+use Rattle.cap_io.proofs.Common.{take, ◌+◌, ◌∙◌, Err, arith, length, length-take-le, refl, ap, ap₂, err_from_is_err_and, length-take, declared_by, SourceView, block_at, packet_at, unit_at, view_of}
+use Rattle.cap_io.proofs.Hands.{packet-there}
+use Rattle.cap_io.proofs.Passing.{FindsEnd-next, FindsPacket-next, IsBroken-next, SkipsUnits-next, bounds-next, no-unit-end, stage_between}
 use Rattle.cap_io.specs.declared.source.Stage.{Stage}
 use Rattle.cap_io.proofs.source.Source.read_unit.Goals as goal
 
@@ -37,3 +38,40 @@ returns-in-End-clause-packets g c = λ t.
     let new = view_of g.I.Input Stage.Ended c.next_unit.new.self c.self.inside.offset in
     rw c.in-End.is (FindsEnd-next c.args.self.now new c.requires.between
     (rw (declared, ap (λ (v : SourceView). v.unread) c.self.view_is) at (rw c.in-End.is at (c.in_ok-unit.ensures.ok t))) (ap (λ (v : SourceView). v.offset) c.self.view_is) (omega (arith, c.in_ok-unit.ensures.grown, ap (λ (v : SourceView). v.room) c.self.view_is)) refl refl refl)
+
+pub returns-in_err-unit-clause-bounds : goal.returns-in_err-unit-clause-bounds
+returns-in_err-unit-clause-bounds g c =
+    let p = err_from_is_err_and c.from_residual.result c.from_residual.ensures.1 in
+    let reads = c.in_err-unit.ensures in
+    let between = stage_between c.self.inside.stage c.self.inside.reader.spans (unit_at g.I.Input c.self.inside.stage c.self.inside.reader) (ap (λ (v : SourceView). v.phase) c.self.view_is ∙ c.requires.between.phase)
+    (ap (λ (v : SourceView). v.block) c.self.view_is ∙ c.requires.between.block) c.self.invariant.lies in
+    rw (p.1, p.2, ← c.self.view_is, between) (bounds-next _ _ _ reads.moves.grown reads.moves.failed reads.moves.sure reads.moves.enough (omega arith) (reads.bounded c.self.invariant.bounded) reads.grown tt (omega (arith, reads.moves.grown), omega (arith, reads.moves.at_most)))
+
+pub returns-in-Packet-clause-bounds : goal.returns-in-Packet-clause-bounds
+returns-in-Packet-clause-bounds g c =
+    let reads = c.in_ok-unit.ensures in
+    let new = c.next_unit.new.self in
+    let sized = rw c.in-Packet.is at reads.sized in
+    let counted = rw c.in-Packet.is at reads.moves.counted in
+    let between = stage_between c.self.inside.stage c.self.inside.reader.spans (unit_at g.I.Input c.self.inside.stage c.self.inside.reader) (ap (λ (v : SourceView). v.phase) c.self.view_is ∙ c.requires.between.phase)
+    (ap (λ (v : SourceView). v.block) c.self.view_is ∙ c.requires.between.block) c.self.invariant.lies in
+    rw (c.in-Packet.is, ← c.self.view_is, between) (bounds-next _ _ _ reads.moves.grown reads.moves.failed reads.moves.sure reads.moves.enough (omega (arith, length-take new.spans.size new.buffer.items)) (reads.bounded c.self.invariant.bounded) reads.grown (omega (arith, counted, length-take-le new.spans.size new.buffer.items sized.0.there))
+    ((omega (arith, counted, sized.0.some), sized.1, packet-there (declared_by new.file new.table) new.spans (take new.spans.size new.buffer.items) (rw c.in-Packet.is at reads.known)), refl))
+
+pub returns-in-Other-clause-bounds : goal.returns-in-Other-clause-bounds
+returns-in-Other-clause-bounds g c =
+    let reads = c.in_ok-unit.ensures in
+    let sized = rw c.in-Other.is at reads.sized in
+    let counted = rw c.in-Other.is at reads.moves.counted in
+    let between = stage_between c.self.inside.stage c.self.inside.reader.spans (unit_at g.I.Input c.self.inside.stage c.self.inside.reader) (ap (λ (v : SourceView). v.phase) c.self.view_is ∙ c.requires.between.phase)
+    (ap (λ (v : SourceView). v.block) c.self.view_is ∙ c.requires.between.block) c.self.invariant.lies in
+    rw (← c.self.view_is, between) (bounds-next _ _ _ reads.moves.grown reads.moves.failed reads.moves.sure reads.moves.enough (omega arith) (reads.bounded c.self.invariant.bounded) reads.grown (omega (arith, counted))
+    (omega (arith, counted, sized.0), sized.1, record { phase = refl; block = refl; packet = refl }))
+
+pub returns-in-End-clause-bounds : goal.returns-in-End-clause-bounds
+returns-in-End-clause-bounds g c =
+    let reads = c.in_ok-unit.ensures in
+    let counted = rw c.in-End.is at reads.moves.counted in
+    let between = stage_between c.self.inside.stage c.self.inside.reader.spans (unit_at g.I.Input c.self.inside.stage c.self.inside.reader) (ap (λ (v : SourceView). v.phase) c.self.view_is ∙ c.requires.between.phase)
+    (ap (λ (v : SourceView). v.block) c.self.view_is ∙ c.requires.between.block) c.self.invariant.lies in
+    rw (c.in-End.is, ← c.self.view_is, between) (bounds-next _ _ _ reads.moves.grown reads.moves.failed reads.moves.sure reads.moves.enough (omega arith) (reads.bounded c.self.invariant.bounded) reads.grown (omega (arith, counted)) refl)

@@ -1,5 +1,6 @@
-use Rattle.std.proofs.{Common.◌∙◌, Common.ap, Common.arith, Common.Ok, Common.refl, lemmas.Result.err_from_is_err_and}
-use Rattle.cap_io.proofs.Passing.{FindsEnd-then, FindsPacket-then, IsBroken-then, SkipsUnits-then, no-unit-end, stays}
+use Rattle.std.proofs.{Common.◌∙◌, Common.ap, Common.arith, Common.Err, Common.Ok, Common.refl, lemmas.Result.err_from_is_err_and}
+use Rattle.cap_io.proofs.Passing.{FindsEnd-then, FindsPacket-then, IsBroken-then, SkipsUnits-then, bounds-then, no-unit-end, stays}
+use Rattle.cap_io.specs.declared.file_state.NextUnit.{NextUnit}
 use Rattle.cap_io.proofs.source.Source.skip_to_packet.Goals as goal
 
 pub loop-init : goal.loop-init
@@ -38,3 +39,16 @@ loop-preserved g c =
       room = omega (arith, c.loop.invariant.room, bounds.room);
       counted = omega (arith, bounds.counted, c.loop.invariant.counted);
     }
+
+pub returns-in_err-read_unit-clause-bounds : goal.returns-in_err-read_unit-clause-bounds
+returns-in_err-read_unit-clause-bounds g c =
+    let p = err_from_is_err_and c.from_residual.result c.from_residual.ensures.1 in
+    rw (p.1, p.2) (bounds-then c.args.self.now c.loop.self c.read_unit.new.self (Err c.in_err-read_unit.field-0.0) c.loop.invariant.given c.loop.invariant.failures c.loop.invariant.sure c.loop.invariant.room c.loop.invariant.counted c.in_err-read_unit.ensures.bounds)
+
+pub returns-in-Packet-clause-bounds : goal.returns-in-Packet-clause-bounds
+returns-in-Packet-clause-bounds g c =
+    bounds-then c.args.self.now c.loop.self c.read_unit.new.self (Ok NextUnit.Packet) c.loop.invariant.given c.loop.invariant.failures c.loop.invariant.sure c.loop.invariant.room c.loop.invariant.counted (rw c.in-Packet.is at c.in_ok-read_unit.ensures.bounds)
+
+pub returns-in-End-clause-bounds : goal.returns-in-End-clause-bounds
+returns-in-End-clause-bounds g c =
+    bounds-then c.args.self.now c.loop.self c.read_unit.new.self (Ok NextUnit.End) c.loop.invariant.given c.loop.invariant.failures c.loop.invariant.sure c.loop.invariant.room c.loop.invariant.counted (rw c.in-End.is at c.in_ok-read_unit.ensures.bounds)
