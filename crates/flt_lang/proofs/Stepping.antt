@@ -1,10 +1,12 @@
 -- Tokens with a first one, and what the loop of the reader needs of the machine.
-use Rattle.flt_lang.proofs.Common.{◌≡◌, ℕ, ◌+◌, ◌-◌, ◌<◌, ◌≤◌, ◌⊎◌, inl, inr, List, [], ◌∷◌, length, take, drop, get_or, ap, arith, Some, None, one-add, take_rest, Token, TokenKind, Value, kinds_of, value_of, sym, ◌∙◌, refl, Option, drop-map, drop-drop, Node, Frame, Operand, State, run, after_operand, begin_at, next_of, number_with_prefix, operand_precedence, token_precedence, reduce, Reduced, ◌>>=◌, nodes_of_tokens, finish, as_truth}
+use Rattle.flt_lang.proofs.Common.{◌≡◌, ℕ, ◌+◌, ◌-◌, ◌<◌, ◌≤◌, ◌⊎◌, inl, inr, List, [], ◌∷◌, length, take, drop, get_or, ap, arith, Some, None, one-add, take_rest, Token, TokenKind, Value, kinds_of, value_of, sym, ◌∙◌, refl, Option, drop-map, drop-drop, Node, Frame, Operand, State, run, after_operand, begin_at, next_of, number_with_prefix, operand_precedence, token_precedence, reduce, Reduced, ◌>>=◌, nodes_of_tokens, finish, as_truth, NetMask, Divide, mask_of}
 use Rattle.flt_lang.specs.declared.frame.Operand.TheVariants.{Either}
+use Rattle.flt_words.specs.declared.token.TokenKind.TheVariants as token
+use Rattle.flt_lang.specs.inside.Values.{Takes, prefix_of}
 use Rattle.flt_lang.specs.inside.Parser.{IsReadFault, Reads, with_prefix, after_token_at}
 use Rattle.flt_words.specs.declared.fault.ExprFault.{ExprFault}
 use Rattle.flt_lang.proofs.Reducing.{le_true, le_false}
-use Rattle.std.proofs.Common.{◌==◌, false, Result, Ok, Err, IfErr, IsErrAnd}
+use Rattle.std.proofs.Common.{◌==◌, slice_get, false, Result, Ok, Err, IfErr, IsErrAnd}
 use Rattle.std.proofs.lemmas.{List.drop_all, Result.err_from_is_err_and}
 use Rattle.flt_lang.proofs.Valued.{run_begins, run_skip}
 
@@ -105,3 +107,31 @@ not_too_deep (Err f) (inr h) e = cc
 -- the whole is the operand that is left, where no frame is
 pub finish_reads : (x : Option Operand) (read y : Operand) (fs gs : List Frame) (d e f : List Node) → x ≡ Some read → reduce 8 fs read d ≡ Some (gs, y, e) → gs ≡ [] → f ≡ e → finish x fs d ≡ as_truth y f
 finish_reads x read y fs gs d e f is reduced gone kept = rw (is, reduced, gone, kept) refl
+
+-- a mask is read from its two tokens
+no_token : {A : Type 0} {a : A} → ◌≡◌ {A = Option A} None (Some a) → ⊥
+no_token e = cc
+
+pub prefix_at : (ts : List Token) (n : ℕ) → slice_get (kinds_of ts) 0 ≡ Some (token.Operator Divide) → slice_get (kinds_of ts) 1 ≡ Some (token.Number n) → Takes (prefix_of (kinds_of ts)) ts (Some n, 2)
+prefix_at [] n a b = absurd (no_token a)
+prefix_at (t ∷ []) n a b = absurd (no_token b)
+prefix_at (t ∷ u ∷ ts) n a b =
+    let first : t.kind ≡ token.Operator Divide = cc in
+    let second : u.kind ≡ token.Number n = cc in
+    rw (first, second) (record { value = refl; rest = refl; within = omega arith })
+
+pub mask_prefix_at : (ts : List Token) (n : ℕ) → slice_get (kinds_of ts) 0 ≡ Some (token.Operator Divide) → slice_get (kinds_of ts) 1 ≡ Some (token.Number n) → Takes (mask_of (kinds_of ts)) ts (NetMask.Prefix n, 2)
+mask_prefix_at [] n a b = absurd (no_token a)
+mask_prefix_at (t ∷ []) n a b = absurd (no_token b)
+mask_prefix_at (t ∷ u ∷ ts) n a b =
+    let first : t.kind ≡ token.Operator Divide = cc in
+    let second : u.kind ≡ token.Number n = cc in
+    rw (first, second) (record { value = refl; rest = refl; within = omega arith })
+
+pub mask_at : (ts : List Token) (address parts : ℕ) → slice_get (kinds_of ts) 0 ≡ Some token.Mask → slice_get (kinds_of ts) 1 ≡ Some (token.Dotted address parts) → Takes (mask_of (kinds_of ts)) ts (NetMask.Mask (record { address = address; parts = parts }), 2)
+mask_at [] address parts a b = absurd (no_token a)
+mask_at (t ∷ []) address parts a b = absurd (no_token b)
+mask_at (t ∷ u ∷ ts) address parts a b =
+    let first : t.kind ≡ token.Mask = cc in
+    let second : u.kind ≡ token.Dotted address parts = cc in
+    rw (first, second) (record { value = refl; rest = refl; within = omega arith })
