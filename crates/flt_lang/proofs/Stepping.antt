@@ -24,7 +24,6 @@ found_value (u ∷ ts) t v k h e = rw one-add (rw (take_rest (u ∷ ts) 1) at e)
 pub no_value : (ts : List Token) (t : Token) → 0 < length ts → value_of ((get_or ts 0 t).kind ∷ kinds_of (take (length ts - 1) (drop 1 ts))) ≡ None → value_of (kinds_of ts) ≡ None
 no_value ts t h e = rw (first_and_rest ts t h) at e
 
--- what comes after an operand, and where one begins
 -- what comes after an operand
 pub run_goes_on : (ts : List Token) (t : Token) (fs : List Frame) (x : Operand) (d : List Node) (k : ℕ) (s : State) → 0 < length ts → after_operand ((get_or ts 0 t).kind ∷ kinds_of (take (length ts - 1) (drop 1 ts))) fs x d ≡ Some (k, s) → run (kinds_of ts) 0 fs (Some x) d ≡ run (kinds_of (drop (1 + k) ts)) 0 s.0 s.1 s.2
 run_goes_on [] t fs x d k s h e = absurd (omega arith)
@@ -109,29 +108,16 @@ pub finish_reads : (x : Option Operand) (read y : Operand) (fs gs : List Frame) 
 finish_reads x read y fs gs d e f is reduced gone kept = rw (is, reduced, gone, kept) refl
 
 -- a mask is read from its two tokens
-no_token : {A : Type 0} {a : A} → ◌≡◌ {A = Option A} None (Some a) → ⊥
-no_token e = cc
+two_kinds : (ts : List Token) (t u : TokenKind) → slice_get (kinds_of ts) 0 ≡ Some t → slice_get (kinds_of ts) 1 ≡ Some u → (kinds_of ts ≡ t ∷ u ∷ kinds_of (drop 2 ts)) × (2 ≤ length ts)
+two_kinds [] t u a b = let no : ⊥ = cc in absurd no
+two_kinds (v ∷ []) t u a b = let no : ⊥ = cc in absurd no
+two_kinds (v ∷ w ∷ ts) t u a b = (cc, omega arith)
 
 pub prefix_at : (ts : List Token) (n : ℕ) → slice_get (kinds_of ts) 0 ≡ Some (token.Operator Divide) → slice_get (kinds_of ts) 1 ≡ Some (token.Number n) → Takes (prefix_of (kinds_of ts)) ts (Some n, 2)
-prefix_at [] n a b = absurd (no_token a)
-prefix_at (t ∷ []) n a b = absurd (no_token b)
-prefix_at (t ∷ u ∷ ts) n a b =
-    let first : t.kind ≡ token.Operator Divide = cc in
-    let second : u.kind ≡ token.Number n = cc in
-    rw (first, second) (record { value = refl; rest = refl; within = omega arith })
+prefix_at ts n a b = let are = two_kinds ts _ _ a b in rw are.0 (record { value = refl; rest = refl; within = are.1 })
 
 pub mask_prefix_at : (ts : List Token) (n : ℕ) → slice_get (kinds_of ts) 0 ≡ Some (token.Operator Divide) → slice_get (kinds_of ts) 1 ≡ Some (token.Number n) → Takes (mask_of (kinds_of ts)) ts (NetMask.Prefix n, 2)
-mask_prefix_at [] n a b = absurd (no_token a)
-mask_prefix_at (t ∷ []) n a b = absurd (no_token b)
-mask_prefix_at (t ∷ u ∷ ts) n a b =
-    let first : t.kind ≡ token.Operator Divide = cc in
-    let second : u.kind ≡ token.Number n = cc in
-    rw (first, second) (record { value = refl; rest = refl; within = omega arith })
+mask_prefix_at ts n a b = let are = two_kinds ts _ _ a b in rw are.0 (record { value = refl; rest = refl; within = are.1 })
 
 pub mask_at : (ts : List Token) (address parts : ℕ) → slice_get (kinds_of ts) 0 ≡ Some token.Mask → slice_get (kinds_of ts) 1 ≡ Some (token.Dotted address parts) → Takes (mask_of (kinds_of ts)) ts (NetMask.Mask (record { address = address; parts = parts }), 2)
-mask_at [] address parts a b = absurd (no_token a)
-mask_at (t ∷ []) address parts a b = absurd (no_token b)
-mask_at (t ∷ u ∷ ts) address parts a b =
-    let first : t.kind ≡ token.Mask = cc in
-    let second : u.kind ≡ token.Dotted address parts = cc in
-    rw (first, second) (record { value = refl; rest = refl; within = omega arith })
+mask_at ts address parts a b = let are = two_kinds ts _ _ a b in rw are.0 (record { value = refl; rest = refl; within = are.1 })

@@ -1,3 +1,4 @@
+-- The two tokens of a mask are read.
 use Rattle.flt_lang.proofs.Stepping.{mask_prefix_at, mask_at}
 use Rattle.flt_lang.proofs.primitive.read_mask.Goals as goal
 
