@@ -31,7 +31,6 @@ pub fn parse<A: Allocator + Clone>(alloc: A, tokens: &[Token]) -> Result<Expr<A>
 }
 
 /// The tree of tokens, however deep they nest; `NotAnExpression` if they have none.
-#[tactic(auto, using(crate::proofs::Sound::no_tree))]
 fn read_tree<A: Allocator + Clone>(alloc: A, tokens: &[Token]) -> Result<Expr<A>, ExprFault>
     ensures ok { IfOk result (λ tree. IsReadAs (kinds_of tokens.now) tree) }
     ensures none { result ≡ Err ExprFault.NotAnExpression

@@ -195,7 +195,6 @@ fn value_from(first: TokenKind, rest: &[Token]) -> Option<(Value, usize)>
 
 /// The value with which tokens begin, with the mask after it, and how many tokens it takes: 3 at
 /// most. `None` if they begin with none.
-#[tactic(auto, using(crate::proofs::Stepping::found_value, crate::proofs::Stepping::no_value))]
 pub fn read_value(tokens: &[Token]) -> Option<(Value, usize)>
     ensures some { IfSome result (λ r.
         value_of (kinds_of tokens.now) ≡ Some (r.0, kinds_of (drop r.1 tokens.now))) }
