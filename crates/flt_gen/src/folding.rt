@@ -188,7 +188,7 @@ fn push_conjunction<A: Allocator>(
 }
 
 /// Pushes one more node of a tree, after its operands; arithmetic of only numbers becomes one
-/// number, and negations between `and` become one. What `held` has is of no use.
+/// number, and negations between `and` become one. `held` is working room, whatever it holds.
 fn push_folded<A: Allocator>(
     nodes: &mut Stack<Node, A>,
     held: &mut Stack<Node, A>,
