@@ -1,4 +1,4 @@
-use Rattle.cap_io.proofs.Common.{arith, inl, refl, All-nil, err_from_is_err_and}
+use Rattle.cap_io.proofs.Common.{inl, refl, err_from_is_err_and}
 use Rattle.cap_io.proofs.OwnFaults.{adds-one}
 use Rattle.cap_io.proofs.pcapng.apply_block.Goals as goal
 
@@ -6,9 +6,6 @@ pub returns-in_err-block_effect : goal.returns-in_err-block_effect
 returns-in_err-block_effect g c =
     let p = err_from_is_err_and c.from_residual.result c.from_residual.ensures.1 in
     rw (p.1, p.2) (record { section = c.requires.section; ok = tt; err = inl c.in_err-block_effect.ensures.err; kept = refl })
-
-pub returns-in-Section : goal.returns-in-Section
-returns-in-Section g c = rw c.clear.ensures (record { section = record { count = omega arith; names = All-nil _ }; ok = rw c.in-Section.is at c.in_ok-block_effect.ensures.ok; err = tt; kept = tt })
 
 pub returns-in_err-push-in-Interface : goal.returns-in_err-push-in-Interface
 returns-in_err-push-in-Interface g c =
