@@ -102,7 +102,7 @@ def jobs_for(crate, ready, waiting, running, room, beyond):
     free = room + beyond - (taken := sum(it.jobs for it in running))
     # What each processor has left to do: of what runs, half on average.
     share = (sum(it.size for it in waiting) + sum(it.size for it in running) / 2) / max(room - 1, 1)
-    wanted = max(crate.chain // max(int(share), 1), room - len(ready) - taken)
+    wanted = max(int(1.2 * crate.chain / max(share, 1)), room - len(ready) - taken)
     return max(min(wanted, free, MOST_JOBS, 1 + crate.size // LARGE), min(free, 1), not running)
 
 
