@@ -1,5 +1,9 @@
 #!/usr/bin/env python3
-"""Proves the crates that a program or a library for C needs, side by side, and builds it. usage: build.py CRATE PRODUCT
+"""Proves the crates that a program or a library for C needs, side by side, and builds it.
+
+usage: build.py CRATE PRODUCT [TARGET TOOLCHAIN]
+
+TARGET is another than the kit's own, and TOOLCHAIN is made for it (cross_arm64.sh): only the last crate is proved again for it.
 
 A crate is proved as soon as those that it needs are. Others stand back (`nice`) for the one with the longest chain. Each
 is one call of rattle, the prover of rt's kit, as `rt ci` makes it: a library has its statements only, which halves what
@@ -19,9 +23,12 @@ import time
 
 ROOT = pathlib.Path(__file__).resolve().parent.parent
 OUT, KIT = ROOT / "out", pathlib.Path(shutil.which("rt") or "").resolve().parent.parent
-RATTLE, RLIBS, TOOLCHAIN = KIT / "bin/rattle", KIT / "rlibs", KIT / "toolchain"
+RATTLE, RLIBS, OWN = KIT / "bin/rattle", KIT / "rlibs", "x86_64-unknown-linux-gnu"
+TARGET, TOOLCHAIN = sys.argv[3:5] if len(sys.argv) > 3 else (OWN, KIT / "toolchain")
+TOOLCHAIN = pathlib.Path(TOOLCHAIN).absolute()
+C_CODE = [KIT / "c/libos_c.a", KIT / "c/liblibc_c.a"] if TARGET == OWN else [TOOLCHAIN / "c/port.a"]
 LOGIC = ["--antt-project", KIT / "rattle/logic/antt-project.json", "--logic-built", KIT / "logic_built"]
-LINK = [KIT / "bin/rattle-link", "--target", "x86_64-unknown-linux-gnu", "--toolchain", TOOLCHAIN]
+LINK = [KIT / "bin/rattle-link", "--target", TARGET, "--toolchain", TOOLCHAIN]
 # What a job takes of memory. A byte of code costs as much to check as CODE bytes of definitions and proofs. A crate has one
 # job more for each LARGE of these at most, and no more than MOST_JOBS, since each loads anew what the crate stands on.
 MEMORY, CODE, LARGE, MOST_JOBS = 2_000_000_000, 13, 100_000, 3
@@ -40,11 +47,13 @@ class Crate:
         self.of_kit = ["std", *(it for it in named if it not in crates)]
         is_static, self.is_program = " staticlib" in head, (self.home / "src/main.rt").exists()
         made = name if self.is_program else f"lib{name}.a" if is_static else f"rlib/{name}.rlib"
-        self.made, self.is_last = self.home / "out" / made, is_static or self.is_program
+        self.is_last = is_static or self.is_program
+        self.made = self.home / "out" / (TARGET if self.is_last and TARGET != OWN else "") / made
         self.stamp, self.is_kept = self.made.parent / "built", any((self.home / "out/incremental").glob("*"))
         files = [it for part in ("src", "specs", "proofs") for it in (self.home / part).rglob("*") if it.is_file()]
         self.size = self.chain = sum(it.stat().st_size * (CODE if it.suffix == ".rt" else 1) for it in files)
-        texts = [(it, it.read_bytes()) for it in sorted(files)]
+        # Names within the checkout, so that a copied or moved one keeps what is proved.
+        texts = [(str(it.relative_to(ROOT)), it.read_bytes()) for it in sorted(files)]
         made_of = [RATTLE, RATTLE.stat().st_mtime_ns, self.is_kept, named, [it.sum for it in self.needs], texts]
         self.sum, self.jobs = hashlib.sha256(repr(made_of).encode()).hexdigest(), 1
 
@@ -57,9 +66,9 @@ class Crate:
         words += [word for name, at in libraries.items() for word in ("--extern", f"{name}={at}")]
         words += [word for it in (RLIBS, *(it.made.parent for it in self.below)) for word in ("-L", f"dependency={it}")]
         words += ["--incremental", "out/incremental"] if self.is_kept else [] if self.is_last else ["--statements"]
-        words += ["--toolchain", TOOLCHAIN] if self.is_last else []
+        words += ["--target", TARGET, "--toolchain", TOOLCHAIN] if self.is_last else []
         if self.is_program:
-            parts = [f"{self.made}.o", KIT / "c/libos_c.a", KIT / "c/liblibc_c.a"]
+            parts = [f"{self.made}.o", *C_CODE]
             return f"{join([*words, '-o', parts[0]])} && {join([*LINK, '-o', self.made, *parts])}"
         return join([*words, *(["--crate-type", "staticlib"] if self.is_last else []), "-o", self.made])
 
@@ -148,11 +157,11 @@ def build(top, made):
         fcntl.flock(lock, fcntl.LOCK_EX)
     if made.exists():
         return
-    say("proving and building: once, 30 to 70 minutes of processor time from nothing")
+    say("proving and building: once, 30 to 70 minutes of processor time from nothing; ./try runs it unproved in two minutes")
     prove(crates := crates_below(top), lock)
     made.parent.mkdir(parents=True, exist_ok=True)
     os.rename(shutil.copy2(crates[-1].made, f"{made}.new"), made)
-    old = [it for it in OUT.glob("built-*") if it != made.parent and crates[-1].is_program]
+    old = [it for it in OUT.glob("built-*") if it != made.parent and crates[-1].is_program and TARGET == OWN]
     subprocess.run(["rm", "-rf", *OUT.glob("build-*.log"), *old], check=True)
 
 

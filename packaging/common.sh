@@ -1,17 +1,23 @@
 # shellcheck shell=sh disable=SC2034,SC2154  # the scripts that read it set and use these names
-# What the scripts that make packages have in common. They set root, and read this file: it sets release, version,
-# architecture, name, email, built, SOURCE_DATE_EPOCH and a scratch folder work, or ends the script where the package
-# has no maintainer.
+# What the scripts that make packages have in common. They set root and architecture (arm64, or empty for the machine's own), and
+# read this file: it sets release, version, architecture, name, email, built, SOURCE_DATE_EPOCH, a scratch folder work, and for
+# another machine cross and target, the prefix of the tools and rattle's name of it.
 
 release=$(cat "$root/packaging/version")
 # This revision sorts before -1, that of the first package that a distribution makes.
 version=$release-0local1
-architecture=$(dpkg --print-architecture)
-name=${DEBFULLNAME:-$(git -C "$root" config user.name 2>/dev/null || :)}
-email=${DEBEMAIL:-$(git -C "$root" config user.email 2>/dev/null || :)}
-if [ -z "$name" ] || [ -z "$email" ]; then
-    printf '%s: the package needs a maintainer: set DEBFULLNAME and DEBEMAIL (git has no user.name or user.email)\n' "$0" >&2
-    exit 1
+own=$(dpkg --print-architecture)
+architecture=${architecture:-$own}
+name=${DEBFULLNAME:-$(git -C "$root" config user.name 2>/dev/null || id -un)}
+email=${DEBEMAIL:-$(git -C "$root" config user.email 2>/dev/null || echo "$(id -un)@$(uname -n)")}
+if [ -z "${DEBEMAIL:-$(git -C "$root" config user.email 2>/dev/null)}" ]; then
+    printf '%s: the maintainer is %s <%s>; DEBFULLNAME and DEBEMAIL name another\n' "$0" "$name" "$email" >&2
+fi
+cross='' target=''
+if [ "$architecture" != "$own" ]; then
+    "$root/packaging/cross_arm64.sh" "$root/out/arm64/cross"
+    PATH=$root/out/arm64/cross/bin:$PATH
+    cross=aarch64-linux-gnu- target=aarch64-unknown-linux-gnu
 fi
 # A tarball may be unpacked in another repository.
 if [ -e "$root/.git" ]; then
@@ -42,9 +48,14 @@ page.write_text(re.sub(r"\[([^][]*)\]\(([^)]*)\)", kept, page.read_text()))
 END
 }
 
-# Strips a program or a shared library, and prints what its package depends on.
+# Strips a program or a shared library, and prints what its package depends on. dpkg-shlibdeps knows only the machine's own
+# packages; for another one the newest version of glibc whose symbols the file takes says it.
 strip_for() { # FILE
-    strip --strip-unneeded --remove-section=.comment --remove-section=.note "$1"
+    "${cross}strip" --strip-unneeded --remove-section=.comment --remove-section=.note "$1"
+    if [ -n "$cross" ]; then
+        "${cross}readelf" --version-info "$1" | grep -o 'GLIBC_[0-9.]*' | sort -uV | sed -n '$s/GLIBC_\(.*\)/libc6 (>= \1)/p'
+        return
+    fi
     mkdir -p "$work/debian"
     : >"$work/debian/control"
     (cd "$work" && dpkg-shlibdeps -O "$1" | sed -n 's/^shlibs:Depends=//p')

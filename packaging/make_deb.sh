@@ -1,16 +1,22 @@
 #!/bin/sh
 # Makes a Debian package of capkit: the program, its manual pages and completions, the documents and the samples.
 #
-# usage: packaging/make_deb.sh [PROGRAM]
+# usage: packaging/make_deb.sh [arm64] [PROGRAM]
 #
-# The package goes to out/. PROGRAM is the built program; where none is given, ./capkit builds it first. The maintainer is
-# DEBFULLNAME and DEBEMAIL, else git's user. Its time is SOURCE_DATE_EPOCH, else that of the commit, or of CHANGELOG.md
-# where there is no commit, as in a tarball. It needs Python 3 with jinja2, dpkg-dev and binutils, and no rights of root.
+# The package goes to out/. PROGRAM is the built program; if none is given, ./capkit builds it first. For arm64 only the last crate is
+# proved again, and Debian's cross packages are fetched and unpacked in out/. The maintainer is DEBFULLNAME and DEBEMAIL, or git's
+# user, or else the user of the machine. Its time is SOURCE_DATE_EPOCH, or that of the commit, or of CHANGELOG.md if there is no
+# commit, as in a tarball. It needs Python 3 with jinja2, dpkg-dev and binutils, and no rights of root.
 
 set -eu
 umask 022
 
 root=$(CDPATH='' cd -- "$(dirname -- "$0")/.." && pwd -P)
+architecture=''
+if [ "${1-}" = arm64 ]; then
+    architecture=$1
+    shift
+fi
 # shellcheck source=packaging/common.sh
 . "$root/packaging/common.sh"
 
@@ -19,13 +25,24 @@ if [ $# -gt 0 ]; then
 else
     "$root/capkit" --help >/dev/null
     program=$(python3 "$root/tools/built.py")
+    if [ -n "$cross" ]; then
+        program=$root/out/arm64/$(basename "$(dirname "$program")")/capkit
+        python3 "$root/packaging/build.py" capkit_main "$program" "$target" "$root/out/arm64/cross/toolchain"
+    fi
 fi
 
-# The program tells its version itself.
-case $("$program" --version) in
+# The program tells its version itself, and has the text of it, since one for another machine can't be run here.
+version_of() { # PROGRAM
+    if [ -n "$cross" ]; then
+        printf 'capkit %s\n' "$(grep -ao '[0-9.]* (rattle-kit-[^)]*)' "$1")"
+    else
+        "$1" --version
+    fi
+}
+case $(version_of "$program") in
 "capkit $release ("*) ;;
 *)
-    printf '%s: packaging/version is %s, and the program is: %s\n' "$0" "$release" "$("$program" --version)" >&2
+    printf '%s: packaging/version is %s, and the program is: %s\n' "$0" "$release" "$(version_of "$program")" >&2
     exit 1
     ;;
 esac

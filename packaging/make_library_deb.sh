@@ -3,22 +3,31 @@
 # library, capkit.pc, the manual page and the examples) and python3-capkit (the package for Python, which the lessons
 # of the package capkit need).
 #
-# usage: packaging/make_library_deb.sh
+# usage: packaging/make_library_deb.sh [arm64]
 #
-# The packages go to out/. The library is proved and built first, where that was not done yet. The maintainer is
-# DEBFULLNAME and DEBEMAIL, else git's user. Their time is SOURCE_DATE_EPOCH, else that of the commit, or of CHANGELOG.md
-# where there is no commit, as in a tarball. It needs dpkg-dev, binutils and a C compiler, and no rights of root.
+# The packages go to out/. The library is proved and built first, if that was not done yet; for arm64 only the last crate is proved
+# again, and Debian's cross packages are fetched and unpacked in out/. The maintainer is DEBFULLNAME and DEBEMAIL, or git's user, or
+# else the user of the machine. Their time is SOURCE_DATE_EPOCH, or that of the commit, or of CHANGELOG.md if there is no commit, as
+# in a tarball. It needs dpkg-dev, binutils and a C compiler, and no rights of root.
 
 set -eu
 umask 022
 
 root=$(CDPATH='' cd -- "$(dirname -- "$0")/.." && pwd -P)
+architecture=${1-}
 # shellcheck source=packaging/common.sh
 . "$root/packaging/common.sh"
 
-triplet=$(dpkg-architecture -qDEB_HOST_MULTIARCH)
+triplet=$(dpkg-architecture -f -a "$architecture" -qDEB_HOST_MULTIARCH)
 libraries=usr/lib/$triplet
-make -s -C "$root/library" install DESTDIR="$work/all" PREFIX=/usr LIBDIR="/$libraries"
+out=out
+if [ -n "$cross" ]; then
+    out=out/arm64
+    set -- CROSS="$cross" CC="${cross}gcc" TARGET="$target" TOOLCHAIN="$root/out/arm64/cross/toolchain"
+else
+    set --
+fi
+make -s -C "$root/library" install OUT="$out" "$@" DESTDIR="$work/all" PREFIX=/usr LIBDIR="/$libraries"
 shared=$work/libcapkit0 dev=$work/libcapkit-dev python=$work/python3-capkit
 mkdir -p "$shared/DEBIAN" "$dev/DEBIAN" "$python/DEBIAN" "$shared/$libraries"
 mv "$work/all/$libraries/libcapkit.so.$release" "$work/all/$libraries/libcapkit.so.0" "$shared/$libraries/"
@@ -40,8 +49,8 @@ drop_dead_links "$documents/LIBRARY.md"
 
 modules=$python/usr/lib/python3/dist-packages/capkit
 install -D -m 644 -t "$modules" "$root"/library/python/src/capkit/*.py "$root/library/python/src/capkit/py.typed" \
-    "$root/library/out/libcapkit_batch.so"
-strip --strip-unneeded --remove-section=.comment --remove-section=.note "$modules/libcapkit_batch.so"
+    "$root/library/$out/libcapkit_batch.so"
+"${cross}strip" --strip-unneeded --remove-section=.comment --remove-section=.note "$modules/libcapkit_batch.so"
 install -D -m 644 -t "$python/usr/share/doc/python3-capkit/examples" "$root"/library/python/examples/*
 install -m 644 "$root/library/python/README.md" "$python/usr/share/doc/python3-capkit/"
 drop_dead_links "$python/usr/share/doc/python3-capkit/README.md"
