@@ -86,7 +86,7 @@ for page in README.md $(cd "$root" && echo docs/*.md) docs/inside/FORMATS.md doc
     install -D -m 644 "$root/$page" "$documents/$page"
 done
 # What only a checkout has is left out.
-awk '/^## / { is_left_out = $2 ~ /^(Run|Install|Test)$/ } !is_left_out && !/^\| carry on/' "$root/README.md" |
+awk '/^## / { is_left_out = $2 ~ /^(Run|Install|Test)$/ } !is_left_out && !/^- To carry on/' "$root/README.md" |
     sed 's#packaging/copyright#copyright#g' >"$documents/README.md"
 for page in "$documents"/*.md "$documents"/docs/*.md "$documents"/docs/inside/*.md; do
     drop_dead_links "$page"
