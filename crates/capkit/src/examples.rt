@@ -15,8 +15,8 @@ pub const EDIT_HELP: &str = "\
 Examples:
   Delete packets 2 and 3, and write pcap:
     capkit edit -F pcap in.pcap out.pcap 2-3
-  Keep only the first thousand packets:
-    capkit edit -r in.pcapng out.pcapng 1-1000
+  Keep the second thousand packets (for the first see capkit print -c):
+    capkit edit -r in.pcapng out.pcapng 1001-2000
   Keep an hour of a day:
     capkit edit -A 2026-01-31T12:00:00Z -B 2026-01-31T13:00:00Z day.pcap noon
   Keep only the headers:
@@ -25,9 +25,9 @@ Examples:
     capkit edit --chop-start 8 tapped.pcap plain.pcapng
   Remove the checksum that ends each frame:
     capkit edit --chop-end 4 with-fcs.pcap frames.pcapng
-  Move times from winter time to summer time:
-    capkit edit --later 3600 winter.pcap summer.pcapng
-  Move the times of a clock that was half a second fast:
+  Correct a clock that was an hour slow:
+    capkit edit --later 3600 slow.pcap right.pcapng
+  Correct a clock that was half a second fast:
     capkit edit --earlier 0.5 fast.pcap right.pcapng
   Leave out the duplicates of a mirror port:
     capkit edit -D 5 mirrored.pcap single.pcapng
@@ -58,6 +58,8 @@ Examples:
     capkit print -c 10 -e in.pcap 'tcp port 80 and host 10.0.0.1'
   Write one conversation to a capture:
     capkit print -w one.pcapng in.pcap 'host 10.0.0.1 and host 10.0.0.2'
+  Keep only the first thousand packets, and read no more:
+    capkit print -c 1000 -w first.pcapng in.pcapng
   Count the packets that match:
     capkit print in.pcap 'tcp[tcpflags] & tcp-syn != 0' | wc -l
 

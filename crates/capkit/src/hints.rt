@@ -30,8 +30,8 @@ edit -i: split by -A and -B
 edit -d: see -D
 edit -w: OUT is named after IN, without -w
 edit --format: see -F
-edit -T: the link type stays as it is read
-edit -L: original lengths stay as they are read
+edit -T: the link type is kept
+edit -L: original lengths are kept
 edit -a: comments are kept, and none is added
 edit --inject-secrets: secrets are neither read nor written
 edit --discard-all-secrets: secrets are never written
@@ -42,13 +42,13 @@ merge -s: see edit -s
 merge -I: equal interfaces become one
 infos -T: reports have one form; awk makes a table of them
 infos -M: numbers are whole, in bytes and packets
-infos -c: a report has all it has; take its lines by grep
-infos -d: a report has all it has; take its lines by grep
-infos -s: a report has all it has; take its lines by grep
-infos -t: a report has all it has; take its lines by grep
-infos -u: a report has all it has; take its lines by grep
-infos -a: a report has all it has; take its lines by grep
-infos -e: a report has all it has; take its lines by grep
+infos -c: the report has every line; pick them with grep
+infos -d: the report has every line; pick them with grep
+infos -s: the report has every line; pick them with grep
+infos -t: the report has every line; pick them with grep
+infos -u: the report has every line; pick them with grep
+infos -a: the report has every line; pick them with grep
+infos -e: the report has every line; pick them with grep
 print -r: the file is named without -r
 print -n: names are never looked up
 print -N: names are never looked up
@@ -61,7 +61,7 @@ print -i: FILE - reads what tcpdump -i eth0 -U -w - writes
 print -t: each line begins with date and time, of 29 columns
 print -v: lines have one form; see -e, -x
 print -q: lines have one form; see -e, -x
-print -l: lines are written before each read that waits
+print -l: lines are written before each read that waits; quote ' -len > 1'
 print -U: packets are written before each read that waits
 print --count: count the lines: | wc -l
 print -C: see edit -r, which splits by ranges

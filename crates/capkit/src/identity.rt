@@ -4,8 +4,7 @@ use crate::overwrites::{STANDARD_INPUT, STANDARD_OUTPUT};
 use std::fs;
 use std::os::unix::fs::MetadataExt;
 
-/// What shows a file from all others on the machine, whatever its names: the numbers of its device
-/// and of its inode there.
+/// Identifies a file, whatever its name: its device, and its inode there.
 #[derive(Clone, Copy, PartialEq, Eq, Drop)]
 pub struct Identity {
     pub device: u64,

@@ -1,12 +1,12 @@
-//! The command line: what its words ask for, or why they are none; and the files and standard
-//! streams that its names mean.
+//! The command line: the command that its words ask for, or why they are refused; and the files and
+//! standard streams that its names mean.
 //!
 //! `capkit_host` calls it for the program, `cap_cases` for its tables. [`command_of`] returns a
 //! [`Line`], which is a command with the names that it is run over, or a [`Usage`], which is the
 //! reason for a refusal.
 //!
-//! - `options::commands` returns the subcommands with their options and help, an `options::Argument`
-//!   each; `ids` has the names by which their values are read.
+//! - `options::commands` returns the subcommands with their options and help, an
+//!   `options::Argument` each; `ids` has the names by which their values are read.
 //! - `arguments::matches_of` parses words by these tables, and returns clap's matches.
 //! - `line` has a command's words as a [`Line`], by the module of its subcommand, as `edit_line`.
 //! - `opening` has what a command is run over, `ending` how its run ends, and `refusal` what is

@@ -86,8 +86,8 @@ impl fmt::Display for ShownBytes<'_> {
     }
 }
 
-/// Adds a line of clap's refusal to a text: before the line of the usage the hint too, and in place
-/// of the line that only names the commands what each does. An error means that memory ran out.
+/// Appends a line of clap's refusal. The hint goes before the usage line, and the list of commands
+/// gets their descriptions. An error means that memory ran out.
 fn add_line(text: &mut String, line: &str, hint: Option<&str>) -> Result<(), AllocError> {
     if line.starts_with(COMMAND_NAMES) {
         return add_commands(text);

@@ -78,7 +78,7 @@ const FILE: Argument = Argument {
     id: ids::FILE,
     name: Name::Place,
     value: Value::NeededFile,
-    help: "The capture that is read, or - for standard input",
+    help: "Capture to read (- is standard input)",
 };
 
 const MORE: Argument = Argument {
@@ -97,7 +97,7 @@ const WORD: Argument = Argument {
 
 const EDIT: CommandRow = CommandRow {
     name: "edit",
-    about: "Select packets of a capture, change them, and leave out duplicates",
+    about: "Select and change packets, and remove duplicates",
     examples: EDIT_HELP,
     arguments: &[
         Argument {
@@ -164,13 +164,13 @@ const EDIT: CommandRow = CommandRow {
             id: ids::IN,
             name: Name::Place,
             value: Value::NeededFile,
-            help: "The capture that is read, or - for standard input",
+            help: "Capture to read (- is standard input)",
         },
         Argument {
             id: ids::OUT,
             name: Name::Place,
             value: Value::NeededFile,
-            help: "The capture that is written, or - for standard output",
+            help: "Capture to write (- is standard output)",
         },
         Argument {
             id: ids::RANGE,
@@ -202,7 +202,7 @@ const MERGE: CommandRow = CommandRow {
             id: ids::OUT,
             name: Name::Letter('w'),
             value: Value::NeededFile,
-            help: "The capture that is written, or - for standard output",
+            help: "Capture to write (- is standard output)",
         },
         FILE,
         MORE,

@@ -157,7 +157,7 @@ compile -ddd tcp | -d | a listing has the form of tcpdump -ddd";
 const NO_COMMAND: &str = "error: 'capkit' requires a subcommand but one was not provided
 
 Commands:
-  edit     Select packets of a capture, change them, and leave out duplicates
+  edit     Select and change packets, and remove duplicates
   merge    Merge captures into one, by time
   infos    Write a report on each capture
   print    Print or write the packets that match an expression or a listing
