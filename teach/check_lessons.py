@@ -227,7 +227,7 @@ def check_parts(lesson, place, packet):
     shown = """[...document.querySelectorAll(".parts tbody tr")].map((row) =>
       [...row.cells].map((cell) => cell.textContent))"""
     for text, said in lesson.value(shown):
-        if said != "isn't asked":
+        if said != "not evaluated":
             matches = library.capkit.Filter(text, 1).matches(packet.data, packet.original_length)
             lesson.equal(f"packet {place + 1}: {text}", said == "matches", matches)
 

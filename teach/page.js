@@ -9,7 +9,7 @@ const differing = new Set(lesson.differ);
 const KINDS = { "+": "keeps", "-": "drops" };
 const PARTS = {
   "+": ["matches", "matches"], "-": ["doesn't match", "matches-not"], "!": ["is rejected", "rejected"],
-  ".": ["isn't asked", "not-asked"], "?": ["is too deep to ask alone", "not-asked"],
+  ".": ["not evaluated", "not-asked"], "?": ["too deep to evaluate by itself", "not-asked"],
 };
 const DIGITS = "ABCDEFGHIJKLMNOPQRSTUVWXYZabcdefghijklmnopqrstuvwxyz0123456789+/";
 let chosen = -1;

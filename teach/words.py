@@ -16,8 +16,8 @@ CLASS, LOAD, LOAD_X, STORE, STORE_X, COMPUTE, JUMP, RETURN = 7, 0, 1, 2, 3, 4, 5
 SIZES = {0: 4, 8: 2, 16: 1}
 ARITHMETIC = {
     0: "add {} to A", 16: "subtract {} from A", 32: "multiply A by {}", 48: "divide A by {}",
-    64: "set in A the bits {}", 80: "keep of A the bits {}", 96: "shift A left by {} bits",
-    112: "shift A right by {} bits", 144: "A is its remainder by {}", 160: "turn in A the bits {}",
+    64: "set bits {} in A", 80: "A = A & {}", 96: "shift A left by {} bits",
+    112: "shift A right by {} bits", 144: "A = A mod {}", 160: "flip bits {} of A",
 }  # fmt: skip
 MASKS = {64, 80, 160}
 MOST_MEANINGS = 2
