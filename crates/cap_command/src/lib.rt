@@ -1,4 +1,4 @@
-//! Commands: what is asked for, as values.
+//! Commands with their options, as values.
 //!
 //! `capkit` makes a command of the words of a line, and `cap_tools` runs it over inputs and
 //! outputs. [`Command`] has a variant for each command; `Command::is_proper` returns whether it may

@@ -41,6 +41,6 @@ pub record IsMerge (rs : List InputItems) : Type 0 where
   pub events : (sequence_of ByTime rs).events ≡ events_of come
   pub whole : (sequence_of ByTime rs).end ≡ Complete → later ≡ []
 
--- each merge is one
+-- the law: the sequence of every merge satisfies IsMerge
 abbrev pub MergesSort : Type 0
 MergesSort = (rs : List InputItems) → IsMerge rs

@@ -10,7 +10,7 @@ use cap_pcap::Head;
 use cap_pcapng::{Options, PacketSpans, Table};
 use std::alloc::Allocator;
 
-/// What the units that were read declare of those after them, next to the interfaces of a section.
+/// What the units read so far determine for the next ones, besides the interfaces of a section.
 #[derive(Clone, Copy)]
 pub enum FileState {
     /// No unit was read.

@@ -40,7 +40,7 @@ fn read_first_bytes<I: Input>(input: &mut I) -> Result<[u8; 4], Fault>
 #[derive(Drop)]
 pub(crate) struct UnitReader<I: Input, A: Allocator> {
     pub(crate) input: I,
-    /// What the units so far declare, next to the interfaces of a section.
+    /// What the units read so far determine for the next ones, besides the interfaces of a section.
     pub(crate) file: FileState,
     /// The current unit is at its start, but the file header of pcap isn't held; the bytes after
     /// the unit are of no use.

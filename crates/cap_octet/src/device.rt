@@ -1,5 +1,5 @@
-//! Devices: what a contract sees of bytes that come and go; and reads and writes of all that is
-//! asked for, by as many calls of a device as that takes.
+//! Byte inputs and outputs, as contracts see them; calls that read or write everything they are
+//! given.
 ghost use Rattle.std.specs.Prelude.{◌≡◌, ℕ, ◌+◌, ◌^◌, ◌<◌, ◌≤◌, Bool, IsTrue, List, length, IfOk};
 ghost use Rattle.std.specs.{Io.StartsWith, List.flat_map};
 ghost use Rattle.std.specs.Prelude.{IfErr, Option, Some, [], drop, if◌then◌else◌, true};
@@ -32,10 +32,10 @@ pub trait Input {
     ghost failures: { Self → ℕ };
 
     /// How many bytes in all it gives at least before it fails; `None` if it never fails. No
-    /// call changes that. If a device doesn't give this it may fail at once.
+    /// call changes that. Default: it may fail at once.
     ghost sure: { Self → Option ℕ } = { λ _. Some 0 };
 
-    /// The bytes that `at_hand` shows. If a device doesn't give this they are none.
+    /// The bytes that `at_hand` shows. Default: no bytes.
     ghost held: { Self → List ℕ } = { λ _. [] };
 
     /// Reads into the start of the buffer and returns how many bytes came. 0 for a buffer that
@@ -108,14 +108,14 @@ pub trait Output {
             result (written self.new) };
 
     /// Whether somebody may be waiting for what it takes, as at the other end of a pipe, so that it
-    /// must be released before a read that may wait. If a device doesn't give this nobody is.
-    /// No clause: it only shows when to call `release`.
+    /// must be released before a read that may wait. Default: false. No clause: it only shows when
+    /// to call `release`.
     fn is_awaited(&self) -> bool {
         false
     }
 
-    /// Passes on what it holds back, and returns whether it could; a device whose bytes contracts
-    /// know always can. If a device doesn't give this it holds nothing back.
+    /// Passes on what it holds back, and returns whether it could; it can't fail on a device that
+    /// `tells`. Default: it holds nothing back.
     fn release(&mut self) -> bool
         ensures written { written self.new ≡ written self.old }
         ensures failures { failures self.new ≡ failures self.old }

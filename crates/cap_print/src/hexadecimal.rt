@@ -53,7 +53,7 @@ fn hex_sixteen(number: u64) -> [u8; 16]
     [a, b, c, d, e, f, g, h, i, j, k, l, m, n, o, p]
 }
 
-/// How many digits `0` these digits in ASCII begin with, counted up to `most`.
+/// Counts the digits `0` at the start of these ASCII digits, up to `most`.
 fn leading_zeros(digits: &[u8], most: usize) -> usize
     requires { most ≤ length digits.now }
     ensures value { drop result digits.now ≡ without_zeros most digits.now }

@@ -1,4 +1,4 @@
--- The messages on the end of a command.
+-- The messages about the end of a command.
 use Rattle.std.specs.Fmt.{decimal}
 use Rattle.std.specs.Prelude.{◌≡◌, ℕ, ◌+◌, Bool, IsTrue, List, [], ◌∷◌, ◌++◌, Result, codes}
 use Rattle.cap_octet.specs.{Device.AppendsOrStops, Device.failures_of, Fault.fault_text, Views.OutputView}

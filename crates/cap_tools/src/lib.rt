@@ -1,4 +1,4 @@
-//! Jobs: one for all commands.
+//! One job type runs every command, step by step.
 //!
 //! [`Job`] reads the inputs of a command, decides their packets and writes its output, one step per
 //! call of `step`; a [`Turn`] shows whether it goes on. [`run`] makes all steps and returns the

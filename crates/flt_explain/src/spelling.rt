@@ -12,8 +12,8 @@ use flt_words::{Cast, Comparison, Join, Operator, Protocol, Side, Size, TokenKin
 use std::alloc::{AllocError, Allocator};
 use std::fmt::Write;
 
-/// What stands before a token, as far as the token's spelling goes by it: the number 1 has two
-/// names, and directly after `icmp[` it is `icmpcode`.
+/// What precedes a token, if its spelling depends on that: the number 1 has two names, and directly
+/// after `icmp[` it is `icmpcode`.
 #[derive(Clone, Copy)]
 pub enum Following {
     /// `icmp`.

@@ -102,8 +102,8 @@ IsAtCursor cursors turn (Next.Read i) = (i ≡ turn) × (waits_at cursors turn �
 IsAtCursor cursors turn (Next.Decide i) = (i ≡ turn) × (waits_at cursors turn ≡ Some true)
 IsAtCursor cursors turn Next.Finish = length cursors ≤ turn
 
--- what is next of a merge: an input is read on, where some must be; else the packet with the
--- least key is decided, if one waits; else nothing is
+-- what is next of a merge: read the next input, if one must be read; else decide the packet with the
+-- least key, if one waits; else finish
 abbrev pub IsNextOfMerge : List InputView → ℕ → ℕ → Next → Type 0
 IsNextOfMerge cursors first last (Next.Read i) =
     (i ≡ first) × (first < last) × (first < length cursors)
