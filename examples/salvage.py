@@ -168,7 +168,8 @@ class Reader:
         return self.unpack(self.source.get(at, 16).ljust(16, b"\0"))
 
     def is_near(self, at):
-        return -EARLIER <= self.when(at) - self.source.time <= NEAR
+        time = self.source.time
+        return -EARLIER <= self.when(at) - time <= (NEAR if time > UNSET else 60 * (time > 0))
 
     def chain(self, start, is_headed=False):
         """Where the units in a row from a place on begin, and the last one ends, if believed."""
@@ -280,7 +281,7 @@ class Records(Reader):
         seconds, *_ = head = self.head(at)
         others = [it for it in beside if it[0] != at]
         times, sizes = [it[1] for it in others], [it[3] for it in others]
-        is_set = max(times, default=0) > UNSET and all(
+        is_set = min(times, default=0) > UNSET and all(
             any(abs(it - time) <= NEAR for it in times[:at] + times[at + 1 :]) for at, time in enumerate(times))
         is_near = is_set and any(abs(it - seconds) <= NEAR for it in times)
         return is_near + self.is_whole(head, sizes)
@@ -291,6 +292,7 @@ class Records(Reader):
     def grounded(self, bounds, passes):
         """A chain from the first record on that has enough evidence; None if it gets too short."""
         beside, ends = self.beside(bounds[0]), {it: it + 16 + self.head(it)[2] for it in self.last}
+        passes = max([passes, *ends.values()])
         while len(bounds) > self.source.row:
             read = [it for it in self.last if ends[it] > bounds[0]]
             new = [it for it in bounds[:UNITS] if it < passes]

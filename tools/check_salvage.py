@@ -264,7 +264,7 @@ def length_broken(chance):
         at = begin + chance.choice((8, 12)) if one.kind != "pcapng" else chance.choice((begin + 4, end - 4, begin + 20))
         right = struct.unpack_from(one.order + "I", one.data, at)[0]
         wrong = chance.choice((0, right + 1, right - 1, right + 4, right * 2, right // 2, 65535, 2**32 - 1, chance.randrange(2**18)))
-        struct.pack_into(one.order + "I", one.data, at, max(0, wrong))
+        struct.pack_into(one.order + "I", one.data, at, max(0, min(wrong, 2**32 - 1)))
         ranges.append((at, at + 4))
     return one.data, one.packets(ranges)
 
@@ -356,7 +356,8 @@ def start_gone(chance):
 def carried(chance):
     """A capture that packets carry, of up to a day before them; damage stands right before one of those."""
     form = chance.choice(FORMS)
-    before, (inner, after) = plain(chance, pool), (plain(chance, pool) for _ in range(2))
+    own = [chance.choice(pool)]
+    before, inner, after = (plain(chance, own) for _ in range(3))
     ago = chance.randrange(2, 80_000) * 10**9 + inner[-1][0] - before[-1][0]
     text = bytes(Capture([(when - ago, *rest) for when, *rest in inner[:300]], chance.choice((form, *FORMS))).data)
     parts = [bytes(54) + text[at : at + 1400] for at in range(0, len(text), 1400)]
