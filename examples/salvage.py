@@ -56,6 +56,7 @@ TICKS = {bytes([it]): 10**it for it in range(13)} | {bytes([it + 128]): 2**it fo
 SHORT = {"<": b"\x14\0\0\0", ">": b"\0\0\0\x14"}  # of an interface without options
 PATIENCE, BYTES_A_STEP = 600_000, 64  # steps that may be tried at first, and one for so many bytes
 DOUBTED, NOTES, NEAR, EARLIER, NO_TIME, SAME = 8, 20, 86_400, 1, float("nan"), (True, "")
+UNSET, SHORTEST = 31_536_000, 14  # of a clock that began at 1970; bytes of a link header
 
 
 class Source:
@@ -167,7 +168,8 @@ class Reader:
         return self.unpack(self.source.get(at, 16).ljust(16, b"\0"))
 
     def is_near(self, at):
-        return -EARLIER <= self.when(at) - self.source.time <= NEAR
+        time = self.source.time
+        return -EARLIER <= self.when(at) - time <= (NEAR if time > UNSET else 60 * (time > 0))
 
     def chain(self, start, is_headed=False):
         """Where the units in a row from a place on begin, and the last one ends, if believed."""
@@ -182,7 +184,8 @@ class Reader:
         is_next = len(bounds) > 1 and capture_at(source, self.out, bounds[-1])
         is_end = bounds[-1] == source.size or is_headed and end
         if len(bounds) > source.row and not (is_next or is_end):
-            is_end = self.is_near(start) or self.is_sure and source.time is NO_TIME
+            is_end = self.is_sure and source.time is NO_TIME
+            is_end = is_end or all(map(self.is_near, bounds[: 1 if self.is_sure else 3]))
         return bounds if is_next or is_end and len(bounds) > source.row else None
 
     def first(self, begin, end, passes):
@@ -197,8 +200,12 @@ class Reader:
                 meets = min(known.intersection(bounds), default=None)
                 if meets and bounds.index(meets) > best.index(meets):
                     best, known = bounds, set(bounds)
-            return self.without_carried(best)
+            if best := self.grounded(best, passes):
+                return self.without_carried(best)
         return None
+
+    def grounded(self, bounds, _):
+        return bounds
 
     def without_carried(self, bounds):
         """A chain without what a lost packet may have carried: its start, if it is too early."""
@@ -218,7 +225,7 @@ class Reader:
 
 class Records(Reader):
     """The records of pcap."""
-    is_sure, units, link, is_odd = False, None, ETHERNET, False
+    is_sure, units, link, is_odd, origin = False, None, ETHERNET, False, None
     # The lengths' high bytes, the captured one not being 0; and how far in a record they are.
     LIKELY = {"<": (re.compile(rb"(?s)\0(?<!\0{4})(?<=[\0-\4].)..[\0-\4]\0"), 11, b"\0"),
               ">": (re.compile(rb"(?s)\0[\0-\4](?!\0\0)..\0[\0-\4]"), 8, b"\0")}
@@ -247,7 +254,52 @@ class Records(Reader):
         bounds = super().chain(start, is_headed)
         heads = [self.head(it) for it in (bounds or [])[:-1][:3]]
         is_odd = heads and self.units and heads[0][1] >= self.units and not self.is_odd
-        return None if is_odd or sum(it[1] == it[2] for it in heads) > 1 else bounds
+        if is_odd or sum(it[1] == it[2] for it in heads) > 1:
+            return None
+        if heads and not is_headed and len(bounds) <= UNITS:
+            sizes = [self.head(it)[2] for it in self.last] + [it[2] for it in heads]
+            if 2 * sum(self.is_whole(it, sizes) for it in heads) < min(len(heads), 3):
+                return None
+        return bounds
+
+    def is_whole(self, head, sizes):
+        """Whether the lengths are those of a packet captured as a whole, or up to a snap length."""
+        _, part, captured, original = head
+        is_whole = captured == original != part and captured >= min([SHORTEST, *sizes])
+        return is_whole or captured in sizes and captured == max(sizes)
+
+    def beside(self, place):
+        """The last records before damage, and the first ones from a place on: where, and heads."""
+        source, found = self.source, [*self.last]
+        while len(found) < len(self.last) + DOUBTED and place < source.size:
+            found.append(place)
+            place = self.step(place, *source.load(place)) or source.size
+        return [(it, *self.head(it)) for it in found]
+
+    def weight(self, at, beside):
+        """How many of two things speak for a record: its time, and its lengths."""
+        seconds, *_ = head = self.head(at)
+        others = [it for it in beside if it[0] != at]
+        times, sizes = [it[1] for it in others], [it[3] for it in others]
+        is_set = min(times, default=0) > UNSET and all(
+            any(abs(it - time) <= NEAR for it in times[:at] + times[at + 1 :]) for at, time in enumerate(times))
+        is_near = is_set and any(abs(it - seconds) <= NEAR for it in times)
+        return is_near + self.is_whole(head, sizes)
+
+    def worth(self, places, beside):
+        return sum(1 + self.weight(it, beside) for it in places)
+
+    def grounded(self, bounds, passes):
+        """A chain from the first record on that has enough evidence; None if it gets too short."""
+        beside, ends = self.beside(bounds[0]), {it: it + 16 + self.head(it)[2] for it in self.last}
+        passes = max([passes, *ends.values()])
+        while len(bounds) > self.source.row:
+            read = [it for it in self.last if ends[it] > bounds[0]]
+            new = [it for it in bounds[:UNITS] if it < passes]
+            if self.weight(bounds[0], beside) and self.worth(new, beside) >= self.worth(read, beside):
+                return bounds
+            bounds = bounds[1:]
+        return None
 
     def read_held(self, at, data, base):
         """Reads some of the records held, up to a fault."""
@@ -265,7 +317,8 @@ class Records(Reader):
                 append(base + place)
             else:
                 is_next = is_pair and part >= units and 0 < after[2] <= after[3] <= LONGEST
-                if not is_next and self.is_fault(data, base, place):
+                is_next &= captured == original or abs(seconds - after[0]) <= NEAR
+                if not is_next and self.is_fault(data, base, place, odd):
                     break
                 (odd if part >= units else self.last).append(base + place)
                 if part >= units:
@@ -283,7 +336,7 @@ class Records(Reader):
         out.packets += packets
         return base + place
 
-    def is_fault(self, data, base, place):
+    def is_fault(self, data, base, place, odd):
         """Whether this is no record (of any fraction), or reading is off by 4 bytes, or by 1."""
         seconds, part, captured, original = self.unpack(data, place)
         at, is_pair = base + place, 0 < captured <= original <= LONGEST
@@ -295,14 +348,21 @@ class Records(Reader):
             if not is_near(at) and is_near(real) and self.step(real, *self.source.load(real)):
                 return True
         if part >= self.units or not captured | original:
+            near = [end, *self.last, *odd[-1:]]
+            is_pair &= captured == original or any(abs(seconds - self.when(it)) <= NEAR for it in near)
             return not (is_pair and self.step(end, data, base))
         return 0 < captured == part and seconds < self.units and self.step(end - 4, data, base)
 
     def settle(self, at, place):
         """Drops records in the way of a chain, or puts one right; returns the end of those kept."""
         last, odd = self.last, [it for it in self.last if not self.step(it, *self.source.load(it))]
-        odd = odd if 2 * len(odd) <= len(last) else []
-        while last and (last[-1] in odd or last[-1] + 16 + self.head(last[-1])[2] > place):
+        odd, beside = odd if 2 * len(odd) <= len(last) else [], self.beside(place)
+        if last and last[0] == self.origin and len(last) < self.source.row:
+            odd = [*last]
+        while last:
+            end = last[-1] + 16 + self.head(last[-1])[2]
+            if last[-1] not in odd and (end == place or end < place and self.weight(last[-1], beside)):
+                break
             at = last.pop()
             self.out.packets -= 1
             self.out.kept = self.out.kept[0], at
@@ -528,7 +588,7 @@ def salvage(source, out):
             if reader:
                 out.note(place, "another capture begins")
         reader = seen[type(other), other.order] = other
-        fault = reader.last.clear()
+        fault, reader.origin = reader.last.clear(), at if at == place else None
         while at != fault:
             fault, at = at, reader.read_held(at, *source.load(at))
         if fault == source.size:

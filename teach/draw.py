@@ -51,7 +51,8 @@ def graph(program):
 def main(arguments):
     arguments = arguments_of(arguments)
     program = listing.read_or_exit("draw.py", arguments.listing)
-    sys.stdout.write(graph(program) if arguments.dot else picture(program))
+    text = graph(program) if arguments.dot else picture(program)
+    return listing.write("draw.py", text.encode())
 
 
 if __name__ == "__main__":

@@ -4,7 +4,7 @@
 The page has the expression and what it means, its tree, the program with its ways, and the
 packets. A click on a packet shows its bytes, the way through the program, what A and X are at
 each step, and why the packet matched or didn't. With --beside it shows two filters, and on which
-packets they differ.
+packets they differ: EXPRESSION is filter A, the other one is filter B.
 
 Statuses: 0; 1 where the capture ends with a fault or can't be read, though the packets before it
 are on the page; 2 where the command line, an expression or a listing is refused.
@@ -21,8 +21,8 @@ import sides
 MOST_PACKETS = 10_000
 EXAMPLE = """example:
   lesson.py 'tcp port 80' day.pcap > lesson.html
-  lesson.py --beside 'not tcp port 80' 'tcp port 80' day.pcap > two.html
-The name - is standard input."""
+  lesson.py 'tcp port 80' day.pcap --beside 'not tcp port 80' > two.html
+The name - of a capture or a listing is standard input."""
 
 
 def report(text):
@@ -43,8 +43,8 @@ def arguments_of(words):
         formatter_class=argparse.RawDescriptionHelpFormatter,
     )  # fmt: skip
     beside = parser.add_mutually_exclusive_group()
-    beside.add_argument("--beside", metavar="EXPRESSION", help="a second filter, beside the first")
-    beside.add_argument("--beside-code", metavar="LISTING", help="a second program, from a listing")
+    beside.add_argument("--beside", metavar="EXPRESSION", help="a second filter, B")
+    beside.add_argument("--beside-code", metavar="LISTING", help="a second program, B")
     parser.add_argument("--code", action="store_true", help="EXPRESSION is the name of a listing")
     parser.add_argument(
         "--packets", type=int, default=MOST_PACKETS, metavar="COUNT",
@@ -73,12 +73,12 @@ def expression_side(text):
 
 def listing_side(name):
     try:
-        with open(name, "rb") as file:
-            return sides.of_listing(name, listing.read(file))
+        with listing.opened(name) as file:
+            return sides.of_listing(shown_name(name), listing.read(file))
     except OSError as error:
-        refuse(f"{name}: {error.strerror}")
+        refuse(f"{shown_name(name)}: {error.strerror}")
     except listing.Bad as error:
-        refuse(f"{name}: {error}")
+        refuse(f"{shown_name(name)}: {error}")
 
 
 def sides_of(arguments):
@@ -99,8 +99,10 @@ def shown_name(name):
 
 def packets_of(name, most):
     """The first packets of a capture, what is to be told of its end, and whether it has a fault."""
-    packets, notes = [], []
-    source = sys.stdin.buffer.read() if name == "-" else name
+    packets, notes, source = [], [], name
+    if name == "-":
+        with listing.opened(name) as file:
+            source = file.read()
     try:
         for packet in library.capkit.packets(source):
             if len(packets) == most:
@@ -120,11 +122,12 @@ def make(arguments):
     try:
         packets, notes, fault = packets_of(arguments.capture, arguments.packets)
     except OSError as error:
-        report(f"{arguments.capture}: {error.strerror}")
+        report(f"{shown_name(arguments.capture)}: {error.strerror}")
         return 1
     name = pathlib.PurePath(shown_name(arguments.capture)).name
     text, told = page.page_of(found, name, packets, notes)
-    sys.stdout.buffer.write(text)
+    if listing.write("lesson.py", text):
+        return 1
     for line in [fault] if fault else notes + told:
         report(line)
     return 1 if fault else 0
@@ -134,10 +137,10 @@ def main(words):
     arguments = arguments_of(words)
     if arguments.packets < 0:
         refuse("--packets takes a count")
-    try:
-        return make(arguments)
-    except BrokenPipeError:
-        return 1
+    listings = [arguments.expression] * arguments.code + [arguments.beside_code]
+    if [arguments.capture, *listings].count("-") > 1:
+        refuse("standard input is named twice")
+    return make(arguments)
 
 
 if __name__ == "__main__":

@@ -1,4 +1,4 @@
-"""Programs as listings: what `capkit compile` and `tcpdump -ddd` print."""
+"""Programs as listings: what `capkit compile` and `tcpdump -ddd` print; and what all tools read and write."""
 import sys
 
 import library
@@ -59,12 +59,28 @@ def read(file):
         raise Bad(f"byte {error.start} is no ASCII; {FORM}") from error
 
 
+def opened(name):
+    """A file to read; `-` is standard input."""
+    return open(0, "rb", closefd=False) if name == "-" else open(name, "rb")
+
+
+def write(command, data):
+    """Writes to standard output, and returns the status; none is told if its reader went away."""
+    try:
+        with open(1, "wb", closefd=False) as output:
+            output.write(data)
+    except BrokenPipeError:
+        return 1
+    except OSError as error:
+        print(f"{command}: standard output: {error.strerror}", file=sys.stderr)
+        return 1
+    return 0
+
+
 def read_or_exit(command, name):
     """The program that a file lists, or standard input where none is named; else a message."""
     try:
-        if name is None or name == "-":
-            return read(sys.stdin.buffer)
-        with open(name, "rb") as file:
+        with opened(name or "-") as file:
             return read(file)
     except OSError as error:
         reason = error.strerror

@@ -47,7 +47,8 @@ def main(arguments):
     arguments = arguments_of(arguments)
     program = listing.read_or_exit("show.py", arguments.listing)
     link_type = None if arguments.plain else LINKS[arguments.link]
-    print("\n".join(lines_of(program, link_type)))
+    text = "\n".join(lines_of(program, link_type)) + "\n"
+    return listing.write("show.py", text.encode())
 
 
 if __name__ == "__main__":

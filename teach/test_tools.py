@@ -82,6 +82,30 @@ class Listings(Tools):
             self.refused("lesson.py", "--code", "code", DAY, told=told)
             self.refused("lesson.py", "--beside-code", "code", "tcp", DAY, told=told)
 
+    def test_ends(self):
+        """Standard input as a listing; a reader that goes away, a full device, closed descriptors."""
+        given = library.capkit.Filter(" or ".join(f"port {it}" for it in range(1, 900, 2)), 1).listing.encode()
+        for words in (["--code", "-", DAY], ["tcp", DAY, "--beside-code", "-"]):
+            done = self.run_tool("lesson.py", *words, given=given)
+            self.assertEqual((done.returncode, done.stderr), (0, b""))
+            self.assertIn(b"standard input", done.stdout)
+        self.refused("lesson.py", "--code", "-", "-", told="standard input is named twice")
+        (self.folder / "listing").write_bytes(given)
+        for words in ("show.py listing", "draw.py listing", "lesson.py --code listing " + DAY):
+            words = f"{sys.executable} {HERE}/{words}"
+            for end, told in (("| head -c 1", ""), ("> /dev/full", "No space"), (">&-", "Bad file"), ("2>&- >&-", "")):
+                done = subprocess.run(
+                    ["bash", "-o", "pipefail", "-c", f"{words} {end}"], capture_output=True,
+                    cwd=self.folder, check=False, timeout=60,
+                )  # fmt: skip
+                self.assertEqual(done.returncode, 1)
+                self.assertIn(told, done.stderr.decode())
+                self.assertNotIn(b"Traceback", done.stderr)
+        for tool in ("show.py", "draw.py"):
+            done = subprocess.run(["sh", "-c", f"{sys.executable} {HERE}/{tool} <&-"], capture_output=True)
+            self.assertEqual((done.returncode, done.stdout), (2, b""))
+            self.assertIn(b"Bad file descriptor", done.stderr)
+
     def test_missing(self):
         for tool in ("show.py", "draw.py"):
             self.refused(tool, "none", told=f"{tool}: none: No such file or directory")
@@ -161,6 +185,30 @@ class Captures(Tools):
         (self.folder / "text").write_text("this is no capture file at all")
         page = self.page("tcp", "text", status=1, told="text: offset 0: not a capture file")
         self.assertIn("it is wrong from its first byte on (not a capture file).", page)
+
+    def test_ends(self):
+        """Standard input as a listing; a reader that goes away, a full device, closed descriptors."""
+        given = library.capkit.Filter(" or ".join(f"port {it}" for it in range(1, 900, 2)), 1).listing.encode()
+        for words in (["--code", "-", DAY], ["tcp", DAY, "--beside-code", "-"]):
+            done = self.run_tool("lesson.py", *words, given=given)
+            self.assertEqual((done.returncode, done.stderr), (0, b""))
+            self.assertIn(b"standard input", done.stdout)
+        self.refused("lesson.py", "--code", "-", "-", told="standard input is named twice")
+        (self.folder / "listing").write_bytes(given)
+        for words in ("show.py listing", "draw.py listing", "lesson.py --code listing " + DAY):
+            words = f"{sys.executable} {HERE}/{words}"
+            for end, told in (("| head -c 1", ""), ("> /dev/full", "No space"), (">&-", "Bad file"), ("2>&- >&-", "")):
+                done = subprocess.run(
+                    ["bash", "-o", "pipefail", "-c", f"{words} {end}"], capture_output=True,
+                    cwd=self.folder, check=False, timeout=60,
+                )  # fmt: skip
+                self.assertEqual(done.returncode, 1)
+                self.assertIn(told, done.stderr.decode())
+                self.assertNotIn(b"Traceback", done.stderr)
+        for tool in ("show.py", "draw.py"):
+            done = subprocess.run(["sh", "-c", f"{sys.executable} {HERE}/{tool} <&-"], capture_output=True)
+            self.assertEqual((done.returncode, done.stdout), (2, b""))
+            self.assertIn(b"Bad file descriptor", done.stderr)
 
     def test_missing(self):
         told = "none.pcap: No such file or directory"

@@ -5,7 +5,8 @@ usage: check_examples.py [--capkit PROGRAM] [--update] [PAGE..]
 
 An example is a fenced block whose first line begins with "$ ". The examples under one heading run one after another in one
 shell, in a folder of their own, after the line of docs/RECIPES.md that sets up a checkout. That of a package has to leave
-the same files. Standard output and standard error are shown together. A line that begins with "> " continues the command
+the same files. any.sh has to write the IP packets, and only these, of frames of each kind that `tcpdump -i any` has.
+Standard output and standard error of an example are shown together. A line that begins with "> " continues the command
 above it. With --update the pages get what is printed, to be read before it is committed. A heading under which a program
 is called that isn't installed is left out, and told; so is one that needs the library, which `make -C library` builds.
 """
@@ -14,6 +15,7 @@ import os
 import pathlib
 import re
 import shutil
+import struct
 import subprocess
 import sys
 import tempfile
@@ -87,6 +89,30 @@ def same_set_up(capkit):
     return shown[0] == shown[1] and shown[0][0] == 0
 
 
+IPV4 = bytes.fromhex("4500001c000040004011f4860a0000050a0000350009000900080000")
+IPV6 = bytes.fromhex("6000000000083a40" + "20010db8000000000000000000000005" * 2 + "8000000000000000")
+# The EtherTypes of Linux's cooked frames, and what follows: STP, ARP, LLDP, a VLAN tag, PPPoE, loopback, frames of 802.2.
+FRAMES = [(0x0800, IPV4), (0x86DD, IPV6), (4, bytes.fromhex("424203000000000080010011223344550000000080010011")),
+          (0x0806, bytes.fromhex("0001080006040001") + bytes(20)), (0x88CC, bytes.fromhex("0207040011223344550404050102")),
+          (0x8100, bytes.fromhex("00070800") + IPV4), (0x8864, bytes.fromhex("11000001001e0021") + IPV4), (0x9000, IPV4), (0, b"")]
+
+
+def only_ip(capkit):
+    """Whether any.sh writes the IP packets of a capture of `tcpdump -i any`, only these, and none of another link type."""
+    def capture(link, frames, chopped=0):
+        records = (struct.pack("<IIII", 1, 0, len(it), len(it) + chopped) + it for it in frames)
+        return struct.pack("<IHHIIII", 0xA1B2C3D4, 2, 4, 0, 0, 262144, link) + b"".join(records)
+
+    frames = [struct.pack(">HHIHBB8x", kind, 0, 2, 1, 0, 6) + body for kind, body in FRAMES]
+    with tempfile.TemporaryDirectory() as temporary:
+        how = checkout(pathlib.Path(temporary), capkit)
+        how.update(stderr=subprocess.DEVNULL, env={**how["env"], "PATH": f"{temporary}:{os.environ['PATH']}"})
+        del how["stdin"]
+        done = [subprocess.run(["bash", "examples/any.sh", "-"], input=capture(link, frames), **how) for link in (276, 1)]
+    shown = [(it.returncode, it.stdout) for it in done]
+    return shown == [(0, capture(101, [IPV4, IPV6], 20)), (1, b"")]
+
+
 def missing_program(commands):
     if NEEDS_LIBRARY.search("\n".join(commands)) and not LIBRARY.exists():
         return LIBRARY.name
@@ -136,6 +162,9 @@ def main():
     if not same_set_up(capkit):
         wrong += 1
         print("docs/RECIPES.md: the two lines of the set-up don't leave the same files")
+    if not only_ip(capkit):
+        wrong += 1
+        print("examples/any.sh: it doesn't write the IP packets of a capture, and only these")
     sys.exit(1 if wrong else 0)
 
 

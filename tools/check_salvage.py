@@ -2,17 +2,20 @@
 """Damages captures, and counts what salvage.py, capkit, tcpdump and editcap read of them.
 
 usage: check_salvage.py [--capkit PROGRAM] [--runs N] [--seed N] [--first N] [--kind NAME] [--jobs N]
-                        [--keep FOLDER]
+                        [--keep FOLDER] [--captures FOLDER]
 
 RUNS (300) damaged captures of 20 to 3,000 packets, in pcap of all four forms and pcapng in both byte
-orders, of each kind of damage in turn; then each sample whole, and its first 0 to 200 bytes. What a
-program writes is compared with the packets of the capture, by time, original length and bytes (where
-the damage is of times, by the last two):
+orders, of each kind of damage in turn; then, if all kinds run from the first on, each sample whole, and its first
+0 to 200 bytes. With --captures the packets are those of the captures in a folder, which capkit reads. What a program writes
+is compared with the packets of the capture, by time, original length and bytes (where the damage is of
+times, by the last two):
 
   true     packets of the capture, each once, also  again    the same packet once more
            with another time, if its own bytes were damaged
-  changed  packets that share times, lengths or bytes with one whose own bytes were damaged
-  false    all others                               missed   undamaged packets that weren't read
+  changed  packets that aren't true, but have one of these in common with one whose own bytes were
+           damaged: a time that no other packet has; the second and both lengths; all bytes; both
+           lengths and the first or last 12 bytes; the first 24 bytes
+  false    all others: they were made up            missed   undamaged packets that weren't read
 
 The status is 1 where salvage.py wrote a false packet, fewer true ones than capkit, tcpdump or editcap,
 another text than `capkit edit` of what that reads to its end, took over 10 seconds of processor time, changed its input,
@@ -72,6 +75,7 @@ class Capture:
                 part = when % 10**9 // (1 if is_exact else 1000)
                 self.data += struct.pack(self.order + "IIII", when // 10**9, part, len(data), original) + data
             self.units.append((begin, len(self.data), (when, original, data)))
+        self.starts = {begin for begin, _, _ in self.units} | {len(self.data)}
 
     def block(self, kind, body):
         size = 12 + len(body)
@@ -98,8 +102,9 @@ def packets_of(path):
 # ---- captures
 
 def plain(chance, pool):
-    begin = chance.randrange(len(pool) - 3000)
-    return pool[begin : begin + chance.choice((20, 100, 500, 1000, 3000))]
+    packets = chance.choice(pool)
+    begin = chance.randrange(max(1, len(packets) - 3000))
+    return packets[begin : begin + chance.choice((20, 100, 500, 1000, 3000))]
 
 
 def snapped(chance, pool):
@@ -108,8 +113,8 @@ def snapped(chance, pool):
 
 def jumping(chance, pool):
     """A clock that is set: some times, each time, or once from 1970."""
-    packets, shift, odds = plain(chance, pool), -pool[0][0], chance.choice((0.01, 0.3, 1))
-    found = []
+    packets, odds, found = plain(chance, pool), chance.choice((0.01, 0.3, 1)), []
+    shift = -packets[0][0]
     for when, *rest in packets:
         shift = chance.randrange(-10**18, 10**18) if chance.random() < odds else shift
         found.append((max(0, when + shift), *rest))
@@ -129,7 +134,30 @@ def texts(chance, pool):
             for text in [b"".join(chance.choices(lines, k=chance.randrange(8)))]]
 
 
-def capture(chance, forms=FORMS, makers=(plain, plain, plain, snapped, jumping, merged, texts)):
+def unset(chance, pool):
+    """A clock that wasn't set: all times are 0, or from 1970 on."""
+    maker, begin = chance.choice((plain, snapped, numbers)), chance.choice((0, 0, chance.randrange(10**6)))
+    packets, is_zero = maker(chance, pool), chance.random() < 0.5
+    first = packets[0][0] - begin * 10**9
+    return [(0 if is_zero else max(0, when - first), *rest) for when, *rest in packets]
+
+
+def numbers(chance, pool):
+    """Packets with small numbers of four bytes, lowest byte first, as many protocols have them."""
+    packets = []
+    for when, original, data in plain(chance, pool):
+        most, step = chance.choice(((3, 1), (300, 1), (300, 4), (70_000, 1), (200_000, 4)))
+        small = [chance.randrange(0, most, step) for _ in range(chance.randrange(200))]
+        small = small if chance.random() < 0.7 else [number for number in small[:50] for _ in range(4)]
+        text = b"".join(number.to_bytes(4, chance.choice(("little", "little", "big"))) for number in small)
+        packets.append((when, original + len(text), data + text))
+    return packets
+
+
+ALL = (plain, plain, plain, snapped, jumping, merged, texts, unset, numbers)
+
+
+def capture(chance, forms=FORMS, makers=ALL):
     return Capture(chance.choice(makers)(chance, pool), chance.choice(forms))
 
 
@@ -236,7 +264,7 @@ def length_broken(chance):
         at = begin + chance.choice((8, 12)) if one.kind != "pcapng" else chance.choice((begin + 4, end - 4, begin + 20))
         right = struct.unpack_from(one.order + "I", one.data, at)[0]
         wrong = chance.choice((0, right + 1, right - 1, right + 4, right * 2, right // 2, 65535, 2**32 - 1, chance.randrange(2**18)))
-        struct.pack_into(one.order + "I", one.data, at, max(0, wrong))
+        struct.pack_into(one.order + "I", one.data, at, max(0, min(wrong, 2**32 - 1)))
         ranges.append((at, at + 4))
     return one.data, one.packets(ranges)
 
@@ -264,6 +292,58 @@ def overwritten(chance, one=None):
     return replaced(one, begin, end, what)
 
 
+def cuts_at(one, *places):
+    """What is damaged where a capture is cut: a packet, if the place isn't between two."""
+    return [(place - 1, place + 1) for place in places if place < one.first or place not in one.starts]
+
+
+def in_pieces(chance, change):
+    """One to four pieces of a capture changed: how returns the new bytes, and what is damaged."""
+    one, data, damaged, at = capture(chance), b"", [], 0
+    places = sorted(place(chance, one) for _ in range(2 * chance.randrange(1, 5)))
+    for begin, end in zip(places[::2], places[1::2]):
+        end = min(end, begin + chance.randrange(1, 3000))
+        piece, ranges = change(one, begin, end)
+        data, damaged, at = data + one.data[at:begin] + piece, damaged + ranges, end
+    return data + one.data[at:], one.packets(damaged)
+
+
+def lost(one, begin, end):
+    return b"", [(begin, end)]
+
+
+def repeated(one, begin, end):
+    return one.data[begin:end] * 2, cuts_at(one, begin, end)
+
+
+def inserted(chance):
+    """Pieces of other captures, or random bytes."""
+    guests = []
+
+    def change(one, begin, end):
+        other, size = capture(chance), chance.randrange(1, 3000)
+        at = chance.randrange(len(other.data))
+        piece = other.data[at : at + size]
+        if chance.random() < 0.3:
+            piece = chance.randbytes(size)
+        else:
+            within = [it for it in other.units if it[0] < at + size and at < it[1]]
+            guests.extend((packet, begin < at or end > at + size or at < other.first) for begin, end, packet in within)
+        return piece + one.data[begin:end], cuts_at(one, begin)
+
+    data, packets = in_pieces(chance, change)
+    return data, packets + guests
+
+
+def exchanged(chance):
+    """Pairs of pieces in the other order."""
+    def change(one, begin, end):
+        middle = chance.randrange(begin, end) if begin < end else end
+        return one.data[middle:end] + one.data[begin:middle], cuts_at(one, begin, middle, end)
+
+    return in_pieces(chance, change)
+
+
 def start_gone(chance):
     """The first bytes overwritten, missing, or after others."""
     one, size = capture(chance), chance.randrange(1, 2000)
@@ -276,7 +356,8 @@ def start_gone(chance):
 def carried(chance):
     """A capture that packets carry, of up to a day before them; damage stands right before one of those."""
     form = chance.choice(FORMS)
-    before, (inner, after) = plain(chance, pool), (plain(chance, pool) for _ in range(2))
+    own = [chance.choice(pool)]
+    before, inner, after = (plain(chance, own) for _ in range(3))
     ago = chance.randrange(2, 80_000) * 10**9 + inner[-1][0] - before[-1][0]
     text = bytes(Capture([(when - ago, *rest) for when, *rest in inner[:300]], chance.choice((form, *FORMS))).data)
     parts = [bytes(54) + text[at : at + 1400] for at in range(0, len(text), 1400)]
@@ -304,15 +385,23 @@ KINDS = {
     "bytes_changed": lambda chance: changed(chance, 9, lambda: chance.randrange(1, 256)),
     "truncated": truncated, "length_broken": length_broken, "concatenated": concatenated,
     "cut_out": cut_out, "overwritten": overwritten, "start_gone": start_gone, "carried": carried,
+    "unset_and_hole": lambda chance: overwritten(chance, capture(chance, makers=[unset])),
+    "numbers_and_hole": lambda chance: overwritten(chance, capture(chance, makers=[numbers])),
+    "pieces_lost": lambda chance: in_pieces(chance, lost),
+    "pieces_inserted": inserted,
+    "pieces_repeated": lambda chance: in_pieces(chance, repeated),
+    "pieces_exchanged": exchanged,
 }
 
 
 # ---- comparison
 
-def marks(packet):
+def marks(packet, times):
+    """What a packet has that shows it, even if its bytes were damaged."""
     when, original, data = packet
     size = len(data)
-    yield "time", when
+    if times[when] < 2:
+        yield "time", when
     yield "lengths", when // 10**9, size, original
     if size:
         yield "data", data
@@ -320,7 +409,6 @@ def marks(packet):
         yield "back", size, original, data[-12:]
     if size >= 24:
         yield "begins", data[:24]
-        yield "ends", data[-24:]
 
 
 def counts(read, packets, is_timed):
@@ -328,7 +416,8 @@ def counts(read, packets, is_timed):
     key = (lambda it: it) if is_timed else (lambda it: it[1:])
     left = collections.Counter(key(packet) for packet, _ in packets)
     known = set(left)
-    like = {mark for packet, is_damaged in packets if is_damaged for mark in marks(packet)}
+    times = collections.Counter(when for (when, *_), _ in packets)
+    like = {mark for packet, is_damaged in packets if is_damaged for mark in marks(packet, times)}
     damaged = collections.defaultdict(list)
     for packet, is_damaged in packets:
         damaged[packet[1:]] += [key(packet)] * is_damaged
@@ -344,7 +433,7 @@ def counts(read, packets, is_timed):
         elif it in known:
             found["again"] += 1
         else:
-            found["changed" if any(mark in like for mark in marks(packet)) else "false"] += 1
+            found["changed" if any(mark in like for mark in marks(packet, times)) else "false"] += 1
     whole = collections.Counter(key(packet) for packet, is_damaged in packets if not is_damaged)
     found["missed"] = sum(min(count, left[it]) for it, count in whole.items())
     return found
@@ -460,6 +549,15 @@ def try_sample(name, given):
     return name, faults
 
 
+def captures_in(folder, path):
+    """The packets of each capture in a folder that has eight or more, each of a length."""
+    for name in sorted(pathlib.Path(folder).iterdir()):
+        done = subprocess.run(["capkit", "edit", "-F", "nsecpcap", name, path], capture_output=True)
+        packets = packets_of(path) if done.returncode == 0 else []
+        if len(packets) >= 8 and all(original for _, original, _ in packets):
+            yield packets
+
+
 def report(done, names):
     """Prints the sums of all runs of a kind of damage."""
     sums = collections.defaultdict(collections.Counter)
@@ -486,6 +584,7 @@ def main():
     parser.add_argument("--first", type=int, default=0, help="the number of the first run")
     parser.add_argument("--kind", default=None, choices=KINDS, help="only one kind of damage")
     parser.add_argument("--keep", default=None)
+    parser.add_argument("--captures", default=None, help="damage those of a folder")
     given = parser.parse_args()
     program = pathlib.Path(given.capkit or built_program()).resolve()
     os.environ["PATH"] = f"{program.parent}:{os.environ['PATH']}"
@@ -494,12 +593,15 @@ def main():
         sys.exit(f"not installed: {', '.join(missing)}")
     with tempfile.TemporaryDirectory() as temporary:
         path = pathlib.Path(temporary) / "made.pcap"
-        make_capture.write_capture(path, make_capture.traffic(12_000))
-        pool.extend((when // 10**9 * 10**9 + when % 10**9 * 1000 + number % 1000, original, data)
-                    for number, (when, original, data) in enumerate(packets_of(path)))
+        if given.captures:
+            pool.extend(captures_in(given.captures, path))
+        else:
+            make_capture.write_capture(path, make_capture.traffic(12_000))
+            pool.append([(when // 10**9 * 10**9 + when % 10**9 * 1000 + number % 1000, original, data)
+                         for number, (when, original, data) in enumerate(packets_of(path))])
     script.append(compile((ROOT / "examples" / SCRIPT).read_text(), SCRIPT, "exec"))
     begin = time.monotonic()
-    samples = sorted(it.name for it in (ROOT / "samples").glob("*.pcap*"))
+    samples = sorted(it.name for it in (ROOT / "samples").glob("*.pcap*")) if not (given.first or given.kind) else []
     with concurrent.futures.ProcessPoolExecutor(given.jobs) as workers:
         runs = range(given.first, given.first + given.runs)
         done = list(workers.map(try_one, runs, itertools.repeat(given)))
