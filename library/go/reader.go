@@ -115,6 +115,15 @@ func (r *Reader) SetFilter(expression *Expression) {
 	r.reader.offset, r.count, r.given = r.end, 0, 0
 }
 
+// SkipRefused has Next go past what would end a capture that is otherwise sound, from the next packet on:
+// a unit that is refused for its time, link type or options, and, with a filter, a packet of a link type for
+// which no expression is compiled. Skipped counts both. Of an interface that is skipped no packet has a time,
+// so they are skipped in turn.
+func (r *Reader) SkipRefused(skips bool) { r.skips = skips }
+
+// Skipped is how many units and packets were left out so far; see SkipRefused.
+func (r *Reader) Skipped() uint64 { return r.skipped }
+
 // Next is the next packet. Its error is
 //
 //   - io.EOF at the clean end;
@@ -172,11 +181,17 @@ func (r *Reader) more() (err error) {
 	if r.count > 0 || r.err != nil {
 		return nil
 	}
+	missing := result
+	if r.skips {
+		missing = r.skip()
+	}
 	r.end = r.reader.offset
 	rest := r.size - int(r.end)
-	isShort := result == C.CAPKIT_END || result == C.CAPKIT_TRUNCATED ||
-		result == C.CAPKIT_NOT_A_CAPTURE_FILE && rest < 4
+	isShort := missing == C.CAPKIT_END || missing == C.CAPKIT_TRUNCATED ||
+		missing == C.CAPKIT_NOT_A_CAPTURE_FILE && rest < 4
 	switch {
+	case missing == C.CAPKIT_SKIPPED:
+		r.skipped++
 	case isShort && r.ended == nil:
 		return r.fill(rest)
 	case isShort && r.ended != io.EOF:
@@ -187,6 +202,12 @@ func (r *Reader) more() (err error) {
 		r.err = &CaptureError{Code(result), r.Offset()}
 	}
 	return err
+}
+
+// skip goes past the unit at the reader's place, if it is refused and can be skipped.
+func (r *Reader) skip() C.uint32_t {
+	return C.uint32_t(C.capkit_skip(&r.reader, &r.table[0], C.CAPKIT_MOST_INTERFACES,
+		(*C.uint8_t)(start(r.buffer)), C.size_t(r.size)))
 }
 
 // next reads the next packets by one call, those alone that match. Their filter is for the link
