@@ -7,6 +7,7 @@ import (
 	"io"
 	"os"
 	"path/filepath"
+	"reflect"
 	"strings"
 	"testing"
 	"testing/iotest"
@@ -17,19 +18,7 @@ import (
 
 func packet(data []byte) capkit.Packet {
 	return capkit.Packet{Time: time.Unix(1700000000, 123456789).UTC(), LinkType: capkit.LinkEthernet,
-		Data: data, SnapLength: 262144}
-}
-
-// plain is what a packet has in fields that a program sets.
-func plain(packets []capkit.Packet) string {
-	text := ""
-	for _, it := range packets {
-		if it.OriginalLength == 0 {
-			it.OriginalLength = uint32(len(it.Data))
-		}
-		text += fmt.Sprintln(it.Time, it.LinkType, it.Data, it.OriginalLength, it.Comment, it.InterfaceName, it.SnapLength)
-	}
-	return text
+		Data: data, OriginalLength: uint32(len(data)), SnapLength: 262144}
 }
 
 func of(capture []byte) *capkit.Reader { return capkit.NewReader(bytes.NewReader(capture)) }
@@ -72,19 +61,22 @@ func TestWhatIsWrittenReadsBack(t *testing.T) {
 	raw.LinkType, raw.OriginalLength, raw.SnapLength = capkit.LinkRaw, 1500, 20
 	packets := []capkit.Packet{packet(arp()), named, raw, empty, named}
 	got, err := read(of(written(capkit.Pcapng, packets...)))
-	if err != io.EOF || plain(got) != plain(packets) {
+	if err != io.EOF || !reflect.DeepEqual(got, packets) {
 		t.Errorf("pcapng: %v, %v", got, err)
 	}
 	got, err = read(of(written(capkit.PcapNanoseconds, packet(arp()), empty)))
-	if err != io.EOF || plain(got) != plain([]capkit.Packet{packet(arp()), empty}) {
+	if err != io.EOF || !reflect.DeepEqual(got, []capkit.Packet{packet(arp()), empty}) {
 		t.Errorf("pcap with nanoseconds: %v, %v", got, err)
 	}
 	// Many packets are read by one call, those of one section with its names and comments.
 	named.InterfaceName = "eth1"
 	capture := append(written(capkit.Pcapng, packets...), written(capkit.Pcapng, named)...)
 	got, err = read(of(bytes.Repeat(capture, 100)))
-	want := strings.Repeat(plain(packets)+plain([]capkit.Packet{named}), 100)
-	if err != io.EOF || plain(got) != want {
+	var want []capkit.Packet
+	for i := 0; i < 100; i++ {
+		want = append(append(want, packets...), named)
+	}
+	if err != io.EOF || !reflect.DeepEqual(got, want) {
 		t.Errorf("sections: %v, %v", len(got), err)
 	}
 	got, _ = read(of(written(capkit.Pcap, packet(arp()))))

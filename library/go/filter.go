@@ -3,6 +3,11 @@ package capkit
 // #include <capkit.h>
 import "C"
 
+import (
+	"errors"
+	"sync"
+)
+
 // Instruction is an instruction of a program, with the codes of classic BPF.
 type Instruction struct {
 	Code   uint16
@@ -18,7 +23,7 @@ type Step struct {
 }
 
 // Filter is the program of an expression for packets of one link type. Compile and FromInstructions
-// make one, and its program is valid.
+// make one, and its program is valid. Nothing changes it, so goroutines may share one.
 type Filter struct{ insns []C.struct_capkit_insn }
 
 // bound is how many instructions an expression's program has at most.
@@ -206,11 +211,17 @@ func (f *Filter) listingInto(buffer []byte) int {
 	return int(length)
 }
 
-// Expression is an expression that is compiled for each link type when a packet has it first. It is
-// for one goroutine at a time.
+// Expression is an expression that is compiled for each link type when a packet has it first. Goroutines
+// may share one.
 type Expression struct {
 	text    string
-	filters map[uint16]*Filter
+	filters sync.Map // from link types to what they are compiled to
+}
+
+// compiled is the filter of an expression for a link type, or why there is none.
+type compiled struct {
+	filter *Filter
+	err    error
 }
 
 // NewExpression checks an expression, which needs no link type. Its error is a *CompileError.
@@ -226,17 +237,16 @@ func (e *Expression) String() string { return e.text }
 
 // Filter is the expression's filter for a link type. Its error is a *CompileError.
 func (e *Expression) Filter(linkType uint16) (*Filter, error) {
-	if known := e.filters[linkType]; known != nil {
-		return known, nil
-	}
-	made, err := Compile(e.text, linkType)
-	if err == nil {
-		if e.filters == nil {
-			e.filters = map[uint16]*Filter{}
+	known, isKnown := e.filters.Load(linkType)
+	if !isKnown {
+		filter, err := Compile(e.text, linkType)
+		if errors.Is(err, ErrNoMemory) {
+			return nil, err
 		}
-		e.filters[linkType] = made
+		known, _ = e.filters.LoadOrStore(linkType, compiled{filter, err})
 	}
-	return made, err
+	it := known.(compiled)
+	return it.filter, it.err
 }
 
 // Matches is whether a packet matches; an error where no expression is compiled for its link type.

@@ -4,6 +4,7 @@ package capkit
 import "C"
 
 import (
+	"errors"
 	"io"
 	"os"
 	"strings"
@@ -12,21 +13,22 @@ import (
 	"unsafe"
 )
 
-// Packet is a packet of a capture. Its bytes are its own.
+// Packet is a packet of a capture. Its bytes are its own. A packet that was read equals one that was made
+// with the same fields: its time is in UTC, and its OriginalLength is always set.
 type Packet struct {
 	Time           time.Time // in nanoseconds, from 1970 on
 	LinkType       uint16
 	Data           []byte // the bytes that were captured
-	OriginalLength uint32 // how many it had on the wire; 0 of a packet that wasn't read is as many as Data has
-	Comment        string // its first one
+	OriginalLength uint32 // how many it had on the wire; 0 is as many as Data has, except with ZeroLength
+	Comment        string // its first one; others aren't kept
 	InterfaceName  string
 	SnapLength     uint32 // the most bytes captured of a packet of its interface; 0 is no limit
-	isRead         bool
+	ZeroLength     bool   // it had 0 bytes on the wire, though Data has some: an odd capture may state this
 }
 
 // original is how many bytes the packet had on the wire.
 func (p *Packet) original() uint32 {
-	if p.OriginalLength == 0 && !p.isRead {
+	if p.OriginalLength == 0 && !p.ZeroLength {
 		return uint32(len(p.Data))
 	}
 	return p.OriginalLength
@@ -48,16 +50,22 @@ func (p *Packet) Line(withLink bool) string {
 // piece is how many bytes are read at once; what fits into a processor's cache is filtered faster.
 const piece = 1 << 18
 
+// mostEmptyReads is how often in a row a source may give no byte and no error, as in bufio.
+const mostEmptyReads = 100
+
 // Reader gives the packets of a capture, pcap or pcapng, one after another, each as soon as its bytes
-// have come. It takes the memory of some units, however long the capture is.
+// have come. It takes the memory of some units, however long the capture is. It is for one goroutine at a
+// time.
 type Reader struct {
 	source     io.Reader
 	file       *os.File // that Open opened
-	err        error
-	ended      error // what the source ended by
+	err        error    // what every later call has
+	ended      error    // what the source ended by, or failed by and Next hasn't told yet
 	expression *Expression
-	base       int64 // where the buffer begins in the capture
-	size       int   // how many bytes of the buffer were read
+	skips      bool   // whether what is refused is skipped,
+	skipped    uint64 // and how much of it was
+	base       int64  // where the buffer begins in the capture
+	size       int    // how many bytes of the buffer were read
 	buffer     []byte
 	reader     C.struct_capkit_reader
 	table      [C.CAPKIT_MOST_INTERFACES]C.struct_capkit_interface
@@ -107,79 +115,145 @@ func (r *Reader) SetFilter(expression *Expression) {
 	r.reader.offset, r.count, r.given = r.end, 0, 0
 }
 
-// Next is the next packet, or io.EOF at the clean end, or a *CaptureError, which ends the capture, or
-// what the source failed by: every call after it has the same. With a filter it is a *CompileError if no
-// expression is compiled for the packet's link type.
+// SkipRefused has Next go past what would end a capture that is otherwise sound, from the next packet on:
+// a unit that is refused for its time, link type or options, and, with a filter, a packet of a link type for
+// which no expression is compiled. Skipped counts both. Of an interface that is skipped no packet has a time,
+// so they are skipped in turn.
+func (r *Reader) SkipRefused(skips bool) { r.skips = skips }
+
+// Skipped is how many units and packets were left out so far; see SkipRefused.
+func (r *Reader) Skipped() uint64 { return r.skipped }
+
+// Next is the next packet. Its error is
+//
+//   - io.EOF at the clean end;
+//   - a *CaptureError at a fault, which ends the capture;
+//   - with a filter, a *CompileError if no expression is compiled for the packet's link type;
+//   - os.ErrClosed after Close;
+//   - or what the source failed by, after the packets before it, such as os.ErrDeadlineExceeded;
+//     io.ErrNoProgress if it gave nothing 100 times in a row.
+//
+// After an error of the source the next call reads on from there: no packet is lost or comes twice. After
+// each of the others every call has the same.
 func (r *Reader) Next() (Packet, error) {
 	for r.err == nil {
 		if r.given == r.count {
-			r.err = r.more()
+			if err := r.more(); err != nil {
+				return Packet{}, err
+			}
 			continue
 		}
 		found := &r.batch[r.given]
 		r.given, r.end = r.given+1, found.end
-		packet := r.packet(&found.packet)
-		if r.expression == nil || packet.LinkType == r.linkType {
-			return packet, nil
-		}
-		matches, err := r.expression.Matches(packet)
-		if r.err = err; matches {
-			return packet, nil
+		if r.isWanted(&found.packet) {
+			return r.packet(&found.packet), nil
 		}
 	}
 	return Packet{}, r.err
 }
 
-// more reads the next packets, or reads on from the source.
-func (r *Reader) more() error {
-	if r.source == nil {
-		return os.ErrInvalid
+// isWanted is whether a packet of the batch matches. Its program was run if it is for its link type.
+func (r *Reader) isWanted(found *C.struct_capkit_packet) bool {
+	linkType := uint16(found.link_type)
+	if r.expression == nil || linkType == r.linkType {
+		return true
 	}
-	result, err := r.next()
-	if r.count > 0 || err != nil {
-		return err
+	filter, err := r.expression.Filter(linkType)
+	switch {
+	case err == nil:
+		return filter.Matches(r.buffer[found.at:][:found.captured], uint32(found.original))
+	case r.skips && errors.Is(err, ErrLinkType):
+		r.skipped++
+	default:
+		r.err = err
+	}
+	return false
+}
+
+// more reads the next packets, or reads on from the source. It sets what every later call has, and returns
+// what this one has of the source.
+func (r *Reader) more() (err error) {
+	if r.source == nil {
+		r.err = os.ErrInvalid
+		return nil
+	}
+	result := r.next()
+	if r.count > 0 || r.err != nil {
+		return nil
+	}
+	missing := result
+	if r.skips {
+		missing = r.skip()
 	}
 	r.end = r.reader.offset
 	rest := r.size - int(r.end)
-	isShort := result == C.CAPKIT_END || result == C.CAPKIT_TRUNCATED ||
-		result == C.CAPKIT_NOT_A_CAPTURE_FILE && rest < 4
+	isShort := missing == C.CAPKIT_END || missing == C.CAPKIT_TRUNCATED ||
+		missing == C.CAPKIT_NOT_A_CAPTURE_FILE && rest < 4
 	switch {
+	case missing == C.CAPKIT_SKIPPED:
+		r.skipped++
 	case isShort && r.ended == nil:
-		r.fill(rest)
-		return nil
+		return r.fill(rest)
 	case isShort && r.ended != io.EOF:
-		return r.ended
+		err, r.ended = r.ended, nil
 	case result == C.CAPKIT_END:
-		return io.EOF
+		r.err = io.EOF
+	default:
+		r.err = &CaptureError{Code(result), r.Offset()}
 	}
-	return &CaptureError{Code(result), r.Offset()}
+	return err
+}
+
+// skip goes past the unit at the reader's place, if it is refused and can be skipped.
+func (r *Reader) skip() C.uint32_t {
+	return C.uint32_t(C.capkit_skip(&r.reader, &r.table[0], C.CAPKIT_MOST_INTERFACES,
+		(*C.uint8_t)(start(r.buffer)), C.size_t(r.size)))
 }
 
 // next reads the next packets by one call, those alone that match. Their filter is for the link
 // type of the packet before them.
-func (r *Reader) next() (result C.uint32_t, err error) {
-	filter, insns, count := (*Filter)(nil), (*C.struct_capkit_insn)(nil), C.size_t(0)
+func (r *Reader) next() C.uint32_t {
+	insns, count := (*C.struct_capkit_insn)(nil), C.size_t(0)
 	if r.expression != nil {
-		if r.count > 0 {
-			r.linkType = uint16(r.batch[r.count-1].packet.link_type)
-		}
-		if filter, err = r.expression.Filter(r.linkType); err != nil {
-			return 0, err
+		filter, err := r.filter()
+		if err != nil {
+			r.err = err
+			return 0
 		}
 		insns, count = filter.program()
 	}
 	r.given = 0
 	return C.batch_next(&r.reader, &r.table[0], (*C.uint8_t)(start(r.buffer)), C.size_t(r.size),
-		insns, count, C.uint16_t(r.linkType), &r.batch[0], C.size_t(len(r.batch)), &r.count), nil
+		insns, count, C.uint16_t(r.linkType), &r.batch[0], C.size_t(len(r.batch)), &r.count)
+}
+
+// filter is that of the packet that was read last, if its link type has one.
+func (r *Reader) filter() (*Filter, error) {
+	if r.count > 0 {
+		linkType := uint16(r.batch[r.count-1].packet.link_type)
+		if filter, err := r.expression.Filter(linkType); err == nil {
+			r.linkType = linkType
+			return filter, nil
+		}
+	}
+	return r.expression.Filter(r.linkType)
 }
 
 // fill moves what is left to the front of the buffer, and reads on behind it.
-func (r *Reader) fill(rest int) {
+func (r *Reader) fill(rest int) error {
 	copy(r.buffer, r.buffer[r.reader.offset:r.size])
 	r.base += int64(r.reader.offset)
-	r.reader.offset, r.end = 0, 0
-	count, err := r.source.Read(r.buffer[rest : rest+piece])
-	r.size, r.ended = rest+count, err
+	r.reader.offset, r.end, r.size = 0, 0, rest
+	room := r.buffer[rest : rest+piece : rest+piece]
+	for i := 0; i < mostEmptyReads; i++ {
+		count, err := r.source.Read(room)
+		if count != 0 || err != nil {
+			// A count that the source can't have is a panic.
+			r.size, r.ended = rest+len(room[:count]), err
+			return nil
+		}
+	}
+	return io.ErrNoProgress
 }
 
 // Offset is how far the capture was read, in bytes.
@@ -198,7 +272,7 @@ func (r *Reader) packet(found *C.struct_capkit_packet) Packet {
 		Comment:        r.comment(found),
 		InterfaceName:  r.name(found._interface),
 		SnapLength:     uint32(found.snap),
-		isRead:         true,
+		ZeroLength:     found.original == 0 && found.captured > 0,
 	}
 }
 

@@ -1,6 +1,6 @@
 package capkit
 
-// #include <capkit.h>
+// #include "put.h"
 import "C"
 
 import (
@@ -19,30 +19,42 @@ const (
 	PcapNanoseconds
 )
 
-// Writer writes packets to a capture, the same bytes as capkit(1) writes.
+// mostUnits is how many bytes the units of a packet have at most: a section, an interface, and its own.
+const mostUnits = C.CAPKIT_SECTION_SIZE + C.CAPKIT_MOST_INTERFACE_SIZE + C.CAPKIT_MOST_UNIT
+
+// Writer writes packets to a capture, the same bytes as capkit(1) writes. It is for one goroutine at a
+// time.
 type Writer struct {
 	out        io.Writer
-	format     Format
-	hasHeader  bool
-	linkType   uint16                      // that of the last packet
-	state      C.struct_capkit_writer      // what is written of a pcapng file
-	interfaces []C.struct_capkit_interface // and its table
+	isWritten  bool // whether a packet was written
+	state      C.struct_put_writer
+	interfaces []C.struct_capkit_interface // that are written of a pcapng file
 	buffer     []byte
+	length     C.size_t // how many bytes of the buffer are units
 	failure    error
 }
 
 // NewWriter writes nothing yet: the file's header is written with the first packet. Each packet is one
 // call of out.Write, so an out that is a file is best a bufio.Writer.
 func NewWriter(out io.Writer, format Format) *Writer {
-	w := &Writer{out: out, format: format}
-	if format < Pcapng || format > PcapNanoseconds {
+	w := &Writer{out: out, buffer: make([]byte, 2048)}
+	switch format {
+	case Pcapng:
+		w.state.is_pcapng = 1
+	case Pcap:
+	case PcapNanoseconds:
+		w.state.nanoseconds = 1
+	default:
 		w.failure = os.ErrInvalid
 	}
 	return w
 }
 
-// Write appends a packet. Its error is a *WriteError, and nothing of the packet was written; or that of
-// the output, which every later call has too; or os.ErrClosed. A pcap file has packets of one link type.
+// Write appends a packet. A *WriteError is why the format can't hold it: nothing of it was written, and
+// other packets can be. Any other error is that of the output, which every later call has too: the output
+// has all packets before this one, and of this one's bytes as many as it took. After Close it is
+// os.ErrClosed. A pcap file has packets of one link type, a pcapng file at most 4,096 interfaces (link
+// type, snapshot length and name), of which a Reader reads the first 256.
 func (w *Writer) Write(packet Packet) error {
 	if w.failure != nil {
 		return w.failure
@@ -50,16 +62,11 @@ func (w *Writer) Write(packet Packet) error {
 	if packet.Time.Before(time.Unix(0, 0)) || packet.Time.After(time.Unix(0, 1<<63-1)) {
 		return &WriteError{ErrTimeOutOfRange}
 	}
-	encode := w.record
-	if w.format == Pcapng {
-		encode = w.block
+	if put := w.units(&packet); put != C.CAPKIT_WRITTEN {
+		return &WriteError{Code(put)}
 	}
-	units, err := encode(packet)
-	if err != nil {
-		return err
-	}
-	w.hasHeader, w.linkType = true, packet.LinkType
-	return w.put(units)
+	w.isWritten = true
+	return w.put()
 }
 
 // Close writes the file's header where there was no packet. It neither flushes nor closes the output.
@@ -67,96 +74,45 @@ func (w *Writer) Close() error {
 	if w.failure == os.ErrClosed {
 		return nil
 	}
-	header, err := []byte(nil), error(nil)
-	if !w.hasHeader {
-		header, err = w.header(LinkEthernet)
+	if w.failure == nil && !w.isWritten {
+		C.put_header(&w.state, (*C.uint8_t)(start(w.buffer)), C.size_t(len(w.buffer)), &w.length)
+		w.put()
 	}
-	if err == nil {
-		err = w.put(header)
+	if w.failure != nil {
+		return w.failure
 	}
-	if err == nil {
-		w.failure = os.ErrClosed
-	}
-	return err
+	w.failure = os.ErrClosed
+	return nil
 }
 
-// put writes units.
-func (w *Writer) put(units []byte) error {
-	if w.out == nil {
-		w.failure = os.ErrInvalid
-	}
-	if w.failure == nil && len(units) > 0 {
-		_, w.failure = w.out.Write(units)
-	}
-	return w.failure
-}
-
-// made is the units that a call makes, one after another.
-func (w *Writer) made(call func(buffer *C.uint8_t, room C.size_t, length *C.size_t) C.uint32_t) (units []byte, err error) {
-	for {
-		var length C.size_t
-		written := call((*C.uint8_t)(start(w.buffer)), C.size_t(len(w.buffer)), &length)
-		switch written {
-		case C.CAPKIT_WRITTEN, C.CAPKIT_UNIT_BEFORE:
-			units = append(units, w.buffer[:length]...)
-		case C.CAPKIT_NO_ROOM_IN_BUFFER:
-			w.buffer = make([]byte, length)
-		default:
-			return nil, &WriteError{Code(written)}
-		}
-		if written == C.CAPKIT_WRITTEN {
-			return units, nil
-		}
-	}
-}
-
-func (w *Writer) nanoseconds() C.uint32_t {
-	if w.format == PcapNanoseconds {
-		return 1
-	}
-	return 0
-}
-
-func (w *Writer) header(linkType uint16) ([]byte, error) {
-	return w.made(func(buffer *C.uint8_t, room C.size_t, length *C.size_t) C.uint32_t {
-		if w.format == Pcapng {
-			return C.capkit_write_section(buffer, room, length)
-		}
-		return C.capkit_write_file_header(w.nanoseconds(), C.uint16_t(linkType), buffer, room, length)
-	})
-}
-
-// record is a packet's record, after the file's header if it is the first one.
-func (w *Writer) record(packet Packet) ([]byte, error) {
-	if w.hasHeader && packet.LinkType != w.linkType {
-		return nil, &WriteError{ErrLinkTypesDiffer}
-	}
-	record, err := w.made(func(buffer *C.uint8_t, room C.size_t, length *C.size_t) C.uint32_t {
-		return C.capkit_write_record(w.nanoseconds(), C.uint64_t(packet.Time.UnixNano()),
-			C.uint32_t(packet.original()), (*C.uint8_t)(start(packet.Data)), C.size_t(len(packet.Data)),
-			buffer, room, length)
-	})
-	if err != nil || w.hasHeader {
-		return record, err
-	}
-	header, err := w.header(packet.LinkType)
-	return append(header, record...), err
-}
-
-// block is a packet's block, after the units that come before it.
-func (w *Writer) block(packet Packet) ([]byte, error) {
-	if len(w.interfaces) == int(w.state.interfaces) {
+// units puts the units of a packet into the buffer.
+func (w *Writer) units(packet *Packet) C.uint32_t {
+	if len(w.interfaces) == int(w.state.pcapng.interfaces) {
 		w.interfaces = append(w.interfaces, C.struct_capkit_interface{})
 	}
-	info := C.struct_capkit_packet{
-		time: C.uint64_t(packet.Time.UnixNano()), original: C.uint32_t(packet.original()),
-		snap: C.uint32_t(packet.SnapLength), link_type: C.uint16_t(packet.LinkType),
+	for {
+		put := C.put_units(&w.state, &w.interfaces[0], C.size_t(len(w.interfaces)),
+			C.uint64_t(packet.Time.UnixNano()), C.uint32_t(packet.original()),
+			C.uint32_t(packet.SnapLength), C.uint16_t(packet.LinkType), packet.InterfaceName,
+			(*C.uint8_t)(start(packet.Data)), C.size_t(len(packet.Data)), packet.Comment,
+			(*C.uint8_t)(start(w.buffer)), C.size_t(len(w.buffer)), &w.length)
+		if put != C.CAPKIT_NO_ROOM_IN_BUFFER || len(w.buffer) == mostUnits {
+			return put
+		}
+		w.buffer = make([]byte, mostUnits)
 	}
-	name, comment := []byte(packet.InterfaceName), []byte(packet.Comment)
-	return w.made(func(buffer *C.uint8_t, room C.size_t, length *C.size_t) C.uint32_t {
-		return C.capkit_writer_put(&w.state, &w.interfaces[0], C.size_t(len(w.interfaces)), &info,
-			(*C.char)(start(name)), C.size_t(len(name)), (*C.uint8_t)(start(packet.Data)),
-			C.size_t(len(packet.Data)), (*C.char)(start(comment)), C.size_t(len(comment)),
-			buffer, room, length)
-	})
+}
+
+// put writes the units of the buffer.
+func (w *Writer) put() error {
+	if w.out == nil {
+		w.failure = os.ErrInvalid
+		return w.failure
+	}
+	count, err := w.out.Write(w.buffer[:w.length])
+	if err == nil && count != int(w.length) {
+		err = io.ErrShortWrite
+	}
+	w.failure = err
+	return err
 }

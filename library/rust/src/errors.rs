@@ -63,6 +63,7 @@ numbers! {
 /// Why an expression isn't compiled, and where in the text the fault is, in bytes from 1, if it has a
 /// place.
 #[derive(Clone, Copy, Debug, PartialEq, Eq)]
+#[non_exhaustive]
 pub struct CompileError {
     /// Why.
     pub status: Status,
@@ -88,6 +89,7 @@ impl fmt::Display for CompileError {
 
 /// The first rule that instructions break, and the index of the instruction, from 0.
 #[derive(Clone, Copy, Debug, PartialEq, Eq)]
+#[non_exhaustive]
 pub struct ProgramError {
     /// The rule.
     pub rule: Rule,
@@ -173,9 +175,34 @@ impl fmt::Display for WriteError {
 
 impl error::Error for CompileError {}
 impl error::Error for ProgramError {}
-impl error::Error for ListingError {}
-impl error::Error for ReadError {}
-impl error::Error for WriteError {}
+
+impl error::Error for ListingError {
+    fn source(&self) -> Option<&(dyn error::Error + 'static)> {
+        match self {
+            ListingError::Program(error) => Some(error),
+            _ => None,
+        }
+    }
+}
+
+impl error::Error for ReadError {
+    fn source(&self) -> Option<&(dyn error::Error + 'static)> {
+        match self {
+            ReadError::Io(error) => Some(error),
+            ReadError::Compile(error) => Some(error),
+            ReadError::Fault { .. } => None,
+        }
+    }
+}
+
+impl error::Error for WriteError {
+    fn source(&self) -> Option<&(dyn error::Error + 'static)> {
+        match self {
+            WriteError::Io(error) => Some(error),
+            WriteError::Refused(_) => None,
+        }
+    }
+}
 
 impl From<io::Error> for WriteError {
     fn from(error: io::Error) -> WriteError {

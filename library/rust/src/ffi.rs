@@ -9,6 +9,7 @@ pub const END: u32 = 222;
 pub const NO_ROOM_IN_BUFFER: u32 = 225;
 pub const ANOTHER_LINK_TYPE: u32 = 226;
 pub const UNIT_BEFORE: u32 = 227;
+pub const SKIPPED: u32 = 228;
 pub const MOST_INSNS: usize = 32_768;
 pub const MOST_INTERFACES: usize = 256;
 pub const MOST_UNIT: usize = 1 << 20;
@@ -104,6 +105,10 @@ extern "C" {
     pub fn capkit_next(
         reader: *mut Reader, interfaces: *mut Interface, room: usize, capture: *const u8,
         size: usize, packet: *mut Packet,
+    ) -> u32;
+    pub fn capkit_skip(
+        reader: *mut Reader, interfaces: *mut Interface, room: usize, capture: *const u8,
+        size: usize,
     ) -> u32;
     pub fn capkit_comment(
         reader: *const Reader, capture: *const u8, size: usize, packet: *const Packet,

@@ -1,5 +1,5 @@
 use crate::errors::Rule;
-use crate::{ffi, CompileError, ListingError, Packet, ProgramError};
+use crate::{ffi, CompileError, ListingError, Packet, ProgramError, Status};
 use std::collections::HashMap;
 use std::fmt;
 use std::str::FromStr;
@@ -34,7 +34,7 @@ pub struct Step {
     pub memory: [u32; 16],
 }
 
-/// The program of an expression for packets of one link type. It is always valid.
+/// The program of an expression for packets of one link type. It is always valid, and threads may share one.
 ///
 /// As text it is the listing that `capkit compile` and `tcpdump -ddd` print, and is parsed from it:
 ///
@@ -89,6 +89,7 @@ impl Filter {
 
     /// What the program returns on a packet, given the bytes that were captured of it and how many
     /// it had on the wire; 0 rejects it.
+    #[must_use]
     pub fn run(&self, data: &[u8], original_length: u32) -> u32 {
         let (insns, count) = (self.0.as_ptr(), self.0.len());
         // SAFETY: the program is valid, and the pointers and lengths are those of the slices.
@@ -104,6 +105,7 @@ impl Filter {
     /// assert_eq!(arp.text(0).unwrap(), "(000) ldh      [12]");
     /// # Ok::<(), capkit::CompileError>(())
     /// ```
+    #[must_use]
     pub fn trace(&self, data: &[u8], original_length: u32) -> Vec<Step> {
         let mut steps = vec![Step::default(); self.0.len()];
         let (insns, most, to) = (self.0.as_ptr(), self.0.len(), steps.as_mut_ptr());
@@ -116,6 +118,7 @@ impl Filter {
     }
 
     /// An instruction of the program as `tcpdump -d` prints it, by its index.
+    #[must_use]
     pub fn text(&self, index: usize) -> Option<String> {
         let insn = self.0.get(index)?;
         // SAFETY: the buffer has as many bytes as the call is told.
@@ -125,11 +128,13 @@ impl Filter {
     }
 
     /// Whether a packet matches; see [`run`](Filter::run).
+    #[must_use]
     pub fn matches(&self, data: &[u8], original_length: u32) -> bool {
         self.run(data, original_length) != 0
     }
 
     /// The program.
+    #[must_use]
     pub fn instructions(&self) -> &[Instruction] {
         &self.0
     }
@@ -146,6 +151,7 @@ impl Filter {
 
     /// Where else the program gives the same answers, as far as `capkit_portability` can say: on
     /// libpcap, and on a Linux socket.
+    #[must_use]
     pub fn runs_on(&self) -> (bool, bool) {
         // SAFETY: the program is valid, and the pointer and the length are its.
         let bits = unsafe { ffi::capkit_portability(self.0.as_ptr(), self.0.len()) };
@@ -153,6 +159,7 @@ impl Filter {
     }
 
     /// Whether libpcap and a Linux socket give the same answers.
+    #[must_use]
     pub fn is_portable(&self) -> bool {
         self.runs_on() == (true, true)
     }
@@ -223,7 +230,8 @@ fn explain_into(expression: &str, buffer: &mut [u8]) -> Result<usize, CompileErr
     CompileError::number_of(status, number)
 }
 
-/// An expression, compiled for each link type when a packet has it first. Its clones share the programs.
+/// An expression, compiled for each link type when a packet has it first. Threads may share one, and its clones
+/// share the programs.
 ///
 /// ```
 /// let expression: capkit::Expression = "arp".parse()?;
@@ -234,25 +242,30 @@ fn explain_into(expression: &str, buffer: &mut [u8]) -> Result<usize, CompileErr
 #[derive(Clone, Debug)]
 pub struct Expression {
     text: String,
-    filters: Arc<Mutex<HashMap<u16, Arc<Filter>>>>,
+    compiled: Arc<Mutex<HashMap<u16, Compiled>>>,
 }
+
+/// The filter of an expression for a link type, or why there is none.
+type Compiled = Result<Arc<Filter>, CompileError>;
 
 impl Expression {
     /// Checks an expression, which needs no link type.
     pub fn new(text: &str) -> Result<Expression, CompileError> {
         bound(text)?;
-        Ok(Expression { text: text.to_owned(), filters: Arc::default() })
+        Ok(Expression { text: text.to_owned(), compiled: Arc::default() })
     }
 
     /// The expression's filter for a link type.
     pub fn filter(&self, link_type: u16) -> Result<Arc<Filter>, CompileError> {
-        let mut filters = self.filters.lock().unwrap_or_else(|poisoned| poisoned.into_inner());
-        if let Some(known) = filters.get(&link_type) {
-            return Ok(Arc::clone(known));
+        let mut compiled = self.compiled.lock().unwrap_or_else(|poisoned| poisoned.into_inner());
+        if let Some(known) = compiled.get(&link_type) {
+            return known.clone();
         }
-        let made = Arc::new(Filter::new(&self.text, link_type)?);
-        filters.insert(link_type, Arc::clone(&made));
-        Ok(made)
+        let made = Filter::new(&self.text, link_type).map(Arc::new);
+        if !matches!(made, Err(error) if error.status == Status::NoMemory) {
+            compiled.insert(link_type, made.clone());
+        }
+        made
     }
 
     /// Whether a packet matches. It is an error if no expression is compiled for its link type.

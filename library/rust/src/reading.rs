@@ -1,4 +1,4 @@
-use crate::errors::{Check, ReadError};
+use crate::errors::{Check, ReadError, Status};
 use crate::{ffi, CompileError, Expression, Filter};
 use std::fs::File;
 use std::io::{self, Read};
@@ -8,8 +8,9 @@ use std::sync::Arc;
 use std::time::{Duration, SystemTime, UNIX_EPOCH};
 use std::{fmt, mem};
 
-/// A packet of a capture.
+/// A packet of a capture. [`Packet::new`] makes one, whose fields can be set.
 #[derive(Clone, Debug, PartialEq, Eq, Hash)]
+#[non_exhaustive]
 pub struct Packet {
     /// Nanoseconds since 1970-01-01 00:00:00 UTC.
     pub time: u64,
@@ -19,7 +20,7 @@ pub struct Packet {
     pub data: Vec<u8>,
     /// How many bytes it had on the wire.
     pub original_length: u32,
-    /// Its first comment; empty if there is none.
+    /// Its first comment; empty if there is none. Others aren't kept.
     pub comment: Vec<u8>,
     /// The name of its interface; empty if there is none.
     pub interface_name: Vec<u8>,
@@ -29,6 +30,7 @@ pub struct Packet {
 
 impl Packet {
     /// A packet that was captured whole, without comment and name.
+    #[must_use]
     pub fn new(time: u64, link_type: u16, data: impl Into<Vec<u8>>) -> Packet {
         let data = data.into();
         let original_length = data.len().try_into().unwrap_or(u32::MAX);
@@ -37,6 +39,7 @@ impl Packet {
     }
 
     /// When it was captured.
+    #[must_use]
     pub fn system_time(&self) -> SystemTime {
         UNIX_EPOCH + Duration::from_nanos(self.time)
     }
@@ -48,6 +51,7 @@ impl Packet {
     /// let packet = capkit::Packet::new(1_000_000_007, capkit::LINK_RAW, [0x45]);
     /// assert_eq!(packet.line(false), "1970-01-01 00:00:01.000000007 IP [short], length 1");
     /// ```
+    #[must_use]
     pub fn line(&self, with_link: bool) -> String {
         let Packet { time, link_type, data, original_length: original, .. } = self;
         // SAFETY: the pointers and lengths are those of the bytes and of the buffer.
@@ -64,9 +68,12 @@ impl Packet {
 const PIECE: usize = 1 << 18;
 
 /// The packets of a capture, pcap or pcapng, from a file, a pipe or bytes in memory: each as soon as its
-/// bytes have come. It takes the memory of some units, however long the capture is.
+/// bytes have come. It takes the memory of some units, however long the capture is. It is for one thread at a
+/// time, to which it can be sent if the source can.
 ///
-/// They end with the capture, or after the [`ReadError`] that ends it.
+/// They end with the capture, or after the [`ReadError`] that ends it. A source that has no bytes yet doesn't
+/// end them: after an error of the kind `WouldBlock` or `TimedOut` the next call reads on from there, and no
+/// packet is lost or comes twice. What is `Interrupted` is tried again at once.
 ///
 /// ```
 /// let mut packets = capkit::Packets::new(&b"some text"[..]);
@@ -74,6 +81,7 @@ const PIECE: usize = 1 << 18;
 /// assert_eq!(fault.to_string(), "offset 0: not a capture file");
 /// assert!(packets.next().is_none());
 /// ```
+#[must_use = "packets are read as they are asked for"]
 pub struct Packets<R> {
     source: R,
     buffer: Vec<u8>,
@@ -82,6 +90,10 @@ pub struct Packets<R> {
     /// Whether the source has ended.
     is_whole: bool,
     is_over: bool,
+    /// Whether what is refused is skipped,
+    skips: bool,
+    /// and how much of it was.
+    skipped: u64,
     reader: ffi::Reader,
     table: Box<[ffi::Interface; ffi::MOST_INTERFACES]>,
     /// What has to match, with its program for a link type.
@@ -105,6 +117,8 @@ impl<R: Read> Packets<R> {
             base: 0,
             is_whole: false,
             is_over: false,
+            skips: false,
+            skipped: 0,
             reader: ffi::Reader::default(),
             table: Box::new([ffi::Interface::NONE; ffi::MOST_INTERFACES]),
             wanted: None,
@@ -118,7 +132,33 @@ impl<R: Read> Packets<R> {
         Ok(self)
     }
 
+    /// Goes past what would end a capture that is otherwise sound: a unit that is refused for its time, link
+    /// type or options, and, of packets [`matching`](Packets::matching) an expression, one of a link type for
+    /// which it isn't compiled. Of an interface that is skipped no packet has a time, so they are skipped in
+    /// turn.
+    ///
+    /// ```
+    /// # let capture = capkit::Writer::new(Vec::new(), capkit::Format::Pcap).finish()?;
+    /// let mut packets = capkit::Packets::new(&capture[..]).skip_refused(true);
+    /// for packet in &mut packets {
+    ///     println!("{}", packet?.line(false));
+    /// }
+    /// println!("{} left out", packets.skipped());
+    /// # Ok::<(), Box<dyn std::error::Error>>(())
+    /// ```
+    pub fn skip_refused(mut self, skips: bool) -> Packets<R> {
+        self.skips = skips;
+        self
+    }
+
+    /// How many units and packets were left out so far; see [`skip_refused`](Packets::skip_refused).
+    #[must_use]
+    pub fn skipped(&self) -> u64 {
+        self.skipped
+    }
+
     /// How far the capture was read, in bytes.
+    #[must_use]
     pub fn offset(&self) -> u64 {
         self.base + self.reader.offset as u64
     }
@@ -139,6 +179,13 @@ impl<R: Read> Packets<R> {
         }
     }
 
+    /// Goes past the unit at the reader's place, if it is refused and can be skipped.
+    fn skip(&mut self) -> u32 {
+        let (table, room) = (self.table.as_mut_ptr(), self.table.len());
+        // SAFETY: the pointers and lengths are those of the table and the buffer.
+        unsafe { ffi::capkit_skip(&mut self.reader, table, room, self.buffer.as_ptr(), self.size) }
+    }
+
     /// Moves what is left to the front of the buffer, and reads on behind it.
     fn fill(&mut self) -> io::Result<()> {
         let offset = mem::take(&mut self.reader.offset);
@@ -152,6 +199,8 @@ impl<R: Read> Packets<R> {
                 result => break result?,
             }
         };
+        // The library reads as many, whatever the source says.
+        assert!(count <= room.len(), "the source gave more bytes than there is room for");
         self.size += count;
         self.is_whole = count == 0;
         Ok(())
@@ -184,26 +233,46 @@ impl<R: Read> Packets<R> {
         comment
     }
 
-    /// Whether a packet for which the program isn't matches.
+    /// Whether a packet matches for which the program isn't. Where its link type can't be filtered, and that
+    /// is to be skipped, it doesn't, and counts.
     fn is_wanted(&mut self, packet: &Packet) -> Result<bool, CompileError> {
         let (expression, filter, link) = match &mut self.wanted {
             Some(wanted) => wanted,
             None => return Ok(true),
         };
-        *filter = expression.filter(packet.link_type)?;
-        *link = packet.link_type;
+        match expression.filter(packet.link_type) {
+            Ok(known) => (*filter, *link) = (known, packet.link_type),
+            Err(error) if self.skips && error.status == Status::LinkType => {
+                self.skipped += 1;
+                return Ok(false);
+            }
+            Err(error) => return Err(error),
+        }
         Ok(filter.matches(&packet.data, packet.original_length))
+    }
+
+    /// What happens where the library finds no packet: whether to look for one again.
+    fn read_on(&mut self, result: u32) -> Result<bool, ReadError> {
+        let missing = if self.skips { self.skip() } else { result };
+        let is_short = matches!(missing, ffi::END | ffi::TRUNCATED)
+            || missing == ffi::NOT_A_CAPTURE_FILE && self.size - self.reader.offset < 4;
+        match result {
+            _ if missing == ffi::SKIPPED => self.skipped += 1,
+            _ if is_short && !self.is_whole => self.fill().map_err(ReadError::Io)?,
+            ffi::END => return Ok(false),
+            _ => {
+                let (offset, check) = (self.offset(), Check::of(result));
+                return Err(ReadError::Fault { offset, check });
+            }
+        }
+        Ok(true)
     }
 
     /// The next packet; None at the end.
     fn read(&mut self) -> Result<Option<Packet>, ReadError> {
         let mut found = ffi::Packet::default();
         loop {
-            let result = self.found(&mut found);
-            let rest = self.size - self.reader.offset;
-            let is_short = matches!(result, ffi::END | ffi::TRUNCATED)
-                || result == ffi::NOT_A_CAPTURE_FILE && rest < 4;
-            match result {
+            match self.found(&mut found) {
                 ffi::PACKET => return Ok(Some(self.packet(&found))),
                 ffi::ANOTHER_LINK_TYPE => {
                     let packet = self.packet(&found);
@@ -211,15 +280,20 @@ impl<R: Read> Packets<R> {
                         return Ok(Some(packet));
                     }
                 }
-                _ if is_short && !self.is_whole => self.fill().map_err(ReadError::Io)?,
-                ffi::END => return Ok(None),
-                _ => {
-                    let (offset, check) = (self.offset(), Check::of(result));
-                    return Err(ReadError::Fault { offset, check });
+                result => {
+                    if !self.read_on(result)? {
+                        return Ok(None);
+                    }
                 }
             }
         }
     }
+}
+
+/// Whether the source may have bytes later.
+fn is_passing(error: &ReadError) -> bool {
+    let kinds = [io::ErrorKind::WouldBlock, io::ErrorKind::TimedOut];
+    matches!(error, ReadError::Io(error) if kinds.contains(&error.kind()))
 }
 
 impl<R: Read> Iterator for Packets<R> {
@@ -230,7 +304,11 @@ impl<R: Read> Iterator for Packets<R> {
             return None;
         }
         let next = self.read().transpose();
-        self.is_over = !matches!(next, Some(Ok(_)));
+        self.is_over = match &next {
+            Some(Ok(_)) => false,
+            Some(Err(error)) => !is_passing(error),
+            None => true,
+        };
         next
     }
 }

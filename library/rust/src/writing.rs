@@ -5,6 +5,7 @@ use std::io::{self, Write};
 
 /// How a capture is written.
 #[derive(Clone, Copy, Debug, PartialEq, Eq)]
+#[non_exhaustive]
 pub enum Format {
     /// Times are in nanoseconds; comments and names of interfaces are kept.
     Pcapng,
@@ -16,7 +17,9 @@ pub enum Format {
 
 /// Writes packets to a capture, the same bytes as capkit(1) writes.
 ///
-/// Each packet is one write, so an output that is a file is best a [`BufWriter`](io::BufWriter).
+/// Each packet is one write, so an output that is a file is best a [`BufWriter`](io::BufWriter). A writer that is
+/// dropped without [`finish`](Writer::finish) writes no header where there was no packet, and flushes nothing.
+/// It is for one thread at a time, to which it can be sent if the output can.
 ///
 /// ```
 /// use capkit::{Format, Packet, Packets, Writer, LINK_ETHERNET};
@@ -30,6 +33,7 @@ pub enum Format {
 /// assert_eq!(Packets::new(&capture[..]).next().unwrap().unwrap(), packet);
 /// # Ok::<(), capkit::WriteError>(())
 /// ```
+#[must_use = "`finish` writes what is left, and says whether that failed"]
 pub struct Writer<W> {
     out: W,
     format: Format,
@@ -50,9 +54,12 @@ impl<W: Write> Writer<W> {
         Writer { out, format, link_type: None, state, interfaces, buffer, failure: None }
     }
 
-    /// Appends a packet. After [`WriteError::Io`] every call fails.
+    /// Appends a packet. After [`WriteError::Refused`] nothing of it is written, and others can be. After
+    /// [`WriteError::Io`] every call fails: the output has all packets before this one, and of this one's bytes
+    /// as many as it took.
     ///
-    /// In a pcap file all packets have the link type of the first.
+    /// In a pcap file all packets have the link type of the first. A pcapng file has at most 4,096 interfaces
+    /// (link type, snapshot length and name), of which [`Packets`](crate::Packets) reads the first 256.
     pub fn write(&mut self, packet: &Packet) -> Result<(), WriteError> {
         let units = match self.format {
             Format::Pcapng => self.block(packet)?,

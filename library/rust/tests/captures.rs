@@ -57,7 +57,8 @@ fn refused_packets_leave_the_capture() {
     let other = Packet::new(TIME, LINK_RAW, arp());
     let error = writer.write(&other).unwrap_err();
     assert!(matches!(error, WriteError::Refused(Check::LinkTypesDiffer)));
-    let late = Packet { time: 1_000_000_000 << 32, ..good.clone() };
+    let mut late = good.clone();
+    late.time = 1_000_000_000 << 32;
     let error = writer.write(&late).unwrap_err();
     assert!(matches!(error, WriteError::Refused(Check::TimeOutOfRange)));
     assert_eq!(error.to_string(), "time out of range");
@@ -67,10 +68,13 @@ fn refused_packets_leave_the_capture() {
     assert_eq!(writer.finish().unwrap(), written(Format::Pcap, [&good]));
     // As many interfaces as capkit writes, and one more.
     let mut writer = Writer::new(io::sink(), Format::Pcapng);
+    let mut each = good.clone();
     for snap_length in (0..4096).chain(0..4096) {
-        writer.write(&Packet { snap_length, ..good.clone() }).unwrap();
+        each.snap_length = snap_length;
+        writer.write(&each).unwrap();
     }
-    let error = writer.write(&Packet { snap_length: 4096, ..good }).unwrap_err();
+    each.snap_length = 4096;
+    let error = writer.write(&each).unwrap_err();
     assert!(matches!(error, WriteError::Refused(Check::TooManyOutputInterfaces)));
 }
 
@@ -195,8 +199,8 @@ fn meanings() {
     }
     assert_eq!(explain(&long), Ok(meaning));
     assert_eq!(explain(""), Ok(String::new()));
-    let error = explain("tcp prt 80");
-    assert_eq!(error, Err(CompileError { status: Status::UnknownWord, place: Some(5) }));
+    let error = explain("tcp prt 80").unwrap_err();
+    assert_eq!((error.status, error.place), (Status::UnknownWord, Some(5)));
 }
 
 #[test]

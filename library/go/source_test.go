@@ -1,0 +1,240 @@
+package capkit_test
+
+import (
+	"bytes"
+	"errors"
+	"io"
+	"math/rand"
+	"net"
+	"os"
+	"reflect"
+	"testing"
+	"time"
+
+	"example.com/capkit"
+)
+
+// capture100 is a capture, and its packets, each of which has another length.
+func capture100() ([]byte, []capkit.Packet) {
+	var packets []capkit.Packet
+	for i := 0; i < 100; i++ {
+		it := packet(bytes.Repeat([]byte{byte(i)}, 1+37*i))
+		it.Comment = "first"[:i%6]
+		packets = append(packets, it)
+	}
+	return written(capkit.Pcapng, packets...), packets
+}
+
+// step is what a source gives at one read: so many bytes, or fewer, and an error.
+type step struct {
+	most int
+	err  error
+}
+
+// steps is a source that gives a capture by such reads, and the rest at once.
+type steps struct {
+	bytes.Reader
+	steps []step
+}
+
+func (s *steps) Read(room []byte) (int, error) {
+	if len(s.steps) == 0 {
+		return s.Reader.Read(room)
+	}
+	it := s.steps[0]
+	s.steps = s.steps[1:]
+	if it.most < len(room) {
+		room = room[:it.most]
+	}
+	count, _ := s.Reader.Read(room)
+	return count, it.err
+}
+
+func from(capture []byte, each ...step) *capkit.Reader {
+	source := &steps{steps: each}
+	source.Reset(capture)
+	return capkit.NewReader(source)
+}
+
+// readOn reads on after errors of the source, which it gives too.
+func readOn(reader *capkit.Reader) (packets []capkit.Packet, failures []error, err error) {
+	for {
+		more, err := read(reader)
+		packets = append(packets, more...)
+		var fault *capkit.CaptureError
+		if err == io.EOF || errors.As(err, &fault) {
+			return packets, failures, err
+		}
+		failures = append(failures, err)
+	}
+}
+
+func TestADeadlineDoesNotEndAReader(t *testing.T) {
+	capture, packets := capture100()
+	for name, pair := range map[string]func() (io.ReadCloser, io.WriteCloser){
+		"pipe": func() (io.ReadCloser, io.WriteCloser) {
+			source, end, err := os.Pipe()
+			check(err)
+			return source, end
+		},
+		"connection": func() (io.ReadCloser, io.WriteCloser) {
+			source, end := net.Pipe()
+			return source, end
+		},
+	} {
+		source, end := pair()
+		reader := capkit.NewReader(source)
+		done := make(chan struct{})
+		for at := 0; at < len(capture); {
+			piece := capture[at:]
+			if len(piece) > 70000 {
+				piece = piece[:70000]
+			}
+			at += len(piece)
+			go func() { // what a pipe doesn't hold is written as it is read
+				end.Write(piece)
+				done <- struct{}{}
+			}()
+			for len(packets) > 0 {
+				check(source.(interface{ SetReadDeadline(time.Time) error }).SetReadDeadline(time.Now().Add(20 * time.Millisecond)))
+				got, err := reader.Next()
+				if errors.Is(err, os.ErrDeadlineExceeded) {
+					break
+				}
+				if err != nil || !reflect.DeepEqual(got, packets[0]) {
+					t.Fatal(name, len(packets), err)
+				}
+				packets = packets[1:]
+			}
+			<-done
+		}
+		check(source.(interface{ SetReadDeadline(time.Time) error }).SetReadDeadline(time.Time{}))
+		end.Close()
+		rest, err := read(reader)
+		if err != io.EOF || len(rest) != len(packets) {
+			t.Error(name, len(rest), err)
+		}
+		_, packets = capture100()
+	}
+}
+
+func TestErrorsOfASourceAreToldOnce(t *testing.T) {
+	capture, packets := capture100()
+	failed := errors.New("failed")
+	reader := from(capture, step{3, failed}, step{0, failed}, step{len(capture) / 2, nil}, step{1000, failed}, step{0, os.ErrDeadlineExceeded})
+	got, failures, err := readOn(reader)
+	if want := []error{failed, failed, failed, os.ErrDeadlineExceeded}; !reflect.DeepEqual(failures, want) {
+		t.Error(failures)
+	}
+	if err != io.EOF || !reflect.DeepEqual(got, packets) {
+		t.Error(len(got), err)
+	}
+	// An error that comes with the last bytes, and one after them.
+	if got, failures, err := readOn(from(capture, step{len(capture), failed})); err != io.EOF || len(got) != 100 || len(failures) != 1 {
+		t.Error(len(got), failures, err)
+	}
+	if got, err := read(from(capture, step{len(capture), io.EOF})); err != io.EOF || !reflect.DeepEqual(got, packets) {
+		t.Error(len(got), err)
+	}
+	// A capture that is cut is no clean end, whatever came before.
+	if got, failures, err := readOn(from(capture[:len(capture)-1], step{50, failed})); !errors.Is(err, capkit.ErrTruncated) || len(got) != 99 || len(failures) != 1 {
+		t.Error(len(got), failures, err)
+	}
+}
+
+func TestASourceThatGivesNothing(t *testing.T) {
+	capture, packets := capture100()
+	var empty []step
+	for i := 0; i < 150; i++ {
+		empty = append(empty, step{0, nil})
+	}
+	got, failures, err := readOn(from(capture, append(empty, step{500, nil}, step{0, nil}, step{0, nil})...))
+	if err != io.EOF || !reflect.DeepEqual(got, packets) || !reflect.DeepEqual(failures, []error{io.ErrNoProgress}) {
+		t.Error(len(got), failures, err)
+	}
+}
+
+// wrong is a source that says it gave more than there is room for.
+type wrong struct{}
+
+func (wrong) Read(room []byte) (int, error) { return len(room) + 1, nil }
+
+func TestASourceThatLies(t *testing.T) {
+	defer func() {
+		if recover() == nil {
+			t.Error("bytes that aren't there were read")
+		}
+	}()
+	capkit.NewReader(wrong{}).Next()
+}
+
+func TestPiecesAndFailuresAtRandom(t *testing.T) {
+	capture, packets := capture100()
+	random := rand.New(rand.NewSource(1))
+	expression := must(capkit.NewExpression("len > 1000"))
+	for round := 0; round < 200; round++ {
+		var each []step
+		failures := 0
+		for left := len(capture); left > 0; {
+			it := step{random.Intn(1 << random.Intn(17)), nil}
+			if random.Intn(3) == 0 {
+				it.err = os.ErrDeadlineExceeded
+				failures++
+			}
+			each = append(each, it)
+			left -= it.most
+		}
+		reader, want := from(capture, each...), packets
+		if round%2 == 1 {
+			reader.SetFilter(expression)
+			want = packets[28:]
+		}
+		got, failed, err := readOn(reader)
+		if err != io.EOF || len(failed) != failures || !reflect.DeepEqual(got, want) {
+			t.Fatal(round, len(got), len(failed), failures, err)
+		}
+		if offset := reader.Offset(); offset != int64(len(capture)) {
+			t.Error(offset)
+		}
+	}
+}
+
+// part is an output that takes so many bytes of each write, and says so, with an error or without.
+type part struct {
+	bytes.Buffer
+	most int
+	err  error
+}
+
+func (p *part) Write(units []byte) (int, error) {
+	if len(units) > p.most {
+		p.Buffer.Write(units[:p.most])
+		return p.most, p.err
+	}
+	return p.Buffer.Write(units)
+}
+
+func TestAnOutputThatTakesAPart(t *testing.T) {
+	whole := written(capkit.Pcapng, packet(arp()), packet(make([]byte, 300)))
+	first := len(written(capkit.Pcapng, packet(arp())))
+	full := errors.New("full")
+	for _, it := range []struct{ told, want error }{{full, full}, {nil, io.ErrShortWrite}} {
+		out := &part{most: 200, err: it.told}
+		writer := capkit.NewWriter(out, capkit.Pcapng)
+		if err := writer.Write(packet(arp())); err != nil {
+			t.Error(err)
+		}
+		for i := 0; i < 2; i++ {
+			if err := writer.Write(packet(make([]byte, 300))); err != it.want {
+				t.Error(err)
+			}
+		}
+		if err := writer.Close(); err != it.want {
+			t.Error(err)
+		}
+		// The packets before it are whole, and of it there are the first bytes.
+		if !bytes.Equal(out.Bytes(), whole[:first+200]) {
+			t.Error(out.Len())
+		}
+	}
+}
