@@ -85,14 +85,14 @@ def fits(value: int, bits: int, name: str) -> int:
     return value
 
 
-def bytes_of(value: Any, name: str) -> bytes:
+def bytes_of(value: Any, name: str, what: str = "bytes") -> bytes:
     """The bytes of an object that has some: bytes, a bytearray, a memoryview of any items."""
     if isinstance(value, bytes):
         return value
     try:
         return memoryview(value).tobytes()
     except TypeError:
-        raise TypeError(f"{name} is bytes, not {type(value).__name__}") from None
+        raise TypeError(f"{name} is {what}, not {type(value).__name__}") from None
 
 
 def text_by(call: Any, *arguments: Any) -> str:

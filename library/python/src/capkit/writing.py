@@ -8,7 +8,8 @@ from typing import IO, Any, Literal, Optional, Union, get_args
 
 from . import native
 from .errors import Check, WriteError
-from .reading import Packet, Path, is_being_read
+from .reading import Packet
+from .sources import Path, is_being_read
 
 
 Format = Literal["pcapng", "pcap", "nsecpcap"]
