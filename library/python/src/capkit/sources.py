@@ -92,13 +92,14 @@ class File:
     """A regular file at a path, for loops that each read it from its start.
 
     It is open until it is closed, or an error ends the last loop over it, so that errors which are
-    kept keep no file open. The next loop opens it again if it is still the same, else it raises
-    OSError (ESTALE). Threads may share it.
+    kept keep no file open; one that was seen earlier is open in loops alone. The next loop opens it
+    again if it is still the same, else it raises OSError (ESTALE). Threads may share it.
     """
 
     def __init__(self, path: str, file: Any, seen: Seen) -> None:
         self.path, self._file, self._seen = path, file, seen
-        self._loops, self._has_failed, self._is_closed = 0, False, False
+        self._loops, self._is_closed = 0, False
+        self._is_for_loops = self._is_released = file is None
         # A signal's handler may close it in the middle of a call.
         self._lock = threading.RLock()
         _sources[id(self)] = self
@@ -117,8 +118,8 @@ class File:
         """A loop over it has ended, by an error or not."""
         with self._lock:
             self._loops -= 1
-            self._has_failed |= has_failed
-            if self._has_failed and not self._loops:
+            self._is_released |= has_failed
+            if self._is_released and not self._loops:
                 self._release()
 
     def close(self) -> None:
@@ -176,7 +177,7 @@ class File:
                 if not self._is_closed:
                     self._look()
             finally:
-                self._file, self._has_failed = None, False
+                self._file, self._is_released = None, self._is_for_loops
                 file.close()
 
 
@@ -229,7 +230,8 @@ class Stream:
             if isinstance(data, str):
                 raise TypeError("a source that is an open file is a binary one")
             count = None if data is None else len(data)
-            view[:count] = data or b""
+            if count and count <= len(view):
+                view[:count] = data
         if count is None:
             raise BlockingIOError(errno.EAGAIN, "no bytes have come yet")
         if not 0 <= count <= len(view):
