@@ -272,7 +272,7 @@ class PacketsTest(unittest.TestCase):
             with open(path, "rb", buffering) as file:
                 self.assertEqual(list(capkit.packets(file)), want)
         for source in (7, None):
-            with self.assertRaisesRegex(TypeError, "neither a path nor a file"):
+            with self.assertRaisesRegex(TypeError, "source is a path, a binary file or bytes, not"):
                 capkit.packets(source)
 
     def test_filtered(self):

@@ -1,4 +1,4 @@
-"""The calls of libcapkit, as capkit.h declares them, and that of go/batch.h for many packets.
+"""The calls of libcapkit, as capkit.h declares them, and those of batch.c.
 
 ctypes and not cffi: any Python has it, and one call reads many packets.
 """
@@ -35,8 +35,13 @@ PacketInfo = _struct("PacketInfo", [
     ("time", _64), *_of(_size, "at options_at"),
     *_of(_32, "captured original options_length interface snap"), ("link_type", _16),
 ])  # fmt: skip
-WriterState = _struct("WriterState", _of(_32, "interfaces has_section"))
 BatchPacket = _struct("BatchPacket", [("packet", PacketInfo), ("end", _size)])
+WriterState = _struct("WriterState", _of(_32, "interfaces has_section"))
+BatchWriter = _struct("BatchWriter", [
+    ("time", _64), *_of(_size, "captured comment_length name_length"), *_of(_32, "original snap"),
+    *_of(_16, "link_type file_link_type"), ("form", _32), *_of(WriterState, "state before"),
+    ("table", c.c_void_p), ("room", _size), ("units", c.c_void_p), *_of(_size, "size length"),
+])  # fmt: skip
 
 # It has the calls of libcapkit.so.0 too, which it is linked to.
 _inside = pathlib.Path(__file__).with_name("libcapkit_batch.so")
@@ -68,11 +73,8 @@ portability = declare("capkit_portability", _32, _at, _size)
 batch_next = declare("batch_next", _32, _at, _at, _at, _size, _at, _size, _16, _at, _size, _number)
 comment = declare("capkit_comment", _size, _at, _at, _size, _at, _at, _size)
 write_file_header = declare("capkit_write_file_header", _32, _32, _16, *_buffer)
-write_record = declare("capkit_write_record", _32, _32, _64, _32, _text, _size, *_buffer)
 write_section = declare("capkit_write_section", _32, *_buffer)
-writer_put = declare(
-    "capkit_writer_put", _32, _at, _at, _size, _at, _text, _size, _text, _size, _text, _size, *_buffer
-)
+batch_put = declare("batch_put", _32, _at, _text, _text, _text)
 number_text = declare("capkit_text", _size, _32, _at, _size)
 
 
@@ -85,14 +87,14 @@ def fits(value: int, bits: int, name: str) -> int:
     return value
 
 
-def bytes_of(value: Any, name: str) -> bytes:
+def bytes_of(value: Any, name: str, what: str = "bytes") -> bytes:
     """The bytes of an object that has some: bytes, a bytearray, a memoryview of any items."""
     if isinstance(value, bytes):
         return value
     try:
         return memoryview(value).tobytes()
     except TypeError:
-        raise TypeError(f"{name} is bytes, not {type(value).__name__}") from None
+        raise TypeError(f"{name} is {what}, not {type(value).__name__}") from None
 
 
 def text_by(call: Any, *arguments: Any) -> str:

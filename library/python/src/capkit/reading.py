@@ -4,19 +4,20 @@ from __future__ import annotations
 import ctypes as c
 import itertools
 import os
-import stat
 import struct
-import weakref
-from typing import IO, Any, Iterator, NamedTuple, Optional, Tuple, Union
+import threading
+from typing import Any, Dict, Generator, Iterator, NamedTuple, Optional, Tuple, Union
 
 from . import native
-from .errors import CaptureError, Check
-from .filters import Bytes, Expression
+from .errors import CaptureError, Check, CompileError
+from .filters import Bytes, Expression, Filter
+from .sources import File, Path, Readable, Seen, Stream, opened
 
-Path = Union[str, "os.PathLike[str]"]
-Source = Union[Path, Bytes, IO[bytes]]
+Source = Union[Path, Bytes, Readable]
+# What ended a loop: a check that failed and its offset, or that a filter can't be compiled.
+_Ending = Union[Tuple[int, int], CompileError, None]
 
-_END = 222
+_PACKETS, _END = 0, 222
 # What is read at once: what fits into a processor's cache is filtered twice as fast.
 _PIECE = 1 << 18
 # How many packets a call reads at most, and the fields of native.BatchPacket, but for its end.
@@ -61,13 +62,8 @@ class Packet(_Fields):
         ).rstrip("\n")
 
 
-_open: weakref.WeakSet[Capture] = weakref.WeakSet()
-
-
-def is_being_read(descriptor: int) -> bool:
-    """Whether a file is one that a capture reads."""
-    status = os.fstat(descriptor)
-    return any(capture._identity == (status.st_dev, status.st_ino) for capture in list(_open))
+class PacketIterator(itertools.chain[Packet]):
+    """The packets of one loop over a capture, for one thread at a time."""
 
 
 class Capture:
@@ -78,33 +74,32 @@ class Capture:
     bytes have come. Each loop over a path or bytes begins anew; a pipe, or an open file, is read once. A
     file that becomes shorter while it is read is a fault (TRUNCATED).
 
-    It is a context manager, and closes a file that it opened.
+    An error of the source doesn't end a loop: BlockingIOError if it has no bytes yet, or its own. Ask
+    for the next packet again, and none is lost. CaptureError and CompileError end the loop, and close
+    a file that the capture opened. Another loop opens it again, and raises OSError if it is gone or
+    was replaced or changed.
+
+    It is a context manager, and closes a file that it opened. Threads may share a capture of a path
+    or of bytes, each with a loop of its own; one of an open file or a pipe is for one thread.
     """
 
     def __init__(self, source: Source) -> None:
         """Raises OSError if the file can't be opened."""
-        self._file: Any = None
-        self._bytes: Optional[bytes] = None
-        # Which file it is, if it can be read from any place.
-        self._identity: Optional[Tuple[int, int]] = None
-        # The packets before a known fault are given, and no error.
-        self._ends_at_fault = False
-        self._source = source
+        self._file: Union[File, Stream, None] = None
+        self._bytes = b""
+        # Where it ends, if that isn't the end of the file or the bytes.
+        self._limit: Optional[int] = None
+        self._source: Any = source
         if isinstance(source, (str, os.PathLike)):
-            self._file = open(source, "rb", buffering=0)
-            status = os.fstat(self._file.fileno())
-            if stat.S_ISREG(status.st_mode):
-                self._identity = status.st_dev, status.st_ino
-                _open.add(self)
+            self._file = opened(source)
         elif hasattr(source, "read"):
-            self._file = source
+            self._file = Stream(source, False)
         else:
-            self._bytes = native.bytes_of(source, "a source that is neither a path nor a file")
+            self._bytes = native.bytes_of(source, "source", "a path, a binary file or bytes")
 
     def close(self) -> None:
         """Closes a file that it opened; no loop goes on."""
-        _open.discard(self)
-        if self._file is not None and self._file is not self._source:
+        if self._file is not None:
             self._file.close()
 
     __del__ = close
@@ -116,133 +111,218 @@ class Capture:
         self.close()
 
     def __repr__(self) -> str:
-        source = f"{len(self._bytes)} bytes" if self._bytes is not None else repr(self._source)
+        source = f"{len(self._bytes)} bytes" if self._file is None else repr(self._source)
         return f"<Capture of {source}>"
 
     def __reduce__(self) -> Tuple[Any, ...]:
-        return _again, (self._source, self._ends_at_fault)
+        if isinstance(self._file, Stream):
+            return Capture, (self._source,)
+        where, seen, limit = self._known()
+        return _again, (where if seen else where[:limit], seen, limit)
 
-    def __iter__(self) -> Iterator[Packet]:
+    def __iter__(self) -> PacketIterator:
         return self.matching(None)
 
-    def matching(self, expression: Union[str, Expression, None]) -> Iterator[Packet]:
+    def matching(self, expression: Union[str, Expression, None]) -> PacketIterator:
         """The packets that match; CompileError if one has a link type that isn't filtered."""
         if isinstance(expression, str):
             expression = Expression(expression)
-        return itertools.chain.from_iterable(self._batches(expression))
+        packets: Any = PacketIterator.from_iterable(self._batches(expression))
+        return packets  # type: ignore[no-any-return]
 
-    def _fill(self, view: memoryview, position: int) -> int:
-        """Reads on from a position, which a stream is at."""
-        file, kind = self._file, type(self._file)
-        if self._identity:
-            return os.preadv(file.fileno(), [view], position)
-        if hasattr(kind, "readinto"):
-            # The one of a buffered file that doesn't wait for more than there is.
-            read: Any = getattr(file, "readinto1", file.readinto)
-            return read(view) or 0
-        data = file.read(len(view))
-        view[: len(data)] = data
-        return len(data)
-
-    def _is_shorter(self, position: int) -> bool:
-        """Whether the file was longer when it was read up to a position."""
-        return bool(self._identity) and os.fstat(self._file.fileno()).st_size < position
-
-    def _fault(self, fault: int, offset: int) -> CaptureError:
-        is_stream = self._bytes is None and not self._identity
-        return CaptureError(fault, offset, None if is_stream else _again(self._source, True))
+    def _known(self) -> Tuple[Union[str, bytes], Optional[Seen], Optional[int]]:
+        """What it is made again of."""
+        if isinstance(self._file, File):
+            return self._file.path, self._file.seen(), self._limit
+        return self._bytes, None, self._limit
 
     def _batches(self, expression: Optional[Expression]) -> Iterator[Iterator[Packet]]:
-        memory = self._bytes
-        is_whole = memory is not None
-        buffer = c.create_string_buffer(0 if is_whole else native.MOST_UNIT + _PIECE)
-        loop = _Loop(expression, buffer if memory is None else memory)
-        size, base = len(memory or b""), 0
-        while True:
-            found = loop.read(size)
-            rest = size - loop.reader.offset
-            if not found:
-                yield loop.packets()
-            elif not is_whole and _asks_for_more(found, rest):
-                base += loop.reader.offset
-                c.memmove(buffer, c.byref(buffer, loop.reader.offset), rest)
-                loop.reader.offset = 0
-                count = self._fill(memoryview(buffer).cast("B")[rest : rest + _PIECE], base + rest)
-                size, is_whole = rest + count, not count
-                if is_whole and self._is_shorter(base + rest) and not self._ends_at_fault:
-                    raise self._fault(Check.TRUNCATED, base)
-            elif found == _END or self._ends_at_fault:
-                return
-            else:
-                raise self._fault(found, base + loop.reader.offset)
+        """The packets, and what reads more bytes before them.
+
+        An error is raised here, when the buffer of the loop is gone and its file closed, since one that
+        is kept keeps what its traceback names.
+        """
+        ending = yield from self._read(expression)
+        if ending is None:
+            return
+        try:
+            raise self._fault(*ending) if isinstance(ending, tuple) else ending
+        finally:
+            del ending
+
+    def _fault(self, fault: int, offset: int) -> CaptureError:
+        if isinstance(self._file, Stream):
+            return CaptureError(fault, offset, None)
+        where, seen, _ = self._known()
+        return CaptureError(fault, offset, _again(where, seen, offset))
+
+    def _read(
+        self, expression: Optional[Expression]
+    ) -> Generator[Iterator[Packet], None, _Ending]:
+        """The same, and what ended the loop."""
+        file, has_failed = self._file, True
+        loop = _Loop(file, self._bytes, self._limit, expression)
+        if file is not None:
+            file.begin()
+        try:
+            while self._limit != 0:
+                found = loop.read()
+                if found == _PACKETS:
+                    yield loop.packets()
+                elif loop.needs_more(found):
+                    # This calls it until it returns, whatever it raised before.
+                    yield iter(loop.fill, None)
+                elif found == _END:
+                    break
+                else:
+                    return found, loop.offset
+                if loop.ending is not None:
+                    return loop.ending
+            has_failed = False
+            return None
+        except GeneratorExit:
+            has_failed = False
+            raise
+        finally:
+            if file is not None:
+                file.end(has_failed)
 
 
 class _Loop:
-    """The packets that are read from a buffer, many by one call."""
+    """The packets that are read from a buffer, many by one call, and what fills it."""
 
-    def __init__(self, expression: Optional[Expression], buffer: Any) -> None:
-        self._expression, self._buffer, self._size = expression, buffer, 0
-        # The link type that the last packet had: that of the program.
-        self._link_type = 1
-        self.reader, self._table = native.Reader(), (native.Interface * native.MOST_INTERFACES)()
+    def __init__(
+        self, file: Union[File, Stream, None], memory: bytes, limit: Optional[int],
+        expression: Optional[Expression],
+    ) -> None:  # fmt: skip
+        self._file, self._limit, self._expression = file, limit, expression
+        self._buffer: Any = memory
+        # How many bytes it has, where in the capture they begin, and whether they are the last ones.
+        self._size, self._base, self._is_whole = len(memory), 0, file is None
+        if file is not None:
+            self._buffer = c.create_string_buffer(native.MOST_UNIT + _PIECE)
+        elif limit is not None:
+            self._size = limit
+        # What ends the loop after the packets that were found last.
+        self.ending: _Ending = None
+        # The link type of the last packet, and that of the program which was run.
+        self._link_type, self._judged = 1, -1
+        self._programs: Dict[int, Union[Filter, CompileError]] = {}
+        self._reader, self._table = native.Reader(), (native.Interface * native.MOST_INTERFACES)()
         self._batch, self._count = (native.BatchPacket * _BATCH)(), c.c_size_t()
+        self._turn = threading.Lock()
 
-    def read(self, size: int) -> int:
-        """What the call for the next packets returns, given how many bytes the buffer has."""
-        insns, count = None, 0
+    @property
+    def offset(self) -> int:
+        """That of the next unit in the capture."""
+        return self._base + int(self._reader.offset)
+
+    def read(self) -> int:
+        """What the call for the next packets returns."""
+        insns, count, self._judged = None, 0, -1
         if self._expression is not None:
-            if self._count:
-                self._link_type = self._batch[self._count.value - 1].packet.link_type
-            program = self._expression.filter(self._link_type)
-            insns, count = program._insns, program._count
-        self._size = size
+            program = self._program(self._link_type)
+            # Without one all packets are read; none of this link type may come.
+            if isinstance(program, Filter):
+                insns, count, self._judged = program._insns, program._count, self._link_type
         found: int = native.batch_next(
-            c.byref(self.reader), self._table, self._buffer, size, insns, count, self._link_type,
-            self._batch, _BATCH, c.byref(self._count),
+            c.byref(self._reader), self._table, self._buffer, self._size, insns, count,
+            self._link_type, self._batch, _BATCH, c.byref(self._count),
         )  # fmt: skip
+        if found == _PACKETS:
+            self._link_type = self._batch[self._count.value - 1].packet.link_type
         return found
+
+    def needs_more(self, found: int) -> bool:
+        """Whether a result may be another one if more bytes come, as they may."""
+        if self._is_whole:
+            return False
+        rest = self._size - self._reader.offset
+        return found in (_END, Check.TRUNCATED) or (found == Check.NOT_A_CAPTURE_FILE and rest < 4)
+
+    def fill(self) -> None:
+        """Reads on once. If the source raises an error, nothing is changed but the buffer's begin."""
+        if not self._turn.acquire(blocking=False):
+            raise ValueError("another thread reads on")
+        try:
+            self._fill()
+        finally:
+            self._turn.release()
+
+    def _fill(self) -> None:
+        file, done, limit = self._file, self._reader.offset, self._limit
+        assert file is not None
+        rest = self._size - done
+        c.memmove(self._buffer, c.byref(self._buffer, done), rest)
+        self._base, self._size, self._reader.offset = self._base + done, rest, 0
+        position = self._base + rest
+        room = _PIECE if limit is None else min(_PIECE, limit - position)
+        view = memoryview(self._buffer).cast("B")[rest : rest + room]
+        count = file.read(view, position) if room else 0
+        self._size, self._is_whole = rest + count, not count
+        if self._is_whole and isinstance(file, File):
+            if room and limit is not None:
+                raise file.changed()
+            if file.is_shorter(position):
+                self.ending = Check.TRUNCATED, self._base
 
     def packets(self) -> Iterator[Packet]:
         """The packets of the last call."""
-        expression, judged, buffer = self._expression, self._link_type, self._buffer
+        expression, judged, buffer = self._expression, self._judged, self._buffer
         names, make = {0: self._name(0)}, tuple.__new__
         batch = memoryview(self._batch).cast("B")[: self._count.value * _FIELDS.size]
         fields = _FIELDS.iter_unpack(batch)
         for time, at, start, length, original, options, number, snap, link in fields:
             data = buffer[at : at + length]
             if expression is not None and link != judged:
-                if not expression.filter(link).matches(data, original):
+                program = self._program(link)
+                if isinstance(program, CompileError):
+                    self.ending = program
+                    return
+                if not program.matches(data, original):
                     continue
             if number not in names:
                 names[number] = self._name(number)
             comment = self._comment(start, options) if options else b""
             yield make(Packet, (time, link, data, original, comment, names[number], snap))
 
+    def _program(self, link_type: int) -> Union[Filter, CompileError]:
+        """The program for packets of a link type, or why there is none."""
+        program = self._programs.get(link_type)
+        if program is None:
+            assert self._expression is not None
+            try:
+                program = self._expression.filter(link_type)
+            except CompileError as error:
+                program = error.with_traceback(None)
+            self._programs[link_type] = program
+        return program
+
     def _name(self, number: int) -> bytes:
-        if number >= self.reader.interfaces:
+        if number >= self._reader.interfaces:
             return b""
         interface = self._table[number]
         return bytes(interface.name[: interface.name_length])
 
     def _comment(self, start: int, length: int) -> bytes:
         info = c.byref(native.PacketInfo(options_at=start, options_length=length))
-        text, reader = c.create_string_buffer(length), c.byref(self.reader)
+        text, reader = c.create_string_buffer(length), c.byref(self._reader)
         count = native.comment(reader, self._buffer, self._size, info, text, length)
         return text.raw[:count]
 
 
-def _again(source: Source, ends_at_fault: bool) -> Capture:
-    """A capture as it was made."""
-    capture = Capture(source)
-    capture._ends_at_fault = ends_at_fault
+def _again(where: Union[str, bytes], seen: Optional[Seen], limit: Optional[int]) -> Capture:
+    """A capture of bytes or a file that was read, up to a limit; its file isn't opened yet."""
+    capture = Capture.__new__(Capture)
+    capture._source, capture._limit = where, limit
+    capture._bytes = where if isinstance(where, bytes) else b""
+    capture._file = None
+    if isinstance(where, str):
+        assert seen is not None
+        capture._file = File(where, None, seen)
     return capture
 
 
-def _asks_for_more(found: int, rest: int) -> bool:
-    """Whether a result may be another one if more bytes come."""
-    return found in (_END, Check.TRUNCATED) or (found == Check.NOT_A_CAPTURE_FILE and rest < 4)
-
-
-def packets(source: Source, expression: Union[str, Expression, None] = None) -> Iterator[Packet]:
+def packets(source: Source, expression: Union[str, Expression, None] = None) -> PacketIterator:
     """The packets of a capture, one after another, or those that match an expression; see Capture."""
     return Capture(source).matching(expression)

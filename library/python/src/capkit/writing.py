@@ -1,153 +1,265 @@
 """Captures that are written."""
 from __future__ import annotations
 
+import contextlib
 import ctypes as c
+import errno
+import io
 import os
 import stat
-from typing import IO, Any, Literal, Optional, Union, get_args
+import struct
+import threading
+from typing import Any, Literal, Optional, Protocol, Union, get_args
 
 from . import native
 from .errors import Check, WriteError
-from .reading import Packet, Path, is_being_read
-
+from .reading import Packet
+from .sources import Path, descriptor_of, is_being_read
 
 Format = Literal["pcapng", "pcap", "nsecpcap"]
 
 _ETHERNET = 1
-_WRITTEN, _NO_ROOM_IN_BUFFER, _UNIT_BEFORE = 0, 225, 227
+_NO_ROOM_IN_BUFFER = 225
+# The most interfaces that are written, and the most bytes of the name of one.
+_MOST_INTERFACES, _MOST_OF_A_NAME = 4096, 255
+# How much an output is given at once of what it didn't take.
+_PIECE = 1 << 16
+# The numbers of a packet, as native.BatchWriter begins with them.
+_put_numbers, _batch_put = struct.Struct("@QNNNIIH").pack_into, native.batch_put
+
+
+class Writable(Protocol):
+    """A binary file, or whatever else has its `write`."""
+
+    def write(self, data: bytes, /) -> Optional[int]:
+        """Takes bytes, and returns how many it took if it may be a part of them."""
 
 
 class Writer:
     """Writes packets to a capture, the same bytes as capkit(1) writes.
 
     `target` is a path or a binary file. A file at the path is opened, and what it held goes, with
-    the first packet, or by `close` if there is none; WriteError if a Capture reads it. A format is
-    "pcapng", "pcap" (microseconds) or "nsecpcap" (pcap with nanoseconds). A pcap file has packets of
-    one link type, that of the first one.
+    the first packet, or by `close` if there is none. A format is "pcapng", "pcap" (microseconds) or
+    "nsecpcap" (pcap with nanoseconds). A pcap file has packets of one link type, that of the first
+    one. A pcapng file has up to 4,096 interfaces, of which `packets` reads 256.
 
     It is a context manager. A block that ends by an exception before the first packet was written
-    doesn't change the file.
+    doesn't change the file. Threads may share a writer: it writes each packet whole.
     """
 
-    def __init__(self, target: Union[Path, IO[bytes]], format: Format = "pcapng") -> None:
+    def __init__(self, target: Union[Path, Writable], format: Format = "pcapng") -> None:
         formats = get_args(Format)
         if format not in formats:
             raise ValueError(f"format {format!r} is none of {', '.join(formats)}")
-        self._format = format
-        self._nanoseconds = int(format == "nsecpcap")
-        # That of the first packet, once it is written.
-        self._link_type: Optional[int] = None
-        # What is written of a pcapng file.
-        self._state, self._interfaces, self._room = native.WriterState(), (native.Interface * 1)(), 1
-        self._info = native.PacketInfo()
-        self._unit, self._length = c.create_string_buffer(4096), c.c_size_t()
-        self._target = target
-        self._file: Optional[IO[bytes]] = None
-        self._is_closed = False
+        self._target, self._format = target, format
+        self._is_own = isinstance(target, (str, os.PathLike))
+        self._file: Any = None
+        self._put: Any = native.BatchWriter(form=formats.index(format))
+        self._address = c.addressof(self._put)
+        self._units: Any = None
+        self._make_room(4096)
+        self._table: Any = (native.Interface * 1)()
+        self._widen_table(1)
+        # What is left of units of which the output took a part: it goes first.
+        self._rest = memoryview(b"")
+        self._is_begun = self._is_closed = self._is_busy = False
+        # The handler of a signal, and the output, may call in the middle of a call.
+        self._turn = threading.RLock()
 
     def __repr__(self) -> str:
         return f"<Writer of {self._format} to {self._target!r}>"
 
     def write(self, packet: Packet) -> None:
-        """Appends a packet, or raises WriteError and writes nothing of it.
+        """Appends a packet, or raises an error and writes nothing of it.
 
-        A pcap file keeps neither comments nor names of interfaces.
+        WriteError if the format can't hold it, or if a Capture reads the file, by its path or as an
+        open file. BlockingIOError if an output takes no bytes now: write the packet again. A pcap file
+        keeps neither comments nor names of interfaces.
         """
-        if self._is_closed:
-            raise ValueError("write to a closed writer")
-        packet = _checked(packet)
-        units = self._block(packet) if self._format == "pcapng" else self._record(packet)
-        try:
-            self._put(units)
-        except BaseException:
-            # The next packet begins a new section.
-            self._state.has_section = self._state.interfaces = 0
-            raise
-        self._link_type = packet.link_type
+        with self._turn:
+            if self._is_busy:
+                raise _is_in_a_call()
+            self._is_busy = True
+            try:
+                if self._is_closed:
+                    raise ValueError("write to a closed writer")
+                if self._rest:
+                    self._send_rest()
+                length = self._made(packet)
+                try:
+                    # Its own file takes all; another may keep what it is given, and the buffer changes.
+                    if self._is_own and self._is_begun:
+                        self._file.write(self._view[:length])
+                    else:
+                        self._send(self._view[:length].tobytes())
+                except BaseException as error:
+                    self._unput(error)
+                    raise
+            finally:
+                self._is_busy = False
 
     def close(self) -> None:
-        """Writes what is left, and closes a file that the writer opened."""
-        if not self._is_closed:
-            self._put(self._header(_ETHERNET) if self._link_type is None else b"")
-            self._end()
+        """Writes what is left, and closes a file that the writer opened.
+
+        BlockingIOError if an output takes no bytes now: close it again.
+        """
+        self._close(True)
 
     def __enter__(self) -> Writer:
         return self
 
     def __exit__(self, kind: object, *error: object) -> None:
-        if kind is None:
-            self.close()
-        else:
-            self._end()
+        self._close(kind is None)
 
-    def _put(self, units: bytes) -> None:
-        """Writes units to the file, which is opened if it wasn't yet."""
+    def _close(self, with_header: bool) -> None:
+        with self._turn:
+            if self._is_busy:
+                raise _is_in_a_call()
+            self._is_busy = True
+            try:
+                if self._is_closed:
+                    return
+                self._send_rest()
+                if with_header and not self._is_begun:
+                    self._send(self._header())
+                    self._send_rest()
+                self._end()
+            finally:
+                self._is_busy = False
+
+    def _made(self, packet: Packet) -> int:
+        """Puts a packet's units into the buffer; how many bytes they have."""
+        if type(packet) is not Packet:
+            packet = _checked(packet)
+        time, link_type, data, original, comment, name, snap = packet
+        if not type(data) is type(comment) is type(name) is bytes:
+            return self._made(_checked(packet))
+        put = self._put
+        try:
+            _put_numbers(put, 0, time, len(data), len(comment), len(name), original, snap, link_type)
+        except struct.error:
+            _checked(packet)
+            raise
+        written = _batch_put(self._address, data, comment, name)
+        if written:
+            self._mend(written, packet)
+            return self._made(packet)
+        length: int = put.length
+        return length
+
+    def _mend(self, written: int, packet: Packet) -> None:
+        """Makes the room that a call had not; WriteError if it refused the packet."""
+        put = self._put
+        if written == _NO_ROOM_IN_BUFFER:
+            self._make_room(put.length)
+        elif written == Check.TOO_MANY_OUTPUT_INTERFACES and put.room < _MOST_INTERFACES:
+            self._widen_table(min(4 * put.room, _MOST_INTERFACES))
+        else:
+            reason = native.text_of(written)
+            if written == Check.BAD_OPTION:
+                is_name = len(packet.interface_name) > _MOST_OF_A_NAME
+                reason += f": the {'interface_name' if is_name else 'comment'} is too long"
+            raise WriteError(reason)
+
+    def _make_room(self, size: int) -> None:
+        self._units = c.create_string_buffer(size)
+        self._view = memoryview(self._units).cast("B")
+        self._put.units, self._put.size = c.addressof(self._units), size
+
+    def _widen_table(self, room: int) -> None:
+        c.resize(self._table, room * c.sizeof(native.Interface))
+        self._put.table, self._put.room = c.addressof(self._table), room
+
+    def _header(self) -> bytes:
+        """What a capture without packets is."""
+        length = c.c_size_t()
+        buffer = self._units, len(self._units), c.byref(length)
+        if self._format == "pcapng":
+            native.write_section(*buffer)
+        else:
+            native.write_file_header(self._format == "nsecpcap", _ETHERNET, *buffer)
+        return self._view[: length.value].tobytes()
+
+    def _unput(self, error: BaseException) -> None:
+        """Goes back to before the units in the buffer, which the output didn't take."""
+        self._put.state = self._put.before
+        if self._format == "pcapng" and not isinstance(error, (BlockingIOError, WriteError)):
+            # How much of them it took isn't known, so the next packet begins a new section.
+            self._put.state = native.WriterState()
+
+    def _send(self, units: bytes) -> None:
+        """Gives the output units, whole or not at all: what it doesn't take is kept."""
         if self._file is None:
-            target = self._target
-            is_path = isinstance(target, (str, os.PathLike))
-            self._file = _opened(target) if is_path else target  # type: ignore[arg-type, assignment]
-        assert self._file is not None
-        self._file.write(units)
+            self._file = self._opened()
+        taken = self._taken(units)
+        if not taken:
+            raise _blocked()
+        self._is_begun = True
+        if taken != len(units):
+            self._rest = memoryview(units)[taken:]
+            # What fails now fails again in the next call, which writes nothing else before.
+            with contextlib.suppress(OSError):
+                self._send_rest()
+
+    def _send_rest(self) -> None:
+        while self._rest:
+            taken = self._taken(bytes(self._rest[:_PIECE]))
+            if not taken:
+                raise _blocked()
+            self._rest = self._rest[taken:]
+
+    def _taken(self, units: bytes) -> int:
+        """How many bytes the output takes of some."""
+        try:
+            taken = self._file.write(units)
+        except BlockingIOError as error:
+            taken = getattr(error, "characters_written", 0)
+        if taken is None:
+            # What a raw file says if it is full, and what some other outputs always say.
+            taken = 0 if isinstance(self._file, io.RawIOBase) else len(units)
+        if not 0 <= taken <= len(units):
+            raise ValueError(f"the output took {taken} of {len(units)} bytes")
+        return int(taken)
+
+    def _opened(self) -> Any:
+        """The file, if no capture reads it; one at a path is empty now."""
+        target = self._target
+        if isinstance(target, (str, os.PathLike)):
+            return _opened(target)
+        descriptor = descriptor_of(target)
+        if descriptor is not None and is_being_read(descriptor):
+            raise _is_read(target)
+        return target
 
     def _end(self) -> None:
-        self._is_closed = True
-        if self._file is None:
-            return
-        if self._file is self._target:
-            self._file.flush()
-        else:
+        if self._is_own and self._file is not None:
+            self._is_closed = True
             self._file.close()
-
-    def _made(self, call: Any, *arguments: Any) -> bytes:
-        """The units that a call makes, one after another."""
-        units = b""
-        while True:
-            written = call(*arguments, self._unit, len(self._unit), c.byref(self._length))
-            if written == _WRITTEN:
-                return units + c.string_at(self._unit, self._length.value)
-            if written == _UNIT_BEFORE:
-                units += c.string_at(self._unit, self._length.value)
-            elif written == _NO_ROOM_IN_BUFFER:
-                self._unit = c.create_string_buffer(self._length.value)
-            else:
-                raise WriteError(native.text_of(written))
-
-    def _header(self, link_type: int) -> bytes:
-        if self._format == "pcapng":
-            return self._made(native.write_section)
-        return self._made(native.write_file_header, self._nanoseconds, link_type)
-
-    def _record(self, packet: Packet) -> bytes:
-        """A packet's record, after the header of the file if it is the first one."""
-        if self._link_type not in (None, packet.link_type):
-            raise WriteError(native.text_of(Check.LINK_TYPES_DIFFER))
-        time, data, original = packet.time, packet.data, packet.original_length
-        call = native.write_record
-        record = self._made(call, self._nanoseconds, time, original, data, len(data))
-        return self._header(packet.link_type) + record if self._link_type is None else record
-
-    def _block(self, packet: Packet) -> bytes:
-        """A packet's block, after the units that come before it."""
-        name, data, comment = packet.interface_name, packet.data, packet.comment
-        info, room = self._info, self._state.interfaces + 1
-        info.time, info.original = packet.time, packet.original_length
-        info.snap, info.link_type = packet.snap_length, packet.link_type
-        if room > self._room:
-            self._room = room
-            c.resize(self._interfaces, room * c.sizeof(native.Interface))
-        return self._made(
-            native.writer_put, c.byref(self._state), self._interfaces, room, c.byref(info), name,
-            len(name), data, len(data), comment, len(comment),
-        )  # fmt: skip
+        elif hasattr(self._file, "flush"):
+            self._file.flush()
+        self._is_closed = True
 
 
-def _opened(target: Path) -> IO[bytes]:
+def _is_in_a_call() -> RuntimeError:
+    return RuntimeError("a writer is called in the middle of its own call")
+
+
+def _blocked() -> BlockingIOError:
+    return BlockingIOError(errno.EAGAIN, "the output takes no bytes now")
+
+
+def _is_read(target: Any) -> WriteError:
+    name = os.fspath(target) if isinstance(target, (str, os.PathLike)) else repr(target)
+    return WriteError(f"{name} is a capture that is being read")
+
+
+def _opened(target: Path) -> Any:
     """A file that is empty now; WriteError if a capture reads it."""
     descriptor = os.open(target, os.O_WRONLY | os.O_CREAT | os.O_CLOEXEC, 0o666)
     file = open(descriptor, "wb")
     if is_being_read(descriptor):
         file.close()
-        raise WriteError(f"{os.fspath(target)} is a capture that is being read")
+        raise _is_read(target)
     if stat.S_ISREG(os.fstat(descriptor).st_mode):
         file.truncate(0)
     return file
@@ -156,12 +268,12 @@ def _opened(target: Path) -> IO[bytes]:
 def _checked(packet: Packet) -> Packet:
     """The packet; WriteError if it has numbers that no capture has, TypeError if something else."""
     try:
-        native.fits(packet.time, 64, "time")
-        native.fits(packet.link_type, 16, "link type")
-        native.fits(packet.original_length, 32, "original length")
-        native.fits(packet.snap_length, 32, "snapshot length")
+        time = native.fits(packet.time, 64, "time")
+        link_type = native.fits(packet.link_type, 16, "link type")
+        original = native.fits(packet.original_length, 32, "original length")
+        snap = native.fits(packet.snap_length, 32, "snapshot length")
     except ValueError as error:
         raise WriteError(str(error)) from None
     data, name = native.bytes_of(packet.data, "data"), packet.interface_name
     name, comment = native.bytes_of(name, "interface_name"), native.bytes_of(packet.comment, "comment")
-    return packet._replace(data=data, interface_name=name, comment=comment)
+    return Packet(time, link_type, data, original, bytes(comment), name, snap)

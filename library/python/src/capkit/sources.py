@@ -1,0 +1,269 @@
+"""Where the bytes of captures come from, and which files are being read."""
+from __future__ import annotations
+
+import binascii
+import errno
+import os
+import socket
+import stat
+import threading
+import weakref
+from typing import Any, NamedTuple, Optional, Protocol, Tuple, Union
+
+from .filters import Bytes
+
+Path = Union[str, "os.PathLike[str]"]
+Identity = Tuple[int, int]
+
+# How many bytes at each end of a file show that it only grew.
+_END_SIZE = 4096
+
+
+class Readable(Protocol):
+    """A binary file, or whatever else has its `read`."""
+
+    def read(self, size: int, /) -> Optional[Bytes]:
+        """At most so many bytes; none at the end, and None if none have come yet."""
+
+
+# Those that may be open, each by its id.
+_sources: weakref.WeakValueDictionary[int, Any] = weakref.WeakValueDictionary()
+
+
+def is_being_read(descriptor: int) -> bool:
+    """Whether a file is one that a capture reads."""
+    identity = _identity_of(os.fstat(descriptor))
+    if identity is None:
+        return False
+    sources = [reference() for reference in _sources.valuerefs()]
+    return any(it is not None and it.identity == identity for it in sources)
+
+
+def descriptor_of(file: Any) -> Optional[int]:
+    """That of a file which is open and has one."""
+    try:
+        descriptor = file.fileno()
+        os.fstat(descriptor)
+    except (AttributeError, OSError, OverflowError, TypeError, ValueError):
+        return None
+    return int(descriptor)
+
+
+def _identity_of(status: os.stat_result) -> Optional[Identity]:
+    """Which file it is, if what is written to it is read from it."""
+    is_kept = stat.S_ISREG(status.st_mode) or stat.S_ISBLK(status.st_mode)
+    return (status.st_dev, status.st_ino) if is_kept else None
+
+
+class Seen(NamedTuple):
+    """A file as it was when it was read."""
+
+    device: int
+    inode: int
+    size: int
+    changed: int
+    """Nanoseconds since 1970, of its last change."""
+    ends: Optional[int]
+    """A checksum of its first and last bytes."""
+
+    @classmethod
+    def of(cls, descriptor: int, with_ends: bool) -> Seen:
+        now = os.fstat(descriptor)
+        ends = _checksum(descriptor, now.st_size) if with_ends else None
+        return cls(now.st_dev, now.st_ino, now.st_size, now.st_mtime_ns, ends)
+
+    def is_still(self, descriptor: int) -> bool:
+        """Whether it is the same file, which may only have grown."""
+        now = os.fstat(descriptor)
+        if (now.st_dev, now.st_ino) != self[:2]:
+            return False
+        if now.st_size <= self.size:
+            return (now.st_size, now.st_mtime_ns) == self[2:4]
+        return self.ends in (None, _checksum(descriptor, self.size))
+
+
+def _checksum(descriptor: int, size: int) -> int:
+    count = min(size, _END_SIZE)
+    first = os.pread(descriptor, count, 0)
+    return binascii.crc32(os.pread(descriptor, count, size - count), binascii.crc32(first))
+
+
+class File:
+    """A regular file at a path, for loops that each read it from its start.
+
+    It is open until it is closed, or an error ends the last loop over it, so that errors which are
+    kept keep no file open; one that was seen earlier is open in loops alone. The next loop opens it
+    again if it is still the same, else it raises OSError (ESTALE). Threads may share it.
+    """
+
+    def __init__(self, path: str, file: Any, seen: Seen) -> None:
+        self.path, self._file, self._seen = path, file, seen
+        self._loops, self._is_closed = 0, False
+        self._is_for_loops = self._is_released = file is None
+        # A signal's handler may close it in the middle of a call.
+        self._lock = threading.RLock()
+        _sources[id(self)] = self
+
+    @property
+    def identity(self) -> Optional[Identity]:
+        """Which file it is, while it is open."""
+        return None if self._file is None else self._seen[:2]
+
+    def begin(self) -> None:
+        """A loop over it begins."""
+        with self._lock:
+            self._loops += 1
+
+    def end(self, has_failed: bool) -> None:
+        """A loop over it has ended, by an error or not."""
+        with self._lock:
+            self._loops -= 1
+            self._is_released |= has_failed
+            if self._is_released and not self._loops:
+                self._release()
+
+    def close(self) -> None:
+        with self._lock:
+            self._is_closed = True
+            self._release()
+
+    def seen(self) -> Seen:
+        """The file as it is, or as it was when it was open last."""
+        with self._lock:
+            self._look()
+            return self._seen
+
+    def read(self, view: memoryview, position: int) -> int:
+        with self._lock:
+            descriptor = self._descriptor()
+            try:
+                return os.preadv(descriptor, [view], position)
+            except OSError:
+                if self._loops == 1:
+                    self._release()
+                raise
+
+    def is_shorter(self, position: int) -> bool:
+        """Whether the file was longer when it was read up to a position."""
+        with self._lock:
+            return os.fstat(self._descriptor()).st_size < position
+
+    def changed(self) -> OSError:
+        why = "it was replaced or changed after it was read"
+        return OSError(errno.ESTALE, why, self.path)
+
+    def _descriptor(self) -> int:
+        """That of the file, which is opened again if it isn't open."""
+        if self._is_closed:
+            raise ValueError("the capture is closed")
+        if self._file is None:
+            file = open(self.path, "rb", 0, opener=_open_at_once)
+            if not self._seen.is_still(file.fileno()):
+                file.close()
+                raise self.changed()
+            self._file = file
+        descriptor: int = self._file.fileno()
+        return descriptor
+
+    def _look(self) -> None:
+        """Sees the file again, unless what was read of it is there no more."""
+        if self._file is not None and self._seen.is_still(self._file.fileno()):
+            self._seen = Seen.of(self._file.fileno(), with_ends=True)
+
+    def _release(self) -> None:
+        file = self._file
+        if file is not None:
+            try:
+                if not self._is_closed:
+                    self._look()
+            finally:
+                self._file, self._is_released = None, self._is_for_loops
+                file.close()
+
+
+def _open_at_once(path: str, flags: int) -> int:
+    """Opens a file that may be a pipe by now, without a wait for its writer."""
+    return os.open(path, flags | os.O_NONBLOCK)
+
+
+class Stream:
+    """What is read once: an open file, or a pipe at a path."""
+
+    def __init__(self, file: Any, is_own: bool) -> None:
+        self._file, self._is_own, self._is_closed = file, is_own, False
+        descriptor = descriptor_of(file)
+        self._identity = None if descriptor is None else _identity_of(os.fstat(descriptor))
+        if self._identity:
+            _sources[id(self)] = self
+
+    @property
+    def identity(self) -> Optional[Identity]:
+        """Which file it is, while it is read."""
+        is_closed = self._is_closed or getattr(self._file, "closed", False)
+        return None if is_closed else self._identity
+
+    def begin(self) -> None:
+        pass
+
+    def end(self, has_failed: bool) -> None:
+        if has_failed and self._is_own:
+            self.close()
+
+    def close(self) -> None:
+        self._is_closed = True
+        if self._is_own:
+            self._file.close()
+
+    def is_shorter(self, position: int) -> bool:
+        return False
+
+    def read(self, view: memoryview, position: int) -> int:
+        """Reads once, as much as there is; BlockingIOError if nothing has come yet."""
+        if self._is_closed:
+            raise ValueError("the capture is closed")
+        file, kind = self._file, type(self._file)
+        if hasattr(kind, "readinto"):
+            # The one of a buffered file that doesn't wait for more than there is.
+            count = _in_time(file, getattr(file, "readinto1", file.readinto), view)
+        else:
+            data = _in_time(file, file.read, len(view))
+            if isinstance(data, str):
+                raise TypeError("a source that is an open file is a binary one")
+            count = None if data is None else len(data)
+            if count and count <= len(view):
+                view[:count] = data
+        if count is None:
+            raise BlockingIOError(errno.EAGAIN, "no bytes have come yet")
+        if not 0 <= count <= len(view):
+            raise ValueError(f"a source gave {count} bytes where {len(view)} were asked for")
+        return int(count)
+
+
+def _in_time(file: Any, read: Any, argument: Any) -> Any:
+    """What a file gives. One of a socket can be read again after its timeout."""
+    try:
+        return read(argument)
+    except (TimeoutError, socket.timeout):
+        # It refuses that, since a reader that joins pieces has lost those before. Nothing was read here.
+        raw = getattr(file, "raw", file)
+        if isinstance(raw, socket.SocketIO) and hasattr(raw, "_timeout_occurred"):
+            raw._timeout_occurred = False
+        raise
+    except StopIteration as stop:
+        raise RuntimeError("a source raised StopIteration") from stop
+
+
+def opened(path: Path) -> Union[File, Stream]:
+    """What is at a path; raises OSError if it can't be opened."""
+    file = open(path, "rb", buffering=0)
+    if stat.S_ISREG(os.fstat(file.fileno()).st_mode):
+        return File(_absolute(os.fsdecode(path)), file, Seen.of(file.fileno(), with_ends=False))
+    return Stream(file, True)
+
+
+def _absolute(path: str) -> str:
+    """A path that means the same in any folder. Its `..` stay, since a link may be before them."""
+    try:
+        return os.path.join(os.getcwd(), path)
+    except FileNotFoundError:
+        return path
