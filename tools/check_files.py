@@ -6,13 +6,14 @@ usage: check_files.py [--capkit PROGRAM]
 Each case has a folder of its own with a copy of samples/. It is a shell line, the status that it must end with, what
 standard error must hold, and files with what they must hold: bytes, the name of a sample that is unchanged, or None where
 there must be no such file. A case on a terminal is a line over an input that takes three seconds, the terminal's name, and
-whether progress must be shown there.
+whether progress must be shown there. Each mistake is tried with each output, which must be as it was.
 """
 import argparse
 import fcntl
 import os
 import pathlib
 import pty
+import resource
 import subprocess
 import sys
 import tempfile
@@ -29,16 +30,24 @@ TWICE = "capkit: usage: name used twice\n"
 CLOSED = ["", "<&-", ">&-", "2>&-", "<&- >&-", "<&- 2>&-", ">&- 2>&-", "<&- >&- 2>&-"]
 
 CASES = [
-    # What an output held before goes, unless an expression or a listing is refused.
+    # What an output held before stays until something is written, and goes then.
     ("printf keep > out; capkit print -w out day.pcap 'prot 80'", 2,
      "capkit: expression: unknown word at 1\n", {"out": b"keep"}),
-    ("capkit print -w out day.pcap 'prot 80'", 2, "capkit: expression: unknown word at 1\n", {"out": b""}),
+    ("capkit print -w out day.pcap 'prot 80'", 2, "capkit: expression: unknown word at 1\n", {"out": None}),
     ("printf keep > out; echo text > code; capkit print -w out --code code day.pcap", 2,
      "capkit: code: not a listing at line 1\n", {"out": b"keep"}),
     ("printf keep > out; capkit edit nowhere out", 1, "capkit: nowhere: cannot open\n", {"out": b"keep"}),
     ("capkit edit nowhere out", 1, "capkit: nowhere: cannot open\n", {"out": None}),
     ("printf keep > out; echo text > in; capkit edit in out", 1,
-     "capkit: in: offset 0: not a capture file\n", {"out": b""}),
+     "capkit: in: offset 0: not a capture file\n", {"out": b"keep"}),
+    ("printf keep > out; capkit edit -F pcap damaged.pcap whole 2> message; capkit edit -F pcap damaged.pcap out; s=$?; "
+     "cmp whole out && exit $s", 1, "capkit: damaged.pcap: offset 2631: too long\n", {}),
+    ("printf keep > out; capkit print -w out --format pcap -c 1 day.pcap 'len = 1'; wc -c < out > size", 0, "", {"size": b"24\n"}),
+    # What others do meanwhile with the file that a run created isn't undone.
+    *[(f"mkfifo in; {{ until test -e out; do sleep 0.01; done; {others}; echo text; }} > in & capkit edit in out; s=$?; wait; "
+       "exit $s", 1, "capkit: in: offset 0: not a capture file\n", files)
+      for others, files in [("rm out; : > out", {"out": b""}), ("rm out", {"out": None}), ("printf more > out", {"out": b"more"}),
+                            ("mv out moved; ln -s moved out", {"moved": None}), ("mv out moved; mkfifo out", {"moved": b""})]],
     ("cat day.pcap day.pcap > out; capkit edit -F pcap day.pcap out", 0, "", {"out": "day.pcap"}),
     ("printf keep > kept; ln -s kept out; capkit edit -F pcap day.pcap out", 0, "", {"kept": "day.pcap"}),
     ("mkfifo pipe; cat pipe > out & capkit edit -F pcap day.pcap pipe; s=$?; wait; exit $s", 0, "", {"out": "day.pcap"}),
@@ -98,6 +107,80 @@ CASES = [
     ("capkit infos day.pcap >&-", 1, "capkit: -: write failed\n", {}),
     ("capkit infos - <&-", 1, "capkit: -: offset 0: read failed\n", {}),
 ]
+
+NOT_A_CAPTURE = (1, "capkit: wrong: offset 0: not a capture file\n")
+TRUNCATED = (1, "capkit: wrong: offset 24: truncated\n")
+INPUT = ["edit wrong OUT", "merge -w OUT wrong day.pcap", "merge -w OUT day.pcap wrong", "merge -a -w OUT wrong day.pcap",
+         "print -w OUT wrong", "print --code listing -w OUT wrong", "print -c 1 -w OUT wrong tcp port 80"]
+
+# What makes the mistake, the status and the message, and the commands that make it.
+MISTAKES = [
+    ("echo text > wrong", *NOT_A_CAPTURE, INPUT),
+    (": > wrong", *NOT_A_CAPTURE, INPUT),
+    ("gzip -c day.pcap > wrong", *NOT_A_CAPTURE, INPUT),
+    ("mkdir wrong", 1, "capkit: wrong: offset 0: read failed\n", INPUT),
+    ("head -c 30 day.pcap > wrong", *TRUNCATED, INPUT),
+    ("ln -s nowhere wrong", 1, "capkit: wrong: cannot open\n", INPUT),
+    ("echo text > wrong", 2, "capkit: code: not a listing at line 1\n", ["print --code wrong -w OUT day.pcap"]),
+    ("ln -s nowhere wrong", 1, "capkit: wrong: cannot open\n", ["print --code wrong -w OUT day.pcap"]),
+    ("exec 0< /dev/null", 1, "capkit: -: offset 0: not a capture file\n", ["edit - OUT", "merge -w OUT -", "print -w OUT -"]),
+    ("exec 0<&-", 1, "capkit: -: offset 0: read failed\n", ["edit - OUT", "merge -w OUT -", "print -w OUT -"]),
+    ("(head -c 20 day.pcap; printf '\\24\\1\\0\\0'; tail -c +25 day.pcap) > wrong", 1,
+     "capkit: wrong: offset 24: link type not filtered\n", ["print -w OUT wrong tcp"]),
+    ("true", 1, "capkit: day.pcap: offset 24: time out of range\n", ["edit -F pcap --later 4294967295 day.pcap OUT"]),
+    ("true", 1, "capkit: damaged.pcap: offset 2631: too long\n",
+     ["edit -A 4000000000 damaged.pcap OUT", "print -w OUT damaged.pcap tcp port 9", "print -w OUT damaged.pcap len = 1"]),
+    ("true", 2, "capkit: expression: unknown word at 1\n", ["print -w OUT day.pcap prot 80"]),
+    ("true", 2, "capkit: usage: bad range\n", ["edit day.pcap OUT 1-x"]),
+]
+
+# The name of an output, what makes it, what shows that it is as it was, and whether it may be refused.
+OUTPUTS = [
+    ("out", "true", "! test -e out", False),
+    ("./-", "true", "! test -e ./-", False),
+    ("out", "printf keep > out", "grep -qx keep out", False),
+    ("out", ": > out", "test -f out && ! test -s out", False),
+    ("out", "printf keep > out; chmod 400 out", "grep -qx keep out", True),
+    ("folder/out", "mkdir folder; chmod 500 folder", "! test -e folder/out", True),
+    ("out", "printf keep > kept; ln -s kept out", "test -L out && grep -qx keep kept", False),
+    ("out", "mkdir folder; ln -s folder/link out; ln -s ../kept folder/link",
+     "test -L out && test -L folder/link && ! test -e kept", False),
+    ("out", "printf keep > kept; ln kept out", "test kept -ef out && grep -qx keep out", False),
+    ("out", "mkfifo out; exec 3<> out", "test -p out && ! read -t 0 -u 3", False),
+    ("/dev/null", "true", "test -c /dev/null", False),
+    ("/dev/stdout", "printf keep > kept; exec 1<> kept", "grep -qx keep kept", False),
+    ("-", "printf keep > kept; exec 1<> kept", "grep -qx keep kept", False),
+    ("/dev/stdout", "exec > kept; rm kept", "! test -e kept", False),
+    ("-", "exec > kept", "! test -s kept", False),
+]
+
+
+def differences_after_mistake(program, make, status, message, command, output):
+    """What differs after a command that makes a mistake was run with an output."""
+    name, make_output, as_it_was, may_be_refused = output
+    command = command.replace("OUT", name)
+    line = f"capkit compile tcp > listing; {make_output}; {make}; capkit {command}; s=$?; {as_it_was} || exit 99; exit $s"
+    for difference in differences(program, line, status, message, {}):
+        if not (may_be_refused and f"{name}: cannot create" in difference):
+            yield f"{line}: {difference}"
+
+
+def differences_without_memory(program):
+    """What differs where memory runs out at any place of a run."""
+    with tempfile.TemporaryDirectory() as folder:
+        out = pathlib.Path(folder) / "out"
+        ends = {}
+        for limit in range(2_000_000, 8_000_000, 4096):
+            run = subprocess.run([program, "edit", SAMPLES / "day.pcap", out], capture_output=True,
+                                 preexec_fn=lambda: resource.setrlimit(resource.RLIMIT_AS, (limit, limit)))
+            if run.returncode == 0:
+                break
+            if run.stderr == b"capkit: no memory\n":
+                ends[limit] = out.exists()
+        yield from [f"no memory with a limit of {limit}: a file is left" for limit, is_left in ends.items() if is_left]
+        if len(ends) < 20:
+            yield f"memory ran out with {len(ends)} limits"
+
 
 SLOW = "(cat day.pcap; sleep 3; tail -c +25 day.pcap) |"
 PROGRESS = b"\r\x1b[K0 MiB read, 0 MiB/s\r\x1b[K"
@@ -162,9 +245,13 @@ def main():
     program = (options.capkit or built_program()).resolve()
     found = [(case[0], text) for case in CASES for text in differences(program, *case)]
     found += [(case[0], text) for case in TERMINAL_CASES for text in differences_on_terminal(program, *case)]
+    mistakes = [(make, status, message, command, output) for make, status, message, commands in MISTAKES
+                for command in commands for output in OUTPUTS]
+    found += [(mistake[3], text) for mistake in mistakes for text in differences_after_mistake(program, *mistake)]
+    found += [("ulimit -v", text) for text in differences_without_memory(program)]
     for line, difference in found:
         print(f"{line}\n    {difference}")
-    print(f"{len(CASES) + len(TERMINAL_CASES)} cases, {len(found)} differences")
+    print(f"{len(CASES) + len(TERMINAL_CASES) + len(mistakes)} cases, {len(found)} differences")
     return 1 if found else 0
 
 

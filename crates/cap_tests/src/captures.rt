@@ -9,6 +9,9 @@ pub const HEADER: &[u8] = b"\xd4\xc3\xb2\xa1\x02\0\x04\0\0\0\0\0\0\0\0\0\0\0\x04
 /// One of version 2.3.
 const OTHER_VERSION: &[u8] = b"\xd4\xc3\xb2\xa1\x02\0\x03\0\0\0\0\0\0\0\0\0\0\0\x04\0\x01\0\0\0";
 
+/// One of link type 276, which isn't filtered.
+const OTHER_LINK: &[u8] = b"\xd4\xc3\xb2\xa1\x02\0\x04\0\0\0\0\0\0\0\0\0\0\0\x04\0\x14\x01\0\0";
+
 /// A little-endian section header of version 1.0.
 const SECTION: &[u8] =
     b"\n\r\r\n\x1c\0\0\0M<+\x1a\x01\0\0\0\xff\xff\xff\xff\xff\xff\xff\xff\x1c\0\0\0";
@@ -46,14 +49,15 @@ fn block_on(interface: u8) -> [u8; 36] {
     block
 }
 
-/// Appends what a word means: `pcap` and `pcap-2.3` for a file header, `section`, `ether` and
-/// `raw` for a section and for interfaces of pcapng, `on-0` and `on-1` for packets of these,
-/// `unknown` for a block, `cut` for the beginning of a record, a number for a record of four bytes
-/// at this second, and `-` for nothing.
+/// Appends what a word means: `pcap`, `pcap-2.3` and `pcap-276` for a file header, `section`,
+/// `ether` and `raw` for a section and for interfaces of pcapng, `on-0` and `on-1` for packets of
+/// these, `unknown` for a block, `cut` for the beginning of a record, a number for a record of four
+/// bytes at this second, and `-` for nothing.
 fn push_part(bytes: &mut Vec<u8>, word: &str) -> Result<(), Fail> {
     match word {
         "pcap" => bytes.extend_from_slice(HEADER)?,
         "pcap-2.3" => bytes.extend_from_slice(OTHER_VERSION)?,
+        "pcap-276" => bytes.extend_from_slice(OTHER_LINK)?,
         "section" => bytes.extend_from_slice(SECTION)?,
         "ether" => bytes.extend_from_slice(ETHERNET)?,
         "raw" => bytes.extend_from_slice(RAW)?,

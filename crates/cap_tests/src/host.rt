@@ -2,6 +2,7 @@
 
 mod folder;
 mod identities;
+mod mistakes;
 mod outputs;
 mod progress;
 mod runs;

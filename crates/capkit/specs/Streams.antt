@@ -8,7 +8,8 @@ abbrev pub is_standard_output : {S : Type 0} → Created S → Bool
 is_standard_output (Created.File output) = false
 is_standard_output (Created.Stream stream) = true
 
--- the output is a file that may still hold what it held before it was opened
+-- the output is a file that may still hold what it held before it was opened; it does until the first
+-- write, and for good if there is none and the status isn't 0
 abbrev pub holds_old_bytes : {S : Type 0} → Created S → Bool
 holds_old_bytes (Created.File output) = not output.is_emptied
 holds_old_bytes (Created.Stream stream) = false

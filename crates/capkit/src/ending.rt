@@ -1,8 +1,10 @@
 //! How a run ends: what is buffered is written, and what became of it is reported.
-ghost use Rattle.std.specs.Prelude.{◌≡◌, ◌<◌, ◌≤◌, IfOk, IfSome, IsOkAnd, IsSome, IsUtf8, List, []};
+ghost use Rattle.std.specs.Prelude.{◌≡◌, ◌≢◌, ◌<◌, ◌≤◌, IfOk, IfSome, IsOkAnd, IsSome, IsUtf8, List, OnOk, []};
+ghost use Rattle.std.specs.Io.Buffered.{writer_buffer, writer_inner};
 ghost use Rattle.std.specs.Result.{result_ok};
 ghost use Rattle.std.specs.Prelude.{◌∷◌, ◌++◌, ℕ, is_some, true, false};
 ghost use Rattle.capkit.specs.Ending.{has_failed, is_broken_pipe, status_after_writes};
+ghost use Rattle.capkit.specs.Streams.{holds_old_bytes};
 
 use crate::FAULT;
 use crate::message::Shown;
@@ -19,7 +21,7 @@ use std::io::{self, BufWriter, ErrorKind, Write};
 pub fn finish<'a, W: Write + Drop>(
     alloc: Global,
     status: u8,
-    target: Target,
+    target: Target<'_>,
     messages: StdOutput<W>,
     output: &'a str,
 ) -> Result<u8, Stop<'a>>
@@ -28,7 +30,7 @@ pub fn finish<'a, W: Write + Drop>(
 
     // The job's message reports its failed write, so it isn't reported here; and it isn't a
     // success.
-    ensures exact { is_some target.cause ≡ true → IsOkAnd result (λ ended. 0 < ended) }
+    ensures exact { is_some target.entry.cause ≡ true → IsOkAnd result (λ ended. 0 < ended) }
 {
     let (mut target, cause) = target.into_inner();
     let flushed = match flush_output(status, &mut target) {
@@ -48,10 +50,19 @@ fn is_broken_pipe(cause: Option<ErrorKind>) -> bool
     matches!(cause, Some(ErrorKind::BrokenPipe))
 }
 
-/// Removes what the output's file held before the run, unless the run was refused, and writes what
-/// is buffered. The error is the system's.
-pub fn flush_output(status: u8, target: &mut BufWriter<Created>) -> io::Result<()> {
-    target.get_mut().empty_unless_refused(status)?;
+/// Removes what the output's file held before the run, unless the run failed and wrote nothing, and
+/// writes what is buffered. The error is the system's.
+pub fn flush_output(status: u8, target: &mut BufWriter<Created<'_>>) -> io::Result<()>
+    ensures failed { status ≢ 0 → writer_buffer target.old ≡ []
+        → holds_old_bytes (writer_inner target.new) ≡ holds_old_bytes (writer_inner target.old) }
+    ensures done { status ≡ 0 → writer_buffer target.old ≡ []
+        → OnOk result (holds_old_bytes (writer_inner target.new) ≡ false) }
+{
+    target.get_mut().empty_if_done(status)?;
+    if target.buffer().is_empty() {
+        // std's flush of a buffer doesn't state that it writes nothing then.
+        return target.get_mut().flush();
+    }
     target.flush()
 }
 

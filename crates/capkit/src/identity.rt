@@ -1,7 +1,8 @@
 //! Files as the system knows them, whatever their names.
 
 use crate::overwrites::{STANDARD_INPUT, STANDARD_OUTPUT};
-use std::fs;
+use std::fs::{self, File, Metadata};
+use std::io;
 use std::os::unix::fs::MetadataExt;
 
 /// Identifies a file, whatever its name: its device, and its inode there.
@@ -19,7 +20,7 @@ pub trait Identify {
     fn identity_of(&self, path: &str) -> Option<Identity>;
 }
 
-/// What a path leads to, through links.
+/// What a path leads to.
 #[derive(Clone, Copy)]
 pub(crate) enum Found {
     /// A plain file, with its size in bytes.
@@ -30,9 +31,9 @@ pub(crate) enum Found {
     Nothing,
 }
 
-/// What the system shows at this path.
-pub(crate) fn look_up(rt: &HostRuntime, path: &str) -> Found {
-    let Ok(metadata) = fs::metadata(rt, path) else {
+/// What the system showed of a path or an open file.
+fn found_by(shown: io::Result<Metadata>) -> Found {
+    let Ok(metadata) = shown else {
         return Found::Nothing;
     };
     if !metadata.is_file() {
@@ -43,6 +44,31 @@ pub(crate) fn look_up(rt: &HostRuntime, path: &str) -> Found {
         inode: metadata.ino(),
     };
     Found::File(identity, metadata.len())
+}
+
+/// What the system shows at this path, through links.
+pub(crate) fn look_up(rt: &HostRuntime, path: &str) -> Found {
+    found_by(fs::metadata(rt, path))
+}
+
+/// Whether the path leads to this open file, which is a plain one, through links.
+pub(crate) fn leads_to(rt: &HostRuntime, path: &str, file: &File) -> bool {
+    match (look_up(rt, path), found_by(file.metadata())) {
+        (Found::File(there, _), Found::File(here, _)) => there == here,
+        _ => false,
+    }
+}
+
+/// Whether the path, and not what it links to, is this open file, and that is a plain one without
+/// bytes.
+pub(crate) fn is_empty_file(rt: &HostRuntime, path: &str, file: &File) -> bool {
+    match (
+        found_by(fs::symlink_metadata(rt, path)),
+        found_by(file.metadata()),
+    ) {
+        (Found::File(there, _), Found::File(here, 0)) => there == here,
+        _ => false,
+    }
 }
 
 impl Identify for HostRuntime {

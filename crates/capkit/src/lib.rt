@@ -17,6 +17,7 @@
 #![tactic(auto)]
 
 mod arguments;
+mod creation;
 mod edit_line;
 pub mod ending;
 mod examples;

@@ -34,7 +34,7 @@ const LISTING_ROOM: u64 = 1_048_577;
 pub type Source<'a> = StdInput<Counted<'a, Opened>>;
 
 /// The output as the job writes it, after its buffer.
-pub type Target = StdOutput<Created>;
+pub type Target<'a> = StdOutput<Created<'a>>;
 
 /// The first `LISTING_ROOM` bytes of the listing of this name. The errors are `NoMemory`, and
 /// `CannotOpen`, even if it is opened and can't be read on.
@@ -111,9 +111,9 @@ pub fn open_inputs<'a, 'p>(
 /// ran out.
 pub fn buffer_output<'a>(
     rt: &HostRuntime,
-    created: Created,
+    created: Created<'a>,
     may_wait: bool,
-) -> Result<Target, Stop<'a>> {
+) -> Result<Target<'a>, Stop<'a>> {
     let (capacity, is_awaited) = match buffering_of(created.is_terminal(), may_wait) {
         Buffering::AtOnce => (0, false),
         Buffering::BeforeReads => (AWAITED_BUFFER, true),
@@ -136,12 +136,12 @@ pub struct Devices<I, O, E> {
 
 /// Opens the inputs in order, creates the output, and takes standard error for messages. An error
 /// is the first of these that can't be done, or that memory ran out.
-pub fn open_devices<'a, 'p>(
-    rt: &HostRuntime,
+pub fn open_devices<'a, 't: 'a, 'p>(
+    rt: &'t HostRuntime,
     names: &'a [String],
-    output: &'a str,
+    output: &'t str,
     progress: &'p Progress<'p>,
-) -> Result<Devices<Source<'p>, Target, StdOutput<Stderr>>, Stop<'a>>
+) -> Result<Devices<Source<'p>, Target<'t>, StdOutput<Stderr>>, Stop<'a>>
     ensures { IfOk result (λ devices. vec_len devices.inputs ≡ length names.entry.now) }
 {
     let inputs = open_inputs(rt, names, progress)?;

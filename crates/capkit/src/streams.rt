@@ -2,11 +2,13 @@
 ghost use Rattle.std.specs.{Fd.file_raw_fd, Io.WritesAtMost, Io.KnownBytes.WriteAppends};
 ghost use Rattle.std.specs.Prelude.{◌≡◌, ◌≢◌, IfOk, IfSome, OnOk, None, false, true, not, is_err};
 ghost use Rattle.capkit.specs.Streams.{holds_old_bytes, is_beside_streams, is_standard_output};
-ghost use Rattle.capkit.specs.inside.Streams.{is_input_beside_streams, is_standard_input};
+ghost use Rattle.capkit.specs.inside.Streams.{is_input_beside_streams, is_new_and_unwritten};
+ghost use Rattle.capkit.specs.inside.Streams.{is_standard_input};
 ghost use Rattle.capkit.specs.{Names.is_standard, Streams.is_output_beside_streams};
 
+use crate::STANDARD;
+use crate::creation::{create_missing, remove_created};
 use crate::stop::Stop;
-use crate::{STANDARD, USAGE};
 use std::fs::{File, OpenOptions};
 use std::io::{self, IsTerminal, Read, Stdin, Stdout, Write};
 use std::os::fd::AsRawFd;
@@ -14,24 +16,23 @@ use std::os::fd::AsRawFd;
 /// The number of the last standard stream; a file of the program has a greater one.
 const LAST_STREAM: i32 = 2;
 
-/// Opens the file of that path as these options say, and never under the number of a standard
-/// stream. `None` if it can't be opened.
+/// Gives an open file another number if it has that of a standard stream. False if it has it still.
 ///
 /// The system gives the number of a stream that was closed to the next file that is opened; what is
 /// written to that stream would go into the file then.
-fn open_beside_streams(rt: &HostRuntime, how: &OpenOptions, path: &str) -> Option<File>
-    ensures { IfSome result (λ file. is_beside_streams (file_raw_fd file) ≡ true) }
+fn move_beside_streams(file: &mut File) -> bool
+    ensures { result ≡ true → is_beside_streams (file_raw_fd file.new) ≡ true }
 {
-    let Ok(opened) = how.open(rt, path) else {
-        return None;
-    };
-    if opened.as_raw_fd() > LAST_STREAM {
-        return Some(opened);
+    if file.as_raw_fd() > LAST_STREAM {
+        return true;
     }
-    // std numbers a clone from 3 on. With `opened` the number of the stream is closed again.
-    match opened.try_clone() {
-        Ok(clone) if clone.as_raw_fd() > LAST_STREAM => Some(clone),
-        _ => None,
+    // std numbers a clone from 3 on. With the first file the number of the stream is closed again.
+    match file.try_clone() {
+        Ok(clone) if clone.as_raw_fd() > LAST_STREAM => {
+            *file = clone;
+            true
+        }
+        _ => false,
     }
 }
 
@@ -52,12 +53,11 @@ impl Opened {
         if name == STANDARD {
             return Some(Opened::Stream(rt.stdin()));
         }
-        let mut how = OpenOptions::new();
-        how.read(true);
-        match open_beside_streams(rt, &how, name) {
-            Some(file) => Some(Opened::File(file)),
-            None => None,
+        let mut file = File::open(rt, name).ok()?;
+        if !move_beside_streams(&mut file) {
+            return None;
         }
+        Some(Opened::File(file))
     }
 }
 
@@ -71,25 +71,74 @@ impl Read for Opened {
     }
 }
 
-/// A file that is written, and whether it was emptied since it was opened.
-#[derive(Drop)]
-pub struct OutputFile {
+/// A file that is written.
+pub struct OutputFile<'a> {
     file: File,
+    /// Whether the file was emptied since it was opened.
     is_emptied: bool,
+    /// The name by which the file was created; `None` if it was present.
+    created_as: Option<(&'a HostRuntime, &'a str)>,
+}
+
+impl<'a> OutputFile<'a> {
+    /// Opens the file of this name. Its bytes are kept. `None` if it can't be opened or created.
+    fn open(rt: &'a HostRuntime, name: &'a str) -> Option<OutputFile<'a>>
+        ensures kept { IfSome result (λ output. output.is_emptied ≡ false) }
+        ensures beside { IfSome result (λ output.
+            is_beside_streams (file_raw_fd output.file) ≡ true) }
+    {
+        let (file, created_as) = match create_missing(rt, name) {
+            Some(file) => (file, Some((rt, name))),
+            None => {
+                let mut how = OpenOptions::new();
+                how.write(true).create(true);
+                (how.open(rt, name).ok()?, None)
+            }
+        };
+        let mut output = OutputFile {
+            file,
+            is_emptied: false,
+            created_as,
+        };
+        move_beside_streams(&mut output.file).then_some(output)
+    }
+
+    /// Whether the run created the file and wrote nothing to it.
+    fn is_new_and_unwritten(&self) -> bool
+        ensures { result ≡ is_new_and_unwritten self.now }
+    {
+        self.created_as.is_some() && !self.is_emptied
+    }
+}
+
+impl Drop for OutputFile<'_> {
+    /// Closes the file, and removes it if the run created it and wrote nothing to it.
+    fn drop(self) {
+        if self.is_new_and_unwritten()
+            && let Some((rt, name)) = self.created_as
+        {
+            remove_created(rt, name, &self.file);
+        }
+        let OutputFile {
+            file: _,
+            is_emptied: _,
+            created_as: _,
+        } = self;
+    }
 }
 
 /// An output that was created: a file, or standard output, instead of which a test has a stream of
 /// its own.
 #[derive(Drop)]
-pub enum Created<S = Stdout> {
-    File(OutputFile),
+pub enum Created<'a, S = Stdout> {
+    File(OutputFile<'a>),
     Stream(S),
 }
 
 /// Creates the output of this name: a file, or standard output. A file that is present is opened,
-/// and keeps its bytes until the first write or the end of the run, or for good if nothing runs or
-/// the run is refused. The one error is `CannotCreate`.
-pub fn create_output<'a>(rt: &HostRuntime, name: &'a str) -> Result<Created, Stop<'a>>
+/// and keeps its bytes until the first write or the end of the run, or for good if the run fails
+/// and writes nothing; one that is created is removed then. The one error is `CannotCreate`.
+pub fn create_output<'a>(rt: &'a HostRuntime, name: &'a str) -> Result<Created<'a>, Stop<'a>>
     ensures standard { IfOk result (λ created. is_standard_output created
         ≡ is_standard name.entry.now) }
     ensures kept { IfOk result (λ created. holds_old_bytes created
@@ -99,18 +148,13 @@ pub fn create_output<'a>(rt: &HostRuntime, name: &'a str) -> Result<Created, Sto
     if name == STANDARD {
         return Ok(Created::Stream(rt.stdout()));
     }
-    let mut how = OpenOptions::new();
-    how.write(true).create(true);
-    match open_beside_streams(rt, &how, name) {
-        Some(file) => Ok(Created::File(OutputFile {
-            file,
-            is_emptied: false,
-        })),
+    match OutputFile::open(rt, name) {
+        Some(output) => Ok(Created::File(output)),
         None => Err(Stop::CannotCreate(name)),
     }
 }
 
-impl<S> Created<S> {
+impl<S> Created<'_, S> {
     /// Removes what a plain file held before it was opened, once: after a call without an error
     /// later ones do nothing. The error is the system's.
     ///
@@ -132,20 +176,20 @@ impl<S> Created<S> {
         }
     }
 
-    /// Removes what a plain file held before it was opened, unless the run's status is 2: then the
-    /// expression or the listing was refused, and the file stays as it was.
-    pub(crate) fn empty_unless_refused(&mut self, status: u8) -> io::Result<()>
-        ensures refused { status ≡ 2 → self.new ≡ self.old }
-        ensures ran { status ≢ 2 → OnOk result (holds_old_bytes self.new ≡ false) }
+    /// Removes what a plain file held before it was opened if the run's status is 0. A run that
+    /// failed keeps it, unless it writes or wrote something.
+    pub(crate) fn empty_if_done(&mut self, status: u8) -> io::Result<()>
+        ensures failed { status ≢ 0 → self.new ≡ self.old }
+        ensures done { status ≡ 0 → OnOk result (holds_old_bytes self.new ≡ false) }
     {
-        if status == USAGE {
+        if status != 0 {
             return Ok(());
         }
         self.empty()
     }
 }
 
-impl<S: Write> Write for Created<S> {
+impl<S: Write> Write for Created<'_, S> {
     /// One write. Before the first one, what a plain file held before it was opened is removed;
     /// if it can't be, that is the error, and nothing is written.
     fn write(&mut self, buf: &[u8]) -> io::Result<usize>
@@ -169,7 +213,7 @@ impl<S: Write> Write for Created<S> {
     }
 }
 
-impl<S: IsTerminal> Created<S> {
+impl<S: IsTerminal> Created<'_, S> {
     /// Whether the output is a terminal, so that somebody looks at what is written as it comes.
     pub fn is_terminal(&self) -> bool {
         match self {

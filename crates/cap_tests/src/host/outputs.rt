@@ -11,7 +11,7 @@ use std::io::{self, BufWriter, Error, ErrorKind, IsTerminal, Write};
 use std::test::Fail;
 
 /// The buffer before the output of that name.
-fn target_of(rt: &HostRuntime, name: &str, may_wait: bool) -> Result<Target, Fail> {
+fn target_of<'a>(rt: &'a HostRuntime, name: &'a str, may_wait: bool) -> Result<Target<'a>, Fail> {
     match create_output(rt, name) {
         Ok(created) => match buffer_output(rt, created, may_wait) {
             Ok(target) => Ok(target),

@@ -30,18 +30,18 @@ const RUNS: [Run; 17] = [
     ("print --code none -w out in", false, 1, None),
     ("print --code / -w out in", false, 1, None),
     ("edit none out", false, 1, None),
-    // An output in a folder that isn't there can't be created. A new one is present after a refusal
-    // too. One that takes nothing is a fault, though the job reaches its end.
+    // An output in a folder that isn't there can't be created. One that takes nothing is a fault,
+    // though the job reaches its end.
     ("edit in none/out", false, 1, None),
-    ("print -w out in port", false, 2, Some(0)),
+    ("print -w out in port", false, 2, None),
     ("edit in /dev/null", false, 0, None),
     ("edit in /dev/full", false, 1, None),
-    // A refused expression or listing keeps an existing output. After another run only what
-    // it wrote is present, be it nothing.
+    // A refused expression or listing, or another mistake, keeps an existing output. After a run
+    // that writes only what it wrote is present.
     ("print -w out in port", true, 2, Some(84)),
     ("print --code in -w out in", true, 2, Some(84)),
     ("print --code /dev/null -w out in", true, 2, Some(84)),
-    ("print -w out code", true, 1, Some(0)),
+    ("print -w out code", true, 1, Some(84)),
     ("print -w out none", true, 1, Some(84)),
     ("print -w out --format pcap -c 1 in", true, 0, Some(54)),
 ];

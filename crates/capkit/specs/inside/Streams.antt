@@ -1,8 +1,9 @@
 -- Which names are paths, and which are standard streams.
 use Rattle.std.specs.Fd.{file_raw_fd}
-use Rattle.std.specs.Prelude.{ℕ, Bool, true, false, List, Option, Some, None, codes, if◌then◌else◌}
+use Rattle.std.specs.Prelude.{ℕ, Bool, true, false, not, ◌&&◌, List, Option, Some, None, is_some, codes, if◌then◌else◌}
 use Rattle.capkit.specs.{Names.is_standard, Streams.is_beside_streams}
 use Rattle.capkit.specs.declared.streams.Opened.{Opened}
+use Rattle.capkit.specs.declared.streams.OutputFile.{OutputFile}
 
 -- the path of what is read under a name
 abbrev pub input_path : List ℕ → List ℕ
@@ -22,3 +23,7 @@ is_standard_input (Opened.Stream stream) = true
 abbrev pub is_input_beside_streams : Opened → Bool
 is_input_beside_streams (Opened.File file) = is_beside_streams (file_raw_fd file)
 is_input_beside_streams (Opened.Stream stream) = true
+
+-- an output's file was missing before the run, which wrote nothing to it: it is removed when it is closed
+abbrev pub is_new_and_unwritten : OutputFile → Bool
+is_new_and_unwritten output = is_some output.created_as && not output.is_emptied
