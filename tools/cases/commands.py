@@ -186,8 +186,11 @@ def infos(words, file_of, _listing):
 def print_(words, file_of, listing):
     words = Words(words, {"-e", "-x"}, {"-c", "-w", "--format", "--code"})
     name, *expression = words.rest
+    try:
+        tree = filters.tree_of(" ".join(expression))
+    except filters.Unread as error:
+        return Outcome([], f"capkit: expression: {error}\n", 2)
     capture, passed = Capture(file_of(name)), []
-    tree = filters.tree_of(" ".join(expression))
     program = machine.program_of(listing) if "--code" in words.options else None
     end = end_of(capture, name)
     for packet in capture.packets:
