@@ -1,0 +1,208 @@
+"""What capkit's commands write and report, as the pages define it: from whole lists of packets, never packet by packet."""
+
+import dataclasses
+import hashlib
+
+import filters
+import machine
+from files import SECOND, Capture, Fault, Writer
+from printing import line, report
+
+FILTERED = (1, 101, 113)
+
+
+@dataclasses.dataclass
+class Outcome:
+    """What a run leaves. The pieces are its output, one for each packet or report."""
+
+    pieces: list
+    messages: str = ""
+    status: int = 0
+
+    @property
+    def written(self):
+        return b"".join(self.pieces)
+
+    def stops(self):
+        """The sizes of the output before the first piece and after each."""
+        sizes = [0]
+        for piece in self.pieces:
+            sizes.append(sizes[-1] + len(piece))
+        return sizes
+
+
+def failed(pieces, name, fault):
+    """A run that ends by a fault: an offset and a text."""
+    return Outcome(pieces, f"capkit: {name}: offset {fault[0]}: {fault[1]}\n", 1)
+
+
+def time_of(text):
+    """A time or a span in nanoseconds: seconds since 1970 with a point, or a date."""
+    if text.endswith("Z"):
+        import datetime
+        day, _, fraction = text[:-1].partition(".")
+        since = datetime.datetime.fromisoformat(day) - datetime.datetime(1970, 1, 1)
+        return (since.days * 86_400 + since.seconds) * SECOND + int(fraction.ljust(9, "0"))
+    seconds, _, fraction = text.partition(".")
+    return int(seconds) * SECOND + int(fraction.ljust(9, "0"))
+
+
+class Words:
+    """The options of a command line and its other words."""
+
+    def __init__(self, words, flags, valued):
+        self.options, self.rest = {}, []
+        words = iter(words)
+        for word in words:
+            if word in flags:
+                self.options[word] = True
+            elif word in valued:
+                self.options[word] = next(words)
+            else:
+                self.rest.append(word)
+
+    def number(self, name):
+        return int(self.options[name]) if name in self.options else None
+
+    def time(self, name):
+        return time_of(self.options[name]) if name in self.options else None
+
+
+def run(words, file_of, listing=b""):
+    """The outcome of a command line, whose inputs are read by a function of their names."""
+    command, *rest = words
+    return {"edit": edit, "merge": merge, "infos": infos, "print": print_}[command](rest, file_of, listing)
+
+
+def written(form, sources, list_, end=None):
+    """Writes a list of packets with the names of their files, up to one that is refused; then there may be a fault."""
+    writer = Writer(form)
+    for name, packet in list_:
+        if isinstance(packet, tuple):
+            return failed(writer.pieces, name, packet)
+        try:
+            writer.put(packet)
+        except Fault as fault:
+            return failed(writer.pieces, name, (packet.offset, str(fault)))
+    if end:
+        return failed(writer.pieces, *end)
+    if not writer.pieces:
+        links = [source.links[0] for source in sources if source.links]
+        writer.pieces.append(writer.heading(links[0] if links else 1))
+    return Outcome(writer.pieces)
+
+
+def end_of(capture, name):
+    return (name, (capture.places[-1][0], capture.fault)) if capture.fault else None
+
+
+def edit(words, file_of, _listing):
+    """Edits one capture: selects by number and time, cuts, shifts, and leaves out what was there before."""
+    words = Words(words, {"-r"}, {"-A", "-B", "--chop-start", "--chop-end", "-s", "--later", "--earlier", "-D", "-F"})
+    name, _, *ranges = words.rest
+    capture = Capture(file_of(name))
+    ranges = [(int(first), int(last or first)) for first, _, last in (text.partition("-") for text in ranges)]
+    packets = []
+    for number, packet in enumerate(capture.packets, 1):
+        if any(first <= number <= last for first, last in ranges) == ("-r" in words.options) and is_in_time(words, packet):
+            packets.append(changed(words, packet))
+            if isinstance(packets[-1], tuple):
+                break
+    list_ = [(name, packet) for packet in unique(words.number("-D"), packets)]
+    return written(words.options.get("-F", "pcapng"), [capture], list_, end_of(capture, name))
+
+
+def is_in_time(words, packet):
+    start, stop = words.time("-A"), words.time("-B")
+    return (start is None or start <= packet.time) and (stop is None or packet.time < stop)
+
+
+def changed(words, packet):
+    """A packet cut and shifted, or the offset and the text of a fault."""
+    data = packet.data[words.number("--chop-start") or 0:]
+    data = data[:max(len(data) - (words.number("--chop-end") or 0), 0)][:words.number("-s")]
+    time = packet.time + (words.time("--later") or 0) - (words.time("--earlier") or 0)
+    if not 0 <= time < 2**63:
+        return packet.offset, "time out of range"
+    return dataclasses.replace(packet, data=data, time=time)
+
+
+def unique(window, packets):
+    """The packets that none of the `window` - 1 before them equals; a fault stays."""
+    marks = [packet if isinstance(packet, tuple) else (len(packet.data), hashlib.md5(packet.data).digest()) for packet in packets]
+    before = (window or 1) - 1
+    return [packet for at, packet in enumerate(packets) if marks[at] not in marks[max(at - before, 0):at]]
+
+
+def merge(words, file_of, _listing):
+    words = Words(words, {"-a"}, {"-F", "-w"})
+    names = words.rest
+    captures = [Capture(file_of(name)) for name in names]
+    ordered, end = (appended if "-a" in words.options else merged)(names, captures)
+    return written(words.options.get("-F", "pcapng"), captures, ordered, end)
+
+
+def appended(names, captures):
+    """The packets of all files in turn, up to the first fault."""
+    ordered = []
+    for name, capture in zip(names, captures):
+        ordered += [(name, packet) for packet in capture.packets]
+        if capture.fault:
+            return ordered, end_of(capture, name)
+    return ordered, None
+
+
+def merged(names, captures):
+    """All packets by the greatest time up to them in their file, file and place, and how the list ends."""
+    for name, capture in zip(names, captures):
+        if capture.fault and not capture.packets:
+            return [], end_of(capture, name)
+    keyed = []
+    for number, capture in enumerate(captures):
+        greatest = 0
+        for place, packet in enumerate(capture.packets):
+            greatest = max(greatest, packet.time)
+            keyed.append(((greatest, number, place), packet))
+    ordered, end = [], None
+    for (_, number, place), packet in sorted(keyed, key=lambda pair: pair[0]):
+        ordered.append((names[number], packet))
+        capture = captures[number]
+        if capture.fault and place == len(capture.packets) - 1:
+            end = end_of(capture, names[number])
+            break
+    return ordered, end
+
+
+def infos(words, file_of, _listing):
+    pieces = []
+    for name in words:
+        capture = Capture(file_of(name))
+        if capture.fault:
+            return failed(pieces, *end_of(capture, name))
+        pieces.append(report(name, capture).encode())
+    return Outcome(pieces)
+
+
+def print_(words, file_of, listing):
+    words = Words(words, {"-e", "-x"}, {"-c", "-w", "--format", "--code"})
+    name, *expression = words.rest
+    try:
+        tree = filters.tree_of(" ".join(expression))
+    except filters.Unread as error:
+        return Outcome([], f"capkit: expression: {error}\n", 2)
+    capture, passed = Capture(file_of(name)), []
+    program = machine.program_of(listing) if "--code" in words.options else None
+    end = end_of(capture, name)
+    for packet in capture.packets:
+        if program is None and tree != ("all",) and packet.link not in FILTERED:
+            end = (name, (packet.offset, "link type not filtered"))
+            break
+        if machine.run(program, packet) if program else tree == ("all",) or filters.matches(tree, packet):
+            passed.append((name, packet))
+            if len(passed) == words.number("-c"):
+                end = None
+                break
+    if "-w" in words.options:
+        return written(words.options.get("--format", "pcapng"), [capture], passed, end)
+    pieces = [line(packet, "-e" in words.options, "-x" in words.options).encode() for _, packet in passed]
+    return failed(pieces, *end) if end else Outcome(pieces)

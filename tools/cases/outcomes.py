@@ -1,0 +1,89 @@
+"""Computes what is expected of the cases of a table: the lines that state it are written anew, all others stay.
+
+So a case is added to such a table by its input: its words, its files and its sweep.
+"""
+
+import collections
+
+import commands
+from files import Capture
+from notation import NAMING, Table, expected
+
+STATED = ("out", "text", "lines", "reports", "status", "at", "end", "meets", "stops")
+
+
+def table(stored):
+    """The table with its expected lines computed."""
+    blocks, cases = stored.rstrip("\n").split("\n\n"), iter(Table(stored).cases)
+    names = Table(stored).names
+    return "\n\n".join(block_of(block.split("\n"), cases, names) for block in blocks) + "\n"
+
+
+def block_of(lines, cases, names):
+    """A block: names, or a case, of which the front stays and the rest is computed."""
+    if all(line.partition(" ")[0] in (*NAMING, "#", "given") for line in lines):
+        return "\n".join(lines)
+    case = next(cases)
+    if case.words[0] == "compile":
+        return "\n".join(lines)
+    kept = [line for line in lines if line.partition(" ")[0] not in STATED]
+    sweeps = [line for line in kept if line.startswith("sweep ")]
+    outcome = outcome_of(case)
+    front = [line for line in kept if line not in sweeps]
+    return "\n".join(front + expected(case.words, outcome, names) + sweeps + [line for sweep in sweeps for line in swept(case, outcome, sweep.split()[1:])])
+
+
+def outcome_of(case, data=None):
+    """What comes of a case, or of it with another input."""
+    data = case.input if data is None else data
+    return commands.run(case.words, lambda name: case.files.get(name, data), case.listing)
+
+
+def swept(case, outcome, sweep):
+    """The lines that state what a sweep meets."""
+    kind, *numbers = sweep
+    if kind == "steps":
+        return [" ".join(["stops", *map(str, outcome.stops())])]
+    if kind == "reads":
+        sizes = outcome.stops()
+        return [f"at {offset} {sizes[before] if before else 0}" for offset, before in Capture(case.input).places]
+    if kind == "prefixes":
+        return prefixes(case)
+    if kind in ("bits", "numbers"):
+        return meets(case, flipped(case.input) if kind == "bits" else numbered(case.input, *map(int, numbers)))
+    return []
+
+
+def prefixes(case):
+    """Where each prefix of the input is cut, or ends cleanly, and how much is written then."""
+    places, ends = {}, []
+    for size in range(len(case.input) + 1):
+        outcome = outcome_of(case, case.input[:size])
+        if outcome.status:
+            offset, text = outcome.messages.split(": ")[2:]
+            assert text == ("truncated\n" if size >= 4 else "not a capture file\n")
+            places[int(offset.removeprefix("offset "))] = len(outcome.written)
+        else:
+            ends.append(f"end {size}" + f" {len(outcome.written)}" * (case.words[0] != "infos"))
+    return [f"at {offset} {size}" for offset, size in places.items()] + ends
+
+
+def flipped(data):
+    """The data with each bit turned over."""
+    for bit in range(8 * len(data)):
+        yield data[:bit // 8] + bytes([data[bit // 8] ^ 1 << bit % 8]) + data[bit // 8 + 1:]
+
+
+def numbered(data, place, size):
+    """The data with each number near a power of two at a place, as far as it has bytes."""
+    for number in range(99):
+        value = max(2 ** (number // 3) - 1 + number % 3, 0)
+        yield data[:place] + value.to_bytes(8, "little")[:size] + data[place + size:]
+
+
+def meets(case, inputs):
+    """How many of the inputs are refused with each message."""
+    counts = collections.Counter(outcome_of(case, data).messages for data in inputs)
+    offset = lambda item: (int(item[0].split(": ")[2].split()[1]), item[0])
+    refused = [(message, count) for message, count in counts.items() if message]
+    return [f"meets {count} {message.removeprefix('capkit: ').rstrip()}" for message, count in sorted(refused, key=offset)]

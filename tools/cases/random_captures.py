@@ -1,0 +1,20 @@
+"""The table `random_captures`: commands with random options on random captures, most of them damaged.
+
+Its words and captures, once made at random of seed 20261123, stay as they are; what comes of them is computed anew.
+"""
+
+import commands
+from notation import Table, expected
+
+HEAD = """\
+# Random captures, most of them damaged, once made of seed 20261123.
+# tools/cases/random_captures.py computes what comes of them.
+"""
+
+
+def table(stored):
+    lines = []
+    for case in Table(stored).cases:
+        lines += ["", f"run {' '.join(case.words)}", *(f"in {name}: {data.hex()}" for name, data in case.files.items())]
+        lines += expected(case.words, commands.run(case.words, case.files.get), {})
+    return HEAD + "\n".join(lines) + "\n"

@@ -1,0 +1,35 @@
+"""The table `random_filters`: random expressions on random packets.
+
+Its expressions and packets, once made at random of seed 20261123, stay as they are; what matches is computed anew.
+"""
+
+import filters
+from files import Capture
+from notation import Table, pairs
+
+HEAD = """\
+# Random expressions on random packets, once made of seed 20261123: the packets of the traffic tables, cut and altered.
+# tools/cases/random_filters.py computes what matches: row by row an expression, and the packets that it keeps.
+"""
+
+
+def table(stored):
+    old = Table(stored)
+    lines, given = [], None
+    for case in old.cases:
+        if case.input != given:
+            if given is not None:
+                lines += form(link)
+            given, link = case.input, Capture(case.input).links[0]
+            mine = {name: data for name, data in old.names.items() if name.startswith(f"P{link}_")}
+            lines += ["", f"let HEAD_{link} {pairs(given[:24], {})}"]
+            lines += [f"let {name} {data[:16].hex()} {data[16:].hex()}" for name, data in mine.items()]
+            lines += [f"given HEAD_{link} {' '.join(mine)}", ""]
+        tree = filters.tree_of(case.words[0])
+        kept = [name for name, packet in zip(mine, Capture(given).packets) if filters.matches(tree, packet)]
+        lines.append(f"row {case.words[0]} ; {' '.join(kept)}")
+    return HEAD + "\n".join(lines + form(link)) + "\n"
+
+
+def form(link):
+    return ["filter {1}", f"out HEAD_{link} {{2}}"]
