@@ -1,37 +1,41 @@
 #!/usr/bin/env python3
 """Writes the packets of a damaged capture, also those that come after the damage, with capkit.
 
-usage: salvage.py [-F FORMAT] [-n ROW] IN OUT        (- is standard input or output)
+usage: salvage.py [-F FORMAT] [-n ROW] [--like FILE] IN OUT    (- is standard input or output)
 
 A file that capkit reads to its end is written as `capkit edit` does; in another one nothing is
-guessed before the first fault. After a fault the first chain wins: a row of records (or blocks)
-with consistent lengths. It is believed if it is longer than what a packet carries (64 KiB, and 32
-records or 2 MiB), or has ROW records (3) or more and leads to the end of the file or to a file
-header with a chain. Another one of ROW records, which a lost packet may have carried, is at most a
-second earlier than the last packet and a day later; blocks before any packet need no time. Of
-chains that meet, the one with most records before wins. One whose fractions are captured lengths is
-4 bytes off: no chain.
+guessed before the first damage. A unit is a record of pcap or a block of pcapng.
 
-Put right in place, and reported, are: a fraction of a second or more (0, if a record follows), a
-damaged length (if the other one leads to the chain), a time out of range (0), the version and the
-upper half of the link type field of a pcap file, options of an interface that capkit refuses, and
-text mode (if each line feed comes after a carriage return, and capkit reads further without those).
+1. A chain is a row of units with consistent lengths, each of which begins where the last one ends.
+2. It is believed if it is longer than what a packet carries (64 KiB, and 32 units or 2 MiB). One of
+   ROW units (3) is believed if it leads to the end of the file or to a file header, or is from one
+   second before the last packet to a day after it (a minute, if the clock began at 1970), and two
+   of its first three records have a sign of rule 4.
+3. The first chain wins; of chains that meet, the one with most units before. Left out of it is what
+   a lost packet may have carried: what is earlier than the last packet, if the rest isn't.
+4. A record beside damage needs two of four signs: it begins where the last one ends; it ends where
+   the chain goes on; its time is within a day of one of those beside it, if all of these are after
+   1970 and near others; its lengths are equal, and no less than 14 or those of all beside it, or it
+   is as long as the longest of these. Else it is dropped: the first ones of a chain, and of the
+   last eight before damage. What is read twice goes to the side that has more signs. A chain of which
+   less than ROW records can be read is dropped.
+5. Reading stops, and there is no chain, 4 bytes off (fractions are captured lengths) or 1 byte off
+   (lengths are 256 times too long, and the record 1 byte off has more signs).
+6. Put right, and reported, are a fraction of a second or more (0, if a record follows, and the time
+   is near or the lengths are equal), a damaged length (if the other one leads to the chain), a time
+   out of range (0), the version and link type field of a pcap file, options of an interface that
+   capkit refuses, and text mode (if each line feed comes after a carriage return).
+7. Interfaces after damage are left out with their packets: their numbers aren't known. If IN lost
+   its beginning, --like takes the file header or the interfaces of FILE, of the same program.
 
-To keep packets from being made up, of the last eight records before a fault those in the way of the
-chain are dropped, and up to half of the eight if their lengths are impossible. A record without
-bytes needs an original length. Reading stops if it has slid 4 bytes off a chain, or 1 byte: lengths
-are 256 times too long, the time is a day or more from those of the last eight records, and that of
-the record 1 byte off is not. Packets may still be made up: if damage stands right before a packet
-that carries a capture of the last second, if a section header is lost with its interfaces, and in a
-file that only looks like a capture. Interfaces after damage are left out with their packets: their
-numbers aren't known. After a bounded number of tries a chain is only looked for in 256 of each
-4,096 bytes, and a file header only if it is the same as the last one. IN isn't changed, and copied
-only if it is a pipe or in text mode. OUT gets its name at the end. The first 20 places of damage
-and sums go to standard error. The status is 0 if IN was in order, 1 if not or nothing was written,
-2 if the command line is wrong. Needs Python 3.10.
+Packets may still be made up if damage stands right before a packet that carries a capture with its
+header or of the last second, and in a file that only looks like a capture. After a bounded number
+of tries a chain is only looked for in 256 of each 4,096 bytes. IN isn't changed, and copied only if
+it is a pipe or in text mode. OUT gets its name at the end. Standard error gets 20 places and sums.
+The status is 0 if IN was in order, 1 if not, 2 if the command line is wrong. Needs Python 3.10.
 """
 import argparse
-import collections
+import contextlib
 import itertools
 import os
 import re
@@ -40,6 +44,7 @@ import struct
 import subprocess
 import sys
 import tempfile
+from collections import deque
 
 FORMS = {b"\xd4\xc3\xb2\xa1": ("<", 10**6), b"\x4d\x3c\xb2\xa1": ("<", 10**9),
          b"\xa1\xb2\xc3\xd4": (">", 10**6), b"\xa1\xb2\x3c\x4d": (">", 10**9)}
@@ -57,6 +62,13 @@ SHORT = {"<": b"\x14\0\0\0", ">": b"\0\0\0\x14"}  # of an interface without opti
 PATIENCE, BYTES_A_STEP = 600_000, 64  # steps that may be tried at first, and one for so many bytes
 DOUBTED, NOTES, NEAR, EARLIER, NO_TIME, SAME = 8, 20, 86_400, 1, float("nan"), (True, "")
 UNSET, SHORTEST = 31_536_000, 14  # of a clock that began at 1970; bytes of a link header
+
+
+def tell(text):
+    """Writes a line to standard error, in which what isn't a character of a line is a number."""
+    text = "".join(it if it.isprintable() else ascii(it)[1:-1] for it in text)
+    with contextlib.suppress(OSError):
+        os.write(2, text.encode(errors="surrogateescape") + b"\n")
 
 
 class Source:
@@ -103,7 +115,7 @@ class Output:
     def __init__(self, source, form, path):
         self.source, self.words = source, ["capkit", "edit", "-F", form, "-", path]
         self.most = 2**63 if form == "pcapng" else 2**32 * 10**9
-        self.final = self.piece = self.header = None
+        self.form, self.final, self.piece, self.header = form, None, None, None
         self.kept, self.packets, self.places, self.left_out = (0, 0), 0, 0, 0
 
     def begin(self, header):
@@ -152,7 +164,7 @@ class Output:
         self.left_out += size
         if self.places <= NOTES:
             text = f"{size} bytes left out{text}" if size else text
-            print(f"{self.source.name}: offset {at}: {text}", file=sys.stderr)
+            tell(f"{self.source.name}: offset {at}: {text}")
 
 
 class Reader:
@@ -160,7 +172,7 @@ class Reader:
 
     def __init__(self, source, out, order):
         self.source, self.out, self.order = source, out, order
-        self.last, self.likely = collections.deque(maxlen=DOUBTED), self.LIKELY[order]
+        self.last, self.after, self.likely = deque(maxlen=DOUBTED), [], self.LIKELY[order]
         shapes = (struct.Struct(order + it).unpack_from for it in ("HH", "II", "III", "IIII", "q"))
         self.option, self.sizes, self.ends, self.unpack, self.offset = shapes
 
@@ -181,12 +193,11 @@ class Reader:
         source.tried += len(bounds)
         if end and end <= source.size:
             return bounds
-        is_next = len(bounds) > 1 and capture_at(source, self.out, bounds[-1])
-        is_end = bounds[-1] == source.size or is_headed and end
-        if len(bounds) > source.row and not (is_next or is_end):
-            is_end = self.is_sure and source.time is NO_TIME
-            is_end = is_end or all(map(self.is_near, bounds[: 1 if self.is_sure else 3]))
-        return bounds if is_next or is_end and len(bounds) > source.row else None
+        if len(bounds) > 1 and capture_at(source, self.out, bounds[-1]):
+            return bounds
+        is_right = bounds[-1] == source.size or is_headed and end or (
+            self.is_sure and source.time is NO_TIME or all(map(self.is_near, bounds[: self.TIMED])))
+        return bounds if len(bounds) > source.row and is_right else None
 
     def first(self, begin, end, passes):
         """The first chain between two places, or the one that it meets with most units before."""
@@ -201,11 +212,9 @@ class Reader:
                 if meets and bounds.index(meets) > best.index(meets):
                     best, known = bounds, set(bounds)
             if best := self.grounded(best, passes):
+                self.after = best[:-1][:DOUBTED]
                 return self.without_carried(best)
         return None
-
-    def grounded(self, bounds, _):
-        return bounds
 
     def without_carried(self, bounds):
         """A chain without what a lost packet may have carried: its start, if it is too early."""
@@ -225,7 +234,7 @@ class Reader:
 
 class Records(Reader):
     """The records of pcap."""
-    is_sure, units, link, is_odd, origin = False, None, ETHERNET, False, None
+    is_sure, TIMED, units, link, is_odd, origin = False, 3, None, ETHERNET, False, None
     # The lengths' high bytes, the captured one not being 0; and how far in a record they are.
     LIKELY = {"<": (re.compile(rb"(?s)\0(?<!\0{4})(?<=[\0-\4].)..[\0-\4]\0"), 11, b"\0"),
               ">": (re.compile(rb"(?s)\0[\0-\4](?!\0\0)..\0[\0-\4]"), 8, b"\0")}
@@ -254,49 +263,34 @@ class Records(Reader):
         bounds = super().chain(start, is_headed)
         heads = [self.head(it) for it in (bounds or [])[:-1][:3]]
         is_odd = heads and self.units and heads[0][1] >= self.units and not self.is_odd
-        if is_odd or sum(it[1] == it[2] for it in heads) > 1:
-            return None
-        if heads and not is_headed and len(bounds) <= UNITS:
-            sizes = [self.head(it)[2] for it in self.last] + [it[2] for it in heads]
-            if 2 * sum(self.is_whole(it, sizes) for it in heads) < min(len(heads), 3):
-                return None
-        return bounds
+        return None if is_odd or sum(it[1] == it[2] for it in heads) > 1 else bounds
 
-    def is_whole(self, head, sizes):
-        """Whether the lengths are those of a packet captured as a whole, or up to a snap length."""
-        _, part, captured, original = head
-        is_whole = captured == original != part and captured >= min([SHORTEST, *sizes])
-        return is_whole or captured in sizes and captured == max(sizes)
+    def end(self, at):
+        return at + 16 + self.head(at)[2]
 
-    def beside(self, place):
-        """The last records before damage, and the first ones from a place on: where, and heads."""
-        source, found = self.source, [*self.last]
-        while len(found) < len(self.last) + DOUBTED and place < source.size:
-            found.append(place)
-            place = self.step(place, *source.load(place)) or source.size
-        return [(it, *self.head(it)) for it in found]
-
-    def weight(self, at, beside):
-        """How many of two things speak for a record: its time, and its lengths."""
-        seconds, *_ = head = self.head(at)
-        others = [it for it in beside if it[0] != at]
-        times, sizes = [it[1] for it in others], [it[3] for it in others]
+    def signs(self, at, beside):
+        """How many of two signs a record has, time and lengths; -1 if its lengths are none."""
+        seconds, part, captured, original = self.head(at)
+        others = [self.head(it) for it in beside if it != at]
+        times, sizes = [it[0] for it in others], [it[2] for it in others]
         is_set = min(times, default=0) > UNSET and all(
-            any(abs(it - time) <= NEAR for it in times[:at] + times[at + 1 :]) for at, time in enumerate(times))
+            sum(abs(it - time) <= NEAR for it in times) > 1 for time in times)
         is_near = is_set and any(abs(it - seconds) <= NEAR for it in times)
-        return is_near + self.is_whole(head, sizes)
-
-    def worth(self, places, beside):
-        return sum(1 + self.weight(it, beside) for it in places)
+        is_whole = captured == original != part and captured >= min([SHORTEST, *sizes])
+        is_whole |= captured in sizes and captured == max(sizes)
+        is_usual = 2 * sum(0 < it[2] <= it[3] for it in others) < len(others)
+        return is_near + is_whole if 0 < captured <= original or is_usual else -1
 
     def grounded(self, bounds, passes):
-        """A chain from the first record on that has enough evidence; None if it gets too short."""
-        beside, ends = self.beside(bounds[0]), {it: it + 16 + self.head(it)[2] for it in self.last}
-        passes = max([passes, *ends.values()])
-        while len(bounds) > self.source.row:
-            read = [it for it in self.last if ends[it] > bounds[0]]
-            new = [it for it in bounds[:UNITS] if it < passes]
-            if self.weight(bounds[0], beside) and self.worth(new, beside) >= self.worth(read, beside):
+        """A chain from the first record on that has enough signs; None if it gets too short."""
+        beside, ends = [*self.last, *bounds[:-1][:DOUBTED]], [passes, *map(self.end, self.last)]
+        signs = lambda places: [self.signs(it, beside) for it in places]
+        least = min(len(bounds), self.source.row + 1)
+        while len(bounds) >= least:
+            read = signs(it for it in self.last if self.end(it) > bounds[0])
+            new, first = signs(it for it in bounds[:UNITS] if it < max(ends)), signs(bounds[:-1][:3])
+            is_row = len(bounds) > UNITS or 2 * sum(it > 0 for it in first) >= len(first)
+            if is_row and first[0] > 0 and sum(new) + len(new) >= sum(read) + len(read):
                 return bounds
             bounds = bounds[1:]
         return None
@@ -331,7 +325,7 @@ class Records(Reader):
             out.places += len(odd[NOTES:])
             out.put(made)
             later, self.is_odd = [it for it in self.last if it > odd[-1]], True
-            self.last = collections.deque(later, DOUBTED)
+            self.last = deque(later, DOUBTED)
         out.keep(base + done, base + place)
         out.packets += packets
         return base + place
@@ -339,35 +333,29 @@ class Records(Reader):
     def is_fault(self, data, base, place, odd):
         """Whether this is no record (of any fraction), or reading is off by 4 bytes, or by 1."""
         seconds, part, captured, original = self.unpack(data, place)
-        at, is_pair = base + place, 0 < captured <= original <= LONGEST
-        end = at + 16 + captured
-        if is_pair and not captured & 255:
-            real = at + (1 if self.order == "<" else -1)
-            times = [*map(self.when, self.last)] or [self.source.time]
-            is_near = lambda it: any(abs(self.when(it) - time) <= NEAR for time in times)
-            if not is_near(at) and is_near(real) and self.step(real, *self.source.load(real)):
-                return True
+        at, is_pair, last = base + place, 0 < captured <= original <= LONGEST, [*self.last]
+        real, end = at + (1 if self.order == "<" else -1), at + 16 + captured
+        if is_pair and not captured & 255 and self.signs(real, last) > self.signs(at, last):
+            return True
         if part >= self.units or not captured | original:
-            near = [end, *self.last, *odd[-1:]]
-            is_pair &= captured == original or any(abs(seconds - self.when(it)) <= NEAR for it in near)
-            return not (is_pair and self.step(end, data, base))
+            times = map(self.when, [end, *last, *odd[-1:]])
+            is_like = captured == original or any(abs(seconds - it) <= NEAR for it in times)
+            return not (is_pair and is_like and self.step(end, data, base))
         return 0 < captured == part and seconds < self.units and self.step(end - 4, data, base)
 
     def settle(self, at, place):
         """Drops records in the way of a chain, or puts one right; returns the end of those kept."""
-        last, odd = self.last, [it for it in self.last if not self.step(it, *self.source.load(it))]
-        odd, beside = odd if 2 * len(odd) <= len(last) else [], self.beside(place)
-        if last and last[0] == self.origin and len(last) < self.source.row:
-            odd = [*last]
-        while last:
-            end = last[-1] + 16 + self.head(last[-1])[2]
-            if last[-1] not in odd and (end == place or end < place and self.weight(last[-1], beside)):
-                break
+        last, beside = self.last, [*self.last, *(it for it in self.after if it >= place)]
+        is_short = last and last[0] == self.origin and len(last) < self.source.row
+        while last and (is_short or (end := self.end(last[-1])) > place
+                        or self.signs(last[-1], beside) + (end == place) < 1):
             at = last.pop()
+            beside.remove(at)
             self.out.packets -= 1
             self.out.kept = self.out.kept[0], at
         size = place - at - 16
-        if place < self.source.size and 0 < size <= LONGEST and size in self.head(at)[2:]:
+        is_right = not is_short and place < self.source.size and 0 < size <= LONGEST
+        if is_right and size in self.head(at)[2:]:
             seconds, part, was, original = self.head(at)
             why = f"a captured length of {was}, written as {size}"
             self.out.note(at, why if size != was else f"a fraction of {part}, written as 0")
@@ -382,7 +370,7 @@ class Records(Reader):
 
 class Blocks(Reader):
     """The blocks of pcapng."""
-    is_sure = True
+    is_sure, TIMED, grounded = True, 1, lambda self, bounds, _: bounds
     LIKELY = {"<": (re.compile(rb"\0\0\0(?<=[\1-\3\6]\0\0\0)"), 1, b"\0"),
               ">": (re.compile(rb"\0\0\0[\1-\3\6]"), 0, b"\0")}
     # Of a section's interfaces the times, blocks, first snap length, if one is lost; last options.
@@ -550,6 +538,18 @@ def capture_at(source, out, at):
     return None
 
 
+def like(name, source, out):
+    """A reader that begins as that of another file: with its header, or its interfaces."""
+    with open(name, "rb", buffering=0) as held:
+        if not infos(held)[0]:
+            raise OSError(0, "capkit doesn't read it to its end", name)
+        other = Source(held, name, 1)
+        reader, at = capture_at(other, Output(other, out.form, ""), 0)
+        reader.read_held(at, *other.load(0))
+    reader.source, reader.out = source, out
+    return reader
+
+
 def find(source, out, readers, begin, passes):
     """The next chain, or the header before one: its place, its reader, and where that reads."""
     while begin < source.size:
@@ -573,9 +573,8 @@ def find(source, out, readers, begin, passes):
     return source.size, None, source.size
 
 
-def salvage(source, out):
+def salvage(source, out, guessed):
     """Reads as capkit does up to a fault, finds where to go on, and so on."""
-    guessed = [kind(source, out, order) for kind in (Records, Blocks) for order in "<>"]
     capture = capture_at(source, out, 0)
     place, other, at = (0, *capture) if capture else find(source, out, guessed, 0, 0)
     if place:
@@ -604,12 +603,13 @@ def salvage(source, out):
 
 def copied(held, is_text=False):
     """A copy of a file, which has no name; of one in text mode without what that has added."""
-    copy = tempfile.TemporaryFile(buffering=0)
+    copy = tempfile.TemporaryFile()
     while part := held.read(ZONE):
         if is_text and part.endswith(b"\r") and len(part) > 1:
             held.seek(-1, os.SEEK_CUR)
             part = part[:-1]
         copy.write(part.replace(b"\r\n", b"\n") if is_text else part)
+    copy.flush()
     return copy
 
 
@@ -623,7 +623,7 @@ def infos(held):
 
 def work(given, path):
     """Writes OUT by a path; returns how many packets, places, and bytes left out of how many."""
-    held = sys.stdin.buffer.raw if given.IN == "-" else open(given.IN, "rb", buffering=0)
+    held = open(0 if given.IN == "-" else given.IN, "rb", buffering=0)
     held = held if os.path.isfile(held.fileno()) else copied(held)
     source = Source(held, given.IN, max(given.row, 1))
     out, start = Output(source, given.form, path), source.get(0, ZONE)
@@ -639,8 +639,10 @@ def work(given, path):
         if infos(text) > (is_sound, number):
             out.note(0, "text mode is undone: places are those of the file as it was")
             source.held, source.size = text, os.fstat(text.fileno()).st_size
+    guessed = [kind(source, out, order) for kind in (Records, Blocks) for order in "<>"]
+    guessed = [like(given.like, source, out)] if given.like else guessed
     try:
-        salvage(source, out)
+        salvage(source, out, guessed)
         if not out.packets:
             raise OSError("no capture is found in it")
         out.begin(b"")
@@ -656,9 +658,13 @@ def main():
     parser = argparse.ArgumentParser(description=__doc__.split("\n")[0])
     parser.add_argument("-F", dest="form", default="pcapng", choices=["pcap", "nsecpcap", "pcapng"])
     parser.add_argument("-n", dest="row", type=int, default=3, help="records or blocks in a row")
+    parser.add_argument("--like", metavar="FILE", help="whose beginning IN has lost")
     parser.add_argument("IN")
     parser.add_argument("OUT")
     given = parser.parse_args()
+    while (number := os.open(os.devnull, os.O_RDONLY)) < 3:
+        pass  # no file gets the number of a closed one
+    os.close(number)
     for number in (signal.SIGTERM, signal.SIGHUP):
         signal.signal(number, lambda *_: sys.exit(1))
     part = path = given.OUT
@@ -666,19 +672,22 @@ def main():
         path = os.path.realpath(path)
         part = f"{path}.{os.getpid()}.part"
     try:
-        ends = 0 if given.IN == "-" else given.IN, 1 if path == "-" else path
-        if os.path.exists(ends[1]) and os.path.samefile(*ends) and os.path.isfile(ends[0]):
-            parser.error("IN and OUT are one file")
+        out = 1 if path == "-" else path
+        for name in (0 if given.IN == "-" else given.IN, given.like or given.IN):
+            if os.path.isfile(name) and os.path.exists(out) and os.path.samefile(name, out):
+                parser.error("OUT is an input too")
         packets, places, left_out, size = work(given, part)
         if part != path:
             os.replace(part, path)
     except OSError as error:
-        sys.exit(f"salvage.py: {error.filename or given.IN}: {error.strerror or error}")
+        if not isinstance(error, BrokenPipeError):  # of it capkit has told
+            tell(f"salvage.py: {error.filename or given.IN}: {error.strerror or error}")
+        sys.exit(1)
     finally:
         if part != path and os.path.exists(part):
             os.remove(part)
     damage = f"{places} place{'s' * (places != 1)} of damage, {left_out} of {size} bytes left out"
-    print(f"{given.OUT}: {packets} packets, {damage}", file=sys.stderr)
+    tell(f"{given.OUT}: {packets} packets, {damage}")
     sys.exit(1 if places else 0)
 
 

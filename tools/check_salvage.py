@@ -354,11 +354,13 @@ def start_gone(chance):
 
 
 def carried(chance):
-    """A capture that packets carry, of up to a day before them; damage stands right before one of those."""
+    """A capture that packets carry, of up to a day before them, or ten days after them if their clock wasn't
+    set; damage stands right before one of those."""
     form = chance.choice(FORMS)
     own = [chance.choice(pool)]
     before, inner, after = (plain(chance, own) for _ in range(3))
     ago = chance.randrange(2, 80_000) * 10**9 + inner[-1][0] - before[-1][0]
+    ago = ago if inner[0][0] - ago > 10**17 else -864_000 * 10**9 - before[-1][0]
     text = bytes(Capture([(when - ago, *rest) for when, *rest in inner[:300]], chance.choice((form, *FORMS))).data)
     parts = [bytes(54) + text[at : at + 1400] for at in range(0, len(text), 1400)]
     begin = len(before)
