@@ -311,13 +311,24 @@ func TestWhatIsTooLong(t *testing.T) {
 	}
 }
 
+// budget is an output that takes so many bytes in all.
+type budget struct {
+	part
+	limit int
+}
+
+func (b *budget) Write(units []byte) (int, error) {
+	b.most = b.limit - b.Len()
+	return b.part.Write(units)
+}
+
 // Of an output that fails in the middle of many packets, the count and the bytes are known.
 func TestAnOutputThatTakesAPartOfMany(t *testing.T) {
 	_, packets := capture100()
 	whole, full := written(capkit.Pcapng, packets...), errors.New("full")
 	random := rand.New(rand.NewSource(2))
 	for round := 0; round < 100; round++ {
-		out := &part{most: random.Intn(len(whole)), err: full}
+		out := &budget{part{err: full}, random.Intn(len(whole))}
 		if round%2 == 1 {
 			out.err = nil
 		}
