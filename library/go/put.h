@@ -1,4 +1,4 @@
-/* All units of a packet by one call, for Go, from which a call takes longer than a unit does. */
+/* The units of many packets by one call, for Go, from which a call takes longer than a unit does. */
 #include <capkit.h>
 
 /* What is written of a capture so far. */
@@ -10,30 +10,35 @@ struct put_writer {
     uint16_t link_type;   /* which has this one */
 };
 
-/* A packet that is put: what counts of it, and its bytes. */
+/* A packet that is put: what counts of it, and the lengths of its bytes, of the name of its interface and of
+ * its comment. */
 struct put_packet {
-    struct capkit_packet packet;
-    const uint8_t *bytes;
+    uint64_t time;
     size_t captured;
+    size_t name_length;
+    size_t comment_length;
+    size_t end; /* of its units, once they are written */
+    uint32_t original;
+    uint32_t snap;
+    uint16_t link_type;
 };
 
 /* Writes a packet's record to a buffer, after the file's header if it is the first one. */
-static uint32_t put_record(struct put_writer *writer, const struct put_packet *it, uint8_t *buffer,
-                           size_t size, size_t *length)
+static uint32_t put_record(struct put_writer *writer, const struct put_packet *it,
+                           const uint8_t *bytes, uint8_t *buffer, size_t size, size_t *length)
 {
-    const struct capkit_packet *p = &it->packet;
     size_t header = 0, record = 0;
     uint32_t put = CAPKIT_WRITTEN;
     if (!writer->has_header)
-        put = capkit_write_file_header(writer->nanoseconds, p->link_type, buffer, size, &header);
-    else if (p->link_type != writer->link_type)
+        put = capkit_write_file_header(writer->nanoseconds, it->link_type, buffer, size, &header);
+    else if (it->link_type != writer->link_type)
         put = CAPKIT_LINK_TYPES_DIFFER;
     if (put == CAPKIT_WRITTEN)
-        put = capkit_write_record(writer->nanoseconds, p->time, p->original, it->bytes, it->captured,
+        put = capkit_write_record(writer->nanoseconds, it->time, it->original, bytes, it->captured,
                                   buffer + header, size - header, &record);
     if (put == CAPKIT_WRITTEN) {
         writer->has_header = 1;
-        writer->link_type = p->link_type;
+        writer->link_type = it->link_type;
     }
     *length = header + record;
     return put;
@@ -41,43 +46,77 @@ static uint32_t put_record(struct put_writer *writer, const struct put_packet *i
 
 /* Writes a packet's block to a buffer, after the units that come before it. */
 static uint32_t put_block(struct put_writer *writer, struct capkit_interface *interfaces, size_t room,
-                          const struct put_packet *it, _GoString_ name, _GoString_ comment,
-                          uint8_t *buffer, size_t size, size_t *length)
+                          const struct put_packet *it, const uint8_t *bytes, const char *name,
+                          const char *comment, uint8_t *buffer, size_t size, size_t *length)
 {
+    const struct capkit_packet packet = {
+        .time = it->time, .original = it->original, .snap = it->snap, .link_type = it->link_type};
     const struct capkit_writer before = writer->pcapng;
-    size_t end = 0, unit;
+    size_t unit;
     uint32_t put;
+    *length = 0;
     do {
-        put = capkit_writer_put(&writer->pcapng, interfaces, room, &it->packet, _GoStringPtr(name),
-                                _GoStringLen(name), it->bytes, it->captured, _GoStringPtr(comment),
-                                _GoStringLen(comment), buffer + end, size - end, &unit);
-        end += unit;
+        put = capkit_writer_put(&writer->pcapng, interfaces, room, &packet, name, it->name_length, bytes,
+                                it->captured, comment, it->comment_length, buffer + *length,
+                                size - *length, &unit);
+        *length += unit;
     } while (put == CAPKIT_UNIT_BEFORE);
     if (put != CAPKIT_WRITTEN)
         writer->pcapng = before;
-    *length = end;
     return put;
 }
 
-/* Writes all units of a packet to a buffer, *length bytes, and returns CAPKIT_WRITTEN. On any other
- * result none counts, and the writer is unchanged. The table has room for one interface more than there
- * are. */
+/* Writes all units of a packet to a buffer, whose end is then at its `end`. On any result but
+ * CAPKIT_WRITTEN nothing counts, and the writer is unchanged. The table has room for one interface more. */
 static uint32_t put_units(struct put_writer *writer, struct capkit_interface *interfaces, size_t room,
-                          uint64_t time, uint32_t original, uint32_t snap, uint16_t link_type,
-                          _GoString_ name, const uint8_t *bytes, size_t captured, _GoString_ comment,
-                          uint8_t *buffer, size_t size, size_t *length)
+                          struct put_packet *it, const uint8_t *bytes, const char *name,
+                          const char *comment, uint8_t *buffer, size_t size)
 {
-    const struct put_packet it = {
-        {.time = time, .original = original, .snap = snap, .link_type = link_type}, bytes, captured};
-    if (writer->is_pcapng)
-        return put_block(writer, interfaces, room, &it, name, comment, buffer, size, length);
-    return put_record(writer, &it, buffer, size, length);
+    if (!writer->is_pcapng)
+        return put_record(writer, it, bytes, buffer, size, &it->end);
+    return put_block(writer, interfaces, room, it, bytes, name, comment, buffer, size, &it->end);
 }
 
-/* Writes what a capture without packets is. */
-static uint32_t put_header(const struct put_writer *writer, uint8_t *buffer, size_t size, size_t *length)
+/* The same, of texts of Go. */
+static uint32_t put_packet(struct put_writer *writer, struct capkit_interface *interfaces, size_t room,
+                           struct put_packet *it, const uint8_t *bytes, _GoString_ name,
+                           _GoString_ comment, uint8_t *buffer, size_t size)
 {
+    it->name_length = _GoStringLen(name);
+    it->comment_length = _GoStringLen(comment);
+    return put_units(writer, interfaces, room, it, bytes, _GoStringPtr(name), _GoStringPtr(comment),
+                     buffer, size);
+}
+
+/* The same, of many packets, whose bytes, names and comments are one after another. Sets *number to how
+ * many were written, and returns the result for the one after them. */
+static uint32_t put_packets(struct put_writer *writer, struct capkit_interface *interfaces, size_t room,
+                            struct put_packet *packets, size_t count, const uint8_t *bytes,
+                            uint8_t *buffer, size_t size, size_t *number)
+{
+    size_t n, end = 0;
+    uint32_t put = CAPKIT_WRITTEN;
+    for (n = 0; n < count; n++) {
+        struct put_packet *it = &packets[n];
+        const char *name = (const char *)bytes + it->captured;
+        put = put_units(writer, interfaces, room, it, bytes, name, name + it->name_length, buffer + end,
+                        size - end);
+        if (put != CAPKIT_WRITTEN)
+            break;
+        it->end = end += it->end;
+        bytes += it->captured + it->name_length + it->comment_length;
+    }
+    *number = n;
+    return put;
+}
+
+/* Writes what a capture without packets is to a buffer. */
+static size_t put_header(const struct put_writer *writer, uint8_t *buffer, size_t size)
+{
+    size_t length;
     if (writer->is_pcapng)
-        return capkit_write_section(buffer, size, length);
-    return capkit_write_file_header(writer->nanoseconds, CAPKIT_LINK_ETHERNET, buffer, size, length);
+        capkit_write_section(buffer, size, &length);
+    else
+        capkit_write_file_header(writer->nanoseconds, CAPKIT_LINK_ETHERNET, buffer, size, &length);
+    return length;
 }

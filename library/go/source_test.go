@@ -238,3 +238,114 @@ func TestAnOutputThatTakesAPart(t *testing.T) {
 		}
 	}
 }
+
+// Many packets by one call are the bytes of one call each, up to the first that is refused.
+func TestWriteAll(t *testing.T) {
+	_, packets := capture100()
+	for i := range packets {
+		packets[i].InterfaceName = "name"[:i%5]
+	}
+	large := packet(make([]byte, 250000))
+	many := append(append(append([]capkit.Packet{}, packets...), large, large, large, large, large, large), packets...)
+	for _, format := range []capkit.Format{capkit.Pcapng, capkit.Pcap, capkit.PcapNanoseconds} {
+		for _, wrong := range []int{-1, 0, 1, 63, 64, 150, len(many) - 1} {
+			these, want := append([]capkit.Packet{}, many...), len(many)
+			if wrong >= 0 {
+				these[wrong].Time, want = time.Unix(1<<40, 0), wrong
+			}
+			var out bytes.Buffer
+			writer := capkit.NewWriter(&out, format)
+			count, err := writer.WriteAll(these)
+			if count != want || (wrong >= 0) != errors.Is(err, capkit.ErrTimeOutOfRange) {
+				t.Fatal(format, wrong, count, err)
+			}
+			// Others can be written after it.
+			if count < len(these) {
+				count, err = writer.WriteAll(these[count+1:])
+			}
+			rest := append(append([]capkit.Packet{}, these[:want]...), these[len(these)-count:]...)
+			if wrong < 0 {
+				rest = these
+			}
+			if err != nil || writer.Close() != nil || !bytes.Equal(out.Bytes(), written(format, rest...)) {
+				t.Error(format, wrong, count, err, out.Len())
+			}
+		}
+	}
+}
+
+func TestWhatIsTooLong(t *testing.T) {
+	for _, change := range []struct {
+		of   func(*capkit.Packet)
+		want capkit.Code
+	}{
+		{func(p *capkit.Packet) { p.Data = make([]byte, 1<<25) }, capkit.ErrUnitTooLong},
+		{func(p *capkit.Packet) { p.Data = make([]byte, 1<<20) }, capkit.ErrUnitTooLong},
+		{func(p *capkit.Packet) { p.Comment = string(make([]byte, 65536)) }, capkit.ErrBadOption},
+		{func(p *capkit.Packet) { p.Comment = string(make([]byte, 1<<25)) }, capkit.ErrBadOption},
+		{func(p *capkit.Packet) { p.InterfaceName = string(make([]byte, 256)) }, capkit.ErrBadOption},
+		{func(p *capkit.Packet) { p.InterfaceName = string(make([]byte, 1<<25)) }, capkit.ErrBadOption},
+		{func(p *capkit.Packet) { p.Time = time.Time{} }, capkit.ErrTimeOutOfRange},
+		{func(p *capkit.Packet) { p.Time = time.Unix(1<<62, 0) }, capkit.ErrTimeOutOfRange},
+		{func(p *capkit.Packet) { p.Time = time.Unix(0, 1<<63-1).Add(1) }, capkit.ErrTimeOutOfRange},
+	} {
+		wrong, good := packet(arp()), packet(arp())
+		change.of(&wrong)
+		var out bytes.Buffer
+		writer := capkit.NewWriter(&out, capkit.Pcapng)
+		if err := writer.Write(wrong); !errors.Is(err, change.want) {
+			t.Error(err)
+		}
+		count, err := writer.WriteAll([]capkit.Packet{good, good, wrong, good})
+		if count != 2 || !errors.Is(err, change.want) || !bytes.Equal(out.Bytes(), written(capkit.Pcapng, good, good)) {
+			t.Error(count, err)
+		}
+	}
+	// What is as long as can be, in each way.
+	most := packet(make([]byte, 1<<20-32-65544))
+	most.Comment, most.InterfaceName = string(bytes.Repeat([]byte("c"), 65535)), string(bytes.Repeat([]byte("n"), 255))
+	most.Time = time.Unix(0, 1<<63-1).UTC()
+	got, err := read(of(written(capkit.Pcapng, most)))
+	if err != io.EOF || !reflect.DeepEqual(got, []capkit.Packet{most}) {
+		t.Error(len(got), err)
+	}
+}
+
+// budget is an output that takes so many bytes in all.
+type budget struct {
+	part
+	limit int
+}
+
+func (b *budget) Write(units []byte) (int, error) {
+	b.most = b.limit - b.Len()
+	return b.part.Write(units)
+}
+
+// Of an output that fails in the middle of many packets, the count and the bytes are known.
+func TestAnOutputThatTakesAPartOfMany(t *testing.T) {
+	_, packets := capture100()
+	whole, full := written(capkit.Pcapng, packets...), errors.New("full")
+	random := rand.New(rand.NewSource(2))
+	for round := 0; round < 100; round++ {
+		out := &budget{part{err: full}, random.Intn(len(whole))}
+		if round%2 == 1 {
+			out.err = nil
+		}
+		writer := capkit.NewWriter(out, capkit.Pcapng)
+		count, err := writer.WriteAll(packets)
+		if err == nil || writer.Write(packets[0]) != err || writer.Close() != err || !bytes.HasPrefix(whole, out.Bytes()) {
+			t.Fatal(count, err, out.Len())
+		}
+		end := len(written(capkit.Pcapng, packets[:count]...))
+		if next := len(written(capkit.Pcapng, packets[:count+1]...)); count > 0 && out.Len() < end || out.Len() >= next {
+			t.Error(count, out.Len(), end, next)
+		}
+		if again, err := writer.WriteAll(packets); again != 0 || err == nil {
+			t.Error(again, err)
+		}
+	}
+	if count, err := capkit.NewWriter(io.Discard, capkit.Pcap).WriteAll(nil); count != 0 || err != nil {
+		t.Error(count, err)
+	}
+}

@@ -5,6 +5,7 @@ import "C"
 
 import (
 	"io"
+	"math"
 	"os"
 	"time"
 )
@@ -19,8 +20,14 @@ const (
 	PcapNanoseconds
 )
 
-// mostUnits is how many bytes the units of a packet have at most: a section, an interface, and its own.
-const mostUnits = C.CAPKIT_SECTION_SIZE + C.CAPKIT_MOST_INTERFACE_SIZE + C.CAPKIT_MOST_UNIT
+const (
+	// mostUnits is how many bytes the units of a packet have at most: a section, an interface, and its own.
+	mostUnits = C.CAPKIT_SECTION_SIZE + C.CAPKIT_MOST_INTERFACE_SIZE + C.CAPKIT_MOST_UNIT
+	// besides is how many of these aren't its own bytes and comment.
+	besides = C.CAPKIT_SECTION_SIZE + C.CAPKIT_MOST_INTERFACE_SIZE + 64
+	// mostStaged is how many packets are put by one call, and enoughStaged after how many bytes none is added.
+	mostStaged, enoughStaged = 64, 1 << 16
+)
 
 // Writer writes packets to a capture, the same bytes as capkit(1) writes. It is for one goroutine at a
 // time.
@@ -29,12 +36,14 @@ type Writer struct {
 	isWritten  bool // whether a packet was written
 	state      C.struct_put_writer
 	interfaces []C.struct_capkit_interface // that are written of a pcapng file
-	buffer     []byte
-	length     C.size_t // how many bytes of the buffer are units
+	staged     []C.struct_put_packet       // packets that are put by one call,
+	bytes      []byte                      // what they have, if they are many,
+	number     C.size_t                    // and how many of them were put
+	buffer     []byte                      // where their units are
 	failure    error
 }
 
-// NewWriter writes nothing yet: the file's header is written with the first packet. Each packet is one
+// NewWriter writes nothing yet: the file's header is written with the first packet. Each Write is one
 // call of out.Write, so an out that is a file is best a bufio.Writer.
 func NewWriter(out io.Writer, format Format) *Writer {
 	w := &Writer{out: out, buffer: make([]byte, 2048)}
@@ -59,14 +68,41 @@ func (w *Writer) Write(packet Packet) error {
 	if w.failure != nil {
 		return w.failure
 	}
-	if packet.Time.Before(time.Unix(0, 0)) || packet.Time.After(time.Unix(0, 1<<63-1)) {
-		return &WriteError{ErrTimeOutOfRange}
-	}
-	if put := w.units(&packet); put != C.CAPKIT_WRITTEN {
+	w.staged = append(w.staged[:0], staged(&packet, len(packet.Data)))
+	w.makeRoom(1, len(packet.Data)+len(packet.Comment))
+	put := C.put_packet(&w.state, &w.interfaces[0], C.size_t(len(w.interfaces)), &w.staged[0],
+		(*C.uint8_t)(start(packet.Data)), packet.InterfaceName, packet.Comment,
+		(*C.uint8_t)(start(w.buffer)), C.size_t(len(w.buffer)))
+	if put != C.CAPKIT_WRITTEN {
 		return &WriteError{Code(put)}
 	}
-	w.isWritten = true
-	return w.put()
+	_, err := w.put(int(w.staged[0].end))
+	return err
+}
+
+// WriteAll appends packets as Write does one by one, but faster: up to 64 are one call of the library, and
+// one of out.Write. It returns how many were written, and why the one after them wasn't. If the output
+// failed, it has these, and of the bytes after them as many as it took.
+func (w *Writer) WriteAll(packets []Packet) (written int, err error) {
+	for written < len(packets) && err == nil {
+		if w.failure != nil {
+			return written, w.failure
+		}
+		w.stage(packets[written:])
+		w.makeRoom(len(w.staged), len(w.bytes))
+		put := C.put_packets(&w.state, &w.interfaces[0], C.size_t(len(w.interfaces)), &w.staged[0],
+			C.size_t(len(w.staged)), (*C.uint8_t)(start(w.bytes)), (*C.uint8_t)(start(w.buffer)),
+			C.size_t(len(w.buffer)), &w.number)
+		if w.number > 0 {
+			length := 0
+			length, err = w.put(int(w.staged[w.number-1].end))
+			written += w.whole(length)
+		}
+		if err == nil && put != C.CAPKIT_WRITTEN && (put != C.CAPKIT_NO_ROOM_IN_BUFFER || w.number == 0) {
+			err = &WriteError{Code(put)}
+		}
+	}
+	return written, err
 }
 
 // Close writes the file's header where there was no packet. It neither flushes nor closes the output.
@@ -75,8 +111,7 @@ func (w *Writer) Close() error {
 		return nil
 	}
 	if w.failure == nil && !w.isWritten {
-		C.put_header(&w.state, (*C.uint8_t)(start(w.buffer)), C.size_t(len(w.buffer)), &w.length)
-		w.put()
+		w.put(int(C.put_header(&w.state, (*C.uint8_t)(start(w.buffer)), C.size_t(len(w.buffer)))))
 	}
 	if w.failure != nil {
 		return w.failure
@@ -85,34 +120,84 @@ func (w *Writer) Close() error {
 	return nil
 }
 
-// units puts the units of a packet into the buffer.
-func (w *Writer) units(packet *Packet) C.uint32_t {
-	if len(w.interfaces) == int(w.state.pcapng.interfaces) {
-		w.interfaces = append(w.interfaces, C.struct_capkit_interface{})
+// first is the beginning of a text that is refused if it is longer than most, which shows by its beginning.
+func first(text string, most int) string {
+	if len(text) > most {
+		return text[:most+1]
 	}
-	for {
-		put := C.put_units(&w.state, &w.interfaces[0], C.size_t(len(w.interfaces)),
-			C.uint64_t(packet.Time.UnixNano()), C.uint32_t(packet.original()),
-			C.uint32_t(packet.SnapLength), C.uint16_t(packet.LinkType), packet.InterfaceName,
-			(*C.uint8_t)(start(packet.Data)), C.size_t(len(packet.Data)), packet.Comment,
-			(*C.uint8_t)(start(w.buffer)), C.size_t(len(w.buffer)), &w.length)
-		if put != C.CAPKIT_NO_ROOM_IN_BUFFER || len(w.buffer) == mostUnits {
-			return put
+	return text
+}
+
+// stage puts packets, one at least, to where one call of the library finds them.
+func (w *Writer) stage(packets []Packet) {
+	w.staged, w.bytes = w.staged[:0], w.bytes[:0]
+	for i := range packets {
+		if i == mostStaged || len(w.bytes) >= enoughStaged {
+			break
 		}
-		w.buffer = make([]byte, mostUnits)
+		it := &packets[i]
+		data, name, comment := it.Data, first(it.InterfaceName, math.MaxUint8), first(it.Comment, math.MaxUint16)
+		if len(data) > C.CAPKIT_MOST_UNIT {
+			data = data[:C.CAPKIT_MOST_UNIT+1] // which is refused as well
+		}
+		one := staged(it, len(data))
+		one.name_length, one.comment_length = C.size_t(len(name)), C.size_t(len(comment))
+		w.staged = append(w.staged, one)
+		w.bytes = append(append(append(w.bytes, data...), name...), comment...)
 	}
 }
 
-// put writes the units of the buffer.
-func (w *Writer) put() error {
+// staged is what counts of a packet besides its bytes and texts.
+func staged(packet *Packet, captured int) C.struct_put_packet {
+	return C.struct_put_packet{
+		time: C.uint64_t(nanoseconds(packet.Time)), captured: C.size_t(captured),
+		original: C.uint32_t(packet.original()), snap: C.uint32_t(packet.SnapLength),
+		link_type: C.uint16_t(packet.LinkType),
+	}
+}
+
+// nanoseconds is a time since 1970, or one that is refused.
+func nanoseconds(it time.Time) uint64 {
+	since := it.UnixNano() // which wraps around
+	if since < 0 || it.Unix() != since/int64(time.Second) {
+		return math.MaxUint64
+	}
+	return uint64(since)
+}
+
+// makeRoom makes room for the interfaces and the units of packets: always enough for the first one.
+func (w *Writer) makeRoom(count, length int) {
+	for len(w.interfaces) < int(w.state.pcapng.interfaces)+count {
+		w.interfaces = append(w.interfaces, C.struct_capkit_interface{})
+	}
+	room := length + count*besides
+	if room > mostUnits {
+		room = mostUnits
+	}
+	if len(w.buffer) < room {
+		w.buffer = make([]byte, room)
+	}
+}
+
+// put writes so many bytes of the buffer, and returns how many the output took.
+func (w *Writer) put(length int) (count int, err error) {
 	if w.out == nil {
 		w.failure = os.ErrInvalid
-		return w.failure
+		return 0, w.failure
 	}
-	count, err := w.out.Write(w.buffer[:w.length])
-	if err == nil && count != int(w.length) {
+	w.isWritten = true
+	count, err = w.out.Write(w.buffer[:length])
+	if err == nil && count != length {
 		err = io.ErrShortWrite
 	}
 	w.failure = err
-	return err
+	return count, err
+}
+
+// whole is how many packets have all their units in the first bytes of the buffer.
+func (w *Writer) whole(length int) (count int) {
+	for count < int(w.number) && int(w.staged[count].end) <= length {
+		count++
+	}
+	return count
 }
