@@ -61,7 +61,7 @@ check_python() {
         chmod +x "$packages/python-$example"
     done
     if have mypy; then
-        mypy --strict --no-error-summary python/src/capkit || wrong 'Python: types'
+        MYPYPATH=python/src mypy --strict --no-error-summary python/src/capkit python/tests/typed.py || wrong 'Python: types'
     fi
 }
 remove_python() {

@@ -81,5 +81,6 @@ described same libs "$needs" 'filter expressions and captures in memory (shared 
     pack "$shared" "$architecture"
 described same libdevel "libcapkit0 (= $version)" 'filter expressions and captures in memory (development files)' |
     pack "$dev" "$architecture"
-described no python "python3 (>= 3.9), libcapkit0 (>= $release)" \
+# libcapkit_batch.so calls nothing of the C library that libcapkit0 doesn't.
+described no python "python3 (>= 3.9), libcapkit0 (>= $release), $needs" \
     'filter expressions and captures (package for Python 3)' | pack "$python" "$architecture"

@@ -14,6 +14,7 @@ import resource
 import shutil
 import signal
 import socket
+import struct
 import sys
 import tempfile
 import threading
@@ -449,6 +450,89 @@ def again(call, *arguments):
         with contextlib.suppress(OSError):
             return call(*arguments)
     raise AssertionError("no end")
+
+
+def block(kind, *body):
+    body = b"".join(body)
+    size = struct.pack("<I", len(body) + 12)
+    return struct.pack("<I", kind) + size + body + size
+
+
+def interface(*options, link_type=1):
+    return block(1, struct.pack("<HHI", link_type, 0, 0), *options)
+
+
+def enhanced(number, data, time=10**15):
+    numbers = struct.pack("<IIIII", number, time >> 32, time & 0xFFFFFFFF, len(data), len(data))
+    return block(6, numbers, data, bytes(-len(data) % 4))
+
+
+BAD_RESOLUTION = struct.pack("<HHBxxx", 9, 1, 0xFF)
+BAD_OPTION = struct.pack("<HH", 2, 60000)
+
+
+class SkipTest(FolderTest):
+    def equal(self, capture, want, skipped, expression=None):
+        """What is read past odd units, in whole and in pieces."""
+        self.path.write_bytes(capture)
+        pieces = Pieces(capture[at : at + 5] for at in range(0, len(capture), 5))
+        for source in (capture, self.path, pieces):
+            packets = capkit.packets(source, expression, skip=True)
+            self.assertEqual([p.data for p in packets], want)
+            self.assertEqual(packets.skipped, skipped)
+        with capkit.Capture(self.path, skip=True) as again:
+            for _ in range(2):
+                self.assertEqual(len(list(again.matching(expression))), len(want))
+                self.assertEqual(again.skipped, skipped)
+
+    def test_records_with_odd_times(self):
+        chance = random.Random(8)
+        records = [packet(bytes([number]) * 50) for number in range(200)]
+        capture, want = bytearray(written(records, "pcap")), []
+        for number, record in enumerate(records):
+            if chance.random() < 0.3:
+                struct.pack_into("<I", capture, 24 + 66 * number + 4, 1000000 + chance.randrange(1 << 30))
+            else:
+                want.append(record.data)
+        capture = bytes(capture)
+        self.equal(capture, want, 200 - len(want))
+        with self.assertRaisesRegex(capkit.CaptureError, "time out of range"):
+            list(capkit.packets(capture))
+        # The packets before a fault are read with the same option.
+        self.path.write_bytes(capture + b"\xff" * 16)
+        with self.assertRaisesRegex(capkit.CaptureError, "too long") as caught:
+            list(capkit.packets(self.path, skip=True))
+        for each in (caught.exception, pickle.loads(pickle.dumps(caught.exception))):
+            self.assertEqual([p.data for p in each.packets], want)
+            self.assertEqual(each.packets.skipped, 200 - len(want))
+
+    def test_interfaces_with_odd_options(self):
+        for odd in (BAD_RESOLUTION, BAD_OPTION):
+            blocks = [written([])[:28], interface(), interface(odd), interface(), enhanced(1, b"left out"),
+                      enhanced(2, b"second"), enhanced(1, b"left out"), enhanced(0, b"first")]  # fmt: skip
+            self.equal(b"".join(blocks), [b"second", b"first"], 3)
+
+    def test_a_file_header_with_an_odd_link_type(self):
+        capture = bytearray(written([packet(), packet(UDP)], "pcap"))
+        capture[23] |= 0x08
+        self.equal(bytes(capture), [packet().data, UDP], 1)
+
+    def test_packets_of_link_types_that_are_not_filtered(self):
+        links = [packet(UDP), packet(UDP, link_type=276), packet(UDP), packet(), packet(link_type=0)]
+        self.equal(written(links * 100), [UDP] * 200, 200, "udp")
+        self.equal(written(links[1:2] * 300), [], 300, "udp")
+        self.equal(written(links), [p.data for p in links], 0)
+
+    def test_other_faults_end_a_capture(self):
+        data, fault = damaged()
+        for source in (data, data[: fault - 20], data[: fault + 20], b"some text", b""):
+            with self.assertRaises(capkit.CaptureError) as without:
+                list(capkit.packets(source))
+            with self.assertRaises(capkit.CaptureError) as caught:
+                list(capkit.packets(source, skip=True))
+            self.assertEqual(str(caught.exception), str(without.exception))
+        with self.assertRaisesRegex(capkit.CompileError, "unknown word"):
+            list(capkit.packets(data, "prt", skip=True))
 
 
 class OutputsTest(FolderTest):

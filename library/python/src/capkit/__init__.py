@@ -9,8 +9,8 @@ for it; expressions are compiled for LINK_ETHERNET, LINK_RAW and LINK_COOKED.
 from .errors import CaptureError, Check, CompileError, ListingError, ProgramError, Rule, Status
 from .errors import WriteError
 from .filters import Elsewhere, Expression, Filter, Instruction, Step, explain
-from .reading import Capture, Packet, packets
-from .writing import Writer
+from .reading import Capture, Packet, PacketIterator, packets
+from .writing import Format, Writer
 
 __version__ = "0.1.0"
 
@@ -20,6 +20,7 @@ LINK_COOKED = 113
 
 __all__ = [
     "LINK_COOKED", "LINK_ETHERNET", "LINK_RAW", "Capture", "CaptureError", "Check",
-    "CompileError", "Elsewhere", "Expression", "Filter", "Instruction", "ListingError", "Packet",
-    "ProgramError", "Rule", "Status", "Step", "WriteError", "Writer", "explain", "packets",
+    "CompileError", "Elsewhere", "Expression", "Filter", "Format", "Instruction", "ListingError",
+    "Packet", "PacketIterator", "ProgramError", "Rule", "Status", "Step", "WriteError", "Writer",
+    "explain", "packets",
 ]  # fmt: skip

@@ -111,8 +111,9 @@ class ListingError(_Error):
 class CaptureError(_Error):
     """A capture ends with a fault: the unit at `offset` fails a check.
 
-    `fault` is a Check. `packets` are the packets before the fault, which are read from the file or the
-    bytes again; None if they came from a stream, such as a pipe.
+    `fault` is a Check. `packets` are the packets before the fault, which each loop reads from the bytes
+    or the file again; it raises OSError if the file is gone, or was replaced or changed. They are None
+    if they came from a stream: a pipe or an open file.
     """
 
     def __init__(self, fault: int, offset: int, packets: Optional[Capture]) -> None:

@@ -9,7 +9,7 @@ import threading
 from typing import Any, Dict, Generator, Iterator, NamedTuple, Optional, Tuple, Union
 
 from . import native
-from .errors import CaptureError, Check, CompileError
+from .errors import CaptureError, Check, CompileError, Status
 from .filters import Bytes, Expression, Filter
 from .sources import File, Path, Readable, Seen, Stream, opened
 
@@ -17,7 +17,11 @@ Source = Union[Path, Bytes, Readable]
 # What ended a loop: a check that failed and its offset, or that a filter can't be compiled.
 _Ending = Union[Tuple[int, int], CompileError, None]
 
-_PACKETS, _END = 0, 222
+_PACKETS, _END, _SKIPPED = 0, 222, 228
+# The checks of units whose lengths may be sound all the same.
+_OF_ODD_UNITS = {
+    Check.TIME_OUT_OF_RANGE, Check.BAD_OPTION, Check.BAD_TIME_RESOLUTION, Check.BAD_LINK_TYPE_FIELD
+}  # fmt: skip
 # What is read at once: what fits into a processor's cache is filtered twice as fast.
 _PIECE = 1 << 18
 # How many packets a call reads at most, and the fields of native.BatchPacket, but for its end.
@@ -62,8 +66,24 @@ class Packet(_Fields):
         ).rstrip("\n")
 
 
+class _Tally:
+    """How much a loop left out."""
+
+    __slots__ = ("skipped",)
+
+    def __init__(self) -> None:
+        self.skipped = 0
+
+
 class PacketIterator(itertools.chain[Packet]):
     """The packets of one loop over a capture, for one thread at a time."""
+
+    _tally: _Tally
+
+    @property
+    def skipped(self) -> int:
+        """How many units and packets were left out so far; see `skip` of Capture."""
+        return self._tally.skipped
 
 
 class Capture:
@@ -79,12 +99,16 @@ class Capture:
     a file that the capture opened. Another loop opens it again, and raises OSError if it is gone or
     was replaced or changed.
 
+    With `skip` a loop goes past a unit that is refused for its time, link type or options if its lengths
+    are sound, and past packets of a link type that isn't filtered, and counts them in `skipped`.
+
     It is a context manager, and closes a file that it opened. Threads may share a capture of a path
     or of bytes, each with a loop of its own; one of an open file or a pipe is for one thread.
     """
 
-    def __init__(self, source: Source) -> None:
+    def __init__(self, source: Source, skip: bool = False) -> None:
         """Raises OSError if the file can't be opened."""
+        self._skip, self._tally = skip, _Tally()
         self._file: Union[File, Stream, None] = None
         self._bytes = b""
         # Where it ends, if that isn't the end of the file or the bytes.
@@ -116,9 +140,10 @@ class Capture:
 
     def __reduce__(self) -> Tuple[Any, ...]:
         if isinstance(self._file, Stream):
-            return Capture, (self._source,)
-        where, seen, limit = self._known()
-        return _again, (where if seen else where[:limit], seen, limit)
+            return Capture, (self._source, self._skip)
+        where, seen = self._known()
+        limit = self._limit
+        return _again, (where if seen else where[:limit], seen, limit, self._skip)
 
     def __iter__(self) -> PacketIterator:
         return self.matching(None)
@@ -127,22 +152,31 @@ class Capture:
         """The packets that match; CompileError if one has a link type that isn't filtered."""
         if isinstance(expression, str):
             expression = Expression(expression)
-        packets: Any = PacketIterator.from_iterable(self._batches(expression))
+        self._tally = tally = _Tally()
+        packets: Any = PacketIterator.from_iterable(self._batches(expression, tally))
+        packets._tally = tally
         return packets  # type: ignore[no-any-return]
 
-    def _known(self) -> Tuple[Union[str, bytes], Optional[Seen], Optional[int]]:
+    @property
+    def skipped(self) -> int:
+        """How many units and packets the loop that began last left out so far."""
+        return self._tally.skipped
+
+    def _known(self) -> Tuple[Union[str, bytes], Optional[Seen]]:
         """What it is made again of."""
         if isinstance(self._file, File):
-            return self._file.path, self._file.seen(), self._limit
-        return self._bytes, None, self._limit
+            return self._file.path, self._file.seen()
+        return self._bytes, None
 
-    def _batches(self, expression: Optional[Expression]) -> Iterator[Iterator[Packet]]:
+    def _batches(
+        self, expression: Optional[Expression], tally: _Tally
+    ) -> Iterator[Iterator[Packet]]:
         """The packets, and what reads more bytes before them.
 
         An error is raised here, when the buffer of the loop is gone and its file closed, since one that
         is kept keeps what its traceback names.
         """
-        ending = yield from self._read(expression)
+        ending = yield from self._read(expression, tally)
         if ending is None:
             return
         try:
@@ -153,22 +187,25 @@ class Capture:
     def _fault(self, fault: int, offset: int) -> CaptureError:
         if isinstance(self._file, Stream):
             return CaptureError(fault, offset, None)
-        where, seen, _ = self._known()
-        return CaptureError(fault, offset, _again(where, seen, offset))
+        return CaptureError(fault, offset, _again(*self._known(), offset, self._skip))
 
     def _read(
-        self, expression: Optional[Expression]
+        self, expression: Optional[Expression], tally: _Tally
     ) -> Generator[Iterator[Packet], None, _Ending]:
         """The same, and what ended the loop."""
         file, has_failed = self._file, True
-        loop = _Loop(file, self._bytes, self._limit, expression)
+        loop = _Loop(file, self._bytes, self._limit, expression, tally if self._skip else None)
         if file is not None:
             file.begin()
         try:
             while self._limit != 0:
                 found = loop.read()
+                if self._skip and found in _OF_ODD_UNITS:
+                    found = loop.skip()
                 if found == _PACKETS:
                     yield loop.packets()
+                elif found == _SKIPPED:
+                    tally.skipped += 1
                 elif loop.needs_more(found):
                     # This calls it until it returns, whatever it raised before.
                     yield iter(loop.fill, None)
@@ -193,9 +230,10 @@ class _Loop:
 
     def __init__(
         self, file: Union[File, Stream, None], memory: bytes, limit: Optional[int],
-        expression: Optional[Expression],
+        expression: Optional[Expression], tally: Optional[_Tally],
     ) -> None:  # fmt: skip
-        self._file, self._limit, self._expression = file, limit, expression
+        """Counts packets that aren't filtered in a tally, or ends at the first one if there is none."""
+        self._file, self._limit, self._expression, self._tally = file, limit, expression, tally
         self._buffer: Any = memory
         # How many bytes it has, where in the capture they begin, and whether they are the last ones.
         self._size, self._base, self._is_whole = len(memory), 0, file is None
@@ -229,9 +267,18 @@ class _Loop:
             c.byref(self._reader), self._table, self._buffer, self._size, insns, count,
             self._link_type, self._batch, _BATCH, c.byref(self._count),
         )  # fmt: skip
-        if found == _PACKETS:
-            self._link_type = self._batch[self._count.value - 1].packet.link_type
+        if found == _PACKETS and self._expression is not None:
+            last = self._batch[self._count.value - 1].packet.link_type
+            if last != self._link_type and isinstance(self._program(last), Filter):
+                self._link_type = last
         return found
+
+    def skip(self) -> int:
+        """What the call that goes past the next unit returns."""
+        most = native.MOST_INTERFACES
+        reader, table = c.byref(self._reader), self._table
+        skipped: int = native.skip(reader, table, most, self._buffer, self._size)
+        return skipped
 
     def needs_more(self, found: int) -> bool:
         """Whether a result may be another one if more bytes come, as they may."""
@@ -277,8 +324,11 @@ class _Loop:
             if expression is not None and link != judged:
                 program = self._program(link)
                 if isinstance(program, CompileError):
-                    self.ending = program
-                    return
+                    if self._tally is None or program.status != Status.LINK_TYPE:
+                        self.ending = program
+                        return
+                    self._tally.skipped += 1
+                    continue
                 if not program.matches(data, original):
                     continue
             if number not in names:
@@ -311,18 +361,20 @@ class _Loop:
         return text.raw[:count]
 
 
-def _again(where: Union[str, bytes], seen: Optional[Seen], limit: Optional[int]) -> Capture:
-    """A capture of bytes or a file that was read, up to a limit; its file isn't opened yet."""
-    capture = Capture.__new__(Capture)
+def _again(
+    where: Union[str, bytes], seen: Optional[Seen], limit: Optional[int], skip: bool
+) -> Capture:
+    """A capture of bytes, or of a file that was seen, up to a limit; its file isn't opened yet."""
+    capture = Capture(where if isinstance(where, bytes) else b"", skip)
     capture._source, capture._limit = where, limit
-    capture._bytes = where if isinstance(where, bytes) else b""
-    capture._file = None
     if isinstance(where, str):
         assert seen is not None
         capture._file = File(where, None, seen)
     return capture
 
 
-def packets(source: Source, expression: Union[str, Expression, None] = None) -> PacketIterator:
+def packets(
+    source: Source, expression: Union[str, Expression, None] = None, skip: bool = False
+) -> PacketIterator:
     """The packets of a capture, one after another, or those that match an expression; see Capture."""
-    return Capture(source).matching(expression)
+    return Capture(source, skip).matching(expression)
