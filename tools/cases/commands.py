@@ -1,6 +1,8 @@
 """What capkit's commands write and report, as the pages define it: from whole lists of packets, never packet by packet."""
 
 import dataclasses
+import datetime
+import getopt
 import hashlib
 
 import filters
@@ -39,7 +41,6 @@ def failed(pieces, name, fault):
 def time_of(text):
     """A time or a span in nanoseconds: seconds since 1970 with a point, or a date."""
     if text.endswith("Z"):
-        import datetime
         day, _, fraction = text[:-1].partition(".")
         since = datetime.datetime.fromisoformat(day) - datetime.datetime(1970, 1, 1)
         return (since.days * 86_400 + since.seconds) * SECOND + int(fraction.ljust(9, "0"))
@@ -50,22 +51,31 @@ def time_of(text):
 class Words:
     """The options of a command line and its other words."""
 
-    def __init__(self, words, flags, valued):
-        self.options, self.rest = {}, []
-        words = iter(words)
-        for word in words:
-            if word in flags:
-                self.options[word] = True
-            elif word in valued:
-                self.options[word] = next(words)
-            else:
-                self.rest.append(word)
+    def __init__(self, words, short, long=()):
+        options, self.rest = getopt.gnu_getopt(words, short, [f"{name}=" for name in long])
+        self.options = dict(options)
 
     def number(self, name):
         return int(self.options[name]) if name in self.options else None
 
     def time(self, name):
         return time_of(self.options[name]) if name in self.options else None
+
+
+PRINT = ["print", "-w", "out", "--format", "pcap", "in"]
+
+
+def is_decided(case):
+    """Whether the rules here decide what comes of a case: they don't know why words, expressions and listings are refused, nor
+    what `compile` writes."""
+    return not (case.kind == "usage" or case.words[0] == "compile" or case.compiled or case.status == 2)
+
+
+def outcome_of(case, data=None):
+    """The outcome of a case, or of it with another input."""
+    data = case.input if data is None else data
+    words = PRINT + case.words if case.kind == "filter" else case.words
+    return run(words, lambda name: case.files.get(name, data), case.files.get("code", case.listing))
 
 
 def run(words, file_of, listing=b""):
@@ -98,7 +108,7 @@ def end_of(capture, name):
 
 def edit(words, file_of, _listing):
     """Edits one capture: selects by number and time, cuts, shifts, and leaves out what was there before."""
-    words = Words(words, {"-r"}, {"-A", "-B", "--chop-start", "--chop-end", "-s", "--later", "--earlier", "-D", "-F"})
+    words = Words(words, "rA:B:s:D:F:", ["chop-start", "chop-end", "later", "earlier"])
     name, _, *ranges = words.rest
     capture = Capture(file_of(name))
     ranges = [(int(first), int(last or first)) for first, _, last in (text.partition("-") for text in ranges)]
@@ -135,7 +145,7 @@ def unique(window, packets):
 
 
 def merge(words, file_of, _listing):
-    words = Words(words, {"-a"}, {"-F", "-w"})
+    words = Words(words, "aF:w:")
     names = words.rest
     captures = [Capture(file_of(name)) for name in names]
     ordered, end = (appended if "-a" in words.options else merged)(names, captures)
@@ -184,12 +194,9 @@ def infos(words, file_of, _listing):
 
 
 def print_(words, file_of, listing):
-    words = Words(words, {"-e", "-x"}, {"-c", "-w", "--format", "--code"})
+    words = Words(words, "exc:w:", ["format", "code"])
     name, *expression = words.rest
-    try:
-        tree = filters.tree_of(" ".join(expression))
-    except filters.Unread as error:
-        return Outcome([], f"capkit: expression: {error}\n", 2)
+    tree = filters.tree_of(" ".join(expression))
     capture, passed = Capture(file_of(name)), []
     program = machine.program_of(listing) if "--code" in words.options else None
     end = end_of(capture, name)

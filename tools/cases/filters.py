@@ -1,11 +1,13 @@
 """Expressions, read and evaluated as docs/FILTER.md defines them."""
 
 import re
+import sys
 
 from printing import COOKED, ETHERNET, NETWORK, RAW, TYPES, big
 
-KEYWORDS = set("and or not host net port portrange proto src dst ether ip ip6 arp rarp tcp udp icmp icmp6 mask len less greater "
-               "broadcast multicast".split())
+# A chain of thousands of operands is as deep a tree.
+sys.setrecursionlimit(50_000)
+
 NAMES = {"tcpflags": 13, "tcp-fin": 1, "tcp-syn": 2, "tcp-rst": 4, "tcp-push": 8, "tcp-ack": 16, "tcp-urg": 32, "icmptype": 0, "icmpcode": 1}
 SIGNS = {"&&": "and", "||": "or", "!": "not", "==": "="}
 ETHERTYPES = {name.lower(): number for number, name in TYPES.items()}

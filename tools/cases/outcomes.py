@@ -24,19 +24,13 @@ def block_of(lines, cases, names):
     if all(line.partition(" ")[0] in (*NAMING, "#", "given") for line in lines):
         return "\n".join(lines)
     case = next(cases)
-    if case.words[0] == "compile":
+    if not commands.is_decided(case):
         return "\n".join(lines)
+    outcome = commands.outcome_of(case)
     kept = [line for line in lines if line.partition(" ")[0] not in STATED]
     sweeps = [line for line in kept if line.startswith("sweep ")]
-    outcome = outcome_of(case)
     front = [line for line in kept if line not in sweeps]
     return "\n".join(front + expected(case.words, outcome, names) + sweeps + [line for sweep in sweeps for line in swept(case, outcome, sweep.split()[1:])])
-
-
-def outcome_of(case, data=None):
-    """What comes of a case, or of it with another input."""
-    data = case.input if data is None else data
-    return commands.run(case.words, lambda name: case.files.get(name, data), case.listing)
 
 
 def swept(case, outcome, sweep):
@@ -58,7 +52,7 @@ def prefixes(case):
     """Where each prefix of the input is cut, or ends cleanly, and how much is written then."""
     places, ends = {}, []
     for size in range(len(case.input) + 1):
-        outcome = outcome_of(case, case.input[:size])
+        outcome = commands.outcome_of(case, case.input[:size])
         if outcome.status:
             offset, text = outcome.messages.split(": ")[2:]
             assert text == ("truncated\n" if size >= 4 else "not a capture file\n")
@@ -83,7 +77,7 @@ def numbered(data, place, size):
 
 def meets(case, inputs):
     """How many of the inputs are refused with each message."""
-    counts = collections.Counter(outcome_of(case, data).messages for data in inputs)
+    counts = collections.Counter(commands.outcome_of(case, data).messages for data in inputs)
     offset = lambda item: (int(item[0].split(": ")[2].split()[1]), item[0])
     refused = [(message, count) for message, count in counts.items() if message]
     return [f"meets {count} {message.removeprefix('capkit: ').rstrip()}" for message, count in sorted(refused, key=offset)]
