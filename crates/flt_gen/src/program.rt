@@ -11,10 +11,14 @@ use crate::walk::Walk;
 use cap_octet::Link;
 use flt_ast::{Checked, Node};
 use flt_bpf::Wide;
-use flt_bpf::operation::Operation;
+use flt_bpf::operation::{Operation, decode};
 use flt_bpf::program::{Program, check};
 use flt_short::{laid_out, shortened, threaded};
 use std::alloc::{AllocError, Allocator};
+
+/// The most loads at fixed places, after the first round, of code that isn't optimised again. A list
+/// of IPv4 addresses or ports has fewer, a chain of 16 conjunctions has more.
+const FEW_LOADS: usize = 16;
 
 /// `laid_out` takes fewer than 2^30 instructions. A checked expression never has as many (its bound
 /// is at most 32,768), so the error for it is never returned.
@@ -41,6 +45,20 @@ fn has_index_copy(insns: &[Wide]) -> bool {
     for insn in insns {
         if insn.code == Operation::CopyToIndex.code() {
             return true;
+        }
+    }
+    false
+}
+
+/// Whether code has more than `FEW_LOADS` loads at fixed places.
+fn has_many_loads(insns: &[Wide]) -> bool {
+    let mut left = FEW_LOADS;
+    for insn in insns {
+        if let Some(Operation::LoadAbsolute(_)) = decode(insn.code) {
+            if left == 0 {
+                return true;
+            }
+            left -= 1;
         }
     }
     false
@@ -85,11 +103,12 @@ pub fn generate<A: Allocator + Clone, B: Allocator>(
     let nodes = folded_nodes(alloc.clone()?, expr.expr.nodes())?;
     let code = wide_code(alloc.clone()?, &nodes, link)?;
     // A load at X becomes a load at a fixed place in the first round if X is a constant. A walk of
-    // the second round can pass it. `has_index_copy` needs no clause: a mistake would only cost
-    // length or time.
+    // the second round can pass it, and comes further where the first one came to its end.
+    // `has_index_copy` and `has_many_loads` need no clause: a mistake would only cost length or time.
     let copies_to_index = has_index_copy(&code);
     let once = optimised(alloc.clone()?, code, true)?;
-    let short = optimised(alloc.clone()?, once, copies_to_index)?;
+    let is_wanted = copies_to_index || has_many_loads(&once);
+    let short = optimised(alloc.clone()?, once, is_wanted)?;
     if short.len() >= TOO_MANY {
         return Err(AllocError);
     }
