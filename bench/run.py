@@ -43,6 +43,12 @@ def network(prefix):
     return f"{ipaddress.IPv4Address(chooser.randrange(1 << 24, 224 << 24) >> 32 - prefix << 32 - prefix)}/{prefix}"
 
 
+def flow():
+    """The packets from one host to another."""
+    source, destination = (network(32)[:-3] for _ in range(2))
+    return f"(src host {source} and dst host {destination})"
+
+
 EXPRESSIONS = {
     "tcp": "tcp",
     "web": "tcp port 80 or 443",
@@ -63,6 +69,8 @@ EXPRESSIONS = {
     "ip6-hosts-256": " or ".join(f"host 2001:db8::{k:x}" for k in range(256)),
     "ip6-hosts-64": " or ".join(f"host 2001:db8::{k:x}:0:{k:x}" for k in range(256)),
     "bytes-30": " or ".join(f"tcp[0:2] = {port}" for port in PORTS[::10]),
+    "flows-32": " or ".join(flow() for _ in range(32)),
+    "flows-100": " or ".join(flow() for _ in range(100)),
 }
 
 

@@ -1,5 +1,5 @@
 #!/usr/bin/env python3
-"""Filters random packets by random lists of hosts, networks, ports, protocols, MAC addresses and bytes.
+"""Filters random packets by random lists of hosts, networks, ports, protocols, MAC addresses, bytes and flows.
 
 usage: check_lists.py [--capkit PROGRAM] [COUNT [FIRST]]
 
@@ -36,6 +36,15 @@ KINDS = {
     "proto": (1, ["", "ip", "ip6"], ["proto"], {"ip": (9,), "ip6": (6,)}),
     "type": (2, ["ether"], ["proto"], {"typed": (-2,)}),
     "bytes": (2, ["tcp[0:2] =", "udp[0:2] ="], [""], {"ip": (0,)}),
+}
+# Members of several conditions, joined by and: their kinds, protocols, directions and types.
+JOINS = {
+    "flow": [("ip4", "", "src", "host"), ("ip4", "", "dst", "host")],
+    "service": [("ip4", "", "dst", "host"), ("port", "tcp", "dst", "port")],
+    "service of networks": [("ip4", "", "src", "net"), ("port", "udp", "dst", "portrange")],
+    "connection": [("ip4", "", "src", "host"), ("ip4", "", "dst", "host"), ("port", "tcp", "dst", "port")],
+    "both ports": [("port", "tcp", "src and dst", "port")],
+    "both ports of any protocol": [("port", "", "src and dst", "port")],
 }
 DIRECTIONS = ["", "", "", "src or dst", "dst or src", "src", "dst", "src and dst"]
 
@@ -116,6 +125,9 @@ class Maker(random.Random):
             types, count = self.choice(types).split() or [""], self.choice([left, self.randint(1, left)])
             protocol, direction = self.choice(protocols), self.choice(DIRECTIONS) if kind not in ("proto", "type", "bytes") else ""
             made = [self.member(kind, protocol, direction, self.choice(types)) for _ in range(count)]
+            if self.random() < 0.2:
+                parts = self.choice([*JOINS.values()])
+                made = [self.joined([self.member(*part) for part in parts], ["and"], [""]) for _ in range(count)]
             terms += self.choice([made, sorted(made, key=lambda it: it[2]), sorted(made, key=lambda it: -it[2])])
         terms = self.sample(terms, size) if self.random() < 0.3 else terms
         words = self.choice([(["or"], [""])] * 3 + [(["and"], ["not "]), (["or"] * 9 + ["and"], ["", "", "not "])])

@@ -16,8 +16,8 @@ pub use Rattle.flt_bpf.specs.declared.operation.Source.TheVariants.{Immediate, M
 pub use Rattle.flt_bpf.specs.inside.Flow.{goes_on_or_rejects}
 pub use Rattle.flt_bpf.proofs.{Checking.parts, Codes.back_of_code}
 pub use Rattle.flt_bpf.proofs.Both.{known_step, plain_both}
-pub use Rattle.flt_short.specs.declared.facts.{Field.Field, Held.Held, Known.Known}
+pub use Rattle.flt_short.specs.declared.facts.{Field.Field, Held.Held, IndexValue.IndexValue, Known.Known}
 pub use Rattle.flt_short.specs.inside.Alike.{goes_on, rejects, is_sure, goes_on_alike, are_copies, lands_at_if, lands_at, code_from, stands_at, stands, are_alike}
-pub use Rattle.flt_short.specs.inside.Facts.{same_optional, same_field, claims_nothing, Implies, JoinsClaims, same_held, common_header, IsOutcome, holds_field, masked_held, held_after, known_after, loaded, loaded_at, masked, value_of, IsThere, is_said, Says, HeldHolds, IndexHolds, Holds, HoldsAt, JoinsBy, JoinsFact, JoinsFacts, IsClaimAbout, Learns, Arrives}
+pub use Rattle.flt_short.specs.inside.Facts.{same_optional, same_index, same_load, same_field, claims_nothing, allows, Implies, JoinsClaims, same_held, common_index, IsOutcome, holds_field, masked_held, load_of, held_at, held_after, known_after, index_number, field_at, loaded, loaded_at, masked, value_of, IsThere, is_said, Says, HeldHolds, IndexHolds, Holds, HoldsAt, JoinsBy, JoinsFact, JoinsFacts, IsClaimAbout, LearnsEqual, Learns, Arrives}
 pub use Rattle.flt_short.specs.inside.Layout.{PlacedCode, place_at, with_offsets, with_test_by, with_insn, placed_code, laid_out, emitted, with_jump, with_noted_jump, jump_near, is_near, with_way, way}
-pub use Rattle.flt_short.specs.inside.Threads.{with_a, Passes, is_free_by, is_free, LeadsTo, Moves, Alike, IsThreaded, AreThreaded}
+pub use Rattle.flt_short.specs.inside.Threads.{with_a, IsDecided, Passes, is_free_by, is_free, LeadsTo, GoesOn, Moves, Alike, IsThreaded, AreThreaded}

@@ -1,9 +1,10 @@
 -- What is known holds of the packet and of the registers.
-use Rattle.flt_short.proofs.Common.{◌≡◌, ℕ, zero, suc, ◌+◌, ◌≤◌, List, [], ◌∷◌, length, true, false, Option, Some, None, sym, ap, ◌∙◌, subst, arith, ◌⊎◌, inl, inr, ◌==◌, if◌then◌else◌, slice_set, nat_tests, State, Operation, Insn, Next, Goes, does, goes_on_or_rejects, compute, Field, Held, Known, same_optional, same_field, claims_nothing, Implies, JoinsClaims, same_held, common_header, holds_field, known_after, masked_held, and_parts, loaded, masked, value_of, IsThere, is_said, Says, HeldHolds, IndexHolds, Holds, HoldsAt, JoinsBy, JoinsFact, JoinsFacts, Arrives}
-use Rattle.std.proofs.Common.{◌<◌, All, get_or, take}
+use Rattle.flt_short.proofs.Common.{◌≡◌, ℕ, zero, suc, ◌+◌, ◌≤◌, List, [], ◌∷◌, length, true, false, Option, Some, None, sym, ap, ◌∙◌, subst, arith, ◌⊎◌, inl, inr, ◌==◌, if◌then◌else◌, slice_set, nat_tests, State, Operation, Insn, Next, Goes, does, goes_on_or_rejects, compute, LoadIndirect, Field, Held, IndexValue, Known, same_optional, same_index, same_load, same_field, claims_nothing, allows, Implies, JoinsClaims, same_held, common_index, holds_field, known_after, masked_held, held_at, and_parts, field_at, index_number, loaded, loaded_at, masked, value_of, IsThere, is_said, Says, HeldHolds, IndexHolds, Holds, HoldsAt, LearnsEqual, Learns, Test, JumpIf, Constant, operand_value, test_holds, bit_and, not, Bool, refl, JoinsBy, JoinsFact, JoinsFacts, Arrives}
+use Rattle.std.proofs.Common.{◌<◌, ◌&&◌, ◌%◌, ◌^◌, All, get_or, take}
+use Rattle.std.proofs.Math.Bool.{not-not}
 use Rattle.std.proofs.lemmas.List.{take_more_set, take_all}
 use Rattle.std.proofs.lemmas.List.Elements.{All-set, All-push}
-use Rattle.flt_bpf.specs.{Instructions.operation_of, declared.operation.AluOperation.AluOperation}
+use Rattle.flt_bpf.specs.{Instructions.operation_of, Machine.field, declared.operation.AluOperation.AluOperation, declared.operation.Width.Width}
 use Rattle.flt_short.specs.declared.facts.Claim.{Claim}
 use Rattle.flt_short.specs.declared.facts.Fact.{Fact}
 use Rattle.flt_short.specs.declared.facts.Held.TheVariants as held
@@ -18,8 +19,23 @@ same_number v b e = grind (arith, nat_tests)
 pub same_masks : (a b : Option ℕ) → same_optional a b ≡ true → a ≡ b
 same_masks a b e = grind (arith, nat_tests)
 
+pub same_indexes : (x y : IndexValue) → same_index x y ≡ true → x ≡ y
+same_indexes x y e = grind (arith, nat_tests)
+
+same_loaded : (p : List ℕ) (n : ℕ) (f g : Field) → same_load f g ≡ true → loaded (operation_of f.code) p n f.index f.k ≡ loaded (operation_of g.code) p n g.index g.k
+same_loaded p n f g e =
+    let q = and_parts (f.code == g.code && f.k == g.k) (same_index f.index g.index) e in
+    let r = and_parts (f.code == g.code) (f.k == g.k) q.0 in
+    ap (λ c. loaded (operation_of c) p n f.index f.k) (numbers f.code g.code r.0) ∙ ap (λ x. loaded (operation_of g.code) p n x f.k) (same_indexes f.index g.index q.1) ∙ ap (loaded (operation_of g.code) p n g.index) (numbers f.k g.k r.1)
+
 pub same_value : (p : List ℕ) (n : ℕ) (f g : Field) → same_field f g ≡ true → value_of p n f ≡ value_of p n g
-same_value p n f g e = grind (arith, nat_tests, same_masks)
+same_value p n f g e =
+    let q = and_parts (same_load f g) (same_optional f.mask g.mask) e in
+    ap (λ m. masked m (loaded (operation_of f.code) p n f.index f.k)) (same_masks f.mask g.mask q.1) ∙ ap (masked g.mask) (same_loaded p n f g q.0)
+
+-- what a fact claims of its field
+pub claimed : (p : List ℕ) (n : ℕ) (x : Fact) (f : Field) (number : ℕ) → same_field x.field f ≡ true → Says p n x → value_of p n f ≡ Some number → allows x.claim number ≡ true
+claimed p n x f number same h is = sym (ap (is_said x.claim) (same_value p n x.field f same ∙ is)) ∙ h
 
 implied : (c d : Claim) (o : Option ℕ) → Implies c d → is_said c o ≡ true → is_said d o ≡ true
 implied c d None i h = i.1 h
@@ -54,22 +70,20 @@ held_there : (mask o : Option ℕ) (a : ℕ) → masked mask o ≡ Some a → (v
 held_there mask o a e = grind arith
 
 module _ (p : List ℕ) (len : ℕ) where
-  there_of : (f : Field) (code k v : ℕ) → value_of p len f ≡ Some v → f.code ≡ code → f.k ≡ k → IsThere p len code k
-  there_of f code k v is same_code same_k =
-      let t = held_there f.mask (loaded (operation_of f.code) p len f.k) v is in
-      (t.0, ap (λ m. loaded (operation_of m) p len k) (sym same_code) ∙ ap (loaded (operation_of f.code) p len) (sym same_k) ∙ t.1)
+  there_of : (f g : Field) (v : ℕ) → value_of p len f ≡ Some v → same_load f g ≡ true → IsThere p len g
+  there_of f g v is same =
+      let t = held_there f.mask (loaded (operation_of f.code) p len f.index f.k) v is in
+      (t.0, sym (same_loaded p len f g same) ∙ t.1)
 
-  pub there_by : (x : Fact) (code k : ℕ) → Says p len x → x.field.code ≡ code → x.field.k ≡ k → claims_nothing x.claim ≡ false → IsThere p len code k
-  there_by x code k h same_code same_k e =
+  pub there_by : (x : Fact) (g : Field) → Says p len x → same_load x.field g ≡ true → claims_nothing x.claim ≡ false → IsThere p len g
+  there_by x g h same e =
       let said = said_some x.claim (value_of p len x.field) e h in
-      there_of x.field code k said.0 said.1 same_code same_k
+      there_of x.field g said.0 said.1 same
 
-  pub field_there : (h : Held) (code k : ℕ) (s : State) → HeldHolds p len h s → holds_field h code k ≡ true → IsThere p len code k
-  field_there (held.Field f) code k s x e =
-      let q = and_parts (f.code == code) (f.k == k) e in
-      there_of f code k s.accumulator x (numbers f.code code q.0) (numbers f.k k q.1)
-  field_there held.Unreached code k s x e = absurd x
-  field_there _ code k s x e = cc
+  pub field_there : (h : Held) (g : Field) (s : State) → HeldHolds p len h s → holds_field h g ≡ true → IsThere p len g
+  field_there (held.Field f) g s x e = there_of f g s.accumulator x e
+  field_there held.Unreached g s x e = absurd x
+  field_there _ g s x e = cc
 
   -- A and X
   pub same_holds : (g h : Held) (s : State) → same_held g h ≡ true → HeldHolds p len h s → HeldHolds p len g s
@@ -78,8 +92,19 @@ module _ (p : List ℕ) (len : ℕ) where
   joins_held : (one other : Held) (s : State) → HeldHolds p len one s ⊎ HeldHolds p len other s → HeldHolds p len (if same_held one other then one else held.Unknown) s
   joins_held one other s h = grind (arith, same_holds)
 
-  joins_index : (a b : Option ℕ) (n : ℕ) → IndexHolds p a n ⊎ IndexHolds p b n → IndexHolds p (common_header a b) n
-  joins_index a b n h = grind (arith, same_masks)
+  joins_index : (a b : IndexValue) (n : ℕ) → IndexHolds p a n ⊎ IndexHolds p b n → IndexHolds p (common_index a b) n
+  joins_index a b n h = grind (arith, same_indexes)
+
+  -- a load at X puts the same into A by what is known of X
+  pub loaded_by : (x : IndexValue) (n k v : ℕ) (w : Width) → IndexHolds p x n → field_at p (index_number p x) k w ≡ Some v → field p ((n + k) % 2 ^ 32) w ≡ Some v
+  loaded_by IndexValue.Unknown n k v w h e = cc
+  loaded_by (IndexValue.HeaderLength m) n k v w h e = sym (ap (λ o. field_at p o k w) h) ∙ e
+  loaded_by (IndexValue.Number m) n k v w h e = sym (ap (λ o. field_at p o k w) h) ∙ e
+
+  pub loads_at : (x : IndexValue) (i : Insn) (w : Width) (v : ℕ) (s : State) → operation_of i.code ≡ Some (LoadIndirect w) → IndexHolds p x s.index → field p ((s.index + i.k) % 2 ^ 32) w ≡ Some v → HeldHolds p len (held_at x i) (record s { accumulator = v })
+  loads_at IndexValue.Unknown i w v s o h e = ap (λ op. loaded_at op p s.index i.k) o ∙ e
+  loads_at (IndexValue.HeaderLength m) i w v s o h e = ap (λ op. loaded op p len (IndexValue.HeaderLength m) i.k) o ∙ ap (λ x. field_at p x i.k w) h ∙ e
+  loads_at (IndexValue.Number m) i w v s o h e = ap (λ op. loaded op p len (IndexValue.Number m) i.k) o ∙ ap (λ x. field_at p x i.k w) h ∙ e
 
   joins_by : (h : Held) (k came new : Known) (s : State) → JoinsBy h k came new → (HeldHolds p len h s × Holds p len k s) ⊎ Holds p len came s → Holds p len new s
   joins_by held.Unreached k came new s e d = elim d [ inl x ↦ absurd x.0 | inr y ↦ subst (λ z. Holds p len z s) (sym e) y ]
@@ -102,7 +127,7 @@ module _ (p : List ℕ) (len : ℕ) where
   masks h m v s x e = grind arith
 
   pub after : (op : Operation) (k : Known) (i : Insn) (s : State) → operation_of i.code ≡ Some op → goes_on_or_rejects op ≡ true → Holds p len k s → After (known_after (Some op) k i) (does op i p len s)
-  after op k i s e f y = grind (arith, masks)
+  after op k i s e f y = grind (arith, masks, loads_at)
 
 -- a run that comes to a place with more known
 pub arrives : (seen : List Known) (place : ℕ) (k d new : Known) → place < length seen → JoinsBy (get_or seen place d).held (get_or seen place d) k new → Arrives k place seen (slice_set seen place new)
@@ -125,3 +150,22 @@ pub arrives_nowhere : (seen : List Known) (place : ℕ) (k : Known) → length s
 arrives_nowhere [] place k l = record { keeps = λ p n q s x. x; comes = λ p n s y. tt }
 arrives_nowhere (h ∷ seen) zero k l = absurd (omega arith)
 arrives_nowhere (h ∷ seen) (suc place) k l = record { keeps = λ p n q s x. x; comes = (arrives_nowhere seen place k (omega arith)).comes }
+
+-- what the outcome of a test shows of the field that A holds
+pub learns_equal : (k : Known) (i : Insn) (f : Field) (outcome : Bool) (new : Known) → operation_of i.code ≡ Some (JumpIf Test.Equal Constant) → k.held ≡ held.Field f → LearnsEqual k f i.k outcome new → Learns k i outcome new
+learns_equal k i f outcome new o is learned p n s test operand e t h =
+    let same : Some (JumpIf test operand) ≡ Some (JumpIf Test.Equal Constant) = sym e ∙ o in
+    let equal : test ≡ Test.Equal = cc in
+    let constant : operand ≡ Constant = cc in
+    let holds : value_of p n f ≡ Some s.accumulator = subst (λ z. HeldHolds p n z s) is h.a in
+    learned p n s.accumulator s holds (sym (ap (λ u. test_holds u s.accumulator (operand_value operand i.k s.index)) equal ∙ ap (λ u. test_holds Test.Equal s.accumulator (operand_value u i.k s.index)) constant) ∙ t) h
+
+pub learns_bits : (k : Known) (i : Insn) (f : Field) (outcome : Bool) (new : Known) → operation_of i.code ≡ Some (JumpIf Test.AnyBit Constant) → masked_held k.held i.k ≡ held.Field f → LearnsEqual k f 0 (not outcome) new → Learns k i outcome new
+learns_bits k i f outcome new o is learned p n s test operand e t h =
+    let same : Some (JumpIf test operand) ≡ Some (JumpIf Test.AnyBit Constant) = sym e ∙ o in
+    let any : test ≡ Test.AnyBit = cc in
+    let constant : operand ≡ Constant = cc in
+    let bits = bit_and s.accumulator i.k in
+    let holds : value_of p n f ≡ Some bits = subst (λ z. HeldHolds p n z (record s { accumulator = bits })) is (masks p n k.held i.k bits s h.a refl) in
+    let shown : not (bits == 0) ≡ outcome = sym (ap (λ u. test_holds u s.accumulator (operand_value operand i.k s.index)) any ∙ ap (λ u. test_holds Test.AnyBit s.accumulator (operand_value u i.k s.index)) constant) ∙ t in
+    learned p n bits s holds (sym (not-not (bits == 0)) ∙ ap not shown) h

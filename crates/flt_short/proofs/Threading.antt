@@ -1,7 +1,7 @@
 -- A run may go on where a walk ends instead of where it began; so threaded code returns the same, and keeps its
 -- length, its tests and what breaks no rule.
-use Rattle.flt_short.proofs.Common.{◌≡◌, ℕ, zero, suc, ◌+◌, ◌<◌, List, [], ◌∷◌, length, drop, Bool, true, false, Option, Some, None, refl, sym, ap, ◌∙◌, subst, arith, if◌then◌else◌, slice_get, slice_set, bit_and, nat_tests, map, Insn, State, Operation, LoadAbsolute, LoadIndirect, Load, LoadHeaderLength, Compute, Jump, JumpIf, Accumulator, Index, Length, Constant, Next, Goes, does_if_known, into, answer_of, answer_after, operand_value, test_holds, is_branch, Field, Held, Known, same_held, same_optional, IsOutcome, held_after, is_free_by, is_free, known_step, count_by, get_or, cond, start, does, goes_on_or_rejects, ends_in_return, known_after, loaded, loaded_at, IsThere, HeldHolds, IndexHolds, Holds, HoldsAt, IsClaimAbout, Learns, Arrives, with_a, Passes, LeadsTo, Moves, Alike, IsThreaded, AreThreaded}
-use Rattle.flt_short.proofs.Knowing.{same_masks, same_value, same_holds, After, after, masks}
+use Rattle.flt_short.proofs.Common.{◌≡◌, ℕ, zero, suc, ◌+◌, ◌<◌, List, [], ◌∷◌, length, drop, Bool, true, false, Option, Some, None, refl, sym, ap, ◌∙◌, subst, arith, if◌then◌else◌, slice_get, slice_set, bit_and, nat_tests, map, Insn, State, Operation, LoadAbsolute, LoadIndirect, Load, LoadHeaderLength, Compute, Jump, JumpIf, Accumulator, Index, Immediate, Length, Constant, Next, Goes, does_if_known, into, answer_of, answer_after, operand_value, test_holds, is_branch, not, Field, Held, IndexValue, Known, same_held, same_index, IsOutcome, masked_held, load_of, held_after, is_free_by, is_free, known_step, count_by, get_or, cond, start, does, goes_on_or_rejects, ends_in_return, known_after, loaded, loaded_at, IsThere, HeldHolds, IndexHolds, Holds, HoldsAt, IsClaimAbout, Learns, Arrives, with_a, IsDecided, Passes, LeadsTo, GoesOn, Moves, Alike, IsThreaded, AreThreaded}
+use Rattle.flt_short.proofs.Knowing.{same_indexes, same_value, same_holds, loaded_by, loads_at, After, after, masks}
 use Rattle.flt_short.proofs.Likeness.{at_step}
 use Rattle.std.proofs.Common.{◌≤◌, ◌++◌, take, append_assoc}
 use Rattle.std.proofs.Math.Seq.{drop-cons}
@@ -30,24 +30,42 @@ module _ (p : List ℕ) (n : ℕ) where
       ∙ sym (ap (answer_after (answer_of is p n)) (known_step p n i (operation_of i.code) s refl))
 
 -- what a walk passes
-pub passes_test : (k : Known) (i : Insn) (h : Held) (f : Field) (c : Claim) (b : Bool) (far : ℕ) → operation_of i.code ≡ Some (JumpIf Test.Equal Constant) → h ≡ held.Field f → IsClaimAbout k.facts f c → IsOutcome c i.k b → (if b then i.jt else i.jf) ≡ far → Passes k i h far
-passes_test k i h f c b far o is about e there p n s a holds x =
-    let outcome = e a (about p n a holds.facts (subst (λ z. HeldHolds p n z (with_a s a)) is x)) in
-    (a, known_step p n i (Some (JumpIf Test.Equal Constant)) (with_a s a) o ∙ ap (λ z. Goes (if z then i.jt else i.jf) (with_a s a)) outcome ∙ ap (λ m. Goes m (with_a s a)) there)
+pub decides : (k : Known) (h : Held) (f : Field) (c : Claim) (number : ℕ) (b : Bool) → h ≡ held.Field f → IsClaimAbout k.facts f c → IsOutcome c number b → IsDecided k h number b
+decides k h f c number b is about outcome p n s a holds x = outcome a (about p n a holds.facts (subst (λ z. HeldHolds p n z (with_a s a)) is x))
 
-pub passes_load : (k : Known) (i : Insn) (h : Held) (w : Width) → operation_of i.code ≡ Some (LoadAbsolute w) → ((p : List ℕ) (n : ℕ) (s : State) → Holds p n k s → IsThere p n i.code i.k) → Passes k i h 0
+pub passes_test : (k : Known) (i : Insn) (h : Held) (b : Bool) (far : ℕ) → operation_of i.code ≡ Some (JumpIf Test.Equal Constant) → IsDecided k h i.k b → (if b then i.jt else i.jf) ≡ far → Passes k i h far
+passes_test k i h b far o decided there p n s a holds x =
+    (a, known_step p n i (Some (JumpIf Test.Equal Constant)) (with_a s a) o ∙ ap (λ z. Goes (if z then i.jt else i.jf) (with_a s a)) (decided p n s a holds x) ∙ ap (λ m. Goes m (with_a s a)) there)
+
+pub passes_bits : (k : Known) (i : Insn) (h : Held) (b : Bool) (far : ℕ) → operation_of i.code ≡ Some (JumpIf Test.AnyBit Constant) → IsDecided k (masked_held h i.k) 0 b → (if not b then i.jt else i.jf) ≡ far → Passes k i h far
+passes_bits k i h b far o decided there p n s a holds x =
+    let bits = decided p n s (bit_and a i.k) holds (masks p n h i.k (bit_and a i.k) (with_a s a) x refl) in
+    (a, known_step p n i (Some (JumpIf Test.AnyBit Constant)) (with_a s a) o ∙ ap (λ z. Goes (if not z then i.jt else i.jf) (with_a s a)) bits ∙ ap (λ m. Goes m (with_a s a)) there)
+
+pub passes_load : (k : Known) (i : Insn) (h : Held) (w : Width) → operation_of i.code ≡ Some (LoadAbsolute w) → ((p : List ℕ) (n : ℕ) (s : State) → Holds p n k s → IsThere p n (load_of i IndexValue.Unknown)) → Passes k i h 0
 passes_load k i h w o there p n s a holds x =
     let t = there p n s holds in
-    (t.0, known_step p n i (Some (LoadAbsolute w)) (with_a s a) o ∙ ap (λ z. into Accumulator z (with_a s a)) (ap (λ z. loaded z p n i.k) (sym o) ∙ t.1))
+    (t.0, known_step p n i (Some (LoadAbsolute w)) (with_a s a) o ∙ ap (λ z. into Accumulator z (with_a s a)) (ap (λ z. loaded z p n IndexValue.Unknown i.k) (sym o) ∙ t.1))
+
+pub passes_known_at : (k : Known) (i : Insn) (h : Held) (w : Width) → operation_of i.code ≡ Some (LoadIndirect w) → ((p : List ℕ) (n : ℕ) (s : State) → Holds p n k s → IsThere p n (load_of i k.index)) → Passes k i h 0
+passes_known_at k i h w o there p n s a holds x =
+    let t = there p n s holds in
+    let is = loaded_by p n k.index s.index i.k t.0 w holds.x (ap (λ z. loaded z p n k.index i.k) (sym o) ∙ t.1) in
+    (t.0, known_step p n i (Some (LoadIndirect w)) (with_a s a) o ∙ ap (λ z. into Accumulator z (with_a s a)) is)
 
 pub passes_load_at : (k : Known) (i : Insn) (h : Held) (w : Width) → operation_of i.code ≡ Some (LoadIndirect w) → same_held (held.AtIndex i.code i.k) k.held ≡ true → Passes k i h 0
 passes_load_at k i h w o e p n s a holds x =
     (s.accumulator, known_step p n i (Some (LoadIndirect w)) (with_a s a) o ∙ ap (λ z. into Accumulator z (with_a s a)) (ap (λ z. loaded_at z p s.index i.k) (sym o) ∙ same_holds p n (held.AtIndex i.code i.k) k.held s e holds.a))
 
-pub passes_header : (k : Known) (i : Insn) (h : Held) → operation_of i.code ≡ Some LoadHeaderLength → same_optional k.index (Some i.k) ≡ true → Passes k i h 0
+pub passes_header : (k : Known) (i : Insn) (h : Held) → operation_of i.code ≡ Some LoadHeaderLength → same_index k.index (IndexValue.HeaderLength i.k) ≡ true → Passes k i h 0
 passes_header k i h o e p n s a holds x =
-    let is : IndexHolds p (Some i.k) s.index = subst (λ z. IndexHolds p z s.index) (same_masks k.index (Some i.k) e) holds.x in
+    let is : IndexHolds p (IndexValue.HeaderLength i.k) s.index = subst (λ z. IndexHolds p z s.index) (same_indexes k.index (IndexValue.HeaderLength i.k) e) holds.x in
     (a, known_step p n i (Some LoadHeaderLength) (with_a s a) o ∙ ap (λ z. into Index z (with_a s a)) is)
+
+pub passes_number : (k : Known) (i : Insn) (h : Held) → operation_of i.code ≡ Some (Load Index Immediate) → same_index k.index (IndexValue.Number i.k) ≡ true → Passes k i h 0
+passes_number k i h o e p n s a holds x =
+    let is : IndexHolds p (IndexValue.Number i.k) s.index = subst (λ z. IndexHolds p z s.index) (same_indexes k.index (IndexValue.Number i.k) e) holds.x in
+    (a, known_step p n i (Some (Load Index Immediate)) (with_a s a) o ∙ ap (λ z. into Index z (with_a s a)) is)
 
 pub passes_length : (k : Known) (i : Insn) (h : Held) → operation_of i.code ≡ Some (Load Accumulator Length) → Passes k i h 0
 passes_length k i h o p n s a holds x = (n, known_step p n i (Some (Load Accumulator Length)) (with_a s a) o)
@@ -56,15 +74,15 @@ pub passes_mask : (k : Known) (i : Insn) (h : Held) → operation_of i.code ≡ 
 passes_mask k i h o p n s a holds x = (bit_and a i.k, known_step p n i (Some (Compute AluOperation.And Constant)) (with_a s a) o)
 
 -- what A holds after any instruction
-held_next : (p : List ℕ) (n : ℕ) (k : Known) (s : State) → Holds p n k s → (op : Option Operation) (i : Insn) (h : Held) (a b far : ℕ) → operation_of i.code ≡ op → HeldHolds p n h (with_a s a) → does_if_known op i p n (with_a s a) ≡ Goes far (with_a s b) → HeldHolds p n (held_after op h i) (with_a s b)
-held_next p n k s holds op i h a b far o x e = grind (arith, masks)
+held_next : (p : List ℕ) (n : ℕ) (k : Known) (s : State) → Holds p n k s → (op : Option Operation) (i : Insn) (h : Held) (a b far : ℕ) → operation_of i.code ≡ op → HeldHolds p n h (with_a s a) → does_if_known op i p n (with_a s a) ≡ Goes far (with_a s b) → HeldHolds p n (held_after op h k.index i) (with_a s b)
+held_next p n k s holds op i h a b far o x e = (let known = holds.x in grind (arith, masks, loads_at))
 
 -- the answer from the spot after an instruction
 stepped : (c : List Insn) (spot : Spot) (i : Insn) (p : List ℕ) (n a b far : ℕ) (s : State) → slice_get c spot.place ≡ Some i → step i p n (with_a s a) ≡ Goes far (with_a s b) → answer_of c p n spot.place (with_a s a) ≡ answer_of c p n (spot.place + 1 + far) (with_a s b)
 stepped c spot i p n a b far s g e = at_step c p n spot.place i (with_a s a) g ∙ ap (answer_after (λ m v. answer_of c p n (spot.place + 1 + m) v)) e
 
 -- a walk goes on after an instruction that it passes
-pub walks_on : (k : Known) (c : List Insn) (spot : Spot) (best here far found : ℕ) (i : Insn) → slice_get c spot.place ≡ Some i → LeadsTo k c spot best here → Passes k i spot.held far → LeadsTo k c (record { place = spot.place + 1 + far; held = held_after (operation_of i.code) spot.held i }) here found → LeadsTo k c spot best found
+pub walks_on : (k : Known) (c : List Insn) (spot : Spot) (best here far found : ℕ) (i : Insn) → slice_get c spot.place ≡ Some i → LeadsTo k c spot best here → Passes k i spot.held far → LeadsTo k c (record { place = spot.place + 1 + far; held = held_after (operation_of i.code) spot.held k.index i }) here found → LeadsTo k c spot best found
 walks_on k c spot best here far found i g near passes later p n s a holds x e =
     let r = passes p n s a holds x in
     let so_far = near p n s a holds x e in
@@ -97,6 +115,10 @@ stops_free k c spot best free p n s a holds x e =
     sym (answer_drop c p n spot.place s) ∙ sym (free_same p n (drop spot.place c) free s a) ∙ answer_drop c p n spot.place (with_a s a) ∙ e
 
 pub ruleset stops = (stops_same, stops_free, take_rest)
+
+-- one more walk, from where the one before it ended
+pub goes_further : (k : Known) (c : List Insn) (from place next : ℕ) → GoesOn k c from place → LeadsTo k c (record { place = place; held = k.held }) place next → GoesOn k c from next
+goes_further k c from place next so_far leads p n s h = leads p n s s.accumulator h h.a refl ∙ so_far p n s h
 
 -- a test with other targets inside the code
 test_sound : (t : Test) (o : Operand) (i : Insn) (a b len : ℕ) → operation_of i.code ≡ Some (JumpIf t o) → (i.jt < len → a < len) → (i.jf < len → b < len) → fault_of i len ≡ None → fault_of (record i { jt = a; jf = b }) len ≡ None
@@ -218,4 +240,4 @@ pub threads_itself : (c : List Insn) → Threads c c
 threads_itself c = record { same_length = refl; branches = refl; sound = λ v. v; runs = λ p n. refl; no_jump = λ h. h }
 
 -- what a walk passes, by its operation
-pub ruleset walk_steps = (passes_load, passes_load_at, passes_header, passes_length, passes_mask)
+pub ruleset walk_steps = (passes_load, passes_known_at, passes_load_at, passes_header, passes_number, passes_length, passes_mask)

@@ -8,25 +8,39 @@
 
 ghost use Rattle.std.specs.Prelude.{◌≡◌, ◌<◌, IsTrue, IfSome, List, ℕ};
 ghost use Rattle.flt_bpf.specs.{Instructions.operation_of, declared.machine.State.State};
-ghost use Rattle.flt_short.specs.inside.Facts.{same_optional, same_field, claims_nothing, allows};
+ghost use Rattle.flt_short.specs.inside.Facts.{same_optional, same_index, same_load, same_field};
+ghost use Rattle.flt_short.specs.inside.Facts.{claims_nothing, allows, load_of, held_at};
 ghost use Rattle.flt_short.specs.inside.Facts.{Implies, JoinsClaims, same_held, IsOutcome};
 ghost use Rattle.flt_short.specs.inside.Facts.{IsOther, holds_field, masked_held, held_after};
 ghost use Rattle.flt_short.specs.inside.Facts.{known_after, Holds, IsThere, HoldsAt};
 ghost use Rattle.flt_short.specs.inside.Facts.{JoinsFact, JoinsFacts, JoinsBy, IsClaimAbout};
-ghost use Rattle.flt_short.specs.inside.Facts.{IsClaimAfter, AddsFact, Learns, Arrives};
+ghost use Rattle.flt_short.specs.inside.Facts.{IsClaimAfter, AddsFact, LearnsEqual, Learns, Arrives};
 
 use flt_bpf::Wide;
 use flt_bpf::operation::{AluOperation, Operand, Operation, Register, Source, Test, decode};
 
 /// The number of facts kept at a place. One more takes the place of another (`place_for`).
-pub const MOST_FACTS: usize = 5;
+pub const MOST_FACTS: usize = 7;
 
-/// A number of the packet: the value that the load with this code and this `k` puts into A, from a
-/// fixed place or of the packet's length; if there is a mask, only its bits.
+/// What X holds, by what put it there.
+#[derive(Clone, Copy)]
+pub enum IndexValue {
+    /// Anything.
+    Unknown,
+    /// The length of the IPv4 header that begins at this byte.
+    HeaderLength(u32),
+    /// This number.
+    Number(u32),
+}
+
+/// A number of the packet: the value that the load with this code and this `k` puts into A; if
+/// there is a mask, only its bits. The load is from a fixed place, or of the packet's length, or at
+/// X while X holds `index`.
 #[derive(Clone, Copy)]
 pub struct Field {
     pub code: u16,
     pub k: u32,
+    pub index: IndexValue,
     pub mask: Option<u32>,
 }
 
@@ -56,7 +70,8 @@ pub enum Held {
     Unknown,
     /// A field, which is captured.
     Field(Field),
-    /// The value that the load at X with this code and this `k` would put there.
+    /// The value that the load at X with this code and this `k` would put there; of X nothing is
+    /// known.
     AtIndex(u16, u32),
 }
 
@@ -64,8 +79,7 @@ pub enum Held {
 #[derive(Clone, Copy)]
 pub struct Known {
     pub held: Held,
-    /// X holds the length of the IPv4 header that begins at this byte, if that is known.
-    pub index: Option<u32>,
+    pub index: IndexValue,
     pub facts: [Fact; MOST_FACTS],
 }
 
@@ -74,6 +88,7 @@ const NOTHING_CLAIMED: Fact = Fact {
     field: Field {
         code: 0,
         k: 0,
+        index: IndexValue::Unknown,
         mask: None,
     },
     claim: Claim::Nothing,
@@ -85,7 +100,7 @@ pub fn nothing_known() -> Known
 {
     Known {
         held: Held::Unknown,
-        index: None,
+        index: IndexValue::Unknown,
         facts: [NOTHING_CLAIMED; MOST_FACTS],
     }
 }
@@ -98,18 +113,37 @@ pub fn unreached() -> Known {
     }
 }
 
-/// Whether two numbers that may be missing are the same or both missing: masks, or headers.
-pub fn same_optional(one: Option<u32>, other: Option<u32>) -> bool
+/// Whether two masks are the same or both missing.
+fn same_optional(one: Option<u32>, other: Option<u32>) -> bool
     ensures { result ≡ same_optional one other }
 {
     one == other
+}
+
+/// Whether the same is known of X in two states.
+pub fn same_index(one: IndexValue, other: IndexValue) -> bool
+    ensures { result ≡ same_index one other }
+{
+    match (one, other) {
+        (IndexValue::Unknown, IndexValue::Unknown) => true,
+        (IndexValue::HeaderLength(at), IndexValue::HeaderLength(another)) => at == another,
+        (IndexValue::Number(number), IndexValue::Number(another)) => number == another,
+        _ => false,
+    }
+}
+
+/// Whether two loads put the same into A.
+fn same_load(one: Field, other: Field) -> bool
+    ensures { result ≡ same_load one other }
+{
+    (one.code == other.code && one.k == other.k) && same_index(one.index, other.index)
 }
 
 /// Whether two fields are values of the same load, with the same mask or both without one.
 pub fn same_field(one: Field, other: Field) -> bool
     ensures { result ≡ same_field one other }
 {
-    (one.code == other.code && one.k == other.k) && same_optional(one.mask, other.mask)
+    same_load(one, other) && same_optional(one.mask, other.mask)
 }
 
 /// Whether a claim is `Nothing`.
@@ -220,8 +254,8 @@ fn join(known: &mut Known, came: &Known)
     if !same_held(known.held, came.held) {
         known.held = Held::Unknown;
     }
-    if !same_optional(known.index, came.index) {
-        known.index = None;
+    if !same_index(known.index, came.index) {
+        known.index = IndexValue::Unknown;
     }
 }
 
@@ -300,23 +334,23 @@ fn add_fact(known: &mut Known, field: Field, claim: Claim)
 }
 
 /// Whether A holds the field of a load, perhaps masked, so that its bytes are captured.
-fn holds_field(held: Held, code: u16, k: u32) -> bool
-    ensures { result ≡ holds_field held code k }
+fn holds_field(held: Held, load: Field) -> bool
+    ensures { result ≡ holds_field held load }
 {
-    matches!(held, Held::Field(field) if field.code == code && field.k == k)
+    matches!(held, Held::Field(field) if same_load(field, load))
 }
 
 /// Whether the bytes that a load takes are captured, by what A holds or by a fact: any claim of
 /// their number says so.
-pub fn is_captured(known: &Known, code: u16, k: u32) -> bool
+pub fn is_captured(known: &Known, load: Field) -> bool
     ensures { IsTrue result → (p : List ℕ) (n : ℕ) (s : State)
-        → Holds p n known.now s → IsThere p n code k }
+        → Holds p n known.now s → IsThere p n load }
 {
-    if holds_field(known.held, code, k) {
+    if holds_field(known.held, load) {
         return true;
     }
     for fact in &known.facts {
-        if fact.field.code == code && fact.field.k == k && !claims_nothing(fact.claim) {
+        if same_load(fact.field, load) && !claims_nothing(fact.claim) {
             return true;
         }
     }
@@ -324,7 +358,7 @@ pub fn is_captured(known: &Known, code: u16, k: u32) -> bool
 }
 
 /// The value of A after a mask, by the value before. It is `Unknown` after two masks.
-fn masked_held(held: Held, mask: u32) -> Held
+pub fn masked_held(held: Held, mask: u32) -> Held
     ensures { result ≡ masked_held held mask }
 {
     match held {
@@ -336,20 +370,38 @@ fn masked_held(held: Held, mask: u32) -> Held
     }
 }
 
-/// The value of A after an instruction, by the value before. It is known after a load of the packet
-/// or of its length, and after a mask of a field. A test keeps it; after all others it is
-/// `Unknown`.
-pub fn held_after(held: Held, insn: Wide) -> Held
-    ensures { result ≡ held_after (operation_of insn.code) held insn }
+/// What an instruction loads if it is a load, while X holds `index`.
+pub fn load_of(insn: Wide, index: IndexValue) -> Field
+    ensures { result ≡ load_of insn index }
+{
+    Field {
+        code: insn.code,
+        k: insn.k,
+        index,
+        mask: None,
+    }
+}
+
+/// The value of A after a load at X.
+fn held_at(index: IndexValue, insn: Wide) -> Held
+    ensures { result ≡ held_at index insn }
+{
+    match index {
+        IndexValue::Unknown => Held::AtIndex(insn.code, insn.k),
+        _ => Held::Field(load_of(insn, index)),
+    }
+}
+
+/// The value of A after an instruction, by the values of A and X before. It is known after a load
+/// of the packet or of its length, and after a mask of a field. A test keeps it; after all others
+/// it is `Unknown`.
+pub fn held_after(held: Held, index: IndexValue, insn: Wide) -> Held
+    ensures { result ≡ held_after (operation_of insn.code) held index insn }
 {
     match decode(insn.code) {
         Some(Operation::LoadAbsolute(_) | Operation::Load(Register::Accumulator, Source::Length)) =>
-            Held::Field(Field {
-                code: insn.code,
-                k: insn.k,
-                mask: None,
-            }),
-        Some(Operation::LoadIndirect(_)) => Held::AtIndex(insn.code, insn.k),
+            Held::Field(load_of(insn, IndexValue::Unknown)),
+        Some(Operation::LoadIndirect(_)) => held_at(index, insn),
         Some(Operation::Compute(AluOperation::And, Operand::Constant)) => {
             masked_held(held, insn.k)
         }
@@ -363,11 +415,12 @@ pub fn held_after(held: Held, insn: Wide) -> Held
 pub fn pass_insn(known: &mut Known, insn: Wide)
     ensures { known.new ≡ known_after (operation_of insn.code) known.old insn }
 {
-    known.held = held_after(known.held, insn);
     let index = known.index;
+    known.held = held_after(known.held, index, insn);
     known.index = match decode(insn.code) {
-        Some(Operation::LoadHeaderLength) => Some(insn.k),
-        Some(Operation::Load(Register::Index, _) | Operation::CopyToIndex) => None,
+        Some(Operation::LoadHeaderLength) => IndexValue::HeaderLength(insn.k),
+        Some(Operation::Load(Register::Index, Source::Immediate)) => IndexValue::Number(insn.k),
+        Some(Operation::Load(Register::Index, _) | Operation::CopyToIndex) => IndexValue::Unknown,
         _ => index,
     };
 }
@@ -387,21 +440,36 @@ fn claim_by_outcome(facts: &[Fact], field: Field, number: u32, outcome: bool) ->
     }
 }
 
-/// Adds to the state the fact that a test had this outcome. Only a test for equality shows one, if
-/// A holds a field.
+/// Adds to the state what the outcome of a test shows, which is true if `field` is `number`.
+fn learn_equal(known: &mut Known, field: Field, number: u32, outcome: bool)
+    ensures { LearnsEqual known.old field number outcome known.new }
+{
+    let claim = claim_by_outcome(&known.facts, field, number, outcome);
+    add_fact(known, field, claim);
+}
+
+/// Adds to the state the fact that a test had this outcome. Only a test for equality, or of bits,
+/// shows one, if A holds a field.
 pub fn learn(known: &mut Known, insn: Wide, outcome: bool)
     ensures { Learns known.old insn outcome known.new }
 {
-    if let Some(Operation::JumpIf(Test::Equal, Operand::Constant)) = decode(insn.code) {
-        if let Held::Field(field) = known.held {
-            let claim = claim_by_outcome(&known.facts, field, insn.k, outcome);
-            add_fact(known, field, claim);
+    match decode(insn.code) {
+        Some(Operation::JumpIf(Test::Equal, Operand::Constant)) => {
+            if let Held::Field(field) = known.held {
+                learn_equal(known, field, insn.k, outcome);
+            }
         }
+        Some(Operation::JumpIf(Test::AnyBit, Operand::Constant)) => {
+            if let Held::Field(field) = masked_held(known.held, insn.k) {
+                learn_equal(known, field, 0, !outcome);
+            }
+        }
+        _ => {}
     }
 }
 
 /// The most instructions of code whose states lie on the stack, so that threading it takes no
-/// memory: about 170 bytes for each.
+/// memory: about 300 bytes for each.
 pub const FEW: usize = 16;
 
 /// The state at a place; past the end of the code, the one in which nothing is known.

@@ -13,14 +13,16 @@ ghost use Rattle.std.specs.Prelude.{IfOk, ◌≡◌, ◌<◌, ◌≤◌, ◌^◌
 ghost use Rattle.flt_bpf.specs.Instructions.{operation_of};
 ghost use Rattle.flt_bpf.specs.declared.operation.Operand.TheVariants.{Constant};
 ghost use Rattle.flt_bpf.specs.declared.operation.Operation.TheVariants.{JumpIf};
-ghost use Rattle.flt_bpf.specs.declared.operation.Test.TheVariants.{Equal};
+ghost use Rattle.flt_bpf.specs.declared.operation.Test.TheVariants.{Equal, AnyBit};
 ghost use Rattle.flt_short.specs.Threads.{Threads};
-ghost use Rattle.flt_short.specs.inside.Threads.{Passes, is_free, LeadsTo, Moves, IsThreaded};
+ghost use Rattle.flt_short.specs.inside.Threads.{IsDecided, Passes, is_free, LeadsTo, GoesOn};
+ghost use Rattle.flt_short.specs.inside.Threads.{Moves, IsThreaded};
 
 use crate::alike::{goes_on_or_rejects, is_test};
 use crate::facts::{
-    FEW, Held, Known, arrive, claim_about, held_after, is_captured, known_at, learn, nothing_known,
-    outcome_by_claim, pass_insn, same_held, same_optional, unreached,
+    FEW, Held, IndexValue, Known, arrive, claim_about, held_after, is_captured, known_at, learn,
+    load_of, masked_held, nothing_known, outcome_by_claim, pass_insn, same_held, same_index,
+    unreached,
 };
 use flt_bpf::operation::{AluOperation, Operand, Operation, Register, Source, Test, decode};
 use flt_bpf::{Wide, reads_accumulator, sets_accumulator};
@@ -28,6 +30,12 @@ use std::alloc::{AllocError, Allocator};
 
 /// The most instructions that a walk passes. This bounds the time that it takes.
 const FUEL: usize = 128;
+
+/// The walks that each target has for itself, each from where the one before it ended.
+const WALKS: usize = 64;
+
+/// The further walks for each instruction of the code, which all targets share.
+const SHARED_WALKS: usize = 8;
 
 /// Code of at most this many instructions is threaded only if a load occurs twice in it
 /// (`repeats_a_load`). The search takes quadratic time, so longer code is always threaded.
@@ -43,18 +51,37 @@ pub struct Spot {
     pub held: Held,
 }
 
+/// Whether A is this number if it is `held`; `None` if the facts don't decide it.
+fn is_number(known: &Known, held: Held, number: u32) -> Option<bool>
+    ensures { IfSome result (λ outcome. IsDecided known.now held number outcome) }
+{
+    let Held::Field(field) = held else {
+        return None;
+    };
+    outcome_by_claim(claim_about(&known.facts, field, number), number)
+}
+
 /// How many instructions a test for equality with a constant skips if A is `held`; `None` if the
 /// facts don't decide it.
 fn skipped_by_test(known: &Known, insn: Wide, held: Held) -> Option<u32>
     ensures { operation_of insn.code ≡ Some (JumpIf Equal Constant)
         → IfSome result (λ skipped. Passes known.now insn held skipped) }
 {
-    let Held::Field(field) = held else {
-        return None;
-    };
-    match outcome_by_claim(claim_about(&known.facts, field, insn.k), insn.k) {
+    match is_number(known, held, insn.k) {
         Some(true) => Some(insn.yes),
         Some(false) => Some(insn.no),
+        None => None,
+    }
+}
+
+/// How many instructions a test of bits skips if A is `held`; `None` if the facts don't decide it.
+fn skipped_by_bits(known: &Known, insn: Wide, held: Held) -> Option<u32>
+    ensures { operation_of insn.code ≡ Some (JumpIf AnyBit Constant)
+        → IfSome result (λ skipped. Passes known.now insn held skipped) }
+{
+    match is_number(known, masked_held(held, insn.k), 0) {
+        Some(true) => Some(insn.no),
+        Some(false) => Some(insn.yes),
         None => None,
     }
 }
@@ -70,10 +97,20 @@ fn skipped_after(known: &Known, insn: Wide, held: Held) -> Option<u32>
         Some(Operation::JumpIf(Test::Equal, Operand::Constant)) => {
             skipped_by_test(known, insn, held)
         }
-        Some(Operation::LoadAbsolute(_)) if is_captured(known, insn.code, insn.k) => Some(0),
+        Some(Operation::JumpIf(Test::AnyBit, Operand::Constant)) => {
+            skipped_by_bits(known, insn, held)
+        }
+        Some(Operation::LoadAbsolute(_))
+            if is_captured(known, load_of(insn, IndexValue::Unknown)) => { Some(0) }
+        Some(Operation::LoadIndirect(_)) if is_captured(known, load_of(insn, known.index)) => {
+            Some(0)
+        }
         Some(Operation::LoadIndirect(_))
             if same_held(Held::AtIndex(insn.code, insn.k), known.held) => { Some(0) }
-        Some(Operation::LoadHeaderLength) if same_optional(known.index, Some(insn.k)) => Some(0),
+        Some(Operation::LoadHeaderLength)
+            if same_index(known.index, IndexValue::HeaderLength(insn.k)) => { Some(0) }
+        Some(Operation::Load(Register::Index, Source::Immediate))
+            if same_index(known.index, IndexValue::Number(insn.k)) => { Some(0) }
         Some(Operation::Load(Register::Accumulator, Source::Length)) => Some(0),
         Some(Operation::Compute(AluOperation::And, Operand::Constant)) => Some(0),
         _ => None,
@@ -122,8 +159,9 @@ fn place_or_best(known: &Known, code: &[Wide], spot: Spot, best: usize) -> usize
 fn walk(fuel: usize, known: &Known, code: &[Wide], spot: Spot, best: usize, forks: bool) -> usize
     ensures { LeadsTo known.now code.now spot best result }
 {
+    let start = best;
     let best = place_or_best(known, code, spot, best);
-    if fuel == 0 {
+    if fuel == 0 || (forks && best != start) {
         return best;
     }
     let Some(insn) = code.get(spot.place) else {
@@ -131,7 +169,8 @@ fn walk(fuel: usize, known: &Known, code: &[Wide], spot: Spot, best: usize, fork
     };
     let (left, next) = (fuel - 1, spot.place + 1);
     if let Some(skipped) = skipped_after(known, *insn, spot.held) {
-        let (place, held) = (next + skipped as usize, held_after(spot.held, *insn));
+        let held = held_after(spot.held, known.index, *insn);
+        let place = next + skipped as usize;
         return walk(left, known, code, Spot { place, held }, best, forks);
     }
     if !forks || !is_test(insn) {
@@ -147,17 +186,67 @@ fn walk(fuel: usize, known: &Known, code: &[Wide], spot: Spot, best: usize, fork
     if yes == no { yes } else { best }
 }
 
+/// Whether a run may come to a place by another way than the one that is threaded: a state came
+/// there already. Past the end of `seen` it may.
+fn is_reached(seen: &[Known], place: usize) -> bool {
+    match seen.get(place) {
+        Some(known) => !matches!(known.held, Held::Unreached),
+        None => true,
+    }
+}
+
+/// The place where the last of some walks ends, each of which begins where the one before it ended.
+/// None comes after one that stays where it began. After `WALKS` of them the place is the last one
+/// that is reached already, so that no code is kept for this target alone. If none is, the walks go
+/// on, as long as some are left of those that all targets share.
+fn last_place(
+    known: &Known,
+    code: &[Wide],
+    from: usize,
+    seen: &[Known],
+    left: &mut usize,
+) -> usize
+    ensures { GoesOn known.now code.now from result }
+{
+    let (mut place, mut reached) = (from, from);
+    for turn in 0..code.len() {
+        let spot = Spot {
+            place,
+            held: known.held,
+        };
+        let next = walk(FUEL, known, code, spot, place, true);
+        if next == place {
+            return place;
+        }
+        place = next;
+        if is_reached(seen, place) {
+            reached = place;
+        }
+        if turn >= WALKS {
+            if reached != from {
+                return reached;
+            }
+            if *left == 0 {
+                return place;
+            }
+            *left -= 1;
+        }
+    }
+    place
+}
+
 /// The threaded offset of a test whose old one is `skipped`; it is `skipped` if the new one exceeds
 /// 32 bits or leads out of the code.
-fn threaded_offset(known: &Known, following: &[Wide], skipped: u32) -> u32
+fn threaded_offset(
+    known: &Known,
+    following: &[Wide],
+    skipped: u32,
+    seen: &[Known],
+    left: &mut usize,
+) -> u32
     ensures { Moves known.now following.now skipped result }
 {
-    let from = skipped as usize;
-    let spot = Spot {
-        place: from,
-        held: known.held,
-    };
-    let place = walk(FUEL, known, following, spot, from, true);
+    let place = last_place(known, following, skipped as usize, seen, left);
     // An expression's code is too short for an error: its places fit 32 bits.
     match u32::try_from(place) {
         Ok(target) if place < following.len() => target,
@@ -175,6 +264,7 @@ fn thread_insn(
     here: &mut Known,
     insn: Wide,
     following: &[Wide],
+    left: &mut usize,
 ) -> Wide
     requires { from < 2 ^ 63 }
     ensures { IsThreaded from here.old insn following.now result seen.old seen.new }
@@ -195,10 +285,11 @@ fn thread_insn(
             let mut yes = *here;
             learn(&mut yes, insn, true);
             learn(here, insn, false);
+            let ahead = seen.get(from..).unwrap_or(&[]);
             let insn = Wide {
                 code: insn.code,
-                yes: threaded_offset(&yes, following, insn.yes),
-                no: threaded_offset(here, following, insn.no),
+                yes: threaded_offset(&yes, following, insn.yes, ahead, left),
+                no: threaded_offset(here, following, insn.no, ahead, left),
                 k: insn.k,
             };
             arrive(seen, from + insn.yes as usize, &yes);
@@ -220,10 +311,11 @@ fn thread_all(seen: &mut [Known], insns: &mut [Wide])
     ensures { Threads insns.new insns.old }
 {
     arrive(seen, 0, &nothing_known());
+    let mut left = SHARED_WALKS.saturating_mul(insns.len());
     for at in 0..insns.len() {
         let mut here = known_at(seen, at);
         let old = insns[at];
-        let insn = thread_insn(seen, at + 1, &mut here, old, &insns[at + 1..]);
+        let insn = thread_insn(seen, at + 1, &mut here, old, &insns[at + 1..], &mut left);
         insns[at] = insn;
     }
 }

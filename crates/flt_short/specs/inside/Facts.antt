@@ -1,7 +1,7 @@
 -- What is known of a packet p of original length n and of a run's state s: the abstract state
 -- (`Known`) at a place, when it is true, and what the functions of `facts.rt` keep of that. `code`
--- and `k` are those of a load. Together they identify its value: bytes of the packet at a fixed
--- place or at X, or the packet's length. Elsewhere `k` is a state. `i` is an instruction.
+-- and `k` are those of a load. Together, with what X holds at a load at X, they identify its value:
+-- bytes of the packet, or its length. Elsewhere `k` is a state. `i` is an instruction.
 use Rattle.std.specs.Option.{option_map}
 use Rattle.std.specs.Prelude.{◌≡◌, ℕ, ◌+◌, ◌%◌, ◌^◌, ◌==◌, not, Bool, true, false, if◌then◌else◌, ◌&&◌, ◌||◌, ◌⊎◌, List, All, Option, Some, None, IfSome, slice_get, bit_and}
 use Rattle.flt_bpf.specs.Instructions.{operation_of}
@@ -12,25 +12,37 @@ use Rattle.flt_bpf.specs.declared.operation.{Operand.Operand, Operand.TheVariant
 use Rattle.flt_bpf.specs.declared.operation.Operation.{Operation}
 use Rattle.flt_bpf.specs.declared.operation.Operation.TheVariants.{LoadAbsolute, LoadIndirect, Load, LoadHeaderLength, Compute, JumpIf, CopyToIndex}
 use Rattle.flt_bpf.specs.declared.operation.Register.TheVariants.{Accumulator, Index}
-use Rattle.flt_bpf.specs.declared.operation.Source.TheVariants.{Length}
+use Rattle.flt_bpf.specs.declared.operation.Source.TheVariants.{Immediate, Length}
 use Rattle.flt_bpf.specs.declared.operation.Test.{Test}
-use Rattle.flt_bpf.specs.declared.operation.Width.TheVariants.{Byte}
+use Rattle.flt_bpf.specs.declared.operation.Width.{Width, TheVariants.Byte}
 use Rattle.flt_short.specs.declared.facts.Claim.{Claim}
 use Rattle.flt_short.specs.declared.facts.Claim.TheVariants.{Nothing, Is, IsNot, IsOneOf}
 use Rattle.flt_short.specs.declared.facts.Fact.{Fact}
 use Rattle.flt_short.specs.declared.facts.Field.{Field}
 use Rattle.flt_short.specs.declared.facts.Held.{Held}
+use Rattle.flt_short.specs.declared.facts.IndexValue.{IndexValue}
 use Rattle.flt_short.specs.declared.facts.Known.{Known}
 
--- whether two numbers that may be missing are the same or both missing: masks, or headers
+-- whether two masks are the same or both missing
 abbrev pub same_optional : Option ℕ → Option ℕ → Bool
 same_optional None None = true
 same_optional (Some a) (Some b) = a == b
 same_optional _ _ = false
 
+-- whether the same is known of X in two states
+abbrev pub same_index : IndexValue → IndexValue → Bool
+same_index IndexValue.Unknown IndexValue.Unknown = true
+same_index (IndexValue.HeaderLength a) (IndexValue.HeaderLength b) = a == b
+same_index (IndexValue.Number a) (IndexValue.Number b) = a == b
+same_index _ _ = false
+
+-- whether two loads put the same into A
+abbrev pub same_load : Field → Field → Bool
+same_load f g = (f.code == g.code && f.k == g.k) && same_index f.index g.index
+
 -- whether two fields are the same: values of the same load, with the same mask or both without one
 abbrev pub same_field : Field → Field → Bool
-same_field f g = (f.code == g.code && f.k == g.k) && same_optional f.mask g.mask
+same_field f g = same_load f g && same_optional f.mask g.mask
 
 -- whether a claim is `Nothing`
 abbrev pub claims_nothing : Claim → Bool
@@ -61,9 +73,9 @@ same_held (Held.Field f) (Held.Field g) = same_field f g
 same_held (Held.AtIndex code k) (Held.AtIndex other j) = code == other && k == j
 same_held _ _ = false
 
--- the header whose length X holds on both of two paths; None if they differ
-abbrev pub common_header : Option ℕ → Option ℕ → Option ℕ
-common_header a b = if same_optional a b then a else None
+-- what X holds on both of two paths
+abbrev pub common_index : IndexValue → IndexValue → IndexValue
+common_index a b = if same_index a b then a else IndexValue.Unknown
 
 -- the test whether a number is n has this outcome, if the claim is true of the number
 abbrev pub IsOutcome : Claim → ℕ → Bool → Type 0
@@ -74,9 +86,9 @@ abbrev pub IsOther : Claim → ℕ → ℕ → Type 0
 IsOther c n other = (number : ℕ) → allows c number ≡ true → (number == n) ≡ false → number ≡ other
 
 -- whether A holds the field of a load, perhaps masked, so that its bytes are captured
-abbrev pub holds_field : Held → ℕ → ℕ → Bool
-holds_field (Held.Field f) code k = f.code == code && f.k == k
-holds_field _ code k = false
+abbrev pub holds_field : Held → Field → Bool
+holds_field (Held.Field f) load = same_load f load
+holds_field _ load = false
 
 -- the value of A after a mask m of the field f, which has this mask or none
 abbrev pub masked_by : Option ℕ → Field → ℕ → Held
@@ -88,44 +100,65 @@ abbrev pub masked_held : Held → ℕ → Held
 masked_held (Held.Field f) m = masked_by f.mask f m
 masked_held _ m = Held.Unknown
 
--- the value of A after an instruction, by the value before; it is known after a load of the packet
--- or of its length, and after a mask; a test keeps it, and after all others it is `Unknown`
-abbrev pub held_after : Option Operation → Held → Insn → Held
-held_after (Some (LoadAbsolute width)) h i =
-    Held.Field (record { code = i.code; k = i.k; mask = None })
-held_after (Some (Load Accumulator Length)) h i =
-    Held.Field (record { code = i.code; k = i.k; mask = None })
-held_after (Some (LoadIndirect width)) h i = Held.AtIndex i.code i.k
-held_after (Some (Compute And Constant)) h i = masked_held h i.k
-held_after (Some (JumpIf test operand)) h i = h
-held_after _ h i = Held.Unknown
+-- what an instruction loads if it is a load, while X holds x
+abbrev pub load_of : Insn → IndexValue → Field
+load_of i x = record { code = i.code; k = i.k; index = x; mask = None }
 
--- the header whose length X holds after an instruction that isn't a test, by the one before; None
--- if none is known
-abbrev pub index_after : Option Operation → Option ℕ → Insn → Option ℕ
-index_after (Some LoadHeaderLength) x i = Some i.k
-index_after (Some (Load Index source)) x i = None
-index_after (Some CopyToIndex) x i = None
+-- the value of A after a load at X, which holds x
+abbrev pub held_at : IndexValue → Insn → Held
+held_at IndexValue.Unknown i = Held.AtIndex i.code i.k
+held_at x i = Held.Field (load_of i x)
+
+-- the value of A after an instruction, by the values of A and X before; it is known after a load of
+-- the packet or of its length, and after a mask; a test keeps it, and after all others it is
+-- `Unknown`
+abbrev pub held_after : Option Operation → Held → IndexValue → Insn → Held
+held_after (Some (LoadAbsolute width)) h x i = Held.Field (load_of i IndexValue.Unknown)
+held_after (Some (Load Accumulator Length)) h x i = Held.Field (load_of i IndexValue.Unknown)
+held_after (Some (LoadIndirect width)) h x i = held_at x i
+held_after (Some (Compute And Constant)) h x i = masked_held h i.k
+held_after (Some (JumpIf test operand)) h x i = h
+held_after _ h x i = Held.Unknown
+
+-- what X holds after an instruction that isn't a test, by what it held before
+abbrev pub index_after : Option Operation → IndexValue → Insn → IndexValue
+index_after (Some LoadHeaderLength) x i = IndexValue.HeaderLength i.k
+index_after (Some (Load Index Immediate)) x i = IndexValue.Number i.k
+index_after (Some (Load Index source)) x i = IndexValue.Unknown
+index_after (Some CopyToIndex) x i = IndexValue.Unknown
 index_after _ x i = x
 
 -- the state after an instruction that isn't a test; facts are about the packet, so they are kept
 abbrev pub known_after : Option Operation → Known → Insn → Known
 known_after op k i = record {
-  held = held_after op k.held i;
+  held = held_after op k.held k.index i;
   index = index_after op k.index i;
   facts = k.facts;
 }
-
--- the number that a load with this operation takes from a fixed place, or that is the packet's length
-abbrev pub loaded : Option Operation → List ℕ → ℕ → ℕ → Option ℕ
-loaded (Some (LoadAbsolute width)) p n k = field p k width
-loaded (Some (Load Accumulator Length)) p n k = Some n
-loaded _ p n k = None
 
 -- the number that a load at X puts into A
 abbrev pub loaded_at : Option Operation → List ℕ → ℕ → ℕ → Option ℕ
 loaded_at (Some (LoadIndirect width)) p x k = field p ((x + k) % 2 ^ 32) width
 loaded_at _ p x k = None
+
+-- the number in X, by what put it there; None if that isn't known, or its header isn't captured
+abbrev pub index_number : List ℕ → IndexValue → Option ℕ
+index_number p IndexValue.Unknown = None
+index_number p (IndexValue.HeaderLength k) = option_map header_length (field p k Byte)
+index_number p (IndexValue.Number x) = Some x
+
+-- the number at k bytes after X, which may be unknown
+abbrev pub field_at : List ℕ → Option ℕ → ℕ → Width → Option ℕ
+field_at p None k width = None
+field_at p (Some x) k width = field p ((x + k) % 2 ^ 32) width
+
+-- the number that a load with this operation takes from a fixed place, or at X, which holds x, or
+-- that is the packet's length
+abbrev pub loaded : Option Operation → List ℕ → ℕ → IndexValue → ℕ → Option ℕ
+loaded (Some (LoadAbsolute width)) p n x k = field p k width
+loaded (Some (Load Accumulator Length)) p n x k = Some n
+loaded (Some (LoadIndirect width)) p n x k = field_at p (index_number p x) k width
+loaded _ p n x k = None
 
 -- a number, with only the bits of the mask if there is one
 abbrev pub masked : Option ℕ → Option ℕ → Option ℕ
@@ -134,11 +167,11 @@ masked (Some m) number = option_map (λ n. bit_and n m) number
 
 -- the number that a field of the packet is; None if it isn't captured
 abbrev pub value_of : List ℕ → ℕ → Field → Option ℕ
-value_of p n f = masked f.mask (loaded (operation_of f.code) p n f.k)
+value_of p n f = masked f.mask (loaded (operation_of f.code) p n f.index f.k)
 
 -- the bytes that a load takes are captured
-abbrev pub IsThere : List ℕ → ℕ → ℕ → ℕ → Type 0
-IsThere p n code k = (number : ℕ) × (loaded (operation_of code) p n k ≡ Some number)
+abbrev pub IsThere : List ℕ → ℕ → Field → Type 0
+IsThere p n f = (number : ℕ) × (loaded (operation_of f.code) p n f.index f.k ≡ Some number)
 
 -- whether a claim is true of a number, or of one that isn't captured
 abbrev pub is_said : Claim → Option ℕ → Bool
@@ -156,10 +189,10 @@ HeldHolds p n Held.Unknown s = Unit {0}
 HeldHolds p n (Held.Field f) s = value_of p n f ≡ Some s.accumulator
 HeldHolds p n (Held.AtIndex code k) s = loaded_at (operation_of code) p s.index k ≡ Some s.accumulator
 
--- X, which is x, is the length of the header that begins at a byte, if that is known
-abbrev pub IndexHolds : List ℕ → Option ℕ → ℕ → Type 0
-IndexHolds p None x = Unit {0}
-IndexHolds p (Some k) x = option_map header_length (field p k Byte) ≡ Some x
+-- X, which is x, has the value that is known of it
+abbrev pub IndexHolds : List ℕ → IndexValue → ℕ → Type 0
+IndexHolds p IndexValue.Unknown x = Unit {0}
+IndexHolds p held x = index_number p held ≡ Some x
 
 -- what is known is true
 pub record Holds (p : List ℕ) (n : ℕ) (k : Known) (s : State) : Type 0 where
@@ -184,7 +217,7 @@ abbrev pub JoinsBy : Held → Known → Known → Known → Type 0
 JoinsBy Held.Unreached k came new = new ≡ came
 JoinsBy h k came new =
     (new.held ≡ (if same_held h came.held then h else Held.Unknown))
-    × (new.index ≡ common_header k.index came.index)
+    × (new.index ≡ common_index k.index came.index)
     × JoinsFacts k.facts came.facts new.facts
 
 -- the claim is true of each field for which all facts are
@@ -201,6 +234,11 @@ IsClaimAfter xs f number outcome c = (p : List ℕ) (n v : ℕ)
 abbrev pub AddsFact : Known → Field → Claim → Known → Type 0
 AddsFact k f c new = (p : List ℕ) (n : ℕ) (s : State)
     → Holds p n k s → is_said c (value_of p n f) ≡ true → Holds p n new s
+
+-- `new` is true where k is, if whether the field is a number has this outcome
+abbrev pub LearnsEqual : Known → Field → ℕ → Bool → Known → Type 0
+LearnsEqual k f number outcome new = (p : List ℕ) (n v : ℕ) (s : State)
+    → value_of p n f ≡ Some v → (v == number) ≡ outcome → Holds p n k s → Holds p n new s
 
 -- `new` is true after a test that had this outcome, and before which k was
 abbrev pub Learns : Known → Insn → Bool → Known → Type 0

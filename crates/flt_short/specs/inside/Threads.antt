@@ -1,7 +1,7 @@
 -- Jump threading, as `thread.rt` does it: the targets of tests are moved further on. In a walk a
 -- place is an index of the code c that follows the test, k is the state at the start of the walk, h
 -- the value of A after the passed instructions, and i an instruction.
-use Rattle.std.specs.Prelude.{◌≡◌, ℕ, ◌+◌, ◌<◌, Bool, true, false, ◌&&◌, ◌||◌, not, List, [], ◌∷◌, length, map, Option, Some, None}
+use Rattle.std.specs.Prelude.{◌≡◌, ℕ, ◌+◌, ◌<◌, Bool, true, false, ◌&&◌, ◌||◌, not, List, [], ◌∷◌, length, map, Option, Some, None, ◌==◌}
 use Rattle.flt_bpf.specs.{Answer.answer_of, Check.fault_of, Check.IsFaultless}
 use Rattle.flt_bpf.specs.{Instructions.operation_of, Machine.Goes, Machine.step}
 use Rattle.flt_bpf.specs.Registers.{reads_accumulator, sets_accumulator}
@@ -14,6 +14,11 @@ use Rattle.flt_short.specs.inside.Facts.{HeldHolds, Holds, HoldsAt}
 -- the state with another value of A
 abbrev pub with_a : State → ℕ → State
 with_a s a = record s { accumulator = a }
+
+-- in a run with the state k, in which A is h instead, whether A is a number has this outcome
+abbrev pub IsDecided : Known → Held → ℕ → Bool → Type 0
+IsDecided k h number outcome = (p : List ℕ) (n : ℕ) (s : State) (a : ℕ)
+    → Holds p n k s → HeldHolds p n h (with_a s a) → (a == number) ≡ outcome
 
 -- in a run with the state k, in which A is h instead, the instruction goes on past `skipped` others
 -- and changes only A
@@ -44,10 +49,14 @@ LeadsTo k c spot best found = (p : List ℕ) (n : ℕ) (s : State) (a : ℕ)
     → answer_of c p n spot.place (with_a s a) ≡ answer_of c p n best s
     → answer_of c p n found s ≡ answer_of c p n best s
 
--- a run with the state k may go on at the place `to` instead of `from`, and `to` is inside the code
--- if `from` is
+-- a run with the state k may go on at the place `to` instead of `from`
+abbrev pub GoesOn : Known → List Insn → ℕ → ℕ → Type 0
+GoesOn k c from to = (p : List ℕ) (n : ℕ) (s : State)
+    → Holds p n k s → answer_of c p n to s ≡ answer_of c p n from s
+
+-- so it may, and `to` is inside the code if `from` is
 pub record Moves (k : Known) (c : List Insn) (from to : ℕ) : Type 0 where
-  pub runs : (p : List ℕ) (n : ℕ) (s : State) → Holds p n k s → answer_of c p n to s ≡ answer_of c p n from s
+  pub runs : GoesOn k c from to
   pub inside : from < length c → to < length c
 
 -- the code `new`, which begins at the place `from`, has the answers of `old` from each place where
