@@ -5,7 +5,7 @@ ghost use Rattle.cap_octet.specs.Checks.{checked};
 ghost use Rattle.cap_pcap.specs.Header.{header_fault, header_in};
 ghost use Rattle.cap_pcap.specs.Record.{record_fault, record_header_in};
 
-use cap_octet::Fault;
+use cap_octet::{Fault, u32_at};
 use cap_pcap::{Head, RecordHead, read_head, read_magic, read_record};
 
 /// The bytes of a record in front of its data.
@@ -41,4 +41,24 @@ pub(crate) fn record_header_in(head: &Head, text: &[u8]) -> Result<RecordHead, F
         return Err(Fault::Truncated);
     }
     Ok(record)
+}
+
+/// What a file header says whose link type field is out of range: its link type is the lower 16 bits
+/// of the field.
+pub(crate) fn head_by_low_bits(text: &[u8]) -> Head
+{
+    let (order, resolution) = read_magic(text).unwrap();
+    let link = u32_at(order, text, 20) % 0x1_0000;
+    Head {
+        order,
+        resolution,
+        snap: u32_at(order, text, 16),
+        link: link as u16,
+    }
+}
+
+/// The bytes of the record that a text begins with, as its header says.
+pub(crate) fn record_size(head: &Head, text: &[u8]) -> usize
+{
+    RECORD_HEADER as usize + u32_at(head.order, text, 8) as usize
 }

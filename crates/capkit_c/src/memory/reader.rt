@@ -34,7 +34,7 @@ pub enum Found {
 
 /// A unit that was read.
 #[derive(Clone, Copy)]
-struct ReadUnit {
+pub(crate) struct ReadUnit {
     /// In bytes.
     size: usize,
     /// The state of the file after it.
@@ -42,11 +42,11 @@ struct ReadUnit {
     /// The number of interfaces of the section after it.
     interfaces: usize,
     /// Its packet, if it has one.
-    packet: Option<UnitPacket>,
+    pub(crate) packet: Option<UnitPacket>,
 }
 
 /// The bytes from a place on; none if it is past the end.
-fn bytes_from(text: &[u8], at: usize) -> &[u8]
+pub(crate) fn bytes_from(text: &[u8], at: usize) -> &[u8]
     ensures { result.now ≡ drop at text.now }
 {
     match text.get(at..) {
@@ -69,7 +69,7 @@ fn is_pcapng(text: &[u8]) -> bool
 /// before the block, else that of the first of the `count` interfaces that the section has then;
 /// `None` if there is neither. The section's byte order doesn't matter, so the clause holds for
 /// each. `cap_io` has the same over its `Table`.
-fn first_link_type(first: Option<u16>, table: &[Interface], count: usize) -> Option<u16>
+pub(crate) fn first_link_type(first: Option<u16>, table: &[Interface], count: usize) -> Option<u16>
     requires { count ≤ length table.now }
     ensures { (order : Order) → result ≡ first_link_after first
         (section_of order (first_interfaces count table.now)) }
@@ -150,7 +150,7 @@ fn read_block_unit(
 /// Reads the unit that a text begins with, a file header, a record or a block, by what is declared
 /// of the file. The text isn't empty if a unit was read before. A refusal leaves the table
 /// unchanged.
-fn read_unit(
+pub(crate) fn read_unit(
     form: FileState,
     table: &mut [Interface],
     count: usize,
@@ -216,7 +216,7 @@ fn packet_at(at: usize, placed: &UnitPacket) -> Packet
 
 /// The number of interfaces of the section so far, at most `room` and 256; 0 before the first unit,
 /// whatever C wrote.
-fn known_interface_count(reader: &Reader, form: FileState, room: usize) -> usize
+pub(crate) fn known_interface_count(reader: &Reader, form: FileState, room: usize) -> usize
     ensures counts { Counts form reader.now room result }
     ensures bare { IsBare form result }
     ensures fits { result ≤ room }
@@ -230,7 +230,7 @@ fn known_interface_count(reader: &Reader, form: FileState, room: usize) -> usize
 
 /// Whether a capture of which `text` is left is at its clean end. An empty capture, of which no
 /// unit was read, isn't: its file header is missing.
-fn is_at_end(form: FileState, text: &[u8]) -> bool
+pub(crate) fn is_at_end(form: FileState, text: &[u8]) -> bool
     ensures over { IsTrue result → IsAtEnd form text.now }
     ensures some { result ≡ false → IsSomeFor form text.now }
 {
