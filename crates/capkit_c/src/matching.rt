@@ -82,9 +82,11 @@ fn judge(
     if packet.link_type != link_type {
         return SearchStep::Last(ANOTHER_LINK_TYPE);
     }
-    match verdict(insns, known, capture, packet) {
-        (0, steps) => SearchStep::More(steps),
-        _ => SearchStep::Last(0),
+    let (answer, steps) = verdict(insns, known, capture, packet);
+    if answer == 0 {
+        SearchStep::More(steps)
+    } else {
+        SearchStep::Last(0)
     }
 }
 

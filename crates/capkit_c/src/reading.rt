@@ -3,6 +3,7 @@ ghost use Rattle.std.specs.Prelude.{◌≡◌, List, length, take, drop};
 ghost use Rattle.capkit_c.specs.{Texts.put_text, Units.comment_by, Layout.declared_in};
 ghost use Rattle.capkit_c.specs.declared.memory.layout.Interface.{Interface};
 ghost use Rattle.capkit_c.specs.Reading.{CallLeaves, UnitLeaves, fault_number, found_number};
+ghost use Rattle.capkit_c.specs.Skipping.{SkipTells};
 
 use crate::memory::{
     Found, Interface, Packet, Reader, Skip, comment_of, next_packet, next_unit, skip_unit,
@@ -97,6 +98,7 @@ pub extern "C" fn capkit_skip(
     interfaces: &mut [Interface],
     capture: &[u8],
 ) -> u32
+    ensures { SkipTells capture.now reader.old reader.new interfaces.old interfaces.new result }
 {
     match skip_unit(reader, interfaces, capture) {
         Skip::Past => 228,

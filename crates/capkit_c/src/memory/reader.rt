@@ -6,12 +6,12 @@ ghost use Rattle.cap_io.specs.Capture.{first_link_after, is_pcapng};
 ghost use Rattle.capkit_c.specs.inside.Units.{Begins, Counts, IsBare, IsNoUnit, IsAtEnd, IsSomeFor};
 ghost use Rattle.capkit_c.specs.Layout.{declared_in, first_interfaces};
 ghost use Rattle.capkit_c.specs.Units.{NextLeaves, PacketLeaves, comment_by};
-ghost use Rattle.capkit_c.specs.inside.Units.{BeginsWithUnit, placed_packet};
+ghost use Rattle.capkit_c.specs.inside.Units.{BeginsWithUnit, found_by, placed_packet};
 ghost use Rattle.cap_io.specs.declared.file_state.FileState.TheVariants as form;
 
 use crate::memory::block::{Refusal, UnitPacket, read_block};
 use crate::memory::layout::{Interface, Packet, Reader};
-use crate::memory::pcap::{RECORD_HEADER, header_in, record_header_in};
+use crate::memory::pcap::{FILE_HEADER, RECORD_HEADER, header_in, record_header_in};
 use cap_io::FileState;
 use cap_octet::{Fault, Order};
 use cap_pcap::Head;
@@ -42,7 +42,19 @@ pub(crate) struct ReadUnit {
     /// The number of interfaces of the section after it.
     interfaces: usize,
     /// Its packet, if it has one.
-    pub(crate) packet: Option<UnitPacket>,
+    packet: Option<UnitPacket>,
+}
+
+impl ReadUnit {
+    /// What a call finds that reads it.
+    pub(crate) fn found(&self) -> Found
+        ensures { result ≡ found_by self.now.packet }
+    {
+        match self.packet {
+            Some(_) => Found::Packet,
+            None => Found::Unit,
+        }
+    }
 }
 
 /// The bytes from a place on; none if it is past the end.
@@ -114,7 +126,8 @@ fn read_record_unit(head: &Head, text: &[u8], interfaces: usize) -> Result<ReadU
 /// Reads the block that a text begins with, in a section of this byte order or, if there is none
 /// yet, as the first block of a file. `first` is the file's first link type so far; the first
 /// `count` of `table` are the section's interfaces. `form`, what is declared before the block, is
-/// only for the contract. A refusal leaves the table unchanged.
+/// only for the contract. A refusal leaves the table unchanged; and none is added to a table of
+/// `count`.
 fn read_block_unit(
     form: FileState,
     section: Option<Order>,
@@ -132,6 +145,7 @@ fn read_block_unit(
     ensures err { IfErr result (IsNoUnit form (first_interfaces count table.old) text.now
         (length table.old)) }
     ensures kept { OnErr result (table.new ≡ table.old) }
+    ensures full { count ≡ length table.old → table.new ≡ table.old }
 {
     match read_block(section, table, count, text) {
         Ok(read) => {
@@ -149,7 +163,7 @@ fn read_block_unit(
 
 /// Reads the unit that a text begins with, a file header, a record or a block, by what is declared
 /// of the file. The text isn't empty if a unit was read before. A refusal leaves the table
-/// unchanged.
+/// unchanged; and none is added to a table of `count`.
 pub(crate) fn read_unit(
     form: FileState,
     table: &mut [Interface],
@@ -166,6 +180,7 @@ pub(crate) fn read_unit(
     ensures err { IfErr result (IsNoUnit form (first_interfaces count table.old) text.now
         (length table.old)) }
     ensures kept { OnErr result (table.new ≡ table.old) }
+    ensures full { count ≡ length table.old → table.new ≡ table.old }
 {
     match form {
         FileState::Unknown => {
@@ -173,9 +188,8 @@ pub(crate) fn read_unit(
                 return read_block_unit(form, None, None, table, count, text);
             }
             match header_in(text) {
-                // A pcap file header has 24 bytes.
                 Ok(head) => Ok(ReadUnit {
-                    size: 24,
+                    size: FILE_HEADER,
                     form: FileState::Pcap(head),
                     interfaces: 0,
                     packet: None,
