@@ -89,11 +89,11 @@ module _ (w : Writer) (table : List Interface) (p : Captured) (known number room
     counted = λ _. all_counted w' table' (subst (λ v. v.interfaces ≤ room_for (length table')) (sym h.counted) within);
   }
     where
-      within : known + 1 ≤ room_for (length table')
-      within = let fits = h.fits in omega (arith, fits, long)
-
       long : length table' ≡ length table
       long = ap length h.put ∙ length-set table known h.entry
+
+      within : known + 1 ≤ room_for (length table')
+      within = let fits = h.fits in omega (arith, fits, long)
 
       count : most_written w' (length table') ≡ known + 1
       count = ap₂ (λ (v : Writer) n. min v.interfaces (room_for n)) h.counted long ∙ (let fits = h.fits in grind (arith, nat_tests))

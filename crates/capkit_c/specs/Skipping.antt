@@ -4,7 +4,7 @@ use Rattle.cap_octet.specs.{Number.u32_in, Packet.Captured}
 use Rattle.cap_octet.specs.declared.fault.Fault.{Fault}
 use Rattle.cap_pcap.specs.{Header.form_of, Record.record_size, declared.header.Head.Head}
 use Rattle.cap_pcapng.specs.Block.{Parts, InterfaceParts}
-use Rattle.cap_pcapng.specs.{Interface.Described, Time.microseconds}
+use Rattle.cap_pcapng.specs.{Interface.Described, Interface.most_interfaces, Time.microseconds}
 use Rattle.cap_pcapng.specs.Unit.{Section, block_size, parts_after}
 use Rattle.cap_io.specs.Capture.{Declared, Nothing, PcapFile, PcapngFile, Front, Whole, NoUnit, first_link_after, front_of}
 use Rattle.capkit_c.specs.{Layout.declared_in, Reading.found_number, Units.IsPastUnit}
@@ -58,14 +58,16 @@ with_interface first section interface =
     let more = record section { interfaces = section.interfaces ++ interface ∷ [] } in
     PcapngFile (first_link_after first more) more
 
--- a description block of these parts is gone past: its interface keeps its number; none is in any
--- other block
+-- a description block of these parts is gone past: its interface keeps its number, which is one of
+-- 256; no other block has an interface
 abbrev pub past_interface : Option ℕ → Section → (size : ℕ) → Parts → Option PastUnit
 past_interface first section size (InterfaceParts link snap order options) =
+    if nat_lt (length section.interfaces) most_interfaces then
     Some (record {
       size = size;
       declared = with_interface first section (unread_interface link snap);
     })
+    else None
 past_interface first section size parts = None
 
 -- the unit that a text begins with, if it can be gone past, by the part that is refused

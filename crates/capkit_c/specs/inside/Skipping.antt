@@ -17,7 +17,7 @@ pub record HasMoved (capture : List ℕ) (size : ℕ) (form : FileState) (count 
     (r r' : Reader) : Type 0 where
   pub there : size ≤ length (drop r.offset capture)
   pub offset : r'.offset ≡ r.offset + size
-  pub form : reader_form r' ≡ form
+  pub state : reader_form r' ≡ form
   pub interfaces : r'.interfaces ≡ count
   pub link : HasLink (first_link_of (declared_by form [])) r'
 

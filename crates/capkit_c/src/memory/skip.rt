@@ -17,7 +17,7 @@ use crate::memory::reader::{
 use cap_io::FileState;
 use cap_octet::{Fault, Order, u16_at, u32_at};
 use cap_pcap::Head;
-use cap_pcapng::{BlockType, Clock, Frame, Interface as PcapngInterface, frame};
+use cap_pcapng::{BlockType, Clock, Frame, Interface as PcapngInterface, MOST_INTERFACES, frame};
 
 /// The ticks per second of an interface whose options aren't read.
 const MICROSECONDS: u64 = 1_000_000;
@@ -62,10 +62,15 @@ fn whole_frame(order: Order, text: &[u8]) -> Option<Frame>
     let Some(first) = text.first_chunk::<12>() else {
         return None;
     };
-    match frame(Some(order), first) {
-        Ok(frame) if text.len() >= frame.length as usize => Some(frame),
-        _ => None,
+    let frame = match frame(Some(order), first) {
+        Ok(frame) => frame,
+        Err(_) => return None,
+    };
+    let size = frame.length as usize;
+    if text.len() < size {
+        return None;
     }
+    Some(frame)
 }
 
 /// The interface of the description block of this frame that a text begins with, of which the link
@@ -176,6 +181,7 @@ fn skip_interface(
     requires form { reader_form reader.old ≡ form.Pcapng order first }
     requires there { frame.now.length ≤ length (drop reader.old.offset capture.now) }
     requires some { 0 < frame.now.length }
+    requires fits { most_known reader.old (length table.old) < 256 }
     requires unit { past_at capture.now reader.old table.old ≡ Some (record {
         size = frame.now.length;
         declared = with_interface first
@@ -220,12 +226,15 @@ fn skip_block(
             let form = FileState::Pcapng(order, first);
             go_past(reader, capture, frame.length as usize, form, count)
         }
-        RefusedPart::Options => match unread_interface(&frame, text) {
-            Some(interface) => {
-                skip_interface(reader, table, capture, &frame, &interface, first, order)
+        RefusedPart::Options => {
+            let Some(interface) = unread_interface(&frame, text) else {
+                return Skip::Not(Found::Fault(fault));
+            };
+            if reader.known_interfaces(table.len()) >= MOST_INTERFACES {
+                return Skip::Not(Found::Fault(fault));
             }
-            None => Skip::Not(Found::Fault(fault)),
-        },
+            skip_interface(reader, table, capture, &frame, &interface, first, order)
+        }
         RefusedPart::LinkType | RefusedPart::Form => Skip::Not(Found::Fault(fault)),
     }
 }
