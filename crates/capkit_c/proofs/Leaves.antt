@@ -116,15 +116,19 @@ found_packet capture text r r' t t' p p' f count s placed is counts same steps f
 stays : (r : Reader) (t t' : List Interface) (p : Packet) → t' ≡ t → Stays r r t t' p p
 stays r t t' p same = record { reader = refl; table = same; packet = refl }
 
-pub ended : (capture text : List ℕ) (r : Reader) (t : List Interface) (p : Packet) (f : FileState) (count : ℕ) → f ≡ reader_form r → Counts f r (length t) count → text ≡ drop r.offset capture → IsAtEnd f text
-    → NextLeaves capture r r t t p p Found.End
-ended capture text r t p f count is counts same over =
-    ends (ap (front_of (declared_in r t)) (sym same) ∙ ap (λ d. front_of d text) (sym (declared_as f r t count is counts)) ∙ stops f over) (stays r t t p refl)
+pub end_front : (capture text : List ℕ) (r : Reader) (t : List Interface) (f : FileState) (count : ℕ) → f ≡ reader_form r → Counts f r (length t) count → text ≡ drop r.offset capture → IsAtEnd f text
+    → front_of (declared_in r t) (drop r.offset capture) ≡ NoUnit None
+end_front capture text r t f count is counts same over =
+    ap (front_of (declared_in r t)) (sym same) ∙ ap (λ d. front_of d text) (sym (declared_as f r t count is counts)) ∙ stops f over
   where
     stops : (g : FileState) → IsAtEnd g text → front_of (declared_by g (first_interfaces count t)) text ≡ NoUnit None
     stops form.Unknown over = absurd over
     stops (form.Pcap head) over = ap (front_of (declared_by (form.Pcap head) (first_interfaces count t))) over
     stops (form.Pcapng order link) over = ap (front_of (declared_by (form.Pcapng order link) (first_interfaces count t))) over
+
+pub ended : (capture text : List ℕ) (r : Reader) (t : List Interface) (p : Packet) (f : FileState) (count : ℕ) → f ≡ reader_form r → Counts f r (length t) count → text ≡ drop r.offset capture → IsAtEnd f text
+    → NextLeaves capture r r t t p p Found.End
+ended capture text r t p f count is counts same over = ends (end_front capture text r t f count is counts same over) (stays r t t p refl)
 
 pub refused : (capture text : List ℕ) (r : Reader) (t t' : List Interface) (p : Packet) (f : FileState) (count : ℕ) (fault : Fault) → f ≡ reader_form r → Counts f r (length t) count
     → text ≡ drop r.offset capture → IsNoUnit f (first_interfaces count t) text (length t) (Refusal.Fault fault) → t' ≡ t → NextLeaves capture r r t t' p p (Found.Fault fault)

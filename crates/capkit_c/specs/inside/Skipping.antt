@@ -41,15 +41,20 @@ IsWholeFrame order text (Some frame) =
     (12 ≤ frame.length) × (frame.length ≤ length text)
     × ((before : Option Section) → order_before before ≡ Some order → IsFramed before text frame)
 
--- the interface of the description block of this frame that a text begins with, whose options aren't
--- read; None if the block is another one, or its form is refused
+-- the description block of this frame that a text begins with describes this interface, but for its
+-- options, which aren't read
+pub record Describes (frame : Frame) (text : List ℕ) (i : Interface) : Type 0 where
+  pub described : description_of i ≡ unread_interface i.link i.snap
+  pub order : Order
+  pub options : List ℕ
+  pub parts : parts_in frame text ≡ InterfaceParts i.link i.snap order options
+
+-- the interface of the block of this frame that a text begins with; None if the block is no
+-- description, or its form is refused
 abbrev pub IsUnread : Frame → List ℕ → Option Interface → Type 0
 IsUnread frame text None =
     (before : Option Section) → IsFramed before text frame
     → RefusesForm before text
     ⊎ ((first : Option ℕ) (section : Section) (size : ℕ)
     → past_interface first section size (parts_in frame text) ≡ None)
-IsUnread frame text (Some i) =
-    (description_of i ≡ unread_interface i.link i.snap)
-    × ((order : Order) × ((options : List ℕ)
-    × (parts_in frame text ≡ InterfaceParts i.link i.snap order options)))
+IsUnread frame text (Some i) = Describes frame text i

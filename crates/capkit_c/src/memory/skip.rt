@@ -235,7 +235,7 @@ fn skip_block(
             }
             skip_interface(reader, table, capture, &frame, &interface, first, order)
         }
-        RefusedPart::LinkType | RefusedPart::Form => Skip::Not(Found::Fault(fault)),
+        _ => Skip::Not(Found::Fault(fault)),
     }
 }
 
