@@ -1,6 +1,8 @@
 -- What going past a refused unit leaves.
-use Rattle.capkit_c.proofs.Common.{inl, inr, ap₂, block_size, parts_after, section_of, IsFramed, ◌≡◌, ℕ, ◌+◌, ◌<◌, ◌≤◌, ◌%◌, List, [], ◌∷◌, ◌++◌, length, take, drop, Option, Some, None, Err, refl, sym, ap, ◌∙◌, subst, arith, Bool, true, false, nat_lt, ◌==◌, nat_le, ◌&&◌, ◌||◌, not, if◌then◌else◌, length-take-le, take-take, checked, first_failing, Captured, Fault, Truncated, Order, checked_err, Head, is_section, frame_fault, frame_in, Described, Section, order_before, unit_fault, Declared, Nothing, PcapFile, PcapngFile, NoUnit, Whole, front_of, declared_by, FileState, declared_in, first_interfaces, reader_form, most_known, ArePlaced, BeginsWithUnit, Counts, DeclaresOne, UnitPacket, Interface, Reader}
-use Rattle.std.specs.Prelude.{is_some, map}
+use Rattle.capkit_c.proofs.Common.{inl, inr, ap₂, block_size, parts_after, section_of, IsFramed, NextLeaves, Packet, ends, fails, finds, is_full, passes, ◌≡◌, ℕ, ◌+◌, ◌<◌, ◌≤◌, ◌%◌, List, [], ◌∷◌, ◌++◌, length, take, drop, Option, Some, None, Err, refl, sym, ap, ◌∙◌, subst, arith, Bool, true, false, nat_lt, ◌==◌, nat_le, ◌&&◌, ◌||◌, not, if◌then◌else◌, length-take-le, take-take, checked, first_failing, Captured, Fault, Truncated, Order, checked_err, Head, is_section, frame_fault, frame_in, Described, Section, order_before, unit_fault, Declared, Nothing, PcapFile, PcapngFile, NoUnit, Whole, front_of, declared_by, FileState, declared_in, first_interfaces, reader_form, most_known, ArePlaced, BeginsWithUnit, Counts, DeclaresOne, UnitPacket, Interface, Reader}
+use Rattle.std.specs.Prelude.{is_some, map, pos, ◌*◌, ◌/◌, ◌^◌}
+use Rattle.cap_octet.specs.Date.{NANOS_PER_SECOND}
+use Rattle.cap_pcapng.specs.Time.{microseconds, representable_time}
 use Rattle.std.proofs.lemmas.{Bool.Decides.nat_tests, List.length-append, List.length-map}
 use Rattle.cap_octet.specs.declared.fault.Fault.TheVariants.{NotACaptureFile, TooLong, BadBlockLength, BadByteOrderMagic}
 use Rattle.cap_pcapng.specs.Block.{Parts, SectionParts, InterfaceParts, EnhancedParts, SimpleParts, SkippedParts, parts_in}
@@ -11,7 +13,7 @@ use Rattle.cap_pcapng.proofs.Units.{unit_fault-few}
 use Rattle.cap_io.specs.Capture.{Front, unit_unless}
 use Rattle.capkit_c.proofs.{Leaves.declared_after, Leaves.declared_as, Leaves.is_after, Stands.frame_fails}
 use Rattle.capkit_c.specs.Layout.{described_of}
-use Rattle.capkit_c.specs.Skipping.{PastUnit, SkipLeaves, found_in_front, found_with, goes_past, interface_count, is_cut, past_at, past_by, past_front, past_interface, refused_part, stays, unread_interface, with_interface}
+use Rattle.capkit_c.specs.Skipping.{PastUnit, SkipLeaves, found_at, found_in_front, found_with, goes_past, interface_count, is_cut, offset_of_no_time, past_at, past_by, past_front, past_interface, refused_part, stays, unread_interface, with_interface}
 use Rattle.capkit_c.specs.declared.memory.{reader.Found.Found, reader.ReadUnit.ReadUnit, skip.RefusedPart.RefusedPart, skip.Skip.Skip}
 use Rattle.capkit_c.specs.inside.{Skipping.Describes, Skipping.IsUnread, Skipping.Moves, Skipping.RefusesForm, Units.found_by}
 use Rattle.cap_io.specs.declared.file_state.FileState.TheVariants as form
@@ -192,8 +194,8 @@ most_count (form.Pcapng order first) interfaces = omega arith
 -- nothing is gone past where a text begins with a sound unit or nothing
 pub found : (capture : List ℕ) (r : Reader) (t t' : List Interface) (front : Front) (what : Found) → front_of (declared_in r t) (drop r.offset capture) ≡ front → past_front (declared_in r t) (drop r.offset capture) front ≡ None
     → what ≡ found_in_front (length t) front → t' ≡ t → SkipLeaves capture r r t t' (Skip.Not what)
-found capture r t t' front what is none finds same =
-    stays what (ap (past_front (declared_in r t) (drop r.offset capture)) is ∙ none) (finds ∙ sym (ap (found_in_front (length t)) is)) refl same
+found capture r t t' front what is none says same =
+    stays what (ap (past_front (declared_in r t) (drop r.offset capture)) is ∙ none) (says ∙ sym (ap (found_in_front (length t)) is)) refl same
 
 -- what the text begins with, in a table of just the interfaces that are known
 pub begins : (capture text : List ℕ) (r : Reader) (t : List Interface) (f : FileState) (count : ℕ) → f ≡ reader_form r → Counts f r (length t) count → text ≡ drop r.offset capture
@@ -220,3 +222,31 @@ room_left t size first section fits = sym (with_room (length t) (length section.
 
 pub no_room : (t : List Interface) (size : ℕ) (first : Option ℕ) (section : Section) → length t < length section.interfaces → Found.NoRoom ≡ found_in_front (length t) (Whole size [] (PcapngFile first section))
 no_room t size first section short = sym (without_room (length t) (length section.interfaces) Found.Unit short)
+
+-- ---- laws
+
+known_fit : (r : Reader) (t : List Interface) → interface_count (declared_in r t) ≤ length t
+known_fit r t =
+    let known = most_known r (length t) in
+    let most = most_count (reader_form r) (first_interfaces known t) in
+    let count : length (first_interfaces known t) ≡ known = described_count known t (omega arith) in
+    omega (arith, most, count)
+
+pub found_is : (capture : List ℕ) (r r' : Reader) (t t' : List Interface) (p p' : Packet) (what : Found) → length t' ≡ length t → NextLeaves capture r r' t t' p p' what → what ≡ found_at capture r t
+found_is capture r r' t t' p p' what same (passes size front after kept) =
+    sym (ap (found_in_front (length t)) front ∙ with_room (length t) (interface_count (declared_in r' t')) Found.Unit (omega (arith, known_fit r' t', same)))
+found_is capture r r' t t' p p' what same (finds size q front after is) =
+    sym (ap (found_in_front (length t)) front ∙ with_room (length t) (interface_count (declared_in r' t')) Found.Packet (omega (arith, known_fit r' t', same)))
+found_is capture r r' t t' p p' what same (ends front kept) = sym (ap (found_in_front (length t)) front)
+found_is capture r r' t t' p p' what same (fails fault front kept) = sym (ap (found_in_front (length t)) front)
+found_is capture r r' t t' p p' what same (is_full interfaces most one kept) =
+    let more : length one.section.interfaces ≡ length interfaces + 1 = ap length one.more ∙ length-append interfaces (one.interface ∷ []) in
+    sym (ap (found_in_front (length t)) one.front ∙ without_room (length t) (length one.section.interfaces) Found.Unit (omega (arith, more, most)))
+
+too_late : (n m : ℕ) → 2 ^ 63 ≤ m → nat_lt (n + m) (2 ^ 63) ≡ false
+too_late n m least = grind (arith, nat_tests)
+
+pub no_time : (ticks : ℕ) → representable_time ticks microseconds (pos offset_of_no_time) ≡ None
+no_time ticks =
+    let late : nat_lt (ticks * NANOS_PER_SECOND / microseconds + offset_of_no_time * NANOS_PER_SECOND) (2 ^ 63) ≡ false = too_late (ticks * NANOS_PER_SECOND / microseconds) (offset_of_no_time * NANOS_PER_SECOND) (omega arith) in
+    ap (λ b. if b then Some (ticks * NANOS_PER_SECOND / microseconds + offset_of_no_time * NANOS_PER_SECOND) else None) late

@@ -234,14 +234,20 @@ const FAULTS: &[(&[u8], usize, u8, u32, usize)] = &[
     (SECTIONS, 132, 3, 207, 132),
 ];
 
+/// A capture in which one byte is another.
+fn altered(alloc: Global, capture: &[u8], at: usize, byte: u8) -> Result<Vec<u8>, AllocError> {
+    let mut altered = Vec::from_slice(alloc, capture)?;
+    if let Some(place) = altered.get_mut(at) {
+        *place = byte;
+    }
+    Ok(altered)
+}
+
 #[test]
 fn faults_are_found(rt: HostRuntime) {
     let mut table = [NO_INTERFACE; 2];
     for (capture, at, byte, expected, offset) in FAULTS {
-        let mut altered = Vec::from_slice(rt.alloc(), capture).expect(&rt, "memory");
-        if let Some(place) = altered.get_mut(*at) {
-            *place = *byte;
-        }
+        let altered = altered(rt.alloc(), capture, *at, *byte).expect(&rt, "memory");
         let (number, reader) = read_all(&altered, &mut table);
         assert!(rt;
             number == *expected && reader.offset == *offset,
@@ -352,7 +358,10 @@ fn packets_are_sought_by_any_instructions(rt: HostRuntime) {
             1,
             &mut packet,
         );
-        assert!(rt; found == *expected && reader.offset == MICROSECONDS.len(), "{found}");
+        assert!(rt;
+            found == *expected && reader.offset == MICROSECONDS.len(),
+            "{found}"
+        );
     }
 }
 
@@ -384,8 +393,7 @@ const SKIPS: &[(&[u8], (usize, u8), usize, (u32, usize, u32))] = &[
 #[test]
 fn refused_units_are_skipped(rt: HostRuntime) {
     for (capture, (at, byte), before, expected) in SKIPS {
-        let mut altered = Vec::from_slice(rt.alloc(), capture).expect(&rt, "memory");
-        altered[*at] = *byte;
+        let altered = altered(rt.alloc(), capture, *at, *byte).expect(&rt, "memory");
         let (mut reader, mut table, mut packet) = (START, [NO_INTERFACE; 1], NO_PACKET);
         for _ in 0..*before {
             capkit_next_unit(&mut reader, &mut table, &altered, &mut packet);
@@ -403,11 +411,11 @@ fn refused_units_are_skipped(rt: HostRuntime) {
 /// A record that is skipped has all of its bytes, though its time is refused before they are there.
 #[test]
 fn cut_records_are_not_skipped(rt: HostRuntime) {
-    let mut altered = Vec::from_slice(rt.alloc(), MICROSECONDS).expect(&rt, "memory");
-    altered[30] = 16;
+    let altered = altered(rt.alloc(), MICROSECONDS, 30, 16).expect(&rt, "memory");
+    let cut = altered.get(..43).unwrap_or_default();
     let (mut reader, mut packet) = (START, NO_PACKET);
-    assert!(rt; capkit_next(&mut reader, &mut [], &altered[..43], &mut packet) == 210);
-    assert!(rt; capkit_skip(&mut reader, &mut [], &altered[..43]) == 202 && reader.offset == 24);
+    assert!(rt; capkit_next(&mut reader, &mut [], cut, &mut packet) == 210);
+    assert!(rt; capkit_skip(&mut reader, &mut [], cut) == 202 && reader.offset == 24);
     assert!(rt; capkit_skip(&mut reader, &mut [], &altered) == 228 && reader.offset == 44);
 }
 
@@ -416,8 +424,7 @@ fn cut_records_are_not_skipped(rt: HostRuntime) {
 /// their numbers.
 #[test]
 fn refused_interfaces_keep_their_numbers(rt: HostRuntime) {
-    let mut altered = Vec::from_slice(rt.alloc(), BLOCKS).expect(&rt, "memory");
-    altered[56] = 13;
+    let altered = altered(rt.alloc(), BLOCKS, 56, 13).expect(&rt, "memory");
     let (mut reader, mut table, mut packet) = (START, [NO_INTERFACE; 2], NO_PACKET);
     assert!(rt; capkit_next(&mut reader, &mut table, &altered, &mut packet) == 212);
     assert!(rt; capkit_skip(&mut reader, &mut [], &altered) == 224 && reader.offset == 28);

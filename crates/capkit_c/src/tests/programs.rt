@@ -357,3 +357,24 @@ fn a_long_listing(rt: HostRuntime) {
     let status = capkit_read_listing(rt.alloc(), text, &mut read, &mut count);
     assert!(rt; status == 0 && count == 32_768 && read.as_slice() == insns.as_slice());
 }
+
+/// 33 instructions, most of them with the longest line that a valid instruction has.
+#[test]
+fn a_listing_of_the_longest_lines(rt: HostRuntime) {
+    let longest = Insn {
+        code: 177,
+        jt: 255,
+        jf: 255,
+        k: 4_294_967_295,
+    };
+    let mut insns = [longest; 33];
+    insns[32].code = 22;
+    let (mut buffer, mut length) = ([0xaa; 800], 77);
+    let status = capkit_write_listing(rt.alloc(), &insns, &mut buffer, &mut length);
+    assert!(rt; (status, length) == (0, 3 + 23 * 32 + 22));
+    assert!(rt; buffer.starts_with(b"33\n177 255 255 4294967295\n177 255 255 4294967295\n"));
+    let (mut read, mut count) = ([UNWRITTEN; 33], 77);
+    let text = buffer.get(..length).unwrap_or_default();
+    let status = capkit_read_listing(rt.alloc(), text, &mut read, &mut count);
+    assert!(rt; (status, count) == (0, 33) && read == insns);
+}
