@@ -43,6 +43,31 @@ static inline struct capkit_insn *room_of(const char *program, const char *expre
     return insns;
 }
 
+/* Reads bytes as they come, though a signal interrupts it: as read(2), but never fails by EINTR. */
+static inline ssize_t read_some(int file, uint8_t *bytes, size_t room)
+{
+    ssize_t got;
+    do
+        got = read(file, bytes, room);
+    while (got < 0 && errno == EINTR);
+    return got;
+}
+
+/* Reads on: what the reader has not passed goes to the front of a buffer, and more bytes behind it.
+ * Of the buffer *size bytes are used. Returns what read(2) returned: 0 at the end, -1 after a
+ * failure. */
+static inline ssize_t read_on(int file, struct capkit_reader *reader, uint8_t *buffer, size_t room,
+                              size_t *size)
+{
+    ssize_t got;
+    *size -= reader->offset;
+    memmove(buffer, buffer + reader->offset, *size);
+    reader->offset = 0;
+    got = read_some(file, buffer + *size, room - *size);
+    *size += got > 0 ? (size_t)got : 0;
+    return got;
+}
+
 /* All that is left of a file that can't be mapped, as a pipe; null where it can't be read. */
 static inline uint8_t *read_whole(int file, size_t *size)
 {
@@ -52,7 +77,7 @@ static inline uint8_t *read_whole(int file, size_t *size)
         if ((grown = realloc(bytes, *size + 65536)) == NULL)
             break;
         bytes = grown;
-        if ((got = read(file, bytes + *size, 65536)) < 0)
+        if ((got = read_some(file, bytes + *size, 65536)) < 0)
             break;
     }
     if (got == 0)

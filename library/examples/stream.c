@@ -1,8 +1,7 @@
 /* Prints the time and the length of each packet of a capture on its standard input, as it comes.
  *
- * The input is read through a buffer that has room for two units: what is left of it goes to the
- * front, and more is read behind it. The statuses are those of capkit: 1 after a fault or a failed
- * read. */
+ * The input is read through a buffer that has room for two units. A fault is told at once, though
+ * more bytes may come. The statuses are those of capkit: 1 after a fault or a failed read. */
 #define _POSIX_C_SOURCE 200809L
 #include "example.h"
 
@@ -15,18 +14,18 @@ int main(void)
     struct capkit_packet p;
     size_t size = 0, before = 0;
     uint32_t found;
+    int can_go_on;
     ssize_t got;
     do {
-        got = read(0, buffer + size, sizeof buffer - size);
-        size += got > 0 ? (size_t)got : 0;
+        before += reader.offset;
+        got = read_on(0, &reader, buffer, sizeof buffer, &size);
         while ((found = capkit_next(&reader, interfaces, CAPKIT_MOST_INTERFACES, buffer, size,
                                     &p)) == CAPKIT_PACKET)
             printf("%llu %u\n", (unsigned long long)p.time, p.original), fflush(stdout);
-        before += reader.offset, size -= reader.offset;
-        memmove(buffer, buffer + reader.offset, size);
-        reader.offset = 0;
-    } while (got > 0);
-    if (got < 0 && (found == CAPKIT_END || found == CAPKIT_TRUNCATED || size < 4))
+        can_go_on = found == CAPKIT_END || found == CAPKIT_TRUNCATED || size - reader.offset < 4;
+    } while (got > 0 && can_go_on);
+    before += reader.offset;
+    if (got < 0 && can_go_on)
         return fprintf(stderr, "stream: -: offset %zu: read failed\n", before), 1;
     if (found == CAPKIT_END)
         return 0;

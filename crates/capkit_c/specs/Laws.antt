@@ -1,7 +1,8 @@
 -- Laws of reading and writing.
-use Rattle.std.specs.Prelude.{◌≡◌, ℕ, ◌+◌, ◌≤◌, List, ◌++◌, length, drop}
+use Rattle.std.specs.Prelude.{◌≡◌, ℕ, ◌+◌, ◌≤◌, pos, List, ◌++◌, length, drop, None}
 use Rattle.cap_io.specs.Text as text
-use Rattle.capkit_c.specs.{Units.NextLeaves, declared.memory.layout.Interface.Interface}
+use Rattle.cap_pcapng.specs.Time.{microseconds, representable_time}
+use Rattle.capkit_c.specs.{Skipping.found_at, Skipping.offset_of_no_time, Units.NextLeaves, declared.memory.layout.Interface.Interface}
 use Rattle.capkit_c.specs.declared.memory.{layout.Packet.Packet, layout.Reader.Reader, reader.Found.Found}
 
 -- a reader, and a packet, whose places are counted from k bytes earlier on
@@ -26,3 +27,14 @@ abbrev pub NumberStays : Type 0
 NumberStays =
     (known : List text.Interface) (i : text.Interface)
     → text.number_among (known ++ text.new_among known i) i ≡ text.number_among known i
+
+-- What the definition of a unit that isn't gone past says of it is what a call finds that reads it.
+abbrev pub FindsWhatIsRead : Type 0
+FindsWhatIsRead =
+    (capture : List ℕ) (r r' : Reader) (t t' : List Interface) (p p' : Packet) (what : Found)
+    → length t' ≡ length t → NextLeaves capture r r' t t' p p' what → what ≡ found_at capture r t
+
+-- No packet of an interface whose options were refused has a time in range.
+abbrev pub NoTimeIsMadeUp : Type 0
+NoTimeIsMadeUp =
+    (ticks : ℕ) → representable_time ticks microseconds (pos offset_of_no_time) ≡ None

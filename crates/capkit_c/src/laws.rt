@@ -3,6 +3,7 @@ ghost use Rattle.std.specs.Prelude.{◌≡◌, ◌↔◌, List};
 ghost use Rattle.flt_bpf.specs.declared.insn.Insn.{Insn};
 ghost use Rattle.capkit_c.specs.Elsewhere.{HereFromZeros, SameFromAnyWords, SameOnLibpcap};
 ghost use Rattle.capkit_c.specs.{Elsewhere.SameOnLinux, Laws.NumberStays, Laws.RestIsRead};
+ghost use Rattle.capkit_c.specs.Laws.{FindsWhatIsRead, NoTimeIsMadeUp};
 ghost use Rattle.capkit_c.specs.Portable.{is_portable, portability};
 
 /// The rest of a capture, from the reader's place on, is read as the capture is.
@@ -15,6 +16,18 @@ pub fn rest_is_read()
 #[tactic(auto, using(crate::proofs::Putting::number_stays))]
 pub fn number_stays()
     ensures { NumberStays }
+{}
+
+/// What `capkit_skip` finds of a unit that it doesn't go past is what `capkit_next_unit` finds.
+#[tactic(auto, using(crate::proofs::Skips::found_is))]
+pub fn finds_what_is_read()
+    ensures { FindsWhatIsRead }
+{}
+
+/// No packet of an interface that `capkit_skip` entered has a time in range.
+#[tactic(auto, using(crate::proofs::Skips::no_time))]
+pub fn no_time_is_made_up()
+    ensures { NoTimeIsMadeUp }
 {}
 
 /// The machine here is one of those that the next laws speak of.
