@@ -1,5 +1,6 @@
 //! What names mean: files and the standard streams.
-ghost use Rattle.std.specs.{Fd.file_raw_fd, Io.WritesAtMost, Io.KnownBytes.WriteAppends};
+ghost use Rattle.std.specs.{Fd.file_raw_fd, Io.WritesAtMost};
+ghost use Rattle.std.specs.Io.KnownBytes.{Keeps, WriteAppends};
 ghost use Rattle.std.specs.Prelude.{◌≡◌, ◌≢◌, IfOk, IfSome, OnOk, None, false, true, not, is_err};
 ghost use Rattle.capkit.specs.Streams.{holds_old_bytes, is_beside_streams, is_standard_output};
 ghost use Rattle.capkit.specs.inside.Streams.{is_input_beside_streams, is_new_and_unwritten};
@@ -205,7 +206,10 @@ impl<S: Write> Write for Created<'_, S> {
     }
 
     /// Writes out what the stream holds back; a file holds nothing back.
-    fn flush(&mut self) -> io::Result<()> {
+    fn flush(&mut self) -> io::Result<()>
+        ensures bytes { Keeps None None }
+        ensures same { holds_old_bytes self.new ≡ holds_old_bytes self.old }
+    {
         match self {
             Created::File(output) => output.file.flush(),
             Created::Stream(stream) => stream.flush(),
