@@ -353,18 +353,24 @@ def start_gone(chance):
     return before + new + one.data[size:], one.packets([] if before else [(0, size)])
 
 
+def beginning_gone(chance):
+    """The first bytes missing, with another file that begins in the same way."""
+    one, size = capture(chance), chance.randrange(1, 3000)
+    other = Capture(plain(chance, pool)[: chance.choice((0, 1, 50))], one.form)
+    return one.data[size:], one.packets([(one.first, max(size, one.first))]), other.data
+
+
 def carried(chance):
-    """A capture that packets carry, of up to a day before them, or ten days after them if their clock wasn't
-    set; damage stands right before one of those."""
+    """A capture that packets carry, of up to a day before them; damage stands right before one of those."""
     form = chance.choice(FORMS)
     own = [chance.choice(pool)]
-    before, inner, after = (plain(chance, own) for _ in range(3))
+    later = 0 if own[0][0][0] > 10**17 else 15 * 10**17  # a clock that wasn't set
+    before, inner, after = ([(when + later, *rest) for when, *rest in plain(chance, own)] for _ in range(3))
     ago = chance.randrange(2, 80_000) * 10**9 + inner[-1][0] - before[-1][0]
-    ago = ago if inner[0][0] - ago > 10**17 else -864_000 * 10**9 - before[-1][0]
     text = bytes(Capture([(when - ago, *rest) for when, *rest in inner[:300]], chance.choice((form, *FORMS))).data)
     parts = [bytes(54) + text[at : at + 1400] for at in range(0, len(text), 1400)]
     begin = len(before)
-    packets = [*before, *[(before[-1][0] + number, len(it), it) for number, it in enumerate(parts)], *after]
+    packets = [*before, *[(before[-1][0] + 1000 * (number + 1), len(it), it) for number, it in enumerate(parts)], *after]
     one = Capture([(max(when, before[-1][0]) if number >= begin else when, *rest)
                    for number, (when, *rest) in enumerate(packets)], form)
     place = one.units[begin + chance.randrange(len(parts))][0]
@@ -389,6 +395,7 @@ KINDS = {
     "cut_out": cut_out, "overwritten": overwritten, "start_gone": start_gone, "carried": carried,
     "unset_and_hole": lambda chance: overwritten(chance, capture(chance, makers=[unset])),
     "numbers_and_hole": lambda chance: overwritten(chance, capture(chance, makers=[numbers])),
+    "beginning_gone": beginning_gone,
     "pieces_lost": lambda chance: in_pieces(chance, lost),
     "pieces_inserted": inserted,
     "pieces_repeated": lambda chance: in_pieces(chance, repeated),
@@ -477,13 +484,17 @@ def run_script(words, said):
     exec(script[0], {"__name__": "__main__", "__doc__": "no text"})
 
 
-def try_file(data, packets, is_timed):
-    """Runs the programs on one file: their counts, and what salvage.py did wrong."""
+def try_file(data, packets, is_timed, like=b""):
+    """Runs the programs on one file: their counts, and what salvage.py did wrong, if it is told of a file that
+    begins in the same way with that one."""
     faults, results = [], {}
     with tempfile.TemporaryDirectory() as temporary:
         source = pathlib.Path(temporary) / "damaged"
         source.write_bytes(data)
+        if like:
+            (source.parent / "like").write_bytes(like)
         for name, words in commands().items():
+            words[1:1] = ["--like", source.parent / "like"] if like and name == SCRIPT else []
             out = source.parent / f"{name}.out"
             status, said, took = call(words, source, out)
             results[name] = counts(packets_of(out), packets, is_timed)
@@ -515,8 +526,8 @@ def try_one(number, given):
     chance = random.Random(f"{given.seed} {number}")
     kinds = [it for it in KINDS if given.kind in (None, it)]
     kind = kinds[number % len(kinds)]
-    data, packets = KINDS[kind](chance)
-    results, faults = try_file(bytes(data), packets, kind != "fractions")
+    data, packets, *like = KINDS[kind](chance)
+    results, faults = try_file(bytes(data), packets, kind != "fractions", *like)
     keep(faults, given, f"{number}.{kind}", data)
     return number, kind, len(packets), sum(it for _, it in packets), results, faults
 
