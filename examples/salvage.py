@@ -1,31 +1,31 @@
 #!/usr/bin/env python3
-"""Writes the packets of a damaged capture, also those that come after the damage, with capkit.
+"""Writes the packets of a damaged capture, even those after the damage, with capkit.
 
 usage: salvage.py [-F FORMAT] [-n ROW] [--like FILE] IN OUT    (- is standard input or output)
 
 A file that capkit reads to its end is written as `capkit edit` does. In another one the packets are
 written up to the first damage, and from then on by these rules. A unit is a record or a block.
-1. A chain is a row of units with consistent lengths, each of which begins where the last one ends.
-2. It is believed if no packet can carry it (64 KiB and 32 units, or 2 MiB). ROW units (3) do if they
-   lead to the end of the file or to a file header, or if they are from one second before the last
-   packet to a day after it (a minute, if the clock wasn't set), and two of the first three records
-   have a sign of rule 4. A file header needs no chain if it stands where the last unit ends.
-3. The first chain wins; of chains that meet, the one with most units before. Its start is left out
-   if it is earlier than the last packet and the rest isn't: a lost packet may have carried it.
-4. A record beside damage needs two of four signs: it begins where the last one ends; it ends where
-   the chain goes on; its time is within a day of one beside it, and these are near others; its
-   lengths are equal, and no less than 14 or all beside it, or it is as long as the longest of them.
-   Times before 1971 are no sign, and one against it if they aren't between those beside it. Else it
-   is dropped: the first ones of a chain, and of the last eight before damage. Bytes that are read in
-   two ways go to the side with more signs. A chain is dropped if reading it ends within ROW records.
-5. Reading stops, and there is no chain, 4 bytes off (fractions are captured lengths) or 1 byte off
+1. A chain is a row of units with consistent lengths, each of which begins at the end of the last.
+2. It is believed if no packet can carry it (64 KiB and 32 units, or 2 MiB). ROW (3) units suffice
+   if they lead to the end of the file or to a file header, or if they are from one second before
+   the last packet to a day after it (a minute, if the clock wasn't set), and two of the first three
+   records have a sign of rule 4. A file header at the end of the last unit needs no chain.
+3. The first chain wins; if chains meet, the one with most units before. Its start is left out if it
+   is earlier than the last packet and the rest isn't: a lost packet may have carried it.
+4. A record next to damage needs two of four signs: it begins at the end of the last one; it ends at
+   the chain; its time is within a day of one near it, and these agree; its lengths are equal, and
+   no less than 14 or all near it, or it is as long as the longest of them. Times before 1971 aren't
+   a sign, but one against it if they aren't between those next to it. Without two it is dropped:
+   the first records of a chain, and the last eight before damage. Bytes that are read in two ways
+   go to the side with more signs. A chain is dropped if reading it ends within ROW records.
+5. Reading stops, and a chain is refused, 4 bytes off (fractions are captured lengths) or 1 byte off
    (lengths are 256 times too long, and the record 1 byte off has more signs).
-6. Put right, and reported, are a fraction of a second or more (0, if a record follows and one sign
-   is there), a damaged length (if the other one leads to the chain), a time out of range (0), the
-   version and link type field, options that capkit refuses, and text mode (carriage returns). Left
-   out are packets whose interface isn't known. --like takes a lost beginning from another FILE.
-docs/RELIABILITY.md has what is still made up, and bounds. IN isn't changed, and copied only if it is
-a pipe or in text mode. OUT gets its name at the end. The status is 0 if IN was in order, 1 if not or
+6. Corrected and reported are a fraction of a second or more (0, if a record follows and one sign is
+   present), a damaged length (if the other one leads to the chain), a time out of range (0), the
+   version and link type field, options that capkit refuses, and text mode. Packets whose interface
+   isn't known are dropped. --like takes a lost beginning from another FILE of the same program.
+docs/RELIABILITY.md says what can still be made up. IN isn't changed; it is copied if it is a pipe
+or in text mode. OUT gets its name at the end. The status is 0 if IN was in order, 1 if not or if
 nothing was written, 2 if the command line is wrong. Needs Python 3.10.
 """
 import argparse
@@ -58,7 +58,7 @@ DOUBTED, NOTES, NEAR, EARLIER, NO_TIME, SAME = 8, 20, 86_400, 1, float("nan"), (
 UNSET, SHORTEST = 31_536_000, 14  # of a clock that began at 1970; bytes of a link header
 
 
-def tell(text):
+def report(text):
     """Writes a line to standard error, in which what isn't a character of a line is a number."""
     text = "".join(it if it.isprintable() else ascii(it)[1:-1] for it in text)
     with contextlib.suppress(OSError):
@@ -154,7 +154,7 @@ class Output:
         self.left_out += size
         if self.places <= NOTES:
             text = f"{size} bytes left out{text}" if size else text
-            tell(f"{self.source.name}: offset {at}: {text}")
+            report(f"{self.source.name}: offset {at}: {text}")
 
 
 class Reader:
@@ -248,12 +248,12 @@ class Records(Reader):
     def end(self, at):
         return at + 16 + self.head(at)[2]
 
-    def signs(self, at, beside):
+    def signs(self, at, around):
         """How many of two signs a record has, time and lengths; -1 if its lengths are none."""
         seconds, part, captured, original = self.head(at)
-        others = [self.head(it) for it in beside if it != at]
+        others = [self.head(it) for it in around if it != at]
         times, sizes = [it[0] for it in others], [it[2] for it in others]
-        after = sum(it < at for it in beside)
+        after = sum(it < at for it in around)
         is_set = min(times, default=0) > UNSET and all(
             sum(abs(it - time) <= NEAR for it in times) > 1 for time in times)
         is_near = is_set and any(abs(it - seconds) <= NEAR for it in times)
@@ -267,8 +267,8 @@ class Records(Reader):
 
     def grounded(self, bounds, passes):
         """A chain from the first record on that has enough signs; None if it gets too short."""
-        beside, ends = [*self.last, *bounds[:-1][:DOUBTED]], [passes, *map(self.end, self.last)]
-        signs = lambda places: [self.signs(it, beside) for it in places]
+        around, ends = [*self.last, *bounds[:-1][:DOUBTED]], [passes, *map(self.end, self.last)]
+        signs = lambda places: [self.signs(it, around) for it in places]
         least = min(len(bounds), self.source.row + 1)
         while len(bounds) >= least:
             read = signs(it for it in self.last if self.end(it) > bounds[0])
@@ -323,18 +323,18 @@ class Records(Reader):
         if is_pair and not captured & 255 and self.signs(real, last) > self.signs(at, last):
             return True
         if part >= self.units or not captured | original:
-            beside = sorted([*last, *odd[-DOUBTED:], *[end] * (end < self.source.size)])
-            return not (is_pair and self.step(end, data, base) and self.signs(at, beside) > 0)
+            around = sorted([*last, *odd[-DOUBTED:], *[end] * (end < self.source.size)])
+            return not (is_pair and self.step(end, data, base) and self.signs(at, around) > 0)
         return 0 < captured == part and seconds < self.units and self.step(end - 4, data, base)
 
     def settle(self, at, place):
         """Drops records in the way of a chain, or puts one right; returns the end of those kept."""
-        last, beside = self.last, [*self.last, *(it for it in self.after if it >= place)]
+        last, around = self.last, [*self.last, *(it for it in self.after if it >= place)]
         is_short = last and last[0] == self.origin and len(last) < self.source.row
         while last and (is_short or (end := self.end(last[-1])) > place
-                        or self.signs(last[-1], beside) + (end == place) < 1):
+                        or self.signs(last[-1], around) + (end == place) < 1):
             at = last.pop()
-            beside.remove(at)
+            around.remove(at)
             self.out.packets -= 1
             self.out.kept = self.out.kept[0], at
         size = place - at - 16
@@ -666,14 +666,14 @@ def main():
         if part != path:
             os.replace(part, path)
     except OSError as error:
-        if not isinstance(error, BrokenPipeError):  # of it capkit has told
-            tell(f"salvage.py: {error.filename or given.IN}: {error.strerror or error}")
+        if not isinstance(error, BrokenPipeError):  # capkit has reported it
+            report(f"salvage.py: {error.filename or given.IN}: {error.strerror or error}")
         sys.exit(1)
     finally:
         if part != path and os.path.exists(part):
             os.remove(part)
     damage = f"{places} place{'s' * (places != 1)} of damage, {left_out} of {size} bytes left out"
-    tell(f"{given.OUT}: {packets} packets, {damage}")
+    report(f"{given.OUT}: {packets} packets, {damage}")
     sys.exit(1 if places else 0)
 
 
