@@ -248,7 +248,7 @@ class Records(Reader):
     def end(self, at):
         return at + 16 + self.head(at)[2]
 
-    def signs(self, at, around):
+    def signs(self, at, around, far=0):
         """How many of two signs a record has, time and lengths; -1 if its lengths are none."""
         seconds, part, captured, original = self.head(at)
         others = [self.head(it) for it in around if it != at]
@@ -256,7 +256,7 @@ class Records(Reader):
         after = sum(it < at for it in around)
         is_set = min(times, default=0) > UNSET and all(
             sum(abs(it - time) <= NEAR for it in times) > 1 for time in times)
-        is_near = is_set and any(abs(it - seconds) <= NEAR for it in times)
+        is_near = is_set and (any(abs(it - seconds) <= NEAR for it in times) or far)
         if max(times, default=UNSET) < UNSET:  # no sign, but one against the record
             close = times[max(0, after - 1) : after + 1]
             is_near = (min(close) - EARLIER <= seconds <= max(close) + 60) - 1
@@ -267,10 +267,10 @@ class Records(Reader):
 
     def grounded(self, bounds, passes):
         """A chain from the first record on that has enough signs; None if it gets too short."""
-        around, ends = [*self.last, *bounds[:-1][:DOUBTED]], [passes, *map(self.end, self.last)]
-        signs = lambda places: [self.signs(it, around) for it in places]
-        least = min(len(bounds), self.source.row + 1)
+        ends, least = [passes, *map(self.end, self.last)], min(len(bounds), self.source.row + 1)
         while len(bounds) >= least:
+            around = [*self.last, *bounds[:-1][:DOUBTED]]
+            signs = lambda places: [self.signs(it, around, -1) for it in places]
             read = signs(it for it in self.last if self.end(it) > bounds[0])
             new = signs(it for it in bounds[:UNITS] if it < max(ends))
             some = [it > 0 for it in signs(bounds[:-1][:3])]
@@ -320,11 +320,14 @@ class Records(Reader):
         seconds, part, captured, original = self.unpack(data, place)
         at, is_pair, last = base + place, 0 < captured <= original <= LONGEST, [*self.last]
         real, end = at + (1 if self.order == "<" else -1), at + 16 + captured
-        if is_pair and not captured & 255 and self.signs(real, last) > self.signs(at, last):
-            return True
+        if is_pair and not captured & 255:
+            is_real = self.step(self.end(real), *self.source.load(at))
+            if self.signs(real, last) + bool(is_real) > self.signs(at, last) + (original & 255 > 0):
+                return True
         if part >= self.units or not captured | original:
             around = sorted([*last, *odd[-DOUBTED:], *[end] * (end < self.source.size)])
-            return not (is_pair and self.step(end, data, base) and self.signs(at, around) > 0)
+            signs = self.signs(at, around) + bool(self.step(end, data, base))
+            return not is_pair or signs < 2
         return 0 < captured == part and seconds < self.units and self.step(end - 4, data, base)
 
     def settle(self, at, place):
@@ -477,6 +480,8 @@ class Blocks(Reader):
             return None, ""
         if face >= len(self.faces):
             return b"", " (a packet whose interface isn't known)"
+        if not captured | self.sizes(data, place + 20)[1]:
+            return b"", " (a packet without a length)"
         least, greatest, second, time = self.times(face)
         self.source.time = (ticks := high << 32 | low) / second
         self.out.packets += 1

@@ -13,7 +13,7 @@ times, by the last two):
   true     packets of the capture, each once, also  again    the same packet once more
            with another time, if its own bytes were damaged
   changed  packets that aren't true, but have one of these in common with one whose own bytes were
-           damaged: a time that no other packet has; the second and both lengths; all bytes; both
+           damaged: a time that no other packet has, or a time and the captured length; the second and both lengths; all bytes; both
            lengths and the first or last 12 bytes; the first 24 bytes
   false    all others: they were made up            missed   undamaged packets that weren't read
 
@@ -328,7 +328,7 @@ def inserted(chance):
             piece = chance.randbytes(size)
         else:
             within = [it for it in other.units if it[0] < at + size and at < it[1]]
-            guests.extend((packet, begin < at or end > at + size or at < other.first) for begin, end, packet in within)
+            guests.extend((packet, begin < at or end > at + size or at < other.first or other.form != one.form) for begin, end, packet in within)
         return piece + one.data[begin:end], cuts_at(one, begin)
 
     data, packets = in_pieces(chance, change)
@@ -409,8 +409,7 @@ def marks(packet, times):
     """What a packet has that shows it, even if its bytes were damaged."""
     when, original, data = packet
     size = len(data)
-    if times[when] < 2:
-        yield "time", when
+    yield "time", when, size if times[when] > 1 else None
     yield "lengths", when // 10**9, size, original
     if size:
         yield "data", data
