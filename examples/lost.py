@@ -8,6 +8,7 @@ nothing is left out, 1 if something is, and 2, with a message, if FILE isn't rea
 """
 import argparse
 import collections
+import os
 import struct
 import sys
 
@@ -106,14 +107,18 @@ def main():
         with open(0 if words.file == "-" else words.file, "rb") as stream:
             capture.read(stream)
     except (ValueError, OSError) as error:
-        fault = f"lost.py: {words.file}: offset {capture.at}: {getattr(error, 'strerror', error)}\n"
+        name = "".join(it if it.isprintable() else ascii(it)[1:-1] for it in words.file)
+        fault = f"lost.py: {name}: offset {capture.at}: {getattr(error, 'strerror', error)}\n"
     lines = [f"{what}: {count}\n" for what, count in sorted(capture.lost.items()) if count]
     try:
         with open(1, "wb", closefd=False) as output:
             output.write("".join(lines).encode())
     except OSError as error:
         fault = f"lost.py: -: {error.strerror}\n"
-    sys.stderr.write(fault)
+    try:
+        os.write(2, fault.encode(errors="surrogateescape"))
+    except OSError:
+        pass  # nobody reads messages
     return 2 if fault else 1 if lines else 0
 
 

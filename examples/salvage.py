@@ -1,38 +1,32 @@
 #!/usr/bin/env python3
-"""Writes the packets of a damaged capture, also those that come after the damage, with capkit.
+"""Writes the packets of a damaged capture, even those after the damage, with capkit.
 
 usage: salvage.py [-F FORMAT] [-n ROW] [--like FILE] IN OUT    (- is standard input or output)
 
-A file that capkit reads to its end is written as `capkit edit` does; in another one nothing is
-guessed before the first damage. A unit is a record of pcap or a block of pcapng.
-
-1. A chain is a row of units with consistent lengths, each of which begins where the last one ends.
-2. It is believed if it is longer than what a packet carries (64 KiB, and 32 units or 2 MiB). One of
-   ROW units (3) is believed if it leads to the end of the file or to a file header, or is from one
-   second before the last packet to a day after it (a minute, if the clock began at 1970), and two
-   of its first three records have a sign of rule 4.
-3. The first chain wins; of chains that meet, the one with most units before. Left out of it is what
-   a lost packet may have carried: what is earlier than the last packet, if the rest isn't.
-4. A record beside damage needs two of four signs: it begins where the last one ends; it ends where
-   the chain goes on; its time is within a day of one of those beside it, if all of these are after
-   1970 and near others; its lengths are equal, and no less than 14 or those of all beside it, or it
-   is as long as the longest of these. Else it is dropped: the first ones of a chain, and of the
-   last eight before damage. What is read twice goes to the side that has more signs. A chain of which
-   less than ROW records can be read is dropped.
-5. Reading stops, and there is no chain, 4 bytes off (fractions are captured lengths) or 1 byte off
+A file that capkit reads to its end is written as `capkit edit` does. In another one the packets are
+written up to the first damage, and from then on by these rules. A unit is a record or a block.
+1. A chain is a row of units with consistent lengths, each of which begins at the end of the last.
+2. It is believed if no packet can carry it (64 KiB and 32 units, or 2 MiB). ROW (3) units suffice
+   if they lead to the end of the file or to a file header, or if they are from one second before
+   the last packet to a day after it (a minute, if the clock wasn't set), and two of the first three
+   records have a sign of rule 4. A file header at the end of the last unit needs no chain.
+3. The first chain wins; if chains meet, the one with most units before. Its start is left out if it
+   is earlier than the last packet and the rest isn't: a lost packet may have carried it.
+4. A record next to damage needs two of four signs: it begins at the end of the last one; it ends at
+   the chain; its time is within a day of one near it, and these agree; its lengths are equal, and
+   no less than 14 or all near it, or it is as long as the longest of them. Times before 1971 aren't
+   a sign, but one against it if they aren't between those next to it. Without two it is dropped:
+   the first records of a chain, and the last eight before damage. Bytes that are read in two ways
+   go to the side with more signs. A chain is dropped if reading it ends within ROW records.
+5. Reading stops, and a chain is refused, 4 bytes off (fractions are captured lengths) or 1 byte off
    (lengths are 256 times too long, and the record 1 byte off has more signs).
-6. Put right, and reported, are a fraction of a second or more (0, if a record follows, and the time
-   is near or the lengths are equal), a damaged length (if the other one leads to the chain), a time
-   out of range (0), the version and link type field of a pcap file, options of an interface that
-   capkit refuses, and text mode (if each line feed comes after a carriage return).
-7. Interfaces after damage are left out with their packets: their numbers aren't known. If IN lost
-   its beginning, --like takes the file header or the interfaces of FILE, of the same program.
-
-Packets may still be made up if damage stands right before a packet that carries a capture with its
-header or of the last second, and in a file that only looks like a capture. After a bounded number
-of tries a chain is only looked for in 256 of each 4,096 bytes. IN isn't changed, and copied only if
-it is a pipe or in text mode. OUT gets its name at the end. Standard error gets 20 places and sums.
-The status is 0 if IN was in order, 1 if not, 2 if the command line is wrong. Needs Python 3.10.
+6. Corrected and reported are a fraction of a second or more (0, if a record follows and one sign is
+   present), a damaged length (if the other one leads to the chain), a time out of range (0), the
+   version and link type field, options that capkit refuses, and text mode. Packets whose interface
+   isn't known are dropped. --like takes a lost beginning from another FILE of the same program.
+docs/RELIABILITY.md says what can still be made up. IN isn't changed; it is copied if it is a pipe
+or in text mode. OUT gets its name at the end. The status is 0 if IN was in order, 1 if not or if
+nothing was written, 2 if the command line is wrong. Needs Python 3.10.
 """
 import argparse
 import contextlib
@@ -64,7 +58,7 @@ DOUBTED, NOTES, NEAR, EARLIER, NO_TIME, SAME = 8, 20, 86_400, 1, float("nan"), (
 UNSET, SHORTEST = 31_536_000, 14  # of a clock that began at 1970; bytes of a link header
 
 
-def tell(text):
+def report(text):
     """Writes a line to standard error, in which what isn't a character of a line is a number."""
     text = "".join(it if it.isprintable() else ascii(it)[1:-1] for it in text)
     with contextlib.suppress(OSError):
@@ -73,7 +67,6 @@ def tell(text):
 
 class Source:
     """The file, of which some MiB are held; how much was tried, and the time before the fault."""
-
     def __init__(self, held, name, row):
         self.held, self.name, self.row = held, name, row
         self.size = os.fstat(held.fileno()).st_size
@@ -111,7 +104,6 @@ class Source:
 
 class Output:
     """Captures that follow one another, as one stream that capkit reads and writes."""
-
     def __init__(self, source, form, path):
         self.source, self.words = source, ["capkit", "edit", "-F", form, "-", path]
         self.most = 2**63 if form == "pcapng" else 2**32 * 10**9
@@ -127,7 +119,6 @@ class Output:
             self.source.tried += 2000 if header else 0
 
     def keep(self, begin, end):
-        """Keeps bytes of the file as they are."""
         if begin == self.kept[1]:
             self.kept = self.kept[0], end
         elif begin < end:
@@ -135,7 +126,6 @@ class Output:
             self.kept = begin, end
 
     def settle(self):
-        """Writes what is kept."""
         begin, end = self.kept
         self.kept = end, end
         for place in range(begin, end, ZONE):
@@ -164,12 +154,11 @@ class Output:
         self.left_out += size
         if self.places <= NOTES:
             text = f"{size} bytes left out{text}" if size else text
-            tell(f"{self.source.name}: offset {at}: {text}")
+            report(f"{self.source.name}: offset {at}: {text}")
 
 
 class Reader:
     """What records of pcap and blocks of pcapng (units) have in common: how chains are found."""
-
     def __init__(self, source, out, order):
         self.source, self.out, self.order = source, out, order
         self.last, self.after, self.likely = deque(maxlen=DOUBTED), [], self.LIKELY[order]
@@ -223,14 +212,6 @@ class Reader:
         is_carried = len(late) > 3 and late[0] - bounds[0] <= INSIDE
         return late + bounds[-1:] if is_carried and all(map(self.is_near, late[:3])) else bounds
 
-    def doubted(self, at):
-        """Where a chain may begin, and what it goes over: a fault or a damaged record before it."""
-        last = list(itertools.takewhile(lambda it: self.step(it, *self.source.load(it)), self.last))
-        begin = self.last[0] + 1 if self.last else at
-        if last:
-            self.source.time, at = self.when(last[-1]), [*self.last, at][len(last)]
-        return begin, at
-
 
 class Records(Reader):
     """The records of pcap."""
@@ -242,8 +223,7 @@ class Records(Reader):
     def begin(self, at):
         """The file header of what is written."""
         if self.units is None:
-            greatest = max(self.head(it)[1] for it in self.chain(at)[:-1])
-            self.units = 10**9 if greatest >= 10**6 else 10**6
+            self.units = 10**9 if max(self.head(it)[1] for it in self.after) >= 10**6 else 10**6
             self.out.note(at, f"no file header: read as pcap of link type {self.link}")
         header = struct.pack(self.order + "HHIIII", 2, 4, 0, 0, LONGEST, self.link)
         self.out.begin(MAGICS[self.order, self.units] + header)
@@ -268,29 +248,34 @@ class Records(Reader):
     def end(self, at):
         return at + 16 + self.head(at)[2]
 
-    def signs(self, at, beside):
+    def signs(self, at, around, far=0):
         """How many of two signs a record has, time and lengths; -1 if its lengths are none."""
         seconds, part, captured, original = self.head(at)
-        others = [self.head(it) for it in beside if it != at]
+        others = [self.head(it) for it in around if it != at]
         times, sizes = [it[0] for it in others], [it[2] for it in others]
+        after = sum(it < at for it in around)
         is_set = min(times, default=0) > UNSET and all(
             sum(abs(it - time) <= NEAR for it in times) > 1 for time in times)
-        is_near = is_set and any(abs(it - seconds) <= NEAR for it in times)
+        is_near = is_set and (any(abs(it - seconds) <= NEAR for it in times) or far)
+        if max(times, default=UNSET) < UNSET:  # no sign, but one against the record
+            close = times[max(0, after - 1) : after + 1]
+            is_near = (min(close) - EARLIER <= seconds <= max(close) + 60) - 1
         is_whole = captured == original != part and captured >= min([SHORTEST, *sizes])
         is_whole |= captured in sizes and captured == max(sizes)
-        is_usual = 2 * sum(0 < it[2] <= it[3] for it in others) < len(others)
-        return is_near + is_whole if 0 < captured <= original or is_usual else -1
+        are_odd = 2 * sum(0 < it[2] <= it[3] for it in others) < len(others)
+        return is_near + is_whole if 0 < captured <= original or are_odd else -1
 
     def grounded(self, bounds, passes):
         """A chain from the first record on that has enough signs; None if it gets too short."""
-        beside, ends = [*self.last, *bounds[:-1][:DOUBTED]], [passes, *map(self.end, self.last)]
-        signs = lambda places: [self.signs(it, beside) for it in places]
-        least = min(len(bounds), self.source.row + 1)
+        ends, least = [passes, *map(self.end, self.last)], min(len(bounds), self.source.row + 1)
         while len(bounds) >= least:
+            around = [*self.last, *bounds[:-1][:DOUBTED]]
+            signs = lambda places: [self.signs(it, around, -1) for it in places]
             read = signs(it for it in self.last if self.end(it) > bounds[0])
-            new, first = signs(it for it in bounds[:UNITS] if it < max(ends)), signs(bounds[:-1][:3])
-            is_row = len(bounds) > UNITS or 2 * sum(it > 0 for it in first) >= len(first)
-            if is_row and first[0] > 0 and sum(new) + len(new) >= sum(read) + len(read):
+            new = signs(it for it in bounds[:UNITS] if it < max(ends))
+            some = [it > 0 for it in signs(bounds[:-1][:3])]
+            is_row = some[0] and (len(bounds) > UNITS or 2 * sum(some) >= len(some))
+            if is_row and sum(new) + len(new) >= sum(read) + len(read):
                 return bounds
             bounds = bounds[1:]
         return None
@@ -311,7 +296,8 @@ class Records(Reader):
                 append(base + place)
             else:
                 is_next = is_pair and part >= units and 0 < after[2] <= after[3] <= LONGEST
-                is_next &= captured == original or abs(seconds - after[0]) <= NEAR
+                is_near = abs(seconds - after[0]) < NEAR * (seconds > UNSET)
+                is_next &= is_near or captured in (original, after[2])
                 if not is_next and self.is_fault(data, base, place, odd):
                     break
                 (odd if part >= units else self.last).append(base + place)
@@ -319,10 +305,9 @@ class Records(Reader):
                     made += data[done : place + 4] + b"\0\0\0\0"
                     done = place + 8
             packets, place = packets + 1, end
-        for it in odd[:NOTES]:
+        for it in odd:
             out.note(it, "a fraction of a second or more, written as 0")
         if odd:
-            out.places += len(odd[NOTES:])
             out.put(made)
             later, self.is_odd = [it for it in self.last if it > odd[-1]], True
             self.last = deque(later, DOUBTED)
@@ -335,22 +320,24 @@ class Records(Reader):
         seconds, part, captured, original = self.unpack(data, place)
         at, is_pair, last = base + place, 0 < captured <= original <= LONGEST, [*self.last]
         real, end = at + (1 if self.order == "<" else -1), at + 16 + captured
-        if is_pair and not captured & 255 and self.signs(real, last) > self.signs(at, last):
-            return True
+        if is_pair and not captured & 255:
+            is_real = self.step(self.end(real), *self.source.load(at))
+            if self.signs(real, last) + bool(is_real) > self.signs(at, last) + (original & 255 > 0):
+                return True
         if part >= self.units or not captured | original:
-            times = map(self.when, [end, *last, *odd[-1:]])
-            is_like = captured == original or any(abs(seconds - it) <= NEAR for it in times)
-            return not (is_pair and is_like and self.step(end, data, base))
+            around = sorted([*last, *odd[-DOUBTED:], *[end] * (end < self.source.size)])
+            signs = self.signs(at, around) + bool(self.step(end, data, base))
+            return not is_pair or signs < 2
         return 0 < captured == part and seconds < self.units and self.step(end - 4, data, base)
 
     def settle(self, at, place):
         """Drops records in the way of a chain, or puts one right; returns the end of those kept."""
-        last, beside = self.last, [*self.last, *(it for it in self.after if it >= place)]
+        last, around = self.last, [*self.last, *(it for it in self.after if it >= place)]
         is_short = last and last[0] == self.origin and len(last) < self.source.row
         while last and (is_short or (end := self.end(last[-1])) > place
-                        or self.signs(last[-1], beside) + (end == place) < 1):
+                        or self.signs(last[-1], around) + (end == place) < 1):
             at = last.pop()
-            beside.remove(at)
+            around.remove(at)
             self.out.packets -= 1
             self.out.kept = self.out.kept[0], at
         size = place - at - 16
@@ -493,6 +480,8 @@ class Blocks(Reader):
             return None, ""
         if face >= len(self.faces):
             return b"", " (a packet whose interface isn't known)"
+        if not captured | self.sizes(data, place + 20)[1]:
+            return b"", " (a packet without a length)"
         least, greatest, second, time = self.times(face)
         self.source.time = (ticks := high << 32 | low) / second
         self.out.packets += 1
@@ -532,8 +521,8 @@ def capture_at(source, out, at):
         reader.units, reader.link = units, link & 0xFFFF
         is_right = (major, minor, link) == (2, 4, reader.link)
         if not at and not is_right:
-            right = f"written as 2.4 and {reader.link}"
-            out.note(at, f"version {major}.{minor} and a link type field of {link:#x}, {right}")
+            was = f"version {major}.{minor} and a link type field of {link:#x}"
+            out.note(at, f"{was}, written as 2.4 and {reader.link}")
         return (reader, at + 24) if is_right or not at else None
     return None
 
@@ -543,8 +532,7 @@ def like(name, source, out):
     with open(name, "rb", buffering=0) as held:
         if not infos(held)[0]:
             raise OSError(0, "capkit doesn't read it to its end", name)
-        other = Source(held, name, 1)
-        reader, at = capture_at(other, Output(other, out.form, ""), 0)
+        reader, at = capture_at(other := Source(held, name, 1), Output(other, out.form, ""), 0)
         reader.read_held(at, *other.load(0))
     reader.source, reader.out = source, out
     return reader
@@ -564,8 +552,7 @@ def find(source, out, readers, begin, passes):
             source.tried += 8
             is_free = source.may_try(at) or source.header in (b"", source.get(at, 24))
             if at and is_free and (capture := capture_at(source, out, at)):
-                bounds = capture[0].chain(capture[1], True)
-                if bounds and bounds[-1] > passes:
+                if at == passes or (capture[0].chain(capture[1], True) or [0])[-1] > passes:
                     return at, *capture
         if reader:
             return place, reader, place
@@ -592,8 +579,12 @@ def salvage(source, out, guessed):
             fault, at = at, reader.read_held(at, *source.load(at))
         if fault == source.size:
             break
-        begin, passes = reader.doubted(fault)
-        readers, begin, source.tried = list(seen.values()), max(begin, place + 1), source.tried + 40
+        last = list(itertools.takewhile(lambda it: reader.step(it, *source.load(it)), reader.last))
+        source.time = reader.when(last[-1]) if last else source.time
+        passes = [*reader.last, fault][len(last)] if last else fault  # or a damaged record before
+        begin = max(reader.last[0] + 1 if reader.last else fault, place + 1)
+        readers = list(seen.values())
+        source.tried += 40
         if not source.may_try(fault):
             readers, begin = [reader], fault + 4096
         place, other, at = find(source, out, readers, begin, passes)
@@ -680,14 +671,14 @@ def main():
         if part != path:
             os.replace(part, path)
     except OSError as error:
-        if not isinstance(error, BrokenPipeError):  # of it capkit has told
-            tell(f"salvage.py: {error.filename or given.IN}: {error.strerror or error}")
+        if not isinstance(error, BrokenPipeError):  # capkit has reported it
+            report(f"salvage.py: {error.filename or given.IN}: {error.strerror or error}")
         sys.exit(1)
     finally:
         if part != path and os.path.exists(part):
             os.remove(part)
     damage = f"{places} place{'s' * (places != 1)} of damage, {left_out} of {size} bytes left out"
-    tell(f"{given.OUT}: {packets} packets, {damage}")
+    report(f"{given.OUT}: {packets} packets, {damage}")
     sys.exit(1 if places else 0)
 
 

@@ -13,7 +13,7 @@ times, by the last two):
   true     packets of the capture, each once, also  again    the same packet once more
            with another time, if its own bytes were damaged
   changed  packets that aren't true, but have one of these in common with one whose own bytes were
-           damaged: a time that no other packet has; the second and both lengths; all bytes; both
+           damaged: a time that no other packet has, or a time and the captured length; the second and both lengths; all bytes; both
            lengths and the first or last 12 bytes; the first 24 bytes
   false    all others: they were made up            missed   undamaged packets that weren't read
 
@@ -328,7 +328,7 @@ def inserted(chance):
             piece = chance.randbytes(size)
         else:
             within = [it for it in other.units if it[0] < at + size and at < it[1]]
-            guests.extend((packet, begin < at or end > at + size or at < other.first) for begin, end, packet in within)
+            guests.extend((packet, begin < at or end > at + size or at < other.first or other.form != one.form) for begin, end, packet in within)
         return piece + one.data[begin:end], cuts_at(one, begin)
 
     data, packets = in_pieces(chance, change)
@@ -353,18 +353,24 @@ def start_gone(chance):
     return before + new + one.data[size:], one.packets([] if before else [(0, size)])
 
 
+def beginning_gone(chance):
+    """The first bytes missing, with another file that begins in the same way."""
+    one, size = capture(chance), chance.randrange(1, 3000)
+    other = Capture(plain(chance, pool)[: chance.choice((0, 1, 50))], one.form)
+    return one.data[size:], one.packets([(one.first, max(size, one.first))]), other.data
+
+
 def carried(chance):
-    """A capture that packets carry, of up to a day before them, or ten days after them if their clock wasn't
-    set; damage stands right before one of those."""
+    """A capture that packets carry, of up to a day before them; damage stands right before one of those."""
     form = chance.choice(FORMS)
     own = [chance.choice(pool)]
-    before, inner, after = (plain(chance, own) for _ in range(3))
+    later = 0 if own[0][0][0] > 10**17 else 15 * 10**17  # a clock that wasn't set
+    before, inner, after = ([(when + later, *rest) for when, *rest in plain(chance, own)] for _ in range(3))
     ago = chance.randrange(2, 80_000) * 10**9 + inner[-1][0] - before[-1][0]
-    ago = ago if inner[0][0] - ago > 10**17 else -864_000 * 10**9 - before[-1][0]
     text = bytes(Capture([(when - ago, *rest) for when, *rest in inner[:300]], chance.choice((form, *FORMS))).data)
     parts = [bytes(54) + text[at : at + 1400] for at in range(0, len(text), 1400)]
     begin = len(before)
-    packets = [*before, *[(before[-1][0] + number, len(it), it) for number, it in enumerate(parts)], *after]
+    packets = [*before, *[(before[-1][0] + 1000 * (number + 1), len(it), it) for number, it in enumerate(parts)], *after]
     one = Capture([(max(when, before[-1][0]) if number >= begin else when, *rest)
                    for number, (when, *rest) in enumerate(packets)], form)
     place = one.units[begin + chance.randrange(len(parts))][0]
@@ -389,6 +395,7 @@ KINDS = {
     "cut_out": cut_out, "overwritten": overwritten, "start_gone": start_gone, "carried": carried,
     "unset_and_hole": lambda chance: overwritten(chance, capture(chance, makers=[unset])),
     "numbers_and_hole": lambda chance: overwritten(chance, capture(chance, makers=[numbers])),
+    "beginning_gone": beginning_gone,
     "pieces_lost": lambda chance: in_pieces(chance, lost),
     "pieces_inserted": inserted,
     "pieces_repeated": lambda chance: in_pieces(chance, repeated),
@@ -402,8 +409,7 @@ def marks(packet, times):
     """What a packet has that shows it, even if its bytes were damaged."""
     when, original, data = packet
     size = len(data)
-    if times[when] < 2:
-        yield "time", when
+    yield "time", when, size if times[when] > 1 else None
     yield "lengths", when // 10**9, size, original
     if size:
         yield "data", data
@@ -477,13 +483,17 @@ def run_script(words, said):
     exec(script[0], {"__name__": "__main__", "__doc__": "no text"})
 
 
-def try_file(data, packets, is_timed):
-    """Runs the programs on one file: their counts, and what salvage.py did wrong."""
+def try_file(data, packets, is_timed, like=b""):
+    """Runs the programs on one file: their counts, and what salvage.py did wrong, if it is told of a file that
+    begins in the same way with that one."""
     faults, results = [], {}
     with tempfile.TemporaryDirectory() as temporary:
         source = pathlib.Path(temporary) / "damaged"
         source.write_bytes(data)
+        if like:
+            (source.parent / "like").write_bytes(like)
         for name, words in commands().items():
+            words[1:1] = ["--like", source.parent / "like"] if like and name == SCRIPT else []
             out = source.parent / f"{name}.out"
             status, said, took = call(words, source, out)
             results[name] = counts(packets_of(out), packets, is_timed)
@@ -515,8 +525,8 @@ def try_one(number, given):
     chance = random.Random(f"{given.seed} {number}")
     kinds = [it for it in KINDS if given.kind in (None, it)]
     kind = kinds[number % len(kinds)]
-    data, packets = KINDS[kind](chance)
-    results, faults = try_file(bytes(data), packets, kind != "fractions")
+    data, packets, *like = KINDS[kind](chance)
+    results, faults = try_file(bytes(data), packets, kind != "fractions", *like)
     keep(faults, given, f"{number}.{kind}", data)
     return number, kind, len(packets), sum(it for _, it in packets), results, faults
 

@@ -17,7 +17,10 @@ import subprocess
 import sys
 import tempfile
 
-import distributed
+try:
+    import distributed
+except ImportError:
+    sys.exit("filter.py: this Python has no dask.distributed (Debian's package python3-distributed)")
 
 # The most files that a merge takes.
 MOST = 256
@@ -52,7 +55,8 @@ def join(out, parts):
 
 
 def refuse(text, status):
-    """Reports why nothing is written, and returns the status."""
+    """Reports why nothing is written, and returns the status; control characters are numbers."""
+    text = "".join(it if it.isprintable() else ascii(it)[1:-1] for it in text)
     print(f"filter.py: {text}", file=sys.stderr)
     return status
 

@@ -24,7 +24,7 @@ for place in "${!files[@]}"; do
     other=${files[place]}
     if [ "$other" = "$out" ] || [ "$other" -ef "$out" ] ||
         { [ "$place" != "$SLURM_ARRAY_TASK_ID" ] && [ "${other%.pcap}.match" = "$out" ]; }; then
-        printf 'filter.sbatch: %s: %s is used twice\n' "$file" "$out" >&2
+        printf 'filter.sbatch: %q: %q is used twice\n' "$file" "$out" >&2
         exit 2
     fi
 done
