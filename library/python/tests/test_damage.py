@@ -27,22 +27,22 @@ def damaged(chance, data):
     """Data with bits, fields or pieces of it changed, or cut."""
     data = bytearray(data)
     for _ in range(chance.choice((1, 1, 1, 2, 5))):
-        at = chance.randrange(len(data))
+        at = chance.randrange(len(data) or 1)
         kind = chance.randrange(6)
         if kind == 0:
-            data[at] ^= 1 << chance.randrange(8)
+            data[at : at + 1] = bytes(byte ^ 1 << chance.randrange(8) for byte in data[at : at + 1])
         elif kind == 1:
             number = chance.choice((0, 1, 4, 1000000, 262145, 1 << 20, 1 << 31, (1 << 32) - 1))
             data[at & ~3 : (at & ~3) + 4] = number.to_bytes(4, chance.choice(("little", "big")))
         elif kind == 2:
             del data[at : at + chance.randrange(1, 40)]
         elif kind == 3:
-            other = chance.randrange(len(data))
+            other = chance.randrange(len(data) or 1)
             data[at:at] = data[other : other + chance.randrange(1, 300)]
         elif kind == 4:
             del data[max(at, 1) :]
         else:
-            data[at] = chance.randrange(256)
+            data[at : at + 1] = chance.randbytes(1)
     return bytes(data)
 
 
