@@ -211,6 +211,16 @@ class ErrorsTest(FolderTest):
             with self.assertRaises(OSError):
                 list(caught.exception.packets)
 
+    def test_a_file_that_is_rewritten_while_it_is_read(self):
+        """Its inode is the same, and it is longer: what was read of it isn't there any more."""
+        self.path.write_bytes(damaged()[0])
+        with self.assertRaises(capkit.CaptureError) as caught:
+            for each in capkit.packets(self.path):
+                if each.data[0] == 0:
+                    self.path.write_bytes(written([packet(UDP)] * 20000))
+        with self.assertRaisesRegex(OSError, "replaced or changed"):
+            list(caught.exception.packets)
+
     def test_other_loops_go_on(self):
         self.path.write_bytes(damaged()[0])
         with capkit.Capture(self.path) as capture:

@@ -3,6 +3,7 @@ from __future__ import annotations
 
 import ctypes as c
 import itertools
+import mmap
 import os
 import struct
 import threading
@@ -238,7 +239,10 @@ class _Loop:
         # How many bytes it has, where in the capture they begin, and whether they are the last ones.
         self._size, self._base, self._is_whole = len(memory), 0, file is None
         if file is not None:
-            self._buffer = c.create_string_buffer(native.MOST_UNIT + _PIECE)
+            # Its pages are made when they are used; ctypes would fill all of them for the smallest file.
+            pages = mmap.mmap(-1, native.MOST_UNIT + _PIECE, mmap.MAP_PRIVATE | mmap.MAP_ANONYMOUS)
+            self._buffer = (c.c_char * len(pages)).from_buffer(pages)
+            self._view = memoryview(pages)
         elif limit is not None:
             self._size = limit
         # What ends the loop after the packets that were found last.
@@ -300,12 +304,12 @@ class _Loop:
         file, done, limit = self._file, self._reader.offset, self._limit
         assert file is not None
         rest = self._size - done
-        c.memmove(self._buffer, c.byref(self._buffer, done), rest)
+        if done:
+            c.memmove(self._buffer, c.byref(self._buffer, done), rest)
         self._base, self._size, self._reader.offset = self._base + done, rest, 0
         position = self._base + rest
         room = _PIECE if limit is None else min(_PIECE, limit - position)
-        view = memoryview(self._buffer).cast("B")[rest : rest + room]
-        count = file.read(view, position) if room else 0
+        count = file.read(self._view[rest : rest + room], position) if room else 0
         self._size, self._is_whole = rest + count, not count
         if self._is_whole and isinstance(file, File):
             if room and limit is not None:

@@ -2,6 +2,7 @@
 from __future__ import annotations
 
 import binascii
+import contextlib
 import errno
 import os
 import socket
@@ -15,8 +16,8 @@ from .filters import Bytes
 Path = Union[str, "os.PathLike[str]"]
 Identity = Tuple[int, int]
 
-# How many bytes at each end of a file show that it only grew.
-_END_SIZE = 4096
+# How many of a file's last bytes show whether it only grew.
+_TAIL_SIZE = 1024
 
 
 class Readable(Protocol):
@@ -26,7 +27,7 @@ class Readable(Protocol):
         """At most so many bytes; none at the end, and None if none have come yet."""
 
 
-# Those that may be open, each by its id.
+# Those that were opened, each by its id.
 _sources: weakref.WeakValueDictionary[int, Any] = weakref.WeakValueDictionary()
 
 
@@ -63,14 +64,13 @@ class Seen(NamedTuple):
     size: int
     changed: int
     """Nanoseconds since 1970, of its last change."""
-    ends: Optional[int]
-    """A checksum of its first and last bytes."""
+    tail: int
+    """A checksum of its last bytes."""
 
     @classmethod
-    def of(cls, descriptor: int, with_ends: bool) -> Seen:
-        now = os.fstat(descriptor)
-        ends = _checksum(descriptor, now.st_size) if with_ends else None
-        return cls(now.st_dev, now.st_ino, now.st_size, now.st_mtime_ns, ends)
+    def of(cls, descriptor: int, now: os.stat_result) -> Seen:
+        tail = _tail(descriptor, now.st_size)
+        return cls(now.st_dev, now.st_ino, now.st_size, now.st_mtime_ns, tail)
 
     def is_still(self, descriptor: int) -> bool:
         """Whether it is the same file, which may only have grown."""
@@ -79,13 +79,12 @@ class Seen(NamedTuple):
             return False
         if now.st_size <= self.size:
             return (now.st_size, now.st_mtime_ns) == self[2:4]
-        return self.ends in (None, _checksum(descriptor, self.size))
+        return self.tail == _tail(descriptor, self.size)
 
 
-def _checksum(descriptor: int, size: int) -> int:
-    count = min(size, _END_SIZE)
-    first = os.pread(descriptor, count, 0)
-    return binascii.crc32(os.pread(descriptor, count, size - count), binascii.crc32(first))
+def _tail(descriptor: int, size: int) -> int:
+    count = min(size, _TAIL_SIZE)
+    return binascii.crc32(os.pread(descriptor, count, size - count))
 
 
 class File:
@@ -102,7 +101,8 @@ class File:
         self._is_for_loops = self._is_released = file is None
         # A signal's handler may close it in the middle of a call.
         self._lock = threading.RLock()
-        _sources[id(self)] = self
+        if file is not None:
+            _sources[id(self)] = self
 
     @property
     def identity(self) -> Optional[Identity]:
@@ -118,7 +118,9 @@ class File:
         """A loop over it has ended, by an error or not."""
         with self._lock:
             self._loops -= 1
-            self._is_released |= has_failed
+            if has_failed:
+                self._look()
+                self._is_released = True
             if self._is_released and not self._loops:
                 self._release()
 
@@ -140,6 +142,7 @@ class File:
                 return os.preadv(descriptor, [view], position)
             except OSError:
                 if self._loops == 1:
+                    self._look()
                     self._release()
                 raise
 
@@ -162,23 +165,21 @@ class File:
                 file.close()
                 raise self.changed()
             self._file = file
+            _sources[id(self)] = self
         descriptor: int = self._file.fileno()
         return descriptor
 
     def _look(self) -> None:
         """Sees the file again, unless what was read of it is there no more."""
-        if self._file is not None and self._seen.is_still(self._file.fileno()):
-            self._seen = Seen.of(self._file.fileno(), with_ends=True)
+        with contextlib.suppress(OSError):
+            if self._file is not None and self._seen.is_still(self._file.fileno()):
+                descriptor = self._file.fileno()
+                self._seen = Seen.of(descriptor, os.fstat(descriptor))
 
     def _release(self) -> None:
-        file = self._file
+        file, self._file, self._is_released = self._file, None, self._is_for_loops
         if file is not None:
-            try:
-                if not self._is_closed:
-                    self._look()
-            finally:
-                self._file, self._is_released = None, self._is_for_loops
-                file.close()
+            file.close()
 
 
 def _open_at_once(path: str, flags: int) -> int:
@@ -256,9 +257,15 @@ def _in_time(file: Any, read: Any, argument: Any) -> Any:
 def opened(path: Path) -> Union[File, Stream]:
     """What is at a path; raises OSError if it can't be opened."""
     file = open(path, "rb", buffering=0)
-    if stat.S_ISREG(os.fstat(file.fileno()).st_mode):
-        return File(_absolute(os.fsdecode(path)), file, Seen.of(file.fileno(), with_ends=False))
-    return Stream(file, True)
+    try:
+        descriptor = file.fileno()
+        status = os.fstat(descriptor)
+        if stat.S_ISREG(status.st_mode):
+            return File(_absolute(os.fsdecode(path)), file, Seen.of(descriptor, status))
+        return Stream(file, True)
+    except BaseException:
+        file.close()
+        raise
 
 
 def _absolute(path: str) -> str:
