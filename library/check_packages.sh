@@ -36,8 +36,8 @@ linked() { LD_LIBRARY_PATH=$packages/prefix/lib "$@"; }
 
 check_c() {
     # shellcheck disable=SC2046  # the flags are words
-    for example in filter keep; do
-        cc -O2 -Wall -Wextra -o "$packages/c-$example" "examples/$example.c" $(pkg-config --cflags --libs capkit)
+    for program in examples/filter examples/keep tests/packets; do
+        cc -O2 -Wall -Wextra -o "$packages/c-${program#*/}" "$program.c" $(pkg-config --cflags --libs capkit)
     done
 }
 
@@ -73,6 +73,10 @@ check_rust() {
     make -s rust
     (cd rust && linked cargo test -q --offline --target-dir "$library/out/cargo") >"$packages/rust.txt" 2>&1 ||
         { cat "$packages/rust.txt"; wrong 'Rust: tests'; }
+    (cd rust && RUSTDOCFLAGS='-D warnings' cargo doc -q --no-deps --offline --target-dir "$library/out/cargo") || wrong 'Rust: pages'
+    if cargo clippy --version >/dev/null 2>&1; then
+        (cd rust && cargo clippy -q --offline --all-targets --target-dir "$library/out/cargo" -- -D warnings) || wrong 'Rust: clippy'
+    fi
     mkdir -p "$packages/rust/src/bin"
     tar -C "$packages" -xzf out/rust/capkit-"$version".crate
     printf '[package]\nname = "user"\nversion = "0.0.0"\nedition = "2021"\n[dependencies]\ncapkit = { path = "%s" }\n' \
@@ -81,6 +85,8 @@ check_rust() {
         cp "rust/examples/$example.rs" "$packages/rust/src/bin/"
         ln -s "rust/target/release/$example" "$packages/rust-$example"
     done
+    cp tests/packets.rs "$packages/rust/src/bin/"
+    ln -s rust/target/release/packets "$packages/rust-packets"
     (cd "$packages/rust" && cargo build -q --offline --release && CAPKIT_STATIC=1 cargo build -q --offline)
     # The second one needs no shared library.
     "$packages/rust/target/debug/filter" tcp "$samples/day.pcap" >"$packages/static.txt" || wrong 'Rust: static'
@@ -91,16 +97,18 @@ check_go() {
     # A cache would keep where the library was the last time.
     export GOFLAGS=-mod=mod GOPROXY=off CGO_ENABLED=1 GOCACHE="$packages/go-cache"
     test -z "$(gofmt -l go)" || wrong 'Go: layout'
-    (cd go && go vet ./... && linked go test ./...) >"$packages/go.txt" 2>&1 ||
+    # With the race detector: goroutines share what may be shared.
+    (cd go && go vet ./... && linked go test ./... && linked go test -race .) >"$packages/go.txt" 2>&1 ||
         { cat "$packages/go.txt"; wrong 'Go: tests'; }
     tar -C "$packages" -xzf out/go/capkit-"$version".tar.gz
     mkdir -p "$packages/go"
     printf 'module user\n\ngo 1.18\n\nrequire example.com/capkit v%s\n\nreplace example.com/capkit => %s\n' \
         "$version" "$packages/capkit@v$version" >"$packages/go/go.mod"
-    for example in filter keep; do
-        mkdir "$packages/go/$example"
-        cp "go/examples/$example/main.go" "$packages/go/$example/"
-        (cd "$packages/go" && go build -o "$packages/go-$example" "./$example")
+    mkdir "$packages/go/packets"
+    cp tests/packets.go "$packages/go/packets/main.go"
+    cp -r go/examples/filter go/examples/keep "$packages/go/"
+    for program in filter keep packets; do
+        (cd "$packages/go" && go build -o "$packages/go-$program" "./$program")
     done
 }
 
@@ -184,6 +192,22 @@ check_keep() {
     expect 1 'irectory' '' keep tcp "$samples/day.pcap" "$packages"
 }
 
+# Of captures that are damaged at random a package gives what the library's calls give, up to the same fault or past what
+# is refused, in pieces of any length, and with few files open.
+check_damaged() {
+    for mode in all skip; do
+        for text in '' 'tcp or len > 100'; do
+            linked "$packages/c-packets" $mode "$text" "$packages"/damaged/* >"$packages/want.txt"
+            for most in 1 7 100000000; do
+                # shellcheck disable=SC3045  # every shell of Linux has it
+                (ulimit -n 32 && linked "$packages/$language-packets" $mode "$text" $most "$packages"/damaged/*) >"$packages/got.txt" ||
+                    wrong "$language: packets $mode '$text' $most"
+                cmp "$packages/want.txt" "$packages/got.txt" || wrong "$language: damaged captures: $mode '$text' $most"
+            done
+        done
+    done
+}
+
 check_usage() {
     for example in filter keep; do
         run "$language" "$example"
@@ -196,6 +220,8 @@ if have cargo; then languages="$languages rust"; else echo 'without cargo'; fi
 if have go; then languages="$languages go"; else echo 'without go'; fi
 if have python3; then
     python3 tests/sparse_capture.py "$packages/large.pcapng" 3072
+    mkdir "$packages/damaged"
+    python3 tests/damaged_captures.py "$packages/damaged" 500 "$samples"/*.pcap "$samples"/*.pcapng
 else
     cp "$samples/mirror.pcap" "$packages/large.pcapng"
 fi
@@ -227,6 +253,7 @@ for language in $languages; do
     check_filter
     check_keep
     check_usage
+    if [ -e "$packages/$language-packets" ] && [ -d "$packages/damaged" ] && [ "$language" != c ]; then check_damaged; fi
     if [ "$language" = python ]; then check_trace; fi
     if [ "$language" = python ] && have capkit; then check_lines; fi
 done

@@ -2,8 +2,26 @@
 // captures, by the proved library libcapkit, which pkg-config finds.
 //
 // An Expression is checked once, and compiled for each link type that its packets have. A Reader gives
-// the packets of a file or of any io.Reader, and a Writer writes packets. Different values
-// may be used by different goroutines at once, and so may one Filter.
+// the packets of a file or of any io.Reader, and a Writer writes packets:
+//
+//	expression, err := capkit.NewExpression("tcp port 80")
+//	if err != nil {
+//		log.Fatal(err) // what is wrong, and where in the text
+//	}
+//	reader := capkit.NewReader(os.Stdin) // or Open(name)
+//	reader.SetFilter(expression)
+//	for {
+//		packet, err := reader.Next()
+//		if err == io.EOF {
+//			break
+//		} else if err != nil {
+//			log.Fatal(err)
+//		}
+//		fmt.Println(packet.Line(false), packet.Comment)
+//	}
+//
+// Goroutines may share an Expression and a Filter. A Reader and a Writer are for one goroutine at a time;
+// different ones may be used at once.
 package capkit
 
 // #cgo pkg-config: capkit

@@ -157,7 +157,7 @@ func TestFaultsStay(t *testing.T) {
 }
 
 func TestOpen(t *testing.T) {
-	name := filepath.Join(t.TempDir(), "day.pcapng")
+	name := filepath.Join(t.TempDir(), "-day \xff\n'.pcapng")
 	check(os.WriteFile(name, written(capkit.Pcapng, packet(arp()), packet(arp())), 0o666))
 	reader := must(capkit.Open(name))
 	first := must(reader.Next())

@@ -1,6 +1,8 @@
 //! Captures that are written and read, and what goes wrong.
 use capkit::*;
+use std::ffi::OsStr;
 use std::io::{self, Read, Write};
+use std::os::unix::ffi::OsStrExt;
 use std::os::unix::net::UnixStream;
 use std::time::{Duration, Instant};
 
@@ -114,7 +116,8 @@ fn a_fault_comes_once_after_the_packets_before() {
 
 #[test]
 fn files() {
-    let name = std::env::temp_dir().join(format!("capkit-{}.pcapng", std::process::id()));
+    let odd = [b"-day \xff\n'", std::process::id().to_string().as_bytes()].concat();
+    let name = std::env::temp_dir().join(OsStr::from_bytes(&odd));
     let packet = Packet::new(TIME, LINK_ETHERNET, [0; 60]);
     std::fs::write(&name, written(Format::Pcapng, [&packet])).unwrap();
     let mut packets = Packets::open(&name).unwrap();
