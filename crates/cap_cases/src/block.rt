@@ -73,12 +73,7 @@ impl<'t> Block<'t> {
 }
 
 /// Adds a line in which the row takes the place of braces.
-fn add_spelled(
-    alloc: Global,
-    text: &mut String,
-    line: &str,
-    row: &str,
-) -> Result<(), LineError> {
+fn add_spelled(alloc: Global, text: &mut String, line: &str, row: &str) -> Result<(), LineError> {
     for (before, piece) in line.split("{").enumerate() {
         let mut rest = piece;
         if 0 < before {
@@ -91,14 +86,9 @@ fn add_spelled(
     Ok(())
 }
 
-/// Adds what braces stand for: `{}` is the row, `{2}` its second column, and of a row that is a
+/// Adds what braces mean: `{}` is the row, `{2}` its second column, and of a row that is a
 /// number `{+3}` and `{-3}` are 3 more and 3 less.
-fn add_column(
-    alloc: Global,
-    text: &mut String,
-    row: &str,
-    place: &str,
-) -> Result<(), LineError> {
+fn add_column(alloc: Global, text: &mut String, row: &str, place: &str) -> Result<(), LineError> {
     if place.is_empty() {
         return Ok(text.push_str(row)?);
     }

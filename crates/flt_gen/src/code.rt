@@ -68,9 +68,8 @@ impl<A: Allocator> Code<A> {
         self.backwards.len()
     }
 
-    /// How many instructions stand in front of a place: as many are skipped by a test that is put
-    /// in front and goes on there. An error is a number of more than 32 bits: such code counts as
-    /// out of memory.
+    /// The number of instructions in front of a place: a test that is put in front and goes on there
+    /// skips as many. An error is a number of more than 32 bits: such code counts as out of memory.
     fn distance(&self, place: usize) -> Result<u32, AllocError>
         ensures { IfOk result (λ skipped. skipped ≡ length self.now - place) }
     {

@@ -103,7 +103,7 @@ pub fn generate<A: Allocator + Clone, B: Allocator>(
     let nodes = folded_nodes(alloc.clone()?, expr.expr.nodes())?;
     let code = wide_code(alloc.clone()?, &nodes, link)?;
     // A load at X becomes a load at a fixed place in the first round if X is a constant. A walk of
-    // the second round can pass it, and comes further where the first one came to its end.
+    // the second round can pass it, and passes further instructions, since the first one left few.
     // `has_index_copy` and `has_many_loads` need no clause: a mistake would only cost length or time.
     let copies_to_index = has_index_copy(&code);
     let once = optimised(alloc.clone()?, code, true)?;

@@ -1,6 +1,6 @@
 //! Values that are emitted on their own, with their qualifiers, as rows of the table of primitives:
 //! those that are never in a group, and a host of IPv4 or a port that doesn't go with the current
-//! group (`emit_value` of walk.rt). In contracts, `.._needed` is the row without the words of IPv6
+//! group (`emit_rows` of group.rt). In contracts, `.._needed` is the row without the words of IPv6
 //! that decide nothing (address.rt).
 //!
 //! The rows themselves are emitted by address.rt, port.rt and protocol.rt (`proto`, MAC addresses).

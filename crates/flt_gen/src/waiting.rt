@@ -33,8 +33,8 @@ pub enum Waiting {
 #[derive(Clone, Copy)]
 pub enum Pending {
     Nothing,
-    /// It was an `or`, whose right operand is next. If that is a host or port, it waits for the
-    /// left one, and both are looked for together.
+    /// It was an `or`, whose right operand is next. If that can be in a list, it waits for the left
+    /// one, and both are looked for together.
     Or,
 }
 

@@ -57,8 +57,7 @@ struct Layout<A: Allocator> {
     backwards: Vec<Insn, A>,
     /// The place of each wide instruction, from the last to the first.
     places: Vec<usize, A>,
-    /// The last four jumps, the one in front first. In place of one that isn't there yet stands one
-    /// from the end to the end.
+    /// The last four jumps, the one in front first. Unused entries lead from the end to the end.
     jumps: [PlacedJump; 4],
 }
 
@@ -144,9 +143,9 @@ impl<A: Allocator> Layout<A> {
         Ok(())
     }
 
-    /// The place where a test that is put in front goes on to get to a place: this one if it is
-    /// near, else one of the last jumps that is near and leads there. If there is none it is this
-    /// one too, for which the test needs a jump of its own.
+    /// The target of a test that is put in front and leads to `to`: `to` if that is near, else one of
+    /// the last jumps that is near and leads there. If there is none it is `to` too, for which the
+    /// test needs a jump of its own.
     #[tactic(auto, unfolding(crate::specs::inside::Layout::near_place))]
     fn near_place(&self, to: usize) -> usize
         ensures { result ≡ near_place self.now to }

@@ -37,7 +37,7 @@ folded_number (applied operator a b) = applied_number operator (folded_number a)
 folded_number (named k) = literal k
 folded_number a = a
 
--- `a and not b`: if a is a negation, or one follows in it after `and`, it is one of both by `or`
+-- not x and not b = not (x or b); y and not x and not b = y and not (x or b)
 abbrev pub and_denied : TruthTree → TruthTree → TruthTree
 and_denied (denied a) b = denied (joined Or a b)
 and_denied (joined And x (denied a)) b = joined And x (denied (joined Or a b))
@@ -83,17 +83,17 @@ abbrev pub node_or : Option ℕ → List Node → List Node → List Node
 node_or (Some k) before nodes = Node.Literal k ∷ before
 node_or None before nodes = nodes
 
--- a negation comes, or the negative of a number in its place
+-- appends a negation, or replaces a constant by its negative
 abbrev pub with_negation : List Node → List Node
 with_negation ns = node_or (negated_constant (latest_constant ns)) (earlier ns) (Node.Negate ∷ ns)
 
--- an operator comes, or what it makes of two numbers in their place
+-- appends an operator, or replaces two constants by its result
 abbrev pub with_operator : Operator → List Node → List Node
 with_operator operator ns =
     node_or (applied_constant operator (latest_constant (earlier ns)) (latest_constant ns))
     (earlier (earlier ns)) (Node.Apply operator ∷ ns)
 
--- as many trees are needed, and the operands of a node
+-- the number of trees still needed once this node is read
 abbrev pub and_operands : Node → ℕ → ℕ
 and_operands (Node.Join j) need = suc (suc need)
 and_operands (Node.Compare c) need = suc (suc need)
