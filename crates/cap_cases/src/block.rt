@@ -91,7 +91,7 @@ fn add_spelled(
     Ok(())
 }
 
-/// Adds what braces stand for: `{}` is the row, `{2}` its second column, and of a row that is a
+/// Adds what braces mean: `{}` is the row, `{2}` its second column, and of a row that is a
 /// number `{+3}` and `{-3}` are 3 more and 3 less.
 fn add_column(
     alloc: Global,
