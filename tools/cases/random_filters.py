@@ -1,6 +1,6 @@
 """The table `random_filters`: random expressions on random packets.
 
-Its expressions and packets, once made at random of seed 20261123, stay as they are; what matches is computed anew.
+Its expressions and packets, once made at random of seed 20261123, stay as they are; what matches is computed.
 """
 
 import filters
