@@ -3,12 +3,11 @@
 pages with what is counted. tools/cases/ shares nothing with capkit's code.
 
 usage: check_cases.py [--all] [TABLE..]     the table `hostile`, of files of up to a million blocks, only with --all: it takes minutes
-       check_cases.py --write [TABLE..]     writes the tables that scripts write
+       check_cases.py --write [TABLE..]     writes the tables that scripts write; without TABLE also the numbers on pages
        check_cases.py --numbers             prints what is counted
 
 The status is 1 if a table or a page differs.
 """
-import collections
 import multiprocessing
 import pathlib
 import re
@@ -42,7 +41,7 @@ PAGES = ["README.md", "CONTRIBUTING.md", "docs/inside/TESTING.md", "crates/cap_c
 STATED = {
     "cases": r"([\d,]{3,}) cases\b",
     "wrong cases": r"(\d+) that are\s+wrong",
-    "must-fail edits in the gate": r"(\d+) must-fail edits",
+    "must-fail edits in the gate": r"(\d+) must-fail edits|(\d+) deliberately broken",
     "edits outside the gate": r"(\d+) outside it|the (\d+) edits",
     "tests": r"(\d+) tests\b",
     "random rounds": r"(\d+) random rounds",
@@ -85,35 +84,53 @@ def counted():
     }
 
 
+def stated_on(page):
+    """What a page states: the place of each number in its text, and what it counts."""
+    text = (ROOT / page).read_text()
+    for name, pattern in STATED.items():
+        for match in re.finditer(pattern, text):
+            yield match.span(match.lastindex), name
+
+
 def pages(numbers):
     """The numbers on pages and in the stored output that are others."""
     stdout = (CRATE / "stdout").read_text()
     for line in (f"{numbers['cases']} cases, 0 failed", f"{numbers['wrong cases']} wrong cases, {numbers['wrong cases']} failed, as all are to"):
         if line not in stdout.splitlines():
             yield f"crates/cap_cases/stdout has no line: {line}"
-    met = collections.Counter()
+    missing = set(STATED)
     for page in PAGES:
-        for name, pattern in STATED.items():
-            for match in re.finditer(pattern, (ROOT / page).read_text()):
-                met[name] += 1
-                stated = next(filter(None, match.groups()))
-                if int(stated.replace(",", "")) != numbers[name]:
-                    yield f"{page}: {' '.join(match[0].split())}, but there are {numbers[name]:,} {name}"
-    yield from (f"no page states how many {name} there are" for name in STATED if not met[name])
+        text = (ROOT / page).read_text()
+        for (first, last), name in stated_on(page):
+            missing.discard(name)
+            if text[first:last] != f"{numbers[name]:,}":
+                yield f"{page}: {text[first:last]} {name}, but there are {numbers[name]:,}: check_cases.py --write"
+    yield from (f"no page states how many {name} there are" for name in sorted(missing))
+
+
+def write(names, numbers):
+    """Writes tables; without names all that scripts write, and the numbers on pages."""
+    for name in names or WRITERS:
+        (DATA / name).write_text(WRITERS[name]((DATA / name).read_text()))
+    for page in PAGES if not names else []:
+        text = (ROOT / page).read_text()
+        for (first, last), name in sorted(stated_on(page), reverse=True):
+            text = text[:first] + f"{numbers[name]:,}" + text[last:]
+        (ROOT / page).write_text(text)
 
 
 def main():
     options, names = [[word for word in sys.argv[1:] if word.startswith("--") == is_option] for is_option in (True, False)]
     tables = (DATA / "tables").read_text().split()
-    if not set(options) <= {"--all", "--write", "--numbers"} or not set(names) <= set(tables):
+    known = WRITERS if "--write" in options else tables
+    if not set(options) <= {"--all", "--write", "--numbers"} or not set(names) <= set(known):
         sys.exit(__doc__)
     numbers = counted()
     if "--numbers" in options:
         print("\n".join(f"{number:,} {name}" for name, number in numbers.items()))
         return 0
     if "--write" in options:
-        for name in [name for name in names or tables if name in WRITERS]:
-            (DATA / name).write_text(WRITERS[name]((DATA / name).read_text()))
+        write(names, numbers)
         return 0
     chosen = names or [name for name in tables if name != WRONG and (name not in SLOW or "--all" in options)]
     with multiprocessing.Pool() as pool:

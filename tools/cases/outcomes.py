@@ -1,4 +1,4 @@
-"""Computes what is expected of the cases of a table: the lines that state it are written anew, all others stay.
+"""Computes what is expected of the cases of a table: the lines that state it are written, all others stay.
 
 So a case is added to such a table by its input: its words, its files and its sweep.
 """

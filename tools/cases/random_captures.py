@@ -1,6 +1,6 @@
 """The table `random_captures`: commands with random options on random captures, most of them damaged.
 
-Its words and captures, once made at random of seed 20261123, stay as they are; what comes of them is computed anew.
+Its words and captures, once made at random of seed 20261123, stay as they are; what comes of them is computed.
 """
 
 import commands

@@ -1,6 +1,6 @@
 """The table `random_filters`: random expressions on random packets.
 
-Its expressions and packets, once made at random of seed 20261123, stay as they are; what matches is computed anew.
+Its expressions and packets, once made at random of seed 20261123, stay as they are; what matches is computed.
 """
 
 import filters
@@ -14,21 +14,23 @@ HEAD = """\
 
 
 def table(stored):
-    old = Table(stored)
-    lines, given = [], None
+    old, lines, by_link = Table(stored), [], {}
     for case in old.cases:
-        if case.input != given:
-            if given is not None:
-                lines += form(link)
-            given, link = case.input, Capture(case.input).links[0]
-            mine = {name: data for name, data in old.names.items() if name.startswith(f"P{link}_")}
-            lines += ["", f"let HEAD_{link} {pairs(given[:24], {})}"]
-            lines += [f"let {name} {data[:16].hex()} {data[16:].hex()}" for name, data in mine.items()]
-            lines += [f"given HEAD_{link} {' '.join(mine)}", ""]
-        tree = filters.tree_of(case.words[0])
-        kept = [name for name, packet in zip(mine, Capture(given).packets) if filters.matches(tree, packet)]
-        lines.append(f"row {case.words[0]} ; {' '.join(kept)}")
-    return HEAD + "\n".join(lines + form(link)) + "\n"
+        by_link.setdefault(Capture(case.input).links[0], []).append(case)
+    for link, cases in by_link.items():
+        mine = {name: data for name, data in old.names.items() if name.startswith(f"P{link}_")}
+        lines += ["", f"let HEAD_{link} {pairs(old.names[f'HEAD_{link}'], {})}"]
+        lines += [f"let {name} {data[:16].hex()} {data[16:].hex()}" for name, data in mine.items()]
+        lines += [f"given HEAD_{link} {' '.join(mine)}", ""]
+        lines += [row(case, mine) for case in cases] + form(link)
+    return HEAD + "\n".join(lines) + "\n"
+
+
+def row(case, names):
+    """An expression, and the names of the packets that it keeps."""
+    tree = filters.tree_of(case.words[0])
+    kept = [name for name, packet in zip(names, Capture(case.input).packets) if filters.matches(tree, packet)]
+    return f"row {case.words[0]} ; {' '.join(kept)}"
 
 
 def form(link):
