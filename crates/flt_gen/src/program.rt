@@ -16,8 +16,8 @@ use flt_bpf::program::{Program, check};
 use flt_short::{laid_out, shortened, threaded};
 use std::alloc::{AllocError, Allocator};
 
-/// The most loads at fixed places, after the first round, of code that isn't optimised again. A list
-/// of IPv4 addresses or ports has fewer, a chain of 16 conjunctions has more.
+/// The most loads at fixed places, after the first round, of code that isn't optimised again. A
+/// list of IPv4 addresses or ports has fewer, a chain of 16 conjunctions has more.
 const FEW_LOADS: usize = 16;
 
 /// `laid_out` takes fewer than 2^30 instructions. A checked expression never has as many (its bound
@@ -103,8 +103,9 @@ pub fn generate<A: Allocator + Clone, B: Allocator>(
     let nodes = folded_nodes(alloc.clone()?, expr.expr.nodes())?;
     let code = wide_code(alloc.clone()?, &nodes, link)?;
     // A load at X becomes a load at a fixed place in the first round if X is a constant. A walk of
-    // the second round can pass it, and passes further instructions, since the first one left few.
-    // `has_index_copy` and `has_many_loads` need no clause: a mistake would only cost length or time.
+    // the second round can pass it. In a long chain such a walk gets further than the first one,
+    // since less code is left. `has_index_copy` and `has_many_loads` need no clause: a mistake
+    // would only cost length or time.
     let copies_to_index = has_index_copy(&code);
     let once = optimised(alloc.clone()?, code, true)?;
     let is_wanted = copies_to_index || has_many_loads(&once);

@@ -70,8 +70,7 @@ pub enum Held {
     Unknown,
     /// A field, which is captured.
     Field(Field),
-    /// The value that the load at X with this code and this `k` would put there; nothing is known
-    /// of X.
+    /// The value that the load at X with this code and this `k` would put there. X is unknown.
     AtIndex(u16, u32),
 }
 

@@ -31,7 +31,7 @@ use std::alloc::{AllocError, Allocator};
 /// The most instructions that a walk passes. This bounds the time that it takes.
 const FUEL: usize = 128;
 
-/// The walks that each target has for itself, each from the end of the one before it.
+/// The walks that each target may have, each from the end of the one before it.
 const WALKS: usize = 64;
 
 /// The further walks for each instruction of the code, which all targets share.
@@ -186,8 +186,8 @@ fn walk(fuel: usize, known: &Known, code: &[Wide], spot: Spot, best: usize, fork
     if yes == no { yes } else { best }
 }
 
-/// Whether a run may reach a place by another way than the one that is threaded: a state reached
-/// it already. Past the end of `seen` it may.
+/// Whether a run may reach a place by another path than the one that is threaded, since a state was
+/// joined there. Past the end of `seen` it may.
 fn is_reached(seen: &[Known], place: usize) -> bool {
     match seen.get(place) {
         Some(known) => !matches!(known.held, Held::Unreached),
@@ -195,10 +195,10 @@ fn is_reached(seen: &[Known], place: usize) -> bool {
     }
 }
 
-/// The end of the last of some walks, each of which begins at the end of the one before it. The walk
-/// that moves no further is the last. After `WALKS` of them the place is the last one that is
-/// reached already, so that no code is kept only for this target. If none is, the walks go on, as
-/// long as some are left of those that all targets share.
+/// The end of the last of some walks, each of which begins at the end of the one before it. None
+/// follows one that ends at its beginning. After `WALKS` of them the result is the last of these
+/// ends that is reached already, since code for no other path is kept then. If none is, walks go on
+/// while some are `left` of those that all targets share.
 fn last_place(known: &Known, code: &[Wide], from: usize, seen: &[Known], left: &mut usize) -> usize
     ensures { GoesOn known.now code.now from result }
 {
