@@ -72,13 +72,13 @@ static void random_programs(size_t rounds)
         for (i = 0; i < n; i++)
             print(p + i, i);
         rule = capkit_check(p, n, &index);
-        answer = capkit_run_any(p, n, packet, len, len, &any);
+        answer = capkit_run(p, n, packet, len, len, &any);
         runs++;
         answered += any != 0;
         unchecked += any != 0 && rule != 0;
         if (rule == 0) {
             size_t steps;
-            uint32_t again = capkit_run(p, n, packet, len, len, &steps);
+            uint32_t again = capkit_run_unchecked(p, n, packet, len, len, &steps);
             valid++;
             wrong += again != answer || steps != any;
             wrong += capkit_matches(p, n, packet, len, len) != answer;
@@ -198,8 +198,9 @@ static void nothing(void)
     wrong += capkit_explain(NULL, 0, NULL, 0, &number) != CAPKIT_OK || number != 0;
     wrong += capkit_check(NULL, 0, &index) != CAPKIT_EMPTY;
     wrong += capkit_run(&accept, 1, NULL, 0, 0, &steps) != 7 || steps != 1;
-    wrong += capkit_run_any(NULL, 0, NULL, 0, 0, &any) != 0 || any != 0;
+    wrong += capkit_run(NULL, 0, NULL, 0, 0, &any) != 0 || any != 0;
     wrong += capkit_next_unit(&reader, NULL, 0, NULL, 0, &p) != CAPKIT_NOT_A_CAPTURE_FILE;
+    wrong += capkit_skip(&reader, NULL, 0, NULL, 0) != CAPKIT_NOT_A_CAPTURE_FILE;
     wrong += capkit_comment(&reader, NULL, 0, &p, NULL, 0) != 0;
     wrong += capkit_write_section(NULL, 0, &number) != CAPKIT_NO_ROOM_IN_BUFFER;
     wrong += capkit_writer_put(&writer, NULL, 0, &p, NULL, 0, NULL, 0, NULL, 0, NULL, 0, &number) !=

@@ -17,12 +17,12 @@ pub use Rattle.cap_pcapng.specs.Unit.{Section, packet_of, packets_in, parts_afte
 pub use Rattle.cap_pcapng.proofs.WrittenBlocks.{packet_joined, plain_joined, comment_after}
 pub use Rattle.capkit_c.specs.{Bounding.IsBound, Buffers.WriteLeaves, Buffers.written_packet, Compiling.IsFor}
 pub use Rattle.capkit_c.specs.Layout.{HasLink, declared_in, first_interfaces, reader_form, most_known}
-pub use Rattle.capkit_c.specs.Matching.{Judges, Skips, at_packet, past_packet, past_unit}
+pub use Rattle.capkit_c.specs.Matching.{Skips, at_packet, past_packet, past_unit}
 pub use Rattle.capkit_c.specs.Portable.{sign_bit, half_sign_bit, operation_keeps, keeps_x_small, operation_alike, runs_alike, operation_alike_on_libpcap, runs_alike_on_libpcap, is_live_at, operation_wants, is_live_before, live_places, none_read_unwritten, most_attached, is_portable, portability}
 pub use Rattle.capkit_c.specs.Units.{IsPastUnit, IsPacketFound, NextLeaves, Stays, comment_by, ends, fails, finds, is_full, passes, DeclaresOne, IsStop, PacketLeaves, PassesUnits, UnitHas, one_passed}
 pub use Rattle.capkit_c.specs.declared.memory.block.{Refusal.Refusal, UnitPacket.UnitPacket}
 pub use Rattle.capkit_c.specs.declared.memory.layout.{Interface.Interface, Packet.Packet, Reader.Reader}
-pub use Rattle.capkit_c.specs.inside.Blocks.{Following, BlockStands, IsNoBlock, IsOfIfAny, spans_of, BlockPacketIfAny, IsRefusal, LiesIfAny}
+pub use Rattle.capkit_c.specs.inside.Blocks.{IsFramed, Following, BlockStands, IsNoBlock, IsOfIfAny, spans_of, BlockPacketIfAny, IsRefusal, LiesIfAny}
 pub use Rattle.capkit_c.specs.inside.Units.{ArePlaced, Begins, IsNoUnit, BeginsWithUnit, Counts, IsAtEnd, IsPlaced, placed_packet}
 pub use Rattle.flt_bpf.specs.Machine.{Next, Goes, Ends, Lost, step_if_there, does, does_if_known, into, word_into, into_word, with_register, held, field, compute, operand_value, test_holds, header_length, run_from, progress_after, machine, start}
 pub use Rattle.flt_bpf.specs.declared.insn.Insn.{Insn}

@@ -14,11 +14,14 @@ declared_as (form.Pcap head) r table count is counts = ap (λ g. declared_by g (
 declared_as (form.Pcapng order link) r table count is counts =
     ap (λ n. declared_by (form.Pcapng order link) (first_interfaces n table)) counts ∙ ap (λ g. declared_by g (first_interfaces (most_known r (length table)) table)) is
 
+most_is : (r : Reader) (table : List Interface) (count : ℕ) → r.interfaces ≡ count → count ≤ length table → count ≤ 256 → most_known r (length table) ≡ count
+most_is r table count counts fits upper_bound =
+    ap (λ n. min (min n (length table)) 256) counts ∙ ap (λ n. min n 256) (min_left count (length table) fits) ∙ min_left count 256 upper_bound
+
 pub declared_after : (f : FileState) (r : Reader) (table : List Interface) (count : ℕ) → reader_form r ≡ f → r.interfaces ≡ count → count ≤ length table → count ≤ 256
     → declared_by f (first_interfaces count table) ≡ declared_in r table
 declared_after f r table count is counts fits upper_bound =
-    let most : most_known r (length table) ≡ count =
-    ap (λ n. min (min n (length table)) 256) counts ∙ ap (λ n. min n 256) (min_left count (length table) fits) ∙ min_left count 256 upper_bound in
+    let most = most_is r table count counts fits upper_bound in
     ap (λ n. declared_by f (first_interfaces n table)) (sym most) ∙ ap (λ g. declared_by g (first_interfaces (most_known r (length table)) table)) (sym is)
 
 -- ---- a unit
@@ -36,13 +39,13 @@ first_known form.Unknown interfaces = refl
 first_known (form.Pcap head) interfaces = refl
 first_known (form.Pcapng order link) interfaces = refl
 
-is_after : (capture : List ℕ) (size : ℕ) (r r' : Reader) (t' : List Interface) (f : FileState) → r'.offset ≡ r.offset + size → size ≤ length (drop r.offset capture) → 0 < size → reader_form r' ≡ f
-    → HasLink (first_link_of (declared_by f [])) r' → IsPastUnit capture size r r' (declared_in r' t')
-is_after capture size r r' t' f offset there some form' link =
+pub is_after : (capture : List ℕ) (size : ℕ) (r r' : Reader) (t' : List Interface) (f : FileState) (count : ℕ) → r'.offset ≡ r.offset + size → size ≤ length (drop r.offset capture) → 0 < size → reader_form r' ≡ f
+    → HasLink (first_link_of (declared_by f [])) r' → r'.interfaces ≡ count → count ≤ length t' → count ≤ 256 → IsPastUnit capture size r r' t'
+is_after capture size r r' t' f count offset there some form' link counts fits upper_bound =
     let P : Option ℕ → Type 0 = λ first. HasLink first r' in
     let known : first_link_of (declared_by f []) ≡ first_link_of (declared_in r' t') =
     first_known f (first_interfaces (most_known r' (length t')) t') ∙ ap (λ g. first_link_of (declared_by g (first_interfaces (most_known r' (length t')) t'))) (sym form') in
-    record { offset = offset; there = there; some = some; link = subst P known link }
+    record { offset = offset; there = there; some = some; link = subst P known link; counted = counts ∙ sym (most_is r' t' count counts fits upper_bound) }
 
 read : (capture text : List ℕ) (r r' : Reader) (t t' : List Interface) (f : FileState) (count : ℕ) (s : ReadUnit) → f ≡ reader_form r → Counts f r (length t) count → text ≡ drop r.offset capture
     → BeginsWithUnit f (first_interfaces count t) text t' s → reader_form r' ≡ s.form → r'.interfaces ≡ s.interfaces → Read capture r r' t t' s
@@ -66,7 +69,7 @@ passed capture text r r' t t' p f count s is counts same steps form' interfaces'
     let b = read capture text r r' t t' f count s is counts same steps form' interfaces' in
     let P : Option UnitPacket → Type 0 = λ o. ArePlaced (declared_in r' t') (drop r.offset capture) s.size o b.packets in
     let empty : b.packets ≡ [] = subst P none b.placed in
-    passes s.size (b.front ∙ ap (λ qs. Whole s.size qs (declared_in r' t')) empty) (is_after capture s.size r r' t' s.form offset b.there steps.some form' link) refl
+    passes s.size (b.front ∙ ap (λ qs. Whole s.size qs (declared_in r' t')) empty) (is_after capture s.size r r' t' s.form s.interfaces offset b.there steps.some form' link interfaces' steps.known steps.upper_bound) refl
 
 -- a part of a unit, as a part of the capture
 part_at : (capture : List ℕ) (at start count : ℕ) → take count (drop start (drop at capture)) ≡ take count (drop (at + start) capture)
@@ -105,7 +108,7 @@ found_packet capture text r r' t t' p p' f count s placed is counts same steps f
     let left : length (drop r.offset capture) ≡ length capture - r.offset = length-drop r.offset capture in
     let inside : r.offset ≤ length capture = omega (arith, b.there, left, steps.some) in
     let Q : Packet → Type 0 = λ o. IsPacketFound capture r.offset (declared_in r' t') o q.0 in
-    finds s.size q.0 (b.front ∙ ap (λ qs. Whole s.size qs (declared_in r' t')) q.1) (is_after capture s.size r r' t' s.form offset b.there steps.some form' link)
+    finds s.size q.0 (b.front ∙ ap (λ qs. Whole s.size qs (declared_in r' t')) q.1) (is_after capture s.size r r' t' s.form s.interfaces offset b.there steps.some form' link interfaces' steps.known steps.upper_bound)
     (subst Q (sym packet) (found_at capture (declared_in r' t') r.offset s.size placed q.0 inside b.there q.2))
 
 -- ---- no unit

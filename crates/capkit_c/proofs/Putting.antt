@@ -1,7 +1,7 @@
 -- What a put finds, and what it keeps.
-use Rattle.capkit_c.proofs.Common.{◌≡◌, ℕ, ◌+◌, ◌<◌, ◌≤◌, List, [], ◌∷◌, ◌++◌, length, take, Option, None, Some, refl, sym, ap, ◌∙◌, subst, arith, min, zero, suc, Bool, true, false, ◌==◌, nat_lt, ◌&&◌, ◌||◌, not, if◌then◌else◌, slice_set, Captured, Fault, WriteLeaves, Interface, first_failing, append-nil, ap₂}
+use Rattle.capkit_c.proofs.Common.{◌≡◌, ℕ, ◌+◌, ◌<◌, ◌≤◌, List, [], ◌∷◌, ◌++◌, length, take, length-take-le, Option, None, Some, refl, sym, ap, ◌∙◌, subst, arith, min, zero, suc, Bool, true, false, ◌==◌, nat_lt, ◌&&◌, ◌||◌, not, if◌then◌else◌, slice_set, Captured, Fault, WriteLeaves, Interface, first_failing, append-nil, ap₂}
 use Rattle.std.specs.{List.list_any, List.position_or_len, Prelude.map, Prelude.cond}
-use Rattle.std.proofs.lemmas.{Bool.Decides.nat_tests, Cmp.nat_eq_equiv, Cmp.nat_list_eq_equiv, List.take_more_set, List.length-set}
+use Rattle.std.proofs.lemmas.{Bool.Decides.nat_tests, Cmp.nat_eq_equiv, Cmp.nat_list_eq_equiv, List.take_more_set, List.length-map, List.length-set}
 use Rattle.cap_io.specs.Text as text
 use Rattle.cap_pcapng.specs.Encoding.{interface_text, packet_block, section_text}
 use Rattle.capkit_c.specs.Writer.{output_interface, interfaces_in, most_written, room_for, put_checks, put_refusal, has_all, next_text, HasWritten, KeepsWritten, IsWhole}
@@ -28,6 +28,13 @@ is_not_less n m l = grind (arith, nat_tests)
 pub map_append : {X Y : Type 0} (f : X → Y) (xs ys : List X) → map f (xs ++ ys) ≡ map f xs ++ map f ys
 map_append f [] ys = refl
 map_append f (x ∷ xs) ys = ap (λ z. f x ∷ z) (map_append f xs ys)
+
+-- a writer that counts no more interfaces than a file may have counts those that are written
+pub all_counted : (w : Writer) (table : List Interface) → w.interfaces ≤ room_for (length table) → w.interfaces ≡ length (interfaces_in w table)
+all_counted w table fits =
+    let most : most_written w (length table) ≡ w.interfaces = omega (arith, fits) in
+    let there : w.interfaces ≤ length table = omega (arith, fits) in
+    sym (length-map (take (most_written w (length table)) table) output_interface ∙ ap (λ n. length (take n table)) most ∙ length-take-le w.interfaces table there)
 
 module _ (w : Writer) (table : List Interface) (p : Captured) (known number room : ℕ) (at_known : known ≡ length (interfaces_in w table)) (at_number : number ≡ text.number_among (interfaces_in w table) (text.interface_of p)) (at_room : room ≡ room_for (length table)) where
   abbrev ks : List text.Interface
@@ -64,6 +71,7 @@ module _ (w : Writer) (table : List Interface) (p : Captured) (known number room
     section = s;
     interfaces = sym (append-nil ks) ∙ ap (λ z. ks ++ z) (sym (added_is true s (sym among ∙ l)));
     room = refl;
+    counted = all_counted w table;
   }
   same_kept _ s l = (refl, refl)
 
@@ -78,13 +86,31 @@ module _ (w : Writer) (table : List Interface) (p : Captured) (known number room
         ∙ ap₂ (λ n e. map output_interface (take n table) ++ e ∷ []) is h.same
         ∙ ap (λ z. ks ++ z) (sym (added_is false s (sym among ∙ l)));
     room = long;
+    counted = λ _. all_counted w' table' (subst (λ v. v.interfaces ≤ room_for (length table')) (sym h.counted) within);
   }
     where
       long : length table' ≡ length table
       long = ap length h.put ∙ length-set table known h.entry
 
+      within : known + 1 ≤ room_for (length table')
+      within = let fits = h.fits in omega (arith, fits, long)
+
       count : most_written w' (length table') ≡ known + 1
       count = ap₂ (λ (v : Writer) n. min v.interfaces (room_for n)) h.counted long ∙ (let fits = h.fits in grind (arith, nat_tests))
+
+  -- a section adds nothing
+  pub section_kept : (r : Written) (w' : Writer) → known ≡ most_written w (length table) → (w.has_section == 0) ≡ true → (IsWhole r → w' ≡ record { interfaces = known; has_section = 1 }) → ((IsWhole r → ⊥) → w' ≡ w) → KeepsWritten r w table p w' table
+  section_kept (Written.Whole n) w' is s f g =
+      let same : w' ≡ record { interfaces = known; has_section = 1 } = f tt in
+      let upper_bound : known ≤ room_for (length table) = omega (arith, is) in
+      let most : most_written w' (length table) ≡ most_written w (length table) = ap (λ (v : Writer). most_written v (length table)) same ∙ omega (arith, is, upper_bound) in
+      record {
+        section = ap (λ (v : Writer). v.has_section == 0) same;
+        interfaces = ap (λ m. map output_interface (take m table)) most ∙ sym (append-nil ks) ∙ ap (λ (b : Bool). ks ++ (if b then [] else text.new_among ks i)) (sym s);
+        room = refl;
+        counted = λ _. all_counted w' table (subst (λ (v : Writer). v.interfaces ≤ room_for (length table)) (sym same) upper_bound);
+      }
+  section_kept _ w' is s f g = (g (λ x. x), refl)
 
   pub more_kept : (r : Written) (w' : Writer) (table' : List Interface) → known ≡ most_written w (length table) → (w.has_section == 0) ≡ false → nat_lt number known ≡ false → (IsWhole r → HasAdded known p w table w' table') → ((IsWhole r → ⊥) → (w' ≡ w) × (table' ≡ table)) → KeepsWritten r w table p w' table'
   more_kept (Written.Whole n) w' table' is s l f g = one_more w' table' is s l (f tt)

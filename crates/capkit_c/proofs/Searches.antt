@@ -1,12 +1,13 @@
 -- What a step of a search leaves.
-use Rattle.capkit_c.proofs.Common.{◌≡◌, ℕ, ◌+◌, ◌-◌, ◌<◌, ◌≤◌, List, [], ◌∷◌, length, take, drop, Option, Some, None, refl, sym, ap, ◌∙◌, subst, arith, drop-drop, length-drop, Captured, Declared, NoUnit, Whole, front_of, HasLink, declared_in, Insn, Judges, Skips, at_packet, past_packet, past_unit, DeclaresOne, IsPastUnit, IsPacketFound, IsStop, NextLeaves, PacketLeaves, PassesUnits, Stays, UnitHas, comment_by, ends, fails, finds, is_full, one_passed, passes, Interface, Packet, Reader}
-use Rattle.capkit_c.specs.{Laws.packet_from, Laws.reader_from, declared.memory.reader.Found.Found, inside.Matching.StepLeaves}
+use Rattle.capkit_c.proofs.Common.{◌≡◌, ℕ, ◌+◌, ◌-◌, ◌<◌, ◌≤◌, List, [], ◌∷◌, length, take, drop, Option, Some, None, refl, sym, ap, ◌∙◌, subst, arith, drop-drop, length-drop, Captured, Declared, NoUnit, Whole, front_of, HasLink, declared_in, Insn, Skips, at_packet, past_packet, past_unit, DeclaresOne, IsPastUnit, IsPacketFound, IsStop, NextLeaves, PacketLeaves, PassesUnits, Stays, UnitHas, comment_by, ends, fails, finds, is_full, one_passed, passes, Interface, Packet, Reader}
+use Rattle.capkit_c.specs.{Laws.packet_from, Laws.reader_from, inside.Matching.JudgedAs, inside.Matching.StepLeaves}
+use Rattle.capkit_c.specs.declared.{matching.SearchStep.SearchStep, memory.reader.Found.Found}
 
 -- ---- a unit is passed
 
 -- less is left
-left : (capture : List ℕ) (size : ℕ) (r r' : Reader) (declared : Declared) → IsPastUnit capture size r r' declared → length capture - r'.offset < length capture - r.offset
-left capture size r r' declared a =
+left : (capture : List ℕ) (size : ℕ) (r r' : Reader) (t' : List Interface) → IsPastUnit capture size r r' t' → length capture - r'.offset < length capture - r.offset
+left capture size r r' t' a =
     let long : length (drop r.offset capture) ≡ length capture - r.offset = length-drop r.offset capture in
     omega (arith, a.offset, a.there, a.some, long)
 
@@ -16,7 +17,7 @@ pub record Passed (capture : List ℕ) (r r' : Reader) (p p' : Packet) : Type 0 
   pub less : length capture - r'.offset < length capture - r.offset
 
 pub unit_passed : (capture : List ℕ) (r r' : Reader) (t t' : List Interface) (p p' : Packet) (what : Found) → NextLeaves capture r r' t t' p p' what → what ≡ Found.Unit → Passed capture r r' p p'
-unit_passed capture r r' t t' p p' what (passes size front after same) e = record { same = same; less = left capture size r r' _ after }
+unit_passed capture r r' t t' p p' what (passes size front after same) e = record { same = same; less = left capture size r r' t' after }
 unit_passed capture r r' t t' p p' what (finds size q front after is) e = absurd (cc)
 unit_passed capture r r' t t' p p' what (ends front stays) e = absurd (cc)
 unit_passed capture r r' t t' p p' what (fails fault front stays) e = absurd (cc)
@@ -24,7 +25,7 @@ unit_passed capture r r' t t' p p' what (is_full interfaces most one stays) e = 
 
 pub packet_passed : (capture : List ℕ) (r r' : Reader) (t t' : List Interface) (p p' : Packet) (what : Found) → NextLeaves capture r r' t t' p p' what → what ≡ Found.Packet → length capture - r'.offset < length capture - r.offset
 packet_passed capture r r' t t' p p' what (passes size front after same) e = absurd (cc)
-packet_passed capture r r' t t' p p' what (finds size q front after is) e = left capture size r r' _ after
+packet_passed capture r r' t t' p p' what (finds size q front after is) e = left capture size r r' t' after
 packet_passed capture r r' t t' p p' what (ends front stays) e = absurd (cc)
 packet_passed capture r r' t t' p p' what (fails fault front stays) e = absurd (cc)
 packet_passed capture r r' t t' p p' what (is_full interfaces most one stays) e = absurd (cc)
@@ -58,11 +59,11 @@ found_next capture r s s' t u u' p q q' what passed same leaves unit =
 
 -- ---- a step by a program
 
-pub packet_step : (insns : List Insn) (link_type : ℕ) (capture : List ℕ) (r r' : Reader) (t t' : List Interface) (p p' : Packet) (what : Found) (judged : Option ℕ) → NextLeaves capture r r' t t' p p' what → what ≡ Found.Packet
-    → Judges insns link_type capture p' judged → StepLeaves insns link_type capture r r' t t' p p' judged
-packet_step insns link_type capture r r' t t' p p' what None leaves is judged =
+pub packet_step : (insns : List Insn) (link_type : ℕ) (capture : List ℕ) (r r' : Reader) (t t' : List Interface) (p p' : Packet) (what : Found) (judged : SearchStep) → NextLeaves capture r r' t t' p p' what → what ≡ Found.Packet
+    → JudgedAs insns link_type capture p' judged → StepLeaves insns link_type capture r r' t t' p p' judged
+packet_step insns link_type capture r r' t t' p p' what (SearchStep.More steps) leaves is judged =
     past_packet (subst (λ w. NextLeaves capture r r' t t' p p' w) is leaves) judged
-packet_step insns link_type capture r r' t t' p p' what (Some number) leaves is judged =
+packet_step insns link_type capture r r' t t' p p' what (SearchStep.Last number) leaves is judged =
     at_packet (subst (λ w. NextLeaves capture r r' t t' p p' w) is leaves) judged
 
 pub unit_step : (insns : List Insn) (link_type : ℕ) (capture : List ℕ) (r r' : Reader) (t t' : List Interface) (p p' : Packet) (what : Found) → NextLeaves capture r r' t t' p p' what → what ≡ Found.Unit
@@ -75,22 +76,23 @@ pub step_smaller : (insns : List Insn) (link_type : ℕ) (capture : List ℕ) (r
 step_smaller insns link_type capture r r' t t' p p' (past_unit leaves) = (unit_passed capture r r' t t' p p' Found.Unit leaves refl).less
 step_smaller insns link_type capture r r' t t' p p' (past_packet leaves judged) = packet_passed capture r r' t t' p p' Found.Packet leaves refl
 
-pub went_on : (insns : List Insn) (link_type : ℕ) (capture : List ℕ) (r r' : Reader) (t t' : List Interface) (p p' : Packet) (judged : Option ℕ) → StepLeaves insns link_type capture r r' t t' p p' judged → judged ≡ None
+pub went_on : (insns : List Insn) (link_type : ℕ) (capture : List ℕ) (r r' : Reader) (t t' : List Interface) (p p' : Packet) (judged : SearchStep) (steps : ℕ) → StepLeaves insns link_type capture r r' t t' p p' judged → judged ≡ SearchStep.More steps
     → Skips insns link_type capture r r' t t' p p'
-went_on insns link_type capture r r' t t' p p' None leaves is = leaves
-went_on insns link_type capture r r' t t' p p' (Some number) leaves is = absurd (cc)
+went_on insns link_type capture r r' t t' p p' (SearchStep.More count) steps leaves is = leaves
+went_on insns link_type capture r r' t t' p p' (SearchStep.Last number) steps leaves is = absurd (cc)
 
 -- ---- the rest of a capture
 
 dropped : (capture : List ℕ) (k at : ℕ) → drop at (drop k capture) ≡ drop (k + at) capture
 dropped capture k at = drop-drop at k capture
 
-after_from : (capture : List ℕ) (k size : ℕ) (r r' : Reader) (declared : Declared) → IsPastUnit (drop k capture) size r r' declared → IsPastUnit capture size (reader_from k r) (reader_from k r') declared
-after_from capture k size r r' declared a = record {
+after_from : (capture : List ℕ) (k size : ℕ) (r r' : Reader) (t' : List Interface) → IsPastUnit (drop k capture) size r r' t' → IsPastUnit capture size (reader_from k r) (reader_from k r') t'
+after_from capture k size r r' t' a = record {
   offset = omega (arith, a.offset);
   there = subst (λ bytes. size ≤ length bytes) (dropped capture k r.offset) a.there;
   some = a.some;
   link = record { link = a.link.link; flag = a.link.flag };
+  counted = a.counted;
 }
 
 stays_from : (k : ℕ) (r r' : Reader) (t t' : List Interface) (p p' : Packet) → Stays r r' t t' p p' → Stays (reader_from k r) (reader_from k r') t t' (packet_from k p) (packet_from k p')
@@ -122,9 +124,9 @@ found_from capture k offset declared p q inside is =
 pub rest_read : (capture : List ℕ) (k : ℕ) (r r' : Reader) (t t' : List Interface) (p p' : Packet) (what : Found) → k ≤ length capture → NextLeaves (drop k capture) r r' t t' p p' what
     → NextLeaves capture (reader_from k r) (reader_from k r') t t' (packet_from k p) (packet_from k p') what
 rest_read capture k r r' t t' p p' what inside (passes size front after same) =
-    passes size (ap (front_of (declared_in r t)) (sym (dropped capture k r.offset)) ∙ front) (after_from capture k size r r' _ after) (ap (packet_from k) same)
+    passes size (ap (front_of (declared_in r t)) (sym (dropped capture k r.offset)) ∙ front) (after_from capture k size r r' t' after) (ap (packet_from k) same)
 rest_read capture k r r' t t' p p' what inside (finds size q front after is) =
-    finds size q (ap (front_of (declared_in r t)) (sym (dropped capture k r.offset)) ∙ front) (after_from capture k size r r' _ after) (found_from capture k r.offset _ p' q inside is)
+    finds size q (ap (front_of (declared_in r t)) (sym (dropped capture k r.offset)) ∙ front) (after_from capture k size r r' t' after) (found_from capture k r.offset _ p' q inside is)
 rest_read capture k r r' t t' p p' what inside (ends front stays) =
     ends (ap (front_of (declared_in r t)) (sym (dropped capture k r.offset)) ∙ front) (stays_from k r r' t t' p p' stays)
 rest_read capture k r r' t t' p p' what inside (fails fault front stays) =

@@ -1,5 +1,5 @@
 -- The block that a text begins with.
-use Rattle.capkit_c.proofs.Common.{◌≡◌, ℕ, ◌<◌, ◌≤◌, inl, inr, List, [], ◌∷◌, ◌++◌, length, take, drop, Option, Some, None, Ok, Err, refl, sym, ap, ap₂, ◌∙◌, subst, arith, option_map, length-take-le, take-append-drop, take-take, checked, first_failing, Fault, Truncated, Order, checked_err, frame_checks, frame_fault, frame_in, Described, Section, block_size, checks_among, frame_after, interfaces_before, order_before, parts_after, unit_fault, Enters, IsBlockFault, BlockPacketIfAny, BlockStands, IsNoBlock, IsRefusal, LiesIfAny, spans_of, Refusal, UnitPacket}
+use Rattle.capkit_c.proofs.Common.{◌≡◌, ℕ, ◌<◌, ◌≤◌, inl, inr, List, [], ◌∷◌, ◌++◌, length, take, drop, Option, Some, None, Ok, Err, refl, sym, ap, ap₂, ◌∙◌, subst, arith, option_map, length-take-le, take-append-drop, take-take, checked, first_failing, Fault, Truncated, Order, checked_err, frame_checks, frame_fault, frame_in, Described, Section, block_size, checks_among, frame_after, interfaces_before, order_before, parts_after, unit_fault, Enters, IsBlockFault, BlockPacketIfAny, BlockStands, IsNoBlock, IsFramed, IsRefusal, LiesIfAny, spans_of, Refusal, UnitPacket}
 use Rattle.cap_pcapng.specs.{Block.Parts, Block.block_checks, Block.parts_in, declared.effect.PacketSpans.PacketSpans, declared.frames.Frame.Frame}
 use Rattle.cap_pcapng.proofs.Units.{frame_checks-append, frame_in-append, block_checks-append, parts_in-append, unit_fault-frame, unit_fault-short, unit_fault-block, unit_fault-among}
 use Rattle.cap_io.proofs.BlocksCame.{BlockCame, FrontSays, WholeCame, block_came, front_says, says_after}
@@ -22,10 +22,6 @@ frame_fails before section text front fault is enough same exact =
     ∙ ap first_failing (frame_checks-append section (take 12 text) (drop 12 text) (omega (arith, upper_bound))) ∙ ap (frame_fault section) (sym same) ∙ fails)
 
 -- what they say is what the text says
-pub record IsFramed (before : Option Section) (text : List ℕ) (frame : Frame) : Type 0 where
-  pub passes : first_failing (frame_checks (order_before before) text) ≡ None
-  pub says : frame_after before text ≡ frame
-
 pub framed : (before : Option Section) (section : Option Order) (text front : List ℕ) (frame : Frame) → order_before before ≡ section → 12 ≤ length text → front ≡ take 12 text
     → Ok frame ≡ checked (frame_fault section front) (frame_in section front) → IsFramed before text frame
 framed before section text front frame is enough same exact =

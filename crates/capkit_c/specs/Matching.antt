@@ -1,30 +1,29 @@
--- The result of a search for the next packet that a program accepts.
-use Rattle.std.specs.Prelude.{◌≡◌, ℕ, ◌<◌, List, length, take, drop, Option, Some, None}
-use Rattle.flt_bpf.specs.{Machine.machine, Machine.Answered, Valid.BreaksFirst}
-use Rattle.flt_bpf.specs.declared.{fault.CheckFault.CheckFault, insn.Insn.Insn}
-use Rattle.capkit_c.specs.{Reading.found_number, Running.rule_number, Units.IsStop, Units.NextLeaves, Units.Stays}
+-- The result of a search for the next packet that instructions accept.
+use Rattle.std.specs.Prelude.{◌≡◌, ℕ, ◌<◌, List, take, drop}
+use Rattle.flt_bpf.specs.declared.insn.Insn.{Insn}
+use Rattle.capkit_c.specs.{Reading.found_number, Running.RunLeaves, Units.IsStop, Units.NextLeaves}
 use Rattle.capkit_c.specs.declared.memory.layout.{Interface.Interface, Packet.Packet, Reader.Reader}
 use Rattle.capkit_c.specs.declared.memory.reader.Found.{Found}
 
--- what a program returns on a packet of a capture
+-- the answer of instructions, valid or not, on a packet of a capture: that of a run as capkit_run and
+-- capkit_matches make it
 pub record Returns (insns : List Insn) (capture : List ℕ) (p : Packet) (answer : ℕ) : Type 0 where
   pub steps : ℕ
-  pub runs : machine insns (take p.captured (drop p.at capture)) p.original (length insns)
-      ≡ Answered answer steps
+  pub runs : RunLeaves insns (take p.captured (drop p.at capture)) p.original answer steps
 
--- a packet ends the search, with this number: the program accepts it (0), or it is for another link
--- type (226)
+-- a packet ends the search, with this number: the instructions accept it (0), or it is of another
+-- link type (226)
 pub data EndsBy (insns : List Insn) (link_type : ℕ) (capture : List ℕ) (p : Packet)
     (number : ℕ) : Type 0 where
   accepted : (answer : ℕ) → p.link_type ≡ link_type → Returns insns capture p answer → 0 < answer
       → number ≡ 0 → EndsBy insns link_type capture p number
   another : ¬ p.link_type ≡ link_type → number ≡ 226 → EndsBy insns link_type capture p number
 
--- a packet is rejected, or ends the search with a number
-abbrev pub Judges : List Insn → (link_type : ℕ) → (capture : List ℕ) → Packet → Option ℕ → Type 0
-Judges insns link_type capture p None =
-    (p.link_type ≡ link_type) × Returns insns capture p 0
-Judges insns link_type capture p (Some number) = EndsBy insns link_type capture p number
+-- a packet is of this link type, and the instructions reject it: they return 0
+pub record IsRejected (insns : List Insn) (link_type : ℕ) (capture : List ℕ) (p : Packet) : Type 0
+  where
+    pub link : p.link_type ≡ link_type
+    pub rejects : Returns insns capture p 0
 
 -- one step past a unit without a packet, or past a packet that is rejected
 pub data Skips (insns : List Insn) (link_type : ℕ) (capture : List ℕ) (r r' : Reader)
@@ -32,7 +31,7 @@ pub data Skips (insns : List Insn) (link_type : ℕ) (capture : List ℕ) (r r' 
   past_unit : NextLeaves capture r r' t t' p p' Found.Unit
       → Skips insns link_type capture r r' t t' p p'
   past_packet : NextLeaves capture r r' t t' p p' Found.Packet
-      → Judges insns link_type capture p' None
+      → IsRejected insns link_type capture p'
       → Skips insns link_type capture r r' t t' p p'
 
 -- the last step: to a packet that ends the search, or to the end, a fault or a full table
@@ -61,13 +60,3 @@ pub record SearchLeaves (insns : List Insn) (link_type : ℕ) (capture : List �
   pub packet : Packet
   pub goes : GoesPast insns link_type capture r t p between table packet
   pub ends : Ends insns link_type capture between r' table t' packet p' number
-
--- the search, of a valid program; or the number of the first rule that the instructions break, and
--- nothing is read
-pub data MatchLeaves (insns : List Insn) (link_type : ℕ) (capture : List ℕ) (r r' : Reader)
-    (t t' : List Interface) (p p' : Packet) (number : ℕ) : Type 0 where
-  searches : SearchLeaves insns link_type capture r r' t t' p p' number
-      → MatchLeaves insns link_type capture r r' t t' p p' number
-  refuses : (fault : CheckFault) (at : ℕ) → BreaksFirst insns fault at
-      → number ≡ rule_number fault → Stays r r' t t' p p'
-      → MatchLeaves insns link_type capture r r' t t' p p' number

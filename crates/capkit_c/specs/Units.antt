@@ -5,7 +5,8 @@ use Rattle.cap_octet.specs.{Packet.Captured, declared.fault.Fault.Fault}
 use Rattle.cap_pcapng.specs.{Comment.comment_in, Effect.LieAsSaid, Interface.Described}
 use Rattle.cap_pcapng.specs.{Unit.Section, Unit.parts_after, declared.effect.PacketSpans.PacketSpans}
 use Rattle.cap_io.specs.Capture.{Declared, Nothing, PcapFile, PcapngFile, Whole, NoUnit, first_link_of, front_of}
-use Rattle.capkit_c.specs.{Layout.HasLink, Layout.declared_in, declared.memory.layout.Interface.Interface}
+use Rattle.capkit_c.specs.Layout.{HasLink, declared_in, most_known}
+use Rattle.capkit_c.specs.declared.memory.layout.Interface.{Interface}
 use Rattle.capkit_c.specs.declared.memory.{layout.Packet.Packet, layout.Reader.Reader, reader.Found.Found}
 
 -- the comment in a packet's options; empty if it has none, and if the file isn't pcapng
@@ -68,13 +69,15 @@ pub record Stays (r r' : Reader) (t t' : List Interface) (p p' : Packet) : Type 
   pub table : t' ≡ t
   pub packet : p' ≡ p
 
--- the reader is after a unit of this size, which the capture has, and knows the first link type
-pub record IsPastUnit (capture : List ℕ) (size : ℕ) (r r' : Reader) (declared : Declared) : Type 0
+-- the reader is after a unit of this size, which the capture has; it knows the first link type, and
+-- counts as many interfaces as it knows
+pub record IsPastUnit (capture : List ℕ) (size : ℕ) (r r' : Reader) (t' : List Interface) : Type 0
   where
     pub offset : r'.offset ≡ r.offset + size
     pub there : size ≤ length (drop r.offset capture)
     pub some : 0 < size
-    pub link : HasLink (first_link_of declared) r'
+    pub link : HasLink (first_link_of (declared_in r' t')) r'
+    pub counted : r'.interfaces ≡ most_known r' (length t')
 
 -- the unit at the reader's place, by what its units so far declare: it is passed, or its packet is
 -- found, or nothing is present, or it has a fault, or a full table has no room for its interface
@@ -82,11 +85,11 @@ pub data NextLeaves (capture : List ℕ) (r r' : Reader) (t t' : List Interface)
     (p p' : Packet) : Found → Type 0 where
   passes : (size : ℕ)
       → front_of (declared_in r t) (drop r.offset capture) ≡ Whole size [] (declared_in r' t')
-      → IsPastUnit capture size r r' (declared_in r' t') → p' ≡ p
+      → IsPastUnit capture size r r' t' → p' ≡ p
       → NextLeaves capture r r' t t' p p' Found.Unit
   finds : (size : ℕ) (q : Captured)
       → front_of (declared_in r t) (drop r.offset capture) ≡ Whole size (q ∷ []) (declared_in r' t')
-      → IsPastUnit capture size r r' (declared_in r' t')
+      → IsPastUnit capture size r r' t'
       → IsPacketFound capture r.offset (declared_in r' t') p' q
       → NextLeaves capture r r' t t' p p' Found.Packet
   ends : front_of (declared_in r t) (drop r.offset capture) ≡ NoUnit None → Stays r r' t t' p p'

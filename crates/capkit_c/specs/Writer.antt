@@ -1,5 +1,5 @@
 -- The units of a pcapng file that is written packet by packet, as the definitions of a sink have it.
-use Rattle.std.specs.Prelude.{◌≡◌, ℕ, ◌==◌, ◌&&◌, not, false, if◌then◌else◌, Bool, min, nat_lt, nat_le, List, [], ◌∷◌, ◌++◌, length, map, take, Option, None, Some}
+use Rattle.std.specs.Prelude.{◌≡◌, ℕ, ◌==◌, ◌≤◌, ◌&&◌, not, false, if◌then◌else◌, Bool, min, nat_lt, nat_le, List, [], ◌∷◌, ◌++◌, length, map, take, Option, None, Some}
 use Rattle.cap_octet.specs.{Checks.first_failing, Date.TIME_END, Packet.Captured, declared.fault.Fault.Fault}
 use Rattle.cap_octet.specs.declared.fault.Fault.TheVariants.{BadOption, TimeOutOfRange, TooManyOutputInterfaces}
 use Rattle.cap_io.specs.Text as text
@@ -68,12 +68,15 @@ abbrev pub IsWhole : Written → Type 0
 IsWhole (Written.Whole count) = Unit {0}
 IsWhole _ = ⊥
 
--- what is kept after a unit was written
+-- what is kept after a unit was written; a writer that counted no more interfaces than the file may
+-- have counts just those that are written
 pub record HasWritten (w : Writer) (table : List Interface) (p : Captured) (w' : Writer)
     (table' : List Interface) : Type 0 where
   pub section : (w'.has_section == 0) ≡ false
   pub interfaces : interfaces_in w' table' ≡ interfaces_after_unit w table p
   pub room : length table' ≡ length table
+  pub counted : w.interfaces ≤ room_for (length table)
+      → w'.interfaces ≡ length (interfaces_in w' table')
 
 -- what is kept after a call: more if a unit was written, else the same
 abbrev pub KeepsWritten : Written → Writer → List Interface → Captured → Writer → List Interface

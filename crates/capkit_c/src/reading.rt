@@ -3,8 +3,11 @@ ghost use Rattle.std.specs.Prelude.{◌≡◌, List, length, take, drop};
 ghost use Rattle.capkit_c.specs.{Texts.put_text, Units.comment_by, Layout.declared_in};
 ghost use Rattle.capkit_c.specs.declared.memory.layout.Interface.{Interface};
 ghost use Rattle.capkit_c.specs.Reading.{CallLeaves, UnitLeaves, fault_number, found_number};
+ghost use Rattle.capkit_c.specs.Skipping.{SkipTells};
 
-use crate::memory::{Found, Interface, Packet, Reader, comment_of, next_packet, next_unit};
+use crate::memory::{
+    Found, Interface, Packet, Reader, Skip, comment_of, next_packet, next_unit, skip_unit,
+};
 use crate::texts::put_text;
 use cap_octet::Fault;
 
@@ -83,6 +86,24 @@ pub extern "C" fn capkit_next_unit(
         packet.new result }
 {
     found_number(next_unit(reader, interfaces, capture, packet))
+}
+
+/// Goes past the unit at the reader's place, if `capkit_next_unit` refuses it for its time, its link
+/// type or its options, though its lengths are sound, and returns 228. Otherwise nothing is written,
+/// and the number is that of `capkit_next_unit`; or 202 if bytes of the unit are missing, 224 if the
+/// table has no room for its interface.
+#[unsafe(no_mangle)]
+pub extern "C" fn capkit_skip(
+    reader: &mut Reader,
+    interfaces: &mut [Interface],
+    capture: &[u8],
+) -> u32
+    ensures { SkipTells capture.now reader.old reader.new interfaces.old interfaces.new result }
+{
+    match skip_unit(reader, interfaces, capture) {
+        Skip::Past => 228,
+        Skip::Not(found) => found_number(found),
+    }
 }
 
 /// Puts the comment of the packet that this reader found last into a buffer (`put_text`), and gives

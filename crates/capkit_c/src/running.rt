@@ -71,6 +71,18 @@ pub extern "C" fn capkit_matches_unchecked(insns: &[Insn], packet: &[u8], len: u
     run_insns(insns, packet, len).0
 }
 
+/// The result of instructions, valid or not, on a packet of original length `len`, and the number of
+/// executed instructions. Both are 0 if the run reaches an instruction that breaks a rule, or goes
+/// past the end.
+pub(crate) fn run(insns: &[Insn], packet: &[u8], len: u32) -> (u32, usize)
+    ensures { RunLeaves insns.now packet.now len result.0 result.1 }
+{
+    match run_any(insns, packet, len) {
+        Some((answer, count)) => (answer, count),
+        None => (0, 0),
+    }
+}
+
 /// Runs instructions, valid or not, on a packet of original length `len`, and returns their result;
 /// `steps` becomes the number of executed instructions. If the run reaches an instruction that
 /// breaks a rule, or goes past the end, it returns 0 and `steps` becomes 0.
@@ -78,7 +90,9 @@ pub extern "C" fn capkit_matches_unchecked(insns: &[Insn], packet: &[u8], len: u
 pub extern "C" fn capkit_run(insns: &[Insn], packet: &[u8], len: u32, steps: &mut usize) -> u32
     ensures { RunLeaves insns.now packet.now len result steps.new }
 {
-    capkit_run_any(insns, packet, len, steps)
+    let (answer, count) = run(insns, packet, len);
+    *steps = count;
+    answer
 }
 
 /// `capkit_run` without the number of steps.
@@ -86,8 +100,7 @@ pub extern "C" fn capkit_run(insns: &[Insn], packet: &[u8], len: u32, steps: &mu
 pub extern "C" fn capkit_matches(insns: &[Insn], packet: &[u8], len: u32) -> u32
     ensures { (steps : ℕ) × RunLeaves insns.now packet.now len result steps }
 {
-    let mut steps = 0;
-    capkit_run_any(insns, packet, len, &mut steps)
+    run(insns, packet, len).0
 }
 
 /// Records in `steps` the state before each executed instruction of a valid program, as far as
@@ -98,22 +111,4 @@ pub extern "C" fn capkit_trace(insns: &[Insn], packet: &[u8], len: u32, steps: &
     ensures { (answer : ℕ) × Traces insns.now packet.now len steps.old steps.new answer result }
 {
     trace(insns, packet, len, steps).1
-}
-
-/// `capkit_run` under another name: it runs any instructions, valid or not. If the run reaches an
-/// instruction that breaks a rule, or goes past the end, it returns 0 and `steps` becomes 0.
-#[unsafe(no_mangle)]
-pub extern "C" fn capkit_run_any(insns: &[Insn], packet: &[u8], len: u32, steps: &mut usize) -> u32
-    ensures { RunLeaves insns.now packet.now len result steps.new }
-{
-    match run_any(insns, packet, len) {
-        Some((answer, count)) => {
-            *steps = count;
-            answer
-        }
-        None => {
-            *steps = 0;
-            0
-        }
-    }
 }

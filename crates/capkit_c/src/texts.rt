@@ -112,6 +112,7 @@ fn found_text(number: u32) -> &'static str
         25 => "no room in the buffer",
         26 => "another link type",
         27 => "a unit before the packet",
+        28 => "skipped",
         _ => "",
     }
 }

@@ -1,11 +1,11 @@
 -- A block of a pcapng capture in memory, and the caller's table of interfaces.
 use Rattle.std.specs.{List.slice_get, Option.option_map}
 use Rattle.std.specs.Prelude.{◌≡◌, ℕ, ◌<◌, ◌≤◌, List, [], ◌∷◌, ◌++◌, length, take, Option, None, Some}
-use Rattle.cap_octet.specs.{Packet.Captured, declared.number.Order.Order}
+use Rattle.cap_octet.specs.{Checks.first_failing, Packet.Captured, declared.number.Order.Order}
 use Rattle.cap_pcapng.specs.Block.{Parts, parts_in}
 use Rattle.cap_pcapng.specs.Effect.{Enters, FitsIfAny, IsBlockFault, LieAsSaid, held_packet, section_of, span_bytes}
-use Rattle.cap_pcapng.specs.Interface.{Described}
-use Rattle.cap_pcapng.specs.Unit.{IsBlock, Section, interfaces_before, order_before, packets_in, parts_after, section_after, unit_fault}
+use Rattle.cap_pcapng.specs.{Frame.frame_checks, Interface.Described}
+use Rattle.cap_pcapng.specs.Unit.{IsBlock, Section, frame_after, interfaces_before, order_before, packets_in, parts_after, section_after, unit_fault}
 use Rattle.cap_pcapng.specs.declared.{effect.PacketSpans.PacketSpans, frames.Frame.Frame}
 use Rattle.capkit_c.specs.Layout.{first_interfaces}
 use Rattle.capkit_c.specs.declared.memory.block.{BlockEffect.BlockEffect, BlockRead.BlockRead, Refusal.Refusal}
@@ -58,6 +58,11 @@ pub record EntersTable (frame : Frame) (interfaces : List Described) (block : Li
   pub lies : LiesIfAny (parts_in frame block) (option_map (spans_of frame.length) effect.packet)
 
 -- ---- a block that a text begins with
+
+-- this is the frame of the block that a text begins with: it passes its checks
+pub record IsFramed (before : Option Section) (text : List ℕ) (frame : Frame) : Type 0 where
+  pub passes : first_failing (frame_checks (order_before before) text) ≡ None
+  pub says : frame_after before text ≡ frame
 
 -- P holds of each section before a block (or of none before it) that has this byte order and these
 -- interfaces

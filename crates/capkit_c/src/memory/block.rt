@@ -62,7 +62,7 @@ fn interface_by_number(table: &[Interface], count: usize, number: u32) -> Option
 }
 
 /// Puts an interface after the first `count` of a table, instead of the entry there.
-fn append_interface(table: &mut [Interface], count: usize, interface: &PcapngInterface<'_>)
+pub(crate) fn append_interface(table: &mut [Interface], count: usize, interface: &PcapngInterface<'_>)
     requires { count < length table.old }
     ensures put { first_interfaces (count + 1) table.new
         ≡ first_interfaces count table.old ++ description_of interface.now ∷ [] }
@@ -120,7 +120,7 @@ fn unit_packet(table: &[Interface], count: usize, spans: &PacketSpans) -> UnitPa
 
 /// Makes the checks of a whole block of this frame, and adds the interface that it describes, if it
 /// describes one, to the first `count` of a table. A refusal, by a check or for lack of room in the
-/// table, leaves the table unchanged.
+/// table, leaves the table unchanged; and none is added to a table of `count`.
 fn apply_block(
     table: &mut [Interface],
     count: usize,
@@ -137,6 +137,7 @@ fn apply_block(
     ensures err { IfErr result (IsRefusal frame.now (first_interfaces count table.old) bytes.now
         (length table.old)) }
     ensures kept { OnErr result (table.new ≡ table.old) }
+    ensures full { count ≡ length table.old → table.new ≡ table.old }
 {
     let known = KnownInterfaces {
         entries: table,
@@ -182,7 +183,7 @@ pub(crate) struct BlockRead {
 
 /// Reads the block that a text begins with, in a section of this byte order or, if there is none
 /// yet, as the first block of a file, and adds the interface that it describes to the first `count`
-/// of a table. A refusal leaves the table unchanged.
+/// of a table. A refusal leaves the table unchanged; and none is added to a table of `count`.
 pub(crate) fn read_block(
     section: Option<Order>,
     table: &mut [Interface],
@@ -198,6 +199,7 @@ pub(crate) fn read_block(
     ensures err { IfErr result (IsNoBlock section (first_interfaces count table.old) text.now
         (length table.old)) }
     ensures kept { OnErr result (table.new ≡ table.old) }
+    ensures full { count ≡ length table.old → table.new ≡ table.old }
 {
     // 12 bytes, the length of the shortest block, show its frame.
     let Some(first) = text.first_chunk::<12>() else {

@@ -6,12 +6,12 @@ ghost use Rattle.cap_io.specs.Capture.{first_link_after, is_pcapng};
 ghost use Rattle.capkit_c.specs.inside.Units.{Begins, Counts, IsBare, IsNoUnit, IsAtEnd, IsSomeFor};
 ghost use Rattle.capkit_c.specs.Layout.{declared_in, first_interfaces};
 ghost use Rattle.capkit_c.specs.Units.{NextLeaves, PacketLeaves, comment_by};
-ghost use Rattle.capkit_c.specs.inside.Units.{BeginsWithUnit, placed_packet};
+ghost use Rattle.capkit_c.specs.inside.Units.{BeginsWithUnit, found_by, placed_packet};
 ghost use Rattle.cap_io.specs.declared.file_state.FileState.TheVariants as form;
 
 use crate::memory::block::{Refusal, UnitPacket, read_block};
 use crate::memory::layout::{Interface, Packet, Reader};
-use crate::memory::pcap::{RECORD_HEADER, header_in, record_header_in};
+use crate::memory::pcap::{FILE_HEADER, RECORD_HEADER, header_in, record_header_in};
 use cap_io::FileState;
 use cap_octet::{Fault, Order};
 use cap_pcap::Head;
@@ -34,7 +34,7 @@ pub enum Found {
 
 /// A unit that was read.
 #[derive(Clone, Copy)]
-struct ReadUnit {
+pub(crate) struct ReadUnit {
     /// In bytes.
     size: usize,
     /// The state of the file after it.
@@ -45,8 +45,20 @@ struct ReadUnit {
     packet: Option<UnitPacket>,
 }
 
+impl ReadUnit {
+    /// What a call finds that reads it.
+    pub(crate) fn found(&self) -> Found
+        ensures { result ≡ found_by self.now.packet }
+    {
+        match self.packet {
+            Some(_) => Found::Packet,
+            None => Found::Unit,
+        }
+    }
+}
+
 /// The bytes from a place on; none if it is past the end.
-fn bytes_from(text: &[u8], at: usize) -> &[u8]
+pub(crate) fn bytes_from(text: &[u8], at: usize) -> &[u8]
     ensures { result.now ≡ drop at text.now }
 {
     match text.get(at..) {
@@ -69,7 +81,7 @@ fn is_pcapng(text: &[u8]) -> bool
 /// before the block, else that of the first of the `count` interfaces that the section has then;
 /// `None` if there is neither. The section's byte order doesn't matter, so the clause holds for
 /// each. `cap_io` has the same over its `Table`.
-fn first_link_type(first: Option<u16>, table: &[Interface], count: usize) -> Option<u16>
+pub(crate) fn first_link_type(first: Option<u16>, table: &[Interface], count: usize) -> Option<u16>
     requires { count ≤ length table.now }
     ensures { (order : Order) → result ≡ first_link_after first
         (section_of order (first_interfaces count table.now)) }
@@ -114,7 +126,8 @@ fn read_record_unit(head: &Head, text: &[u8], interfaces: usize) -> Result<ReadU
 /// Reads the block that a text begins with, in a section of this byte order or, if there is none
 /// yet, as the first block of a file. `first` is the file's first link type so far; the first
 /// `count` of `table` are the section's interfaces. `form`, what is declared before the block, is
-/// only for the contract. A refusal leaves the table unchanged.
+/// only for the contract. A refusal leaves the table unchanged; and none is added to a table of
+/// `count`.
 fn read_block_unit(
     form: FileState,
     section: Option<Order>,
@@ -132,6 +145,7 @@ fn read_block_unit(
     ensures err { IfErr result (IsNoUnit form (first_interfaces count table.old) text.now
         (length table.old)) }
     ensures kept { OnErr result (table.new ≡ table.old) }
+    ensures full { count ≡ length table.old → table.new ≡ table.old }
 {
     match read_block(section, table, count, text) {
         Ok(read) => {
@@ -149,8 +163,8 @@ fn read_block_unit(
 
 /// Reads the unit that a text begins with, a file header, a record or a block, by what is declared
 /// of the file. The text isn't empty if a unit was read before. A refusal leaves the table
-/// unchanged.
-fn read_unit(
+/// unchanged; and none is added to a table of `count`.
+pub(crate) fn read_unit(
     form: FileState,
     table: &mut [Interface],
     count: usize,
@@ -166,6 +180,7 @@ fn read_unit(
     ensures err { IfErr result (IsNoUnit form (first_interfaces count table.old) text.now
         (length table.old)) }
     ensures kept { OnErr result (table.new ≡ table.old) }
+    ensures full { count ≡ length table.old → table.new ≡ table.old }
 {
     match form {
         FileState::Unknown => {
@@ -173,9 +188,8 @@ fn read_unit(
                 return read_block_unit(form, None, None, table, count, text);
             }
             match header_in(text) {
-                // A pcap file header has 24 bytes.
                 Ok(head) => Ok(ReadUnit {
-                    size: 24,
+                    size: FILE_HEADER,
                     form: FileState::Pcap(head),
                     interfaces: 0,
                     packet: None,
@@ -216,7 +230,7 @@ fn packet_at(at: usize, placed: &UnitPacket) -> Packet
 
 /// The number of interfaces of the section so far, at most `room` and 256; 0 before the first unit,
 /// whatever C wrote.
-fn known_interface_count(reader: &Reader, form: FileState, room: usize) -> usize
+pub(crate) fn known_interface_count(reader: &Reader, form: FileState, room: usize) -> usize
     ensures counts { Counts form reader.now room result }
     ensures bare { IsBare form result }
     ensures fits { result ≤ room }
@@ -230,7 +244,7 @@ fn known_interface_count(reader: &Reader, form: FileState, room: usize) -> usize
 
 /// Whether a capture of which `text` is left is at its clean end. An empty capture, of which no
 /// unit was read, isn't: its file header is missing.
-fn is_at_end(form: FileState, text: &[u8]) -> bool
+pub(crate) fn is_at_end(form: FileState, text: &[u8]) -> bool
     ensures over { IsTrue result → IsAtEnd form text.now }
     ensures some { result ≡ false → IsSomeFor form text.now }
 {

@@ -1,9 +1,10 @@
 //! Captures that are read: one of each form, put together by the formats' drafts.
 
 use super::are_all;
+use super::programs::{Row, UNWRITTEN, filled};
 use crate::matching::capkit_next_match;
 use crate::memory::{Interface, Packet, Reader};
-use crate::reading::{capkit_comment, capkit_next, capkit_next_unit};
+use crate::reading::{capkit_comment, capkit_next, capkit_next_unit, capkit_skip};
 use flt_bpf::Insn;
 use std::alloc::{AllocError, Global};
 
@@ -322,8 +323,112 @@ fn packets_are_sought(rt: HostRuntime) {
             &mut packet,
         );
         assert!(rt; found == *expected, "{found}");
-        reader = START;
-        let found = capkit_next_match(&mut reader, &mut table, capture, &[], 1, &mut packet);
-        assert!(rt; found == 101 && reader.offset == 0);
     }
+}
+
+/// Instructions, and what the search for packets of a capture of Ethernet returns: those that a run
+/// reaches decide, whatever else the others are.
+const SEARCHERS: &[(&[Row], u32)] = &[
+    (&[], 222),
+    // No instruction has the code 9; the second one isn't reached, or is.
+    (&[(6, 0, 0, 5), (9, 0, 0, 0)], 0),
+    (&[(0, 0, 0, 5), (9, 0, 0, 0)], 222),
+    // Past the end; division by 0.
+    (&[(0, 0, 0, 5)], 222),
+    (&[(0x34, 0, 0, 0), (6, 0, 0, 5)], 222),
+];
+
+/// No instructions but a valid program accept all packets that they could; they stop no search.
+#[test]
+fn packets_are_sought_by_any_instructions(rt: HostRuntime) {
+    for (rows, expected) in SEARCHERS {
+        let (mut reader, mut table, mut packet) = (START, [NO_INTERFACE; 2], NO_PACKET);
+        let mut place = [UNWRITTEN; 8];
+        let found = capkit_next_match(
+            &mut reader,
+            &mut table,
+            MICROSECONDS,
+            filled(rows, &mut place),
+            1,
+            &mut packet,
+        );
+        assert!(rt; found == *expected && reader.offset == MICROSECONDS.len(), "{found}");
+    }
+}
+
+/// A capture, the place of a byte and what is put there, the units that are read before the fault,
+/// and what `capkit_skip` returns there, the offset after it, and the next number.
+const SKIPS: &[(&[u8], (usize, u8), usize, (u32, usize, u32))] = &[
+    // A time: of a record, and of a block.
+    (MICROSECONDS, (30, 16), 1, (228, 44, 222)),
+    (NANOSECONDS, (28, 0xff), 1, (228, 42, 0)),
+    (BLOCKS, (111, 0xff), 3, (228, 144, 224)),
+    // A link type: 65,537 is 1.
+    (MICROSECONDS, (22, 1), 0, (228, 24, 0)),
+    // Options of an interface: of a wrong length, and a resolution out of range.
+    (BLOCKS, (46, 200), 1, (228, 80, 223)),
+    (BLOCKS, (56, 13), 1, (228, 80, 223)),
+    // Every other fault.
+    (MICROSECONDS, (34, 16), 1, (204, 24, 204)),
+    (MICROSECONDS, (6, 5), 0, (203, 0, 203)),
+    (BLOCKS, (32, 53), 1, (205, 28, 205)),
+    (BLOCKS, (104, 9), 3, (207, 96, 207)),
+    // Sound units.
+    (MICROSECONDS, (25, 0), 0, (223, 0, 223)),
+    (MICROSECONDS, (25, 0), 1, (0, 24, 0)),
+    (MICROSECONDS, (25, 0), 2, (222, 44, 222)),
+    (BLOCKS, (25, 0), 1, (223, 28, 223)),
+];
+
+/// What is refused for its time, its link type or its options is gone past, and nothing else.
+#[test]
+fn refused_units_are_skipped(rt: HostRuntime) {
+    for (capture, (at, byte), before, expected) in SKIPS {
+        let mut altered = Vec::from_slice(rt.alloc(), capture).expect(&rt, "memory");
+        altered[*at] = *byte;
+        let (mut reader, mut table, mut packet) = (START, [NO_INTERFACE; 1], NO_PACKET);
+        for _ in 0..*before {
+            capkit_next_unit(&mut reader, &mut table, &altered, &mut packet);
+        }
+        let skipped = capkit_skip(&mut reader, &mut table, &altered);
+        let offset = reader.offset;
+        let number = capkit_next_unit(&mut reader, &mut table, &altered, &mut packet);
+        assert!(rt;
+            (skipped, offset, number) == *expected,
+            "{skipped} to {offset}, {number}"
+        );
+    }
+}
+
+/// A record that is skipped has all of its bytes, though its time is refused before they are there.
+#[test]
+fn cut_records_are_not_skipped(rt: HostRuntime) {
+    let mut altered = Vec::from_slice(rt.alloc(), MICROSECONDS).expect(&rt, "memory");
+    altered[30] = 16;
+    let (mut reader, mut packet) = (START, NO_PACKET);
+    assert!(rt; capkit_next(&mut reader, &mut [], &altered[..43], &mut packet) == 210);
+    assert!(rt; capkit_skip(&mut reader, &mut [], &altered[..43]) == 202 && reader.offset == 24);
+    assert!(rt; capkit_skip(&mut reader, &mut [], &altered) == 228 && reader.offset == 44);
+}
+
+/// An interface whose options are refused keeps its number, its link type and its snapshot length,
+/// if the table has room for it; each of its packets is out of range, and later interfaces keep
+/// their numbers.
+#[test]
+fn refused_interfaces_keep_their_numbers(rt: HostRuntime) {
+    let mut altered = Vec::from_slice(rt.alloc(), BLOCKS).expect(&rt, "memory");
+    altered[56] = 13;
+    let (mut reader, mut table, mut packet) = (START, [NO_INTERFACE; 2], NO_PACKET);
+    assert!(rt; capkit_next(&mut reader, &mut table, &altered, &mut packet) == 212);
+    assert!(rt; capkit_skip(&mut reader, &mut [], &altered) == 224 && reader.offset == 28);
+    assert!(rt; reader.interfaces == 0 && reader.has_link_type == 0);
+    assert!(rt; capkit_skip(&mut reader, &mut table, &altered) == 228 && reader.offset == 80);
+    assert!(rt; (reader.interfaces, reader.link_type, reader.has_link_type) == (1, 1, 1));
+    let first = &table[0];
+    assert!(rt; (first.link_type, first.snap, first.name_length) == (1, 96, 0));
+    assert!(rt; (first.units, first.offset) == (1_000_000, i64::MAX));
+    assert!(rt; capkit_next(&mut reader, &mut table, &altered, &mut packet) == 210);
+    assert!(rt; capkit_skip(&mut reader, &mut table, &altered) == 228 && reader.offset == 144);
+    assert!(rt; capkit_next(&mut reader, &mut table, &altered, &mut packet) == 0);
+    assert!(rt; (packet.interface, packet.link_type, packet.time) == (1, 101, 3000));
 }

@@ -6,8 +6,8 @@ use crate::compiling::capkit_compile;
 use crate::listings::{capkit_read_listing, capkit_write_listing};
 use crate::portable::capkit_is_portable;
 use crate::running::{
-    capkit_check, capkit_matches, capkit_matches_unchecked, capkit_run, capkit_run_any,
-    capkit_run_unchecked, capkit_trace,
+    capkit_check, capkit_matches, capkit_matches_unchecked, capkit_run, capkit_run_unchecked,
+    capkit_trace,
 };
 use flt_bpf::Insn;
 use flt_trace::Step;
@@ -93,7 +93,7 @@ fn answer_of(insns: &[Insn], packet: &[u8]) -> Option<(u32, usize)> {
     }
     let len = packet.len().min(60) as u32;
     let answer = capkit_run_unchecked(insns, packet, len, &mut steps);
-    let same = capkit_run_any(insns, packet, len, &mut counted);
+    let same = capkit_run(insns, packet, len, &mut counted);
     let matches = capkit_matches(insns, packet, len);
     let quick = capkit_matches_unchecked(insns, packet, len);
     let traced = capkit_trace(insns, packet, len, &mut []);
@@ -260,8 +260,6 @@ const RUNS: &[(&[Row], (u32, usize))] = &[
 fn any_instructions_run(rt: HostRuntime) {
     for (rows, expected) in RUNS {
         let (mut place, mut steps) = ([UNWRITTEN; 8], 77);
-        let answer = capkit_run_any(filled(rows, &mut place), &[7, 9], 60, &mut steps);
-        assert!(rt; (answer, steps) == *expected, "{} in {steps}", answer);
         let answer = capkit_run(filled(rows, &mut place), &[7, 9], 60, &mut steps);
         assert!(rt; (answer, steps) == *expected, "{} in {steps}", answer);
         assert!(rt; capkit_matches(filled(rows, &mut place), &[7, 9], 60) == expected.0);

@@ -40,7 +40,7 @@ const RULES: [&str; 9] = [
 
 /// By its number less 200: what capkit_next and the writing calls return. None returns 215
 /// to 220; callers show 218 of a pcap file.
-const FOUND: [&str; 28] = [
+const FOUND: [&str; 29] = [
     "",
     "not a capture file",
     "truncated",
@@ -69,6 +69,7 @@ const FOUND: [&str; 28] = [
     "no room in the buffer",
     "another link type",
     "a unit before the packet",
+    "skipped",
 ];
 
 /// Whether a number is named like this in a buffer of 32 bytes, filled with `~`, with a NUL after.

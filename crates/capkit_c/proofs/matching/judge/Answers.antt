@@ -3,5 +3,5 @@ use Rattle.std.proofs.Common.{arith, refl}
 use Rattle.capkit_c.specs.Matching.{accepted}
 use Rattle.capkit_c.proofs.matching.judge.Goals as goal
 
-pub returns-else-verdict-eq0 : goal.returns-else-verdict-eq0
-returns-else-verdict-eq0 c = accepted c.verdict.result (omega arith) c.verdict.ensures (omega arith) refl
+pub returns-else-answer-eq0 : goal.returns-else-answer-eq0
+returns-else-answer-eq0 c = accepted c.verdict-answer.result.0 (omega arith) c.verdict-answer.ensures (omega arith) refl

@@ -1,10 +1,17 @@
--- The bytes are those of the packet.
-use Rattle.std.proofs.Common.{◌∙◌, ap, length, sym}
-use Rattle.flt_bpf.specs.Machine.{machine}
+-- The bytes are those of the packet, and a valid program runs by the rules as it runs.
+use Rattle.std.proofs.Common.{◌≡◌, ◌∙◌, List, ℕ, ap, drop, length, subst, sym, take}
+use Rattle.flt_bpf.specs.Machine.{Answered, machine}
+use Rattle.flt_trace.proofs.ByRules.{same_run, valid_meets_none}
+use Rattle.flt_trace.specs.RunByRules.{run_end}
+use Rattle.capkit_c.specs.{Running.RunLeaves, Running.answers, inside.Matching.IsKnown}
 use Rattle.capkit_c.proofs.matching.verdict.Goals as goal
 
-pub returns : goal.returns
-returns c = record {
-  steps = c.run_insns.result.1;
-  runs = ap (λ bytes. machine c.args.insns.now bytes c.args.packet.now.original (length c.args.insns.now)) (sym c.bytes_at-bytes.ensures) ∙ c.run_insns.ensures.answer;
-}
+pub returns-in-Valid : goal.returns-in-Valid
+returns-in-Valid c =
+    let insns = c.args.insns.now in
+    let len = c.args.packet.now.original in
+    let bytes : List ℕ = take c.args.packet.now.captured (drop c.args.packet.now.at c.args.capture.now) in
+    let valid = subst (λ known. IsKnown insns known) c.in-Valid.is c.requires in
+    let runs : machine insns bytes len (length insns) ≡ Answered c.run_insns-answer.result.0 c.run_insns-answer.result.1 =
+    ap (λ b. machine insns b len (length insns)) (sym c.bytes_at-bytes.ensures) ∙ c.run_insns-answer.ensures.answer in
+    record { steps = c.run_insns-answer.result.1; runs = answers (same_run insns bytes len (valid_meets_none insns bytes len valid) ∙ ap run_end runs) runs }

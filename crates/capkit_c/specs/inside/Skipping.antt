@@ -1,0 +1,55 @@
+-- The steps of going past a refused unit.
+use Rattle.std.specs.Prelude.{◌≡◌, ℕ, ◌+◌, ◌<◌, ◌≤◌, ◌⊎◌, List, [], length, drop, Option, Some, None}
+use Rattle.cap_octet.specs.declared.{fault.Fault.Fault, number.Order.Order}
+use Rattle.cap_io.specs.Capture.{first_link_of}
+use Rattle.cap_io.specs.{Reading.declared_by, declared.file_state.FileState.FileState}
+use Rattle.cap_pcapng.specs.{Block.InterfaceParts, Block.parts_in, Interface.description_of}
+use Rattle.cap_pcapng.specs.Unit.{Section, order_before, unit_fault}
+use Rattle.cap_pcapng.specs.declared.{frames.Frame.Frame, interface.Interface.Interface}
+use Rattle.capkit_c.specs.Layout.{HasLink, reader_form}
+use Rattle.capkit_c.specs.Skipping.{past_interface, refused_part, unread_interface}
+use Rattle.capkit_c.specs.declared.memory.{layout.Reader.Reader, reader.Found.Found}
+use Rattle.capkit_c.specs.declared.memory.skip.{RefusedPart.RefusedPart, Skip.Skip}
+use Rattle.capkit_c.specs.inside.Blocks.{IsFramed}
+
+-- the reader is past a unit of this size, and its file is in this state
+pub record HasMoved (capture : List ℕ) (size : ℕ) (form : FileState) (count : ℕ)
+    (r r' : Reader) : Type 0 where
+  pub there : size ≤ length (drop r.offset capture)
+  pub offset : r'.offset ≡ r.offset + size
+  pub state : reader_form r' ≡ form
+  pub interfaces : r'.interfaces ≡ count
+  pub link : HasLink (first_link_of (declared_by form [])) r'
+
+-- the same, or the unit is cut, and the reader stays
+abbrev pub Moves : List ℕ → (size : ℕ) → FileState → (count : ℕ) → (r r' : Reader) → Skip → Type 0
+Moves capture size form count r r' Skip.Past = HasMoved capture size form count r r'
+Moves capture size form count r r' (Skip.Not found) =
+    (length (drop r.offset capture) < size) × (found ≡ Found.Fault Fault.Truncated) × (r' ≡ r)
+
+-- the fault of a block is one of its form
+abbrev pub RefusesForm : Option Section → List ℕ → Type 0
+RefusesForm before text =
+    (fault : Fault) → unit_fault before text ≡ Some fault → refused_part fault ≡ RefusedPart.Form
+
+-- the frame of the whole block that a text begins with, in a section of this byte order; None if the
+-- form is refused
+abbrev pub IsWholeFrame : Order → List ℕ → Option Frame → Type 0
+IsWholeFrame order text None =
+    (before : Option Section) → order_before before ≡ Some order → RefusesForm before text
+IsWholeFrame order text (Some frame) =
+    (12 ≤ frame.length) × (frame.length ≤ length text)
+    × ((before : Option Section) → order_before before ≡ Some order → IsFramed before text frame)
+
+-- the interface of the description block of this frame that a text begins with, whose options aren't
+-- read; None if the block is another one, or its form is refused
+abbrev pub IsUnread : Frame → List ℕ → Option Interface → Type 0
+IsUnread frame text None =
+    (before : Option Section) → IsFramed before text frame
+    → RefusesForm before text
+    ⊎ ((first : Option ℕ) (section : Section) (size : ℕ)
+    → past_interface first section size (parts_in frame text) ≡ None)
+IsUnread frame text (Some i) =
+    (description_of i ≡ unread_interface i.link i.snap)
+    × ((order : Order) × ((options : List ℕ)
+    × (parts_in frame text ≡ InterfaceParts i.link i.snap order options)))
