@@ -20,7 +20,8 @@ use denote.Struct.Owning.{shape, to}
 use denote.Steps.{only, peeks, nothing}
 use Rattle.std.specs.contracts.option.Option as option
 use Rattle.linked_list_allocator.proofs.Nodes.{retypes}
-use Rattle.cap_heap.specs.Lending.{Place, units, units_at, bytes_at, block_token, HoldsBlock}
+use Rattle.cap_heap.specs.Lending.{Place, units, units_at, bytes_at, block_token}
+use Rattle.cap_heap.specs.inside.Blocks.{HoldsBlock}
 use Rattle.cap_heap.specs.contracts.memory.Memory as memory
 use Rattle.cap_heap.specs.contracts.memory.Memory.TheInside as inside
 use Rattle.cap_heap.proofs.memory.Memory.TheLaws.{lowers}

@@ -18,7 +18,7 @@ use denote.Param.{layout}
 use denote.Steps.{nothing}
 use denote.Struct.Members.{Member}
 use Rattle.std.proofs.cell.Inside.{Good, round, wraps, unwraps}
-use Rattle.bumpalo.specs.Ownership.{fields_with}
+use Rattle.cap_heap.specs.inside.Slots.{fields_at}
 use Rattle.cap_heap.specs.Lending.{IsGivenBack}
 use Rattle.cap_heap.specs.contracts.memory.Memory as memory
 use Rattle.cap_heap.specs.contracts.slot.Slot as slot
@@ -58,7 +58,7 @@ module _ (whole : Ptr × ℕ) where
 
   module _ (b o : ℕ) where
     abbrev P : Fml
-    P = fields_with Fields kept b o
+    P = fields_at Fields kept b o
 
     -- the way back to the reference and the thread's token
     abbrev pub Shut : {M : Type 1} {𝓤 : Ura M} (𝓛 : Logic 𝓤) → Lft → Share → Item 𝓤

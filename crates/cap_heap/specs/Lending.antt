@@ -1,10 +1,10 @@
 -- Memory that a caller lends: what owning it means, and what it is after a call.
-use Rattle.std.specs.Prelude.{◌≡◌, ℕ, zero, suc, ◌*◌, ◌/◌, ◌^◌, ◌<◌, ◌≤◌}
+use Rattle.std.specs.Prelude.{◌≡◌, ℕ, zero, suc, ◌/◌, ◌<◌}
 use mir.Syntax.{Ty, w128, ty_int, ty_array}
 use base.Fml.{Fml, ftrue, fwand, fex}
 use denote.RawPtr.{Ptr, room_for}
 
--- where memory starts, and its size in bytes
+-- the start of memory, and its size in bytes
 abbrev pub Place : Type 0
 Place = Ptr × ℕ
 
@@ -20,10 +20,6 @@ units_at (suc n) p = room_for (units (suc n)) p
 -- what owning memory of n bytes at p means: room for the whole units in it
 abbrev pub bytes_at : Ptr → ℕ → Fml
 bytes_at p n = units_at (n / 16) p
-
--- memory has whole units, and they hold a block of n bytes that is aligned to a
-abbrev pub HoldsBlock : Place → ℕ → ℕ → Type 0
-HoldsBlock memory n a = (0 < memory.1 / 16) × (n ≤ memory.1 / 16 * 16) × (n < 2 ^ 63) × (a ≤ 16)
 
 -- the right to give all of the memory back, of which a block for a τ at p is the start
 abbrev pub block_token : Place → Ty → Ptr → Fml

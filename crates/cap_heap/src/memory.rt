@@ -5,8 +5,8 @@ use std::marker::Model;
 use std::mem;
 use std::ptr::null_mut;
 
-/// Memory that a caller lends: so many bytes from its start on, which is aligned to 16. What they
-/// hold means nothing. Bytes after the last whole 16 aren't used.
+/// Memory that a caller lends: `size` bytes from `start` on, which is aligned to 16. Their values
+/// don't matter. Bytes after the last whole 16 aren't used.
 #[repr(C)]
 #[derive(Drop)]
 pub struct Memory {
@@ -35,7 +35,7 @@ impl Memory {
         }
     }
 
-    /// Takes the memory, and leaves none.
+    /// Takes the memory; none remains.
     pub(crate) fn take(&mut self) -> Memory
         ensures { result ≡ self.old }
     {

@@ -1,6 +1,7 @@
 //! Memory as one block, and a heap in it.
 ghost use Rattle.std.specs.Prelude.{◌≡◌, IfSome};
-ghost use Rattle.cap_heap.specs.Lending.{block_token, HoldsBlock, IsGivenBack};
+ghost use Rattle.cap_heap.specs.Lending.{block_token, IsGivenBack};
+ghost use Rattle.cap_heap.specs.inside.Blocks.{HoldsBlock};
 
 use crate::memory::Memory;
 use crate::slot::Slot;
@@ -23,7 +24,7 @@ pub struct Region {
 }
 
 impl Region {
-    /// Takes the memory, and leaves none in its place.
+    /// Takes the memory; none remains in its place.
     pub fn over(memory: &mut Memory) -> Region
         ensures { result.slot ≡ memory.old }
     {

@@ -1,8 +1,8 @@
 //! A cell for memory.
 ghost use Rattle.std.specs.Prelude.{◌≡◌};
 ghost use base.Fml.{fex, fsep, ftrue};
-ghost use Rattle.bumpalo.specs.Ownership.{behind_a_ref};
 ghost use Rattle.cap_heap.specs.Lending.{Place, IsGivenBack};
+ghost use Rattle.cap_heap.specs.inside.Slots.{changes_by_reference};
 
 use crate::memory::Memory;
 use std::marker::{Move, Owns};
@@ -16,7 +16,7 @@ pub(crate) struct Slot {
 impl Owns for Slot {
     ghost Value = { Place };
 
-    ghost shr_at = { λ lent. behind_a_ref Fields (λ it. fex (IsGivenBack lent it.memory) (λ _. ftrue)) };
+    ghost shr_at = { λ lent. changes_by_reference Fields (λ it. fex (IsGivenBack lent it.memory) (λ _. ftrue)) };
 }
 
 impl Move for Slot {
@@ -30,7 +30,7 @@ impl Slot {
         Slot { memory }
     }
 
-    /// Puts memory in, and returns what was there.
+    /// Puts memory in, and returns what it had.
     pub(crate) fn replace(&self, memory: Memory) -> Memory
         requires { IsGivenBack self.now memory }
         ensures { IsGivenBack self.now result }

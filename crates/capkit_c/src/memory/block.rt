@@ -62,7 +62,11 @@ fn interface_by_number(table: &[Interface], count: usize, number: u32) -> Option
 }
 
 /// Puts an interface after the first `count` of a table, instead of the entry there.
-pub(crate) fn append_interface(table: &mut [Interface], count: usize, interface: &PcapngInterface<'_>)
+pub(crate) fn append_interface(
+    table: &mut [Interface],
+    count: usize,
+    interface: &PcapngInterface<'_>,
+)
     requires { count < length table.old }
     ensures put { first_interfaces (count + 1) table.new
         ≡ first_interfaces count table.old ++ description_of interface.now ∷ [] }

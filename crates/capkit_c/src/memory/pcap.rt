@@ -53,8 +53,7 @@ pub(crate) fn head_by_low_bits(text: &[u8]) -> Head
     requires { 24 ≤ length text.now }
     ensures { result ≡ head_by_low_bits text.now }
 {
-    let (order, resolution) =
-        read_magic(text).unwrap_or((Order::Little, Resolution::Microseconds));
+    let (order, resolution) = read_magic(text).unwrap_or((Order::Little, Resolution::Microseconds));
     let link = u32_at(order, text, 20) % 0x1_0000;
     Head {
         order,

@@ -101,13 +101,7 @@ fn unread_interface(frame: &Frame, text: &[u8]) -> Option<PcapngInterface<'stati
 
 /// Goes past a unit of `size` bytes, after which the file is in this state and its section has this
 /// many interfaces; or finds it truncated.
-fn go_past(
-    reader: &mut Reader,
-    capture: &[u8],
-    size: usize,
-    form: FileState,
-    count: usize,
-) -> Skip
+fn go_past(reader: &mut Reader, capture: &[u8], size: usize, form: FileState, count: usize) -> Skip
     requires some { 0 < size }
     requires bounds { count ≤ 256 }
     ensures { Moves capture.now size form count reader.old reader.new result }
@@ -183,11 +177,12 @@ fn skip_interface(
     requires some { 0 < frame.now.length }
     requires fits { most_known reader.old (length table.old) < 256 }
     requires unit { past_at capture.now reader.old table.old ≡ Some (record {
-        size = frame.now.length;
-        declared = with_interface first
-            (section_of order
-            (first_interfaces (most_known reader.old (length table.old)) table.old))
-            (description_of interface.now) }) }
+      size = frame.now.length;
+      declared = with_interface first
+          (section_of order
+          (first_interfaces (most_known reader.old (length table.old)) table.old))
+          (description_of interface.now);
+    }) }
     ensures { SkipLeaves capture.now reader.old reader.new table.old table.new result }
 {
     let count = reader.known_interfaces(table.len());

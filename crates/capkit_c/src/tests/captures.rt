@@ -352,7 +352,10 @@ fn packets_are_sought_by_any_instructions(rt: HostRuntime) {
             1,
             &mut packet,
         );
-        assert!(rt; found == *expected && reader.offset == MICROSECONDS.len(), "{found}");
+        assert!(rt;
+            found == *expected && reader.offset == MICROSECONDS.len(),
+            "{found}"
+        );
     }
 }
 
