@@ -79,6 +79,7 @@ if [ -e /usr/include/pcap/pcap.h ]; then
     done
     out/fuzz 1 "$rounds" ../samples/*.pcap ../samples/*.pcapng || bad=1
     out/writes 1 "$rounds" || bad=1
+    out/lent tests/expressions.txt || bad=1
     out/compare tests/expressions.txt ../samples/*.pcap || bad=1
     if have python3; then
         python3 tests/random_capture.py "$rounds" >out/random.pcap

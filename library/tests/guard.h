@@ -3,7 +3,7 @@
 #include <string.h>
 #include <sys/mman.h>
 
-enum { GUARDED = 1 << 21 };
+enum { GUARDED = 1 << 24 };
 
 static uint64_t seed;
 

@@ -13,7 +13,7 @@ use cap_octet::assigned::LINKTYPE_RAW;
 use flt_bpf::{CheckFault, Insn};
 use flt_lang::Checked;
 use flt_words::ExprFault;
-use std::alloc::Global;
+use std::alloc::Allocator;
 
 /// The number that libpcap's pcap_datalink() has for raw IP (DLT_RAW), where files have 101.
 const DLT_RAW: u16 = 12;
@@ -88,7 +88,10 @@ fn utf8_text(bytes: &[u8]) -> Result<&str, usize>
 
 /// The expression that bytes are, with the qualifiers that are left out filled in. An error is why
 /// they aren't one, or that memory ran out.
-pub(crate) fn read_text(alloc: Global, text: &[u8]) -> Result<Checked<Global>, Failure>
+pub(crate) fn read_text<A: Allocator + Copy + Drop>(
+    alloc: A,
+    text: &[u8],
+) -> Result<Checked<A>, Failure>
     ensures expression { IfOk result (λ checked. IsExpression text.now checked.expr) }
     ensures failed { IfErr result (IsTextFailure text.now) }
 {
@@ -104,8 +107,8 @@ pub(crate) fn read_text(alloc: Global, text: &[u8]) -> Result<Checked<Global>, F
 
 /// Compiles a text for a link type, writes the program at the start of `insns` and returns the
 /// number of its instructions; or returns why not, and then `insns` is unchanged.
-fn compile_into(
-    alloc: Global,
+fn compile_into<A: Allocator + Copy + Drop>(
+    alloc: A,
     text: &[u8],
     link_type: u16,
     insns: &mut [Insn],
@@ -199,14 +202,9 @@ pub(crate) fn tell(ended: Result<usize, Failure>, number: &mut usize) -> u32
     }
 }
 
-/// Compiles the expression in a text, for packets of a link type, into the caller's instructions.
-///
-/// If it returns 0, `number` is the count of instructions, which are at the start of `insns`; the
-/// elements after them don't change. For any other status `insns` is unchanged, and `number` is the
-/// place of the text's fault or the number of instructions, or 0 if the failure has neither.
-#[unsafe(no_mangle)]
-pub extern "C" fn capkit_compile(
-    alloc: Global,
+/// Compiles the expression in a text into the caller's instructions, and reports it to C.
+pub(crate) fn tell_compiled<A: Allocator + Copy + Drop>(
+    alloc: A,
     text: &[u8],
     link_type: u16,
     insns: &mut [Insn],

@@ -7,12 +7,16 @@ use crate::compiling::{Failure, read_text, tell};
 use crate::texts::put_text;
 use flt_explain::explain;
 use flt_words::ExprFault;
-use std::alloc::Global;
+use std::alloc::Allocator;
 
 /// Puts the meaning of the expression in a text into a buffer, as far as there is room, and returns
 /// how long the whole is. An error is why the text isn't an expression, or that memory ran out, and
 /// then the buffer is unchanged.
-fn put_meaning(alloc: Global, text: &[u8], buffer: &mut [u8]) -> Result<usize, Failure>
+fn put_meaning<A: Allocator + Copy + Drop>(
+    alloc: A,
+    text: &[u8],
+    buffer: &mut [u8],
+) -> Result<usize, Failure>
     ensures put { IfOk result (PutsMeaning text.now buffer.old buffer.new) }
     ensures failed { IfErr result (IsTextFailure text.now) }
     ensures kept { OnErr result (buffer.new ≡ buffer.old) }
@@ -25,13 +29,9 @@ fn put_meaning(alloc: Global, text: &[u8], buffer: &mut [u8]) -> Result<usize, F
     }
 }
 
-/// Puts the meaning of an expression into a buffer, as far as there is room: the expression again,
-/// in parentheses by its tree, with every qualifier written out. If it returns 0, `number` is the
-/// length of the whole text; for any other status the buffer is unchanged, and `number` is the
-/// place of the text's fault, or 0 if the failure has no place.
-#[unsafe(no_mangle)]
-pub extern "C" fn capkit_explain(
-    alloc: Global,
+/// Puts the meaning of the expression in a text into a buffer, and reports it to C.
+pub(crate) fn tell_meaning<A: Allocator + Copy + Drop>(
+    alloc: A,
     text: &[u8],
     buffer: &mut [u8],
     number: &mut usize,

@@ -8,7 +8,7 @@ use crate::texts::put_text;
 use cap_octet::MemOutput;
 use flt_bpf::{Insn, ListingFault, check, read_listing, write_listing};
 use flt_words::ExprFault;
-use std::alloc::Global;
+use std::alloc::Allocator;
 
 /// How many bytes a line has at most: numbers of 5, 3, 3 and 10 digits, and a byte after each.
 const MOST_LINE_BYTES: usize = 25;
@@ -17,7 +17,11 @@ const NO_MEMORY: Failure = Failure::Text(ExprFault::Memory);
 
 /// Reads a listing to the start of `insns`, and returns the number of its instructions; or returns
 /// why not, and then `insns` is unchanged.
-fn read_into(alloc: Global, text: &[u8], insns: &mut [Insn]) -> Result<usize, Failure>
+fn read_into<A: Allocator + Copy + Drop>(
+    alloc: A,
+    text: &[u8],
+    insns: &mut [Insn],
+) -> Result<usize, Failure>
     ensures held { IfOk result (HoldsListing text.now insns.old insns.new) }
     ensures failed { IfErr result (IsUnread text.now (length insns.old)) }
     ensures kept { OnErr result (insns.new ≡ insns.old) }
@@ -36,13 +40,9 @@ fn read_into(alloc: Global, text: &[u8], insns: &mut [Insn]) -> Result<usize, Fa
     Ok(count)
 }
 
-/// Reads a listing. If it returns 0 the first `number` of `insns` are its instructions, and those
-/// after them are unchanged. Otherwise `insns` is unchanged: 17 means that the text isn't a
-/// listing, and `number` is its first wrong line, from 1; 16 that there are too many instructions,
-/// and `number` is their count; 13 that memory ran out.
-#[unsafe(no_mangle)]
-pub extern "C" fn capkit_read_listing(
-    alloc: Global,
+/// Reads a listing into the caller's instructions, and reports it to C.
+pub(crate) fn tell_read<A: Allocator + Copy + Drop>(
+    alloc: A,
     text: &[u8],
     insns: &mut [Insn],
     number: &mut usize,
@@ -54,7 +54,11 @@ pub extern "C" fn capkit_read_listing(
 
 /// Puts the listing of a program into a buffer, as far as there is room, and returns how long the
 /// whole is; or why there is none, and then the buffer is unchanged.
-fn put_listing(alloc: Global, insns: &[Insn], buffer: &mut [u8]) -> Result<usize, Failure>
+fn put_listing<A: Allocator + Copy + Drop>(
+    alloc: A,
+    insns: &[Insn],
+    buffer: &mut [u8],
+) -> Result<usize, Failure>
     ensures put { IfOk result (PutsListing insns.now buffer.old buffer.new) }
     ensures failed { IfErr result (IsUnlisted insns.now) }
     ensures kept { OnErr result (buffer.new ≡ buffer.old) }
@@ -79,12 +83,9 @@ fn put_listing(alloc: Global, insns: &[Insn], buffer: &mut [u8]) -> Result<usize
     }
 }
 
-/// Puts the listing of a program into a buffer, as far as there is room. If it returns 0 `length`
-/// is that of the whole listing. Else the buffer is unchanged and `length` is 0: 101 to 108 are the
-/// first rule of valid programs that the instructions break, and 13 is that memory ran out.
-#[unsafe(no_mangle)]
-pub extern "C" fn capkit_write_listing(
-    alloc: Global,
+/// Puts the listing of a program into a buffer, and reports it to C.
+pub(crate) fn tell_listing<A: Allocator + Copy + Drop>(
+    alloc: A,
     insns: &[Insn],
     buffer: &mut [u8],
     length: &mut usize,

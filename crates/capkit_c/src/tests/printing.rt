@@ -1,7 +1,7 @@
 //! Instructions and packets as lines, and what expressions mean.
 
 use super::programs::UNWRITTEN;
-use crate::explaining::capkit_explain;
+use crate::allocating::capkit_explain;
 use crate::printing::{capkit_insn_text, capkit_line};
 use flt_bpf::Insn;
 

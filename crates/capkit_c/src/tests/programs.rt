@@ -1,9 +1,7 @@
 //! Compilations, checks and runs.
 
 use super::are_all;
-use crate::bounding::capkit_bound;
-use crate::compiling::capkit_compile;
-use crate::listings::{capkit_read_listing, capkit_write_listing};
+use crate::allocating::{capkit_bound, capkit_compile, capkit_read_listing, capkit_write_listing};
 use crate::portable::capkit_is_portable;
 use crate::running::{
     capkit_check, capkit_matches, capkit_matches_unchecked, capkit_run, capkit_run_unchecked,

@@ -4,4 +4,4 @@ use Rattle.flt_bpf.proofs.Checking.{parts}
 use Rattle.capkit_c.proofs.listings.put_listing.Goals as goal
 
 pub overflow_mul-most_bytes : goal.overflow_mul-most_bytes
-overflow_mul-most_bytes c = let few = (parts _ c.insns.ensures.valid).short in omega arith
+overflow_mul-most_bytes g c = let few = (parts _ c.insns.ensures.valid).short in omega arith

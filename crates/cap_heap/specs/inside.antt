@@ -1,0 +1,3 @@
+-- Helpers for functions and proofs of this crate: no promise rests on them.
+pub mod Blocks
+pub mod Slots

@@ -1,6 +1,0 @@
--- What was put is reported, or the failure.
-use Rattle.capkit_c.proofs.Telling.{told_kept}
-use Rattle.capkit_c.proofs.listings.capkit_write_listing.Goals as goal
-
-pub returns : goal.returns
-returns c = told_kept _ _ c.put_listing.result _ _ c.put_listing.ensures.put c.put_listing.ensures.failed c.put_listing.ensures.kept c.tell.ensures.ok c.tell.ensures.err
