@@ -1,0 +1,15 @@
+"""usage: capkit.py read|match|pcap|pcapng CAPTURE [EXPRESSION | OUTPUT]    see speed.py"""
+import sys
+
+import capkit
+
+mode, name, *rest = sys.argv[1:]
+count = 0
+if mode in ("read", "match"):
+    for count, packet in enumerate(capkit.packets(name, *rest), 1):
+        pass
+else:
+    with capkit.Writer(rest[0], mode) as writer:
+        for count, packet in enumerate(capkit.packets(name), 1):
+            writer.write(packet)
+print(count, 0)
