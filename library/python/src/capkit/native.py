@@ -90,7 +90,7 @@ def fits(value: int, bits: int, name: str) -> int:
 
 def bytes_of(value: Any, name: str, what: str = "bytes") -> bytes:
     """The bytes of an object that has some: bytes, a bytearray, a memoryview of any items."""
-    if isinstance(value, bytes):
+    if type(value) is bytes:
         return value
     try:
         return memoryview(value).tobytes()

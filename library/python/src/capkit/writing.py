@@ -93,7 +93,9 @@ class Writer:
                     else:
                         self._send(self._view[:length].tobytes())
                 except BaseException as error:
-                    self._unput(error)
+                    # Units of which it took a part stay put.
+                    if not self._rest:
+                        self._unput(error)
                     raise
             finally:
                 self._is_busy = False
@@ -129,11 +131,9 @@ class Writer:
 
     def _made(self, packet: Packet) -> int:
         """Puts a packet's units into the buffer; how many bytes they have."""
-        if type(packet) is not Packet:
+        if type(packet) is not Packet or not _has_bytes(packet):
             packet = _checked(packet)
         time, link_type, data, original, comment, name, snap = packet
-        if not type(data) is type(comment) is type(name) is bytes:
-            return self._made(_checked(packet))
         put = self._put
         try:
             _put_numbers(put, 0, time, len(data), len(comment), len(name), original, snap, link_type)
@@ -265,6 +265,11 @@ def _opened(target: Path) -> Any:
     return file
 
 
+def _has_bytes(packet: Packet) -> bool:
+    """Whether nothing of it has to be made bytes; a class of another kind may have any length."""
+    return type(packet[2]) is type(packet[4]) is type(packet[5]) is bytes
+
+
 def _checked(packet: Packet) -> Packet:
     """The packet; WriteError if it has numbers that no capture has, TypeError if something else."""
     try:
@@ -276,4 +281,4 @@ def _checked(packet: Packet) -> Packet:
         raise WriteError(str(error)) from None
     data, name = native.bytes_of(packet.data, "data"), packet.interface_name
     name, comment = native.bytes_of(name, "interface_name"), native.bytes_of(packet.comment, "comment")
-    return Packet(time, link_type, data, original, bytes(comment), name, snap)
+    return Packet(time, link_type, data, original, comment, name, snap)
