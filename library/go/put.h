@@ -1,4 +1,5 @@
-/* The units of many packets by one call, for Go, from which a call takes longer than a unit does. */
+/* The units of a packet by one call, for languages from which a call, or each of its arguments, takes longer
+ * than a unit does: the packages for Go and Python have this in them, over calls of capkit.h. */
 #include <capkit.h>
 
 /* What is written of a capture so far. */
@@ -77,6 +78,7 @@ static uint32_t put_units(struct put_writer *writer, struct capkit_interface *in
     return put_block(writer, interfaces, room, it, bytes, name, comment, buffer, size, &it->end);
 }
 
+#ifdef GO_CGO_GOSTRING_TYPEDEF
 /* The same, of texts of Go. */
 static uint32_t put_packet(struct put_writer *writer, struct capkit_interface *interfaces, size_t room,
                            struct put_packet *it, const uint8_t *bytes, _GoString_ name,
@@ -109,6 +111,7 @@ static uint32_t put_packets(struct put_writer *writer, struct capkit_interface *
     *number = n;
     return put;
 }
+#endif
 
 /* Writes what a capture without packets is to a buffer. */
 static size_t put_header(const struct put_writer *writer, uint8_t *buffer, size_t size)

@@ -570,6 +570,40 @@ class OutputsTest(FolderTest):
         again(writer.close)
         self.assertEqual(list(capkit.packets(output.bytes)), self.PACKETS)
 
+    def test_an_interrupt_in_the_middle_of_a_packet(self):
+        class Interrupts(io.RawIOBase):
+            """It takes 50 bytes, is interrupted, and takes the rest."""
+
+            def __init__(self):
+                self.turns, self.bytes = [50, None], b""
+
+            def write(self, data):
+                turn = self.turns.pop(0) if self.turns else len(data)
+                if turn is None:
+                    raise KeyboardInterrupt
+                self.bytes += data[:turn]
+                return len(data[:turn])
+
+        for format in ("pcapng", "nsecpcap"):
+            output = Interrupts()
+            with capkit.Writer(output, format) as writer:
+                with self.assertRaises(KeyboardInterrupt):
+                    writer.write(packet())
+                writer.write(packet(UDP))
+            self.assertEqual(output.bytes, written([packet(), packet(UDP)], format))
+
+    def test_bytes_that_lie(self):
+        class Lies(bytes):
+            def __len__(self):
+                return 1 << 19
+
+        for lies in (packet(Lies(b"data")), packet(comment=Lies(b"data")), packet(interface_name=Lies(b"it"))):
+            file = io.BytesIO()
+            with capkit.Writer(file) as writer:
+                writer.write(lies._replace(original_length=60))
+            self.assertEqual(len(list(capkit.packets(Lies(file.getvalue())))), 1)
+        self.assertFalse(capkit.Filter("len > 1000", 1).matches(Lies(b"data")))
+
     def test_a_pipe_that_is_full(self):
         for buffering in (0, -1):
             read_end, write_end = os.pipe()

@@ -37,10 +37,16 @@ PacketInfo = _struct("PacketInfo", [
 ])  # fmt: skip
 BatchPacket = _struct("BatchPacket", [("packet", PacketInfo), ("end", _size)])
 WriterState = _struct("WriterState", _of(_32, "interfaces has_section"))
+PutPacket = _struct("PutPacket", [
+    ("time", _64), *_of(_size, "captured name_length comment_length end"),
+    *_of(_32, "original snap"), ("link_type", _16),
+])  # fmt: skip
+PutWriter = _struct("PutWriter", [
+    ("pcapng", WriterState), *_of(_32, "is_pcapng nanoseconds has_header"), ("link_type", _16)
+])  # fmt: skip
 BatchWriter = _struct("BatchWriter", [
-    ("time", _64), *_of(_size, "captured comment_length name_length"), *_of(_32, "original snap"),
-    *_of(_16, "link_type file_link_type"), ("form", _32), *_of(WriterState, "state before"),
-    ("table", c.c_void_p), ("room", _size), ("units", c.c_void_p), *_of(_size, "size length"),
+    ("packet", PutPacket), *_of(PutWriter, "state before"), ("table", c.c_void_p), ("room", _size),
+    ("units", c.c_void_p), ("size", _size),
 ])  # fmt: skip
 
 # It has the calls of libcapkit.so.0 too, which it is linked to.
@@ -73,9 +79,8 @@ portability = declare("capkit_portability", _32, _at, _size)
 batch_next = declare("batch_next", _32, _at, _at, _at, _size, _at, _size, _16, _at, _size, _number)
 skip = declare("capkit_skip", _32, _at, _at, _size, _at, _size)
 comment = declare("capkit_comment", _size, _at, _at, _size, _at, _at, _size)
-write_file_header = declare("capkit_write_file_header", _32, _32, _16, *_buffer)
-write_section = declare("capkit_write_section", _32, *_buffer)
 batch_put = declare("batch_put", _32, _at, _text, _text, _text)
+batch_header = declare("batch_header", _size, _at)
 number_text = declare("capkit_text", _size, _32, _at, _size)
 
 
@@ -90,7 +95,7 @@ def fits(value: int, bits: int, name: str) -> int:
 
 def bytes_of(value: Any, name: str, what: str = "bytes") -> bytes:
     """The bytes of an object that has some: bytes, a bytearray, a memoryview of any items."""
-    if isinstance(value, bytes):
+    if type(value) is bytes:
         return value
     try:
         return memoryview(value).tobytes()

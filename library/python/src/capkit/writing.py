@@ -18,14 +18,13 @@ from .sources import Path, descriptor_of, is_being_read
 
 Format = Literal["pcapng", "pcap", "nsecpcap"]
 
-_ETHERNET = 1
 _NO_ROOM_IN_BUFFER = 225
 # The most interfaces that are written, and the most bytes of the name of one.
 _MOST_INTERFACES, _MOST_OF_A_NAME = 4096, 255
 # How much an output is given at once of what it didn't take.
 _PIECE = 1 << 16
-# The numbers of a packet, as native.BatchWriter begins with them.
-_put_numbers, _batch_put = struct.Struct("@QNNNIIH").pack_into, native.batch_put
+# The numbers of native.PutPacket.
+_put_numbers, _batch_put = struct.Struct("@QNNNNIIH").pack_into, native.batch_put
 
 
 class Writable(Protocol):
@@ -54,7 +53,10 @@ class Writer:
         self._target, self._format = target, format
         self._is_own = isinstance(target, (str, os.PathLike))
         self._file: Any = None
-        self._put: Any = native.BatchWriter(form=formats.index(format))
+        self._put: Any = native.BatchWriter()
+        self._put.state.is_pcapng = format == "pcapng"
+        self._put.state.nanoseconds = format == "nsecpcap"
+        self._packet = self._put.packet
         self._address = c.addressof(self._put)
         self._units: Any = None
         self._make_room(4096)
@@ -93,7 +95,9 @@ class Writer:
                     else:
                         self._send(self._view[:length].tobytes())
                 except BaseException as error:
-                    self._unput(error)
+                    # Units of which it took a part stay put.
+                    if not self._rest:
+                        self._unput(error)
                     raise
             finally:
                 self._is_busy = False
@@ -129,14 +133,12 @@ class Writer:
 
     def _made(self, packet: Packet) -> int:
         """Puts a packet's units into the buffer; how many bytes they have."""
-        if type(packet) is not Packet:
+        if type(packet) is not Packet or not _has_bytes(packet):
             packet = _checked(packet)
         time, link_type, data, original, comment, name, snap = packet
-        if not type(data) is type(comment) is type(name) is bytes:
-            return self._made(_checked(packet))
-        put = self._put
+        it, sizes = self._packet, (len(data), len(name), len(comment))
         try:
-            _put_numbers(put, 0, time, len(data), len(comment), len(name), original, snap, link_type)
+            _put_numbers(it, 0, time, *sizes, 0, original, snap, link_type)
         except struct.error:
             _checked(packet)
             raise
@@ -144,14 +146,14 @@ class Writer:
         if written:
             self._mend(written, packet)
             return self._made(packet)
-        length: int = put.length
+        length: int = it.end
         return length
 
     def _mend(self, written: int, packet: Packet) -> None:
         """Makes the room that a call had not; WriteError if it refused the packet."""
         put = self._put
         if written == _NO_ROOM_IN_BUFFER:
-            self._make_room(put.length)
+            self._make_room(put.packet.end)
         elif written == Check.TOO_MANY_OUTPUT_INTERFACES and put.room < _MOST_INTERFACES:
             self._widen_table(min(4 * put.room, _MOST_INTERFACES))
         else:
@@ -172,20 +174,14 @@ class Writer:
 
     def _header(self) -> bytes:
         """What a capture without packets is."""
-        length = c.c_size_t()
-        buffer = self._units, len(self._units), c.byref(length)
-        if self._format == "pcapng":
-            native.write_section(*buffer)
-        else:
-            native.write_file_header(self._format == "nsecpcap", _ETHERNET, *buffer)
-        return self._view[: length.value].tobytes()
+        return self._view[: native.batch_header(self._address)].tobytes()
 
     def _unput(self, error: BaseException) -> None:
         """Goes back to before the units in the buffer, which the output didn't take."""
         self._put.state = self._put.before
         if self._format == "pcapng" and not isinstance(error, (BlockingIOError, WriteError)):
             # How much of them it took isn't known, so the next packet begins a new section.
-            self._put.state = native.WriterState()
+            self._put.state.pcapng = native.WriterState()
 
     def _send(self, units: bytes) -> None:
         """Gives the output units, whole or not at all: what it doesn't take is kept."""
@@ -265,6 +261,11 @@ def _opened(target: Path) -> Any:
     return file
 
 
+def _has_bytes(packet: Packet) -> bool:
+    """Whether nothing of it has to be made bytes; a class of another kind may have any length."""
+    return type(packet[2]) is type(packet[4]) is type(packet[5]) is bytes
+
+
 def _checked(packet: Packet) -> Packet:
     """The packet; WriteError if it has numbers that no capture has, TypeError if something else."""
     try:
@@ -276,4 +277,4 @@ def _checked(packet: Packet) -> Packet:
         raise WriteError(str(error)) from None
     data, name = native.bytes_of(packet.data, "data"), packet.interface_name
     name, comment = native.bytes_of(name, "interface_name"), native.bytes_of(packet.comment, "comment")
-    return Packet(time, link_type, data, original, bytes(comment), name, snap)
+    return Packet(time, link_type, data, original, comment, name, snap)
