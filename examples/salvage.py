@@ -333,9 +333,11 @@ class Records(Reader):
     def settle(self, at, place):
         """Drops records in the way of a chain, or puts one right; returns the end of those kept."""
         last, around = self.last, [*self.last, *(it for it in self.after if it >= place)]
+        is_cut = (self.step(at, *self.source.load(at)) or 0) > self.source.size
+        goal = at if is_cut and self.signs(at, around) > 0 else place
         is_short = last and last[0] == self.origin and len(last) < self.source.row
         while last and (is_short or (end := self.end(last[-1])) > place
-                        or self.signs(last[-1], around) + (end == place) < 1):
+                        or self.signs(last[-1], around) + (end in (place, goal)) < 1):
             at = last.pop()
             around.remove(at)
             self.out.packets -= 1

@@ -5,16 +5,16 @@ usage: check_salvage.py [--capkit PROGRAM] [--runs N] [--seed N] [--first N] [--
                         [--keep FOLDER] [--captures FOLDER]
 
 RUNS (300) damaged captures of 20 to 3,000 packets, in pcap of all four forms and pcapng in both byte
-orders, of each kind of damage in turn; then, if all kinds run from the first on, each sample whole, and its first
-0 to 200 bytes. With --captures the packets are those of the captures in a folder, which capkit reads. What a program writes
-is compared with the packets of the capture, by time, original length and bytes (where the damage is of
-times, by the last two):
+orders, of each kind of damage in turn; then, if all kinds run from the first on, each sample whole, and
+its first 0 to 200 bytes. With --captures the packets are those of the captures in a folder that capkit
+reads, if they have eight or more. What a program writes is compared with the packets of the capture, by
+time, original length and bytes (where the damage is of times, by the last two):
 
   true     packets of the capture, each once, also  again    the same packet once more
            with another time, if its own bytes were damaged
   changed  packets that aren't true, but have one of these in common with one whose own bytes were
-           damaged: a time that no other packet has, or a time and the captured length; the second and both lengths; all bytes; both
-           lengths and the first or last 12 bytes; the first 24 bytes
+           damaged: a time that no other packet has, or a time and the captured length; the second and
+           both lengths; all bytes; both lengths and the first or last 12 bytes; the first 24 bytes
   false    all others: they were made up            missed   undamaged packets that weren't read
 
 The status is 1 where salvage.py wrote a false packet, fewer true ones than capkit, tcpdump or editcap,
