@@ -3,10 +3,12 @@
 # python3, libpcap's headers and capkit itself are there it uses them too, and says which are missing. The last line
 # says whether all was as it should be.
 #
-# usage: library/check.sh [ROUNDS]       ROUNDS of random programs and packets, 100000 where none are given
+# usage: library/check.sh [ROUNDS [INPUTS]]   ROUNDS of random programs and packets, 100000 where none are given;
+#                                             INPUTS damaged under each sanitizer, 5000 where none are given
 set -eu
 cd "$(dirname "$0")"
 rounds=${1:-100000}
+inputs=${2:-5000}
 bad=0
 have() { command -v "$1" >/dev/null 2>&1; }
 for program in valgrind c++ python3 capkit; do
@@ -35,6 +37,7 @@ grep -q "CAPKIT_VERSION_NUMBER $(printf '0x%02x%02x%02x' $(tr . ' ' <../packagin
 sed -n '/^    #include <capkit.h>/,/^    }/s/^    //p' ../docs/LIBRARY.md >out/count.c
 cc -O2 -Wall -Wextra -Iinclude -o out/count out/count.c out/libcapkit.a || bad=1
 test "$(out/count 'tcp port 80' <../samples/day.pcap)" = '9 packets match' || { echo 'the page: count'; bad=1; }
+test "$(out/count tcp 2>&1 >/dev/null </dev/null)" = 'count: not a capture file' || { echo 'the page: no reason'; bad=1; }
 sed -n '/^    static uint32_t keep(/,/^    }/s/^    //p' ../docs/LIBRARY.md >out/page.c
 sed -n '/^static uint32_t keep(/,/^}/p' examples/keep.c | cmp - out/page.c || bad=1
 
@@ -61,6 +64,9 @@ sleep 0.2
 test "$(wc -l <out/live.txt)" = 1 || { echo 'stream: no packet of a live pipe'; bad=1; }
 exec 3>&-
 wait $! || bad=1
+# A fault is told at once, though more bytes may come.
+{ cat ../samples/damaged.pcap && sleep 10; } | { timeout 8 out/stream 2>&1 >/dev/null || true; } >out/stream.txt
+test "$(cat out/stream.txt)" = 'stream: -: offset 2631: too long' || { echo 'stream: a fault after the end'; bad=1; }
 # What an expression means; and a refused one.
 meaning='((tcp src or dst port 80) or (tcp src or dst port 443)) and (src or dst host 10.0.0.1)'
 for text in 'tcp port 80 or 443 and host 10.0.0.1' "$meaning"; do
@@ -69,6 +75,7 @@ done
 status=0
 out/explain 'tcp prt 80' 2>out/explain.txt || status=$?
 { test $status = 2 && grep -q '^explain: unknown word (at byte 5)$' out/explain.txt; } || { echo 'explain: no refusal'; bad=1; }
+tests/fuzz.sh "$inputs" || bad=1
 ./check_packages.sh || bad=1
 if [ -e /usr/include/pcap/pcap.h ]; then
     make -s tests out/pcap_filter

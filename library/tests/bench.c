@@ -1,6 +1,10 @@
 /* Measures libcapkit beside libpcap on the Ethernet packets of captures: the least CPU time of
  * ROUNDS rounds, in each of which every call is measured in turn. usage: bench ROUNDS EXPRESSIONS
- * FILE.. */
+ * FILE..
+ *
+ * Compilations and runs are measured on the packets of all files in memory; reads of the next match
+ * on the first file, which both read as it lies on the disk. */
+#include "../examples/example.h"
 #include "captures.h"
 #include <math.h>
 #include <stdio.h>
@@ -15,7 +19,7 @@ static volatile size_t chosen;
 static double now(void)
 {
     struct timespec t;
-    clock_gettime(CLOCK_THREAD_CPUTIME_ID, &t);
+    clock_gettime(CLOCK_PROCESS_CPUTIME_ID, &t);
     return t.tv_sec * 1e9 + t.tv_nsec;
 }
 
@@ -114,6 +118,81 @@ static void table(int rounds, FILE *expressions)
            rounds);
 }
 
+/* ---- the next match of a file */
+
+static const char *capture;
+
+static void next_match(void)
+{
+    static uint8_t buffer[2 * CAPKIT_MOST_UNIT];
+    static struct capkit_interface interfaces[CAPKIT_MOST_INTERFACES];
+    struct capkit_reader reader = {0};
+    struct capkit_packet p;
+    size_t size = 0, n = 0;
+    int file = open(capture, O_RDONLY);
+    while (read_on(file, &reader, buffer, sizeof buffer, &size) > 0)
+        while (capkit_next_match(&reader, interfaces, CAPKIT_MOST_INTERFACES, buffer, size, own,
+                                 number, CAPKIT_LINK_ETHERNET, &p) == 0)
+            n++;
+    close(file);
+    chosen = n;
+}
+
+static void next_theirs(void)
+{
+    char why[PCAP_ERRBUF_SIZE];
+    pcap_t *p = pcap_open_offline(capture, why);
+    struct pcap_pkthdr *h;
+    const u_char *bytes;
+    size_t n = 0;
+    pcap_setfilter(p, &theirs);
+    while (pcap_next_ex(p, &h, &bytes) == 1)
+        n++;
+    pcap_close(p);
+    chosen = n;
+}
+
+/* An expression of 300 hosts, no two of which are neighbours, after "ip or": a program of which the
+ * run of an IP packet executes two instructions. */
+static const char *hosts(void)
+{
+    static char text[300 * 24];
+    size_t i, at = sprintf(text, "ip or host 10.0.0.1");
+    for (i = 1; i < 300; i++) {
+        uint32_t a = i * 2654435761u;
+        at += sprintf(text + at, " or %u.%u.%u.%u", 1 + a % 223, a >> 8 & 255, a >> 16 & 255, a >> 24);
+    }
+    return text;
+}
+
+static void next_matches(int rounds)
+{
+    const char *texts[] = {"ip", "tcp port 80", hosts()};
+    size_t i, matches;
+    int r;
+    for (i = 0; i < 3; i++) {
+        double best[2] = {1e18, 1e18}, per = sets[0].count;
+        if (!compile(texts[i]) || !compile_theirs(texts[i]))
+            continue;
+        for (r = 0; r < rounds; r++) {
+            double t = now();
+            next_match();
+            least(&best[0], t);
+            matches = chosen;
+            t = now();
+            next_theirs();
+            least(&best[1], t);
+            if (matches != chosen)
+                printf("other matches: %zu, %zu\n", matches, chosen);
+        }
+        printf("next match of %zu instructions: %zu of %zu packets; capkit_next_match %.0f ns a packet, "
+               "libpcap %.0f, ratio %.2f | %.30s\n",
+               number, matches, sets[0].count, best[0] / per, best[1] / per, best[0] / best[1],
+               texts[i]);
+        pcap_freecode(&theirs);
+    }
+}
+
 int main(int argc, char **argv)
 {
     FILE *expressions = argc > 3 ? fopen(argv[2], "r") : NULL;
@@ -124,5 +203,7 @@ int main(int argc, char **argv)
         return 1;
     dead = pcap_open_dead(sets[0].dlt, 262144);
     table(atoi(argv[1]), expressions);
+    capture = argv[3];
+    next_matches(atoi(argv[1]));
     return 0;
 }

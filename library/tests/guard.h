@@ -5,7 +5,7 @@
 
 enum { GUARDED = 1 << 24 };
 
-static uint64_t seed;
+static _Thread_local uint64_t seed;
 
 static uint32_t rnd(void)
 {

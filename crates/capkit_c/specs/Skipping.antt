@@ -13,7 +13,7 @@ use Rattle.capkit_c.specs.declared.memory.skip.{RefusedPart.RefusedPart, Skip.Sk
 
 -- ---- what a refused unit is taken as
 
--- the part of a unit that a fault refuses; if it is its form, nothing says where the unit ends
+-- the part of a unit that a fault refuses; after a fault of its form its end isn't known
 abbrev pub refused_part : Fault → RefusedPart
 refused_part Fault.TimeOutOfRange = RefusedPart.Time
 refused_part Fault.BadOption = RefusedPart.Options
@@ -21,7 +21,7 @@ refused_part Fault.BadTimeResolution = RefusedPart.Options
 refused_part Fault.BadLinkTypeField = RefusedPart.LinkType
 refused_part fault = RefusedPart.Form
 
--- where a unit ends that is gone past, and what is declared after it
+-- the size of a unit that is gone past, and what is declared after it
 pub record PastUnit : Type 0 where
   pub size : ℕ
   pub declared : Declared

@@ -41,15 +41,15 @@ IsWholeFrame order text (Some frame) =
     (12 ≤ frame.length) × (frame.length ≤ length text)
     × ((before : Option Section) → order_before before ≡ Some order → IsFramed before text frame)
 
--- the description block of this frame that a text begins with describes this interface, but for its
--- options, which aren't read
+-- the description block of this frame that a text begins with describes this interface, except what
+-- its options say, which aren't read
 pub record Describes (frame : Frame) (text : List ℕ) (i : Interface) : Type 0 where
   pub described : description_of i ≡ unread_interface i.link i.snap
   pub order : Order
   pub options : List ℕ
   pub parts : parts_in frame text ≡ InterfaceParts i.link i.snap order options
 
--- the interface of the block of this frame that a text begins with; None if the block is no
+-- the interface of the block of this frame that a text begins with; None if the block isn't a
 -- description, or its form is refused
 abbrev pub IsUnread : Frame → List ℕ → Option Interface → Type 0
 IsUnread frame text None =

@@ -368,13 +368,13 @@ fn packets_are_sought_by_any_instructions(rt: HostRuntime) {
 /// A capture, the place of a byte and what is put there, the units that are read before the fault,
 /// and what `capkit_skip` returns there, the offset after it, and the next number.
 const SKIPS: &[(&[u8], (usize, u8), usize, (u32, usize, u32))] = &[
-    // A time: of a record, and of a block.
+    // The time of a record, and of a block.
     (MICROSECONDS, (30, 16), 1, (228, 44, 222)),
     (NANOSECONDS, (28, 0xff), 1, (228, 42, 0)),
     (BLOCKS, (111, 0xff), 3, (228, 144, 224)),
     // A link type: 65,537 is 1.
     (MICROSECONDS, (22, 1), 0, (228, 24, 0)),
-    // Options of an interface: of a wrong length, and a resolution out of range.
+    // Options of an interface, with a wrong length, and with a resolution out of range.
     (BLOCKS, (46, 200), 1, (228, 80, 223)),
     (BLOCKS, (56, 13), 1, (228, 80, 223)),
     // Every other fault.
@@ -408,7 +408,7 @@ fn refused_units_are_skipped(rt: HostRuntime) {
     }
 }
 
-/// A record that is skipped has all of its bytes, though its time is refused before they are there.
+/// A record is skipped once all of its bytes are there, though its time is refused earlier.
 #[test]
 fn cut_records_are_not_skipped(rt: HostRuntime) {
     let altered = altered(rt.alloc(), MICROSECONDS, 30, 16).expect(&rt, "memory");
