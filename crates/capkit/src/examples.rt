@@ -15,8 +15,10 @@ pub const EDIT_HELP: &str = "\
 Examples:
   Delete packets 2 and 3, and write pcap:
     capkit edit -F pcap in.pcap out.pcap 2-3
-  Keep only the first thousand packets:
-    capkit edit -r in.pcapng out.pcapng 1-1000
+  Keep only the second thousand packets:
+    capkit edit -r in.pcapng out.pcapng 1001-2000
+  Keep only the first thousand packets, and read no more than these:
+    capkit print -c 1000 -w out.pcapng in.pcapng
   Keep an hour of a day:
     capkit edit -A 2026-01-31T12:00:00Z -B 2026-01-31T13:00:00Z day.pcap noon
   Keep only the headers:
