@@ -5,8 +5,8 @@
  *        floor infos IN
  *        floor web OUT IN                       tcp port 80 or 443, over Ethernet
  *
- * It reads pcap in little-endian order with microseconds, through buffers of 64 KiB as capkit has them. It trusts
- * lengths below its limit and checks little else, so it is a yardstick and no tool.
+ * It reads pcap in little-endian order with microseconds, through buffers of 64 KiB, and writes through one of 256 KiB,
+ * as capkit does. It trusts lengths below its limit and checks little else, so it is a yardstick and no tool.
  */
 #include <fcntl.h>
 #include <stdint.h>
@@ -15,19 +15,19 @@
 #include <string.h>
 #include <unistd.h>
 
-enum { BUFFER = 1 << 16, MOST = 1 << 18, FILE_HEADER = 24, RECORD_HEADER = 16 };
+enum { INPUT_BUFFER = 1 << 16, OUTPUT_BUFFER = 1 << 18, MOST = 1 << 18, FILE_HEADER = 24, RECORD_HEADER = 16 };
 
 struct reader {
     int file;
     size_t at, end;
-    unsigned char buffer[BUFFER], packet[MOST];
+    unsigned char buffer[INPUT_BUFFER], packet[MOST];
     uint32_t seconds, micros, captured, original;
 };
 
 struct writer {
     int file;
     size_t end;
-    unsigned char buffer[BUFFER];
+    unsigned char buffer[OUTPUT_BUFFER];
 };
 
 static struct reader first, second;
@@ -47,7 +47,7 @@ static int take(struct reader *from, unsigned char *to, size_t n)
         memcpy(to, from->buffer + from->at, held);
         to += held;
         n -= held;
-        ssize_t more = read(from->file, from->buffer, BUFFER);
+        ssize_t more = read(from->file, from->buffer, INPUT_BUFFER);
         if (more <= 0)
             return 0;
         from->at = 0;
@@ -72,10 +72,10 @@ static void flush(void)
 static void put(const void *bytes, size_t n)
 {
     const unsigned char *from = bytes;
-    while (n > BUFFER - output.end) {
-        size_t room = BUFFER - output.end;
+    while (n > OUTPUT_BUFFER - output.end) {
+        size_t room = OUTPUT_BUFFER - output.end;
         memcpy(output.buffer + output.end, from, room);
-        output.end = BUFFER;
+        output.end = OUTPUT_BUFFER;
         from += room;
         n -= room;
         flush();

@@ -160,9 +160,10 @@ def differences_after_mistake(program, make, status, message, command, output):
     name, make_output, as_it_was, may_be_refused = output
     command = command.replace("OUT", name)
     line = f"capkit compile tcp > listing; {make_output}; {make}; capkit {command}; s=$?; {as_it_was} || exit 99; exit $s"
-    for difference in differences(program, line, status, message, {}):
-        if not (may_be_refused and f"{name}: cannot create" in difference):
-            yield f"{line}: {difference}"
+    found = list(differences(program, line, status, message, {}))
+    if found and may_be_refused:
+        found = list(differences(program, line, 1, f"capkit: {name}: cannot create\n", {}))
+    yield from [f"{line}: {difference}" for difference in found]
 
 
 def differences_without_memory(program):

@@ -61,7 +61,7 @@ print -i: FILE - reads what tcpdump -i eth0 -U -w - writes
 print -t: each line begins with date and time, of 29 columns
 print -v: lines have one form; see -e, -x
 print -q: lines have one form; see -e, -x
-print -l: lines are written before each read that waits; quote ' -len > 1'
+print -l: lines need no -l; quote an expression that has a dash: ' -len = 1'
 print -U: packets are written before each read that waits
 print --count: count the lines: | wc -l
 print -C: see edit -r, which splits by ranges

@@ -18,8 +18,13 @@ use cap_octet::{StdInput, StdOutput};
 use std::alloc::AllocError;
 use std::io::{self, BufReader, BufWriter, ErrorKind, Read, Stderr};
 
-/// The bytes of the buffer before each input and the output.
-const BUFFER: usize = 65_536;
+/// The bytes of the buffer before each input, of which there may be 256. A longer one is read
+/// hardly faster, and filled with zeros first.
+const INPUT_BUFFER: usize = 65_536;
+
+/// The bytes of the buffer before an output that is written when it is full. Each write begins and
+/// ends inside a page of the system, which costs less if writes are long.
+const OUTPUT_BUFFER: usize = 262_144;
 
 /// The bytes of the buffer before an output that is written out before each read that may wait.
 /// What a full buffer of an input becomes mostly fits it, so that few packets are written in two
@@ -98,7 +103,7 @@ pub fn open_inputs<'a, 'p>(
             return Err(Stop::CannotOpen(name));
         };
         let counted = Counted { reader, progress };
-        let reader = buffer_or_stop(BufReader::with_capacity(rt.alloc(), BUFFER, counted))?;
+        let reader = buffer_or_stop(BufReader::with_capacity(rt.alloc(), INPUT_BUFFER, counted))?;
         if inputs.push(StdInput::new(reader)).is_err() {
             return Err(Stop::NoMemory);
         }
@@ -117,7 +122,7 @@ pub fn buffer_output<'a>(
     let (capacity, is_awaited) = match buffering_of(created.is_terminal(), may_wait) {
         Buffering::AtOnce => (0, false),
         Buffering::BeforeReads => (AWAITED_BUFFER, true),
-        Buffering::WhenFull => (BUFFER, false),
+        Buffering::WhenFull => (OUTPUT_BUFFER, false),
     };
     let writer = buffer_or_stop(BufWriter::with_capacity(rt.alloc(), capacity, created))?;
     if is_awaited {

@@ -47,11 +47,11 @@ fn run_over_devices<I: Input + Drop, O: Output, E: Output>(
 /// Opens the inputs in order, creates the output, runs the command, and returns its status. Where
 /// something can't be opened or created, or memory runs out for that, it reports so, runs nothing,
 /// and returns 1. A failed write that the command has reported is not reported again.
-pub fn run_command(
-    rt: &HostRuntime,
+pub fn run_command<'a>(
+    rt: &'a HostRuntime,
     command: Command,
     names: Vec<String>,
-    output: &str,
+    output: &'a str,
     progress: &Progress<'_>,
 ) -> u8
     requires { is_proper command (vec_len names) ≡ true }

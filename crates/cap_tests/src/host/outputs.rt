@@ -81,7 +81,7 @@ impl IsTerminal for Unflushed {
 type Buffer = (&'static str, bool, usize, bool);
 
 const BUFFERS: [Buffer; 4] = [
-    ("out", false, 65_536, false),
+    ("out", false, 262_144, false),
     ("out", true, 1_048_576, true),
     ("/dev/ptmx", false, 0, false),
     ("/dev/ptmx", true, 0, false),

@@ -145,6 +145,7 @@ edit -d in out | -d | see -D
 edit --later -5 in out | -5 | for --later -5 write --earlier 5; a range is 1-5
 print -r in | -r | the file is named without -r
 print -nr in | -n | names are never looked up
+print in -len = 1 | -l | lines need no -l; quote an expression that has a dash: ' -len = 1'
 print -X in | -X | see -x
 print -w out -F pcap in | -F | see --format; for words in a file \"$(cat FILE)\"
 edit --format pcap in out | --format | see -F
