@@ -107,10 +107,7 @@ fn mistakes_keep_outputs(rt: HostRuntime) -> Result<(), Fail> {
         fs::write(&rt, "wrong", &capture_of(rt.alloc(), parts)?)?;
         let status = status.parse::<u8>()?;
         for before in OUTPUTS {
-            assert!(rt;
-                keeps(&rt, words, status, before)?,
-                "{row}, {before:?}"
-            );
+            assert!(rt; keeps(&rt, words, status, before)?, "{row}, {before:?}");
         }
     }
     for before in OUTPUTS {
