@@ -27,7 +27,7 @@ enum Known {
 enum SearchStep {
     /// The search ends, and returns this number.
     Last(u32),
-    /// It goes on, after so many executed instructions.
+    /// It goes on, after this many executed instructions.
     More(usize),
 }
 

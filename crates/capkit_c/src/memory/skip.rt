@@ -29,7 +29,7 @@ pub(crate) enum RefusedPart {
     LinkType,
     /// Options of an interface.
     Options,
-    /// Anything else: nothing says where the unit ends.
+    /// Anything else: the end of the unit isn't known.
     Form,
 }
 
