@@ -65,7 +65,7 @@ test "$(wc -l <out/live.txt)" = 1 || { echo 'stream: no packet of a live pipe'; 
 exec 3>&-
 wait $! || bad=1
 # A fault is told at once, though more bytes may come.
-{ cat ../samples/damaged.pcap && sleep 10; } | { timeout 8 out/stream 2>&1 >/dev/null || true; } >out/stream.txt
+{ cat ../samples/damaged.pcap && sleep 10; } | timeout 8 out/stream >/dev/null 2>out/stream.txt || true
 test "$(cat out/stream.txt)" = 'stream: -: offset 2631: too long' || { echo 'stream: a fault after the end'; bad=1; }
 # What an expression means; and a refused one.
 meaning='((tcp src or dst port 80) or (tcp src or dst port 443)) and (src or dst host 10.0.0.1)'

@@ -168,7 +168,7 @@ static const char *hosts(void)
 static void next_matches(int rounds)
 {
     const char *texts[] = {"ip", "tcp port 80", hosts()};
-    size_t i, matches;
+    size_t i, matches = 0;
     int r;
     for (i = 0; i < 3; i++) {
         double best[2] = {1e18, 1e18}, per = sets[0].count;
