@@ -19,14 +19,16 @@ def needs():
     return {name: named.split() for name, named in lines}
 
 
+def below(name, crates):
+    """All crates that one stands on."""
+    return {it for need in crates[name] if need in crates for it in (need, *below(need, crates))}
+
+
 def main():
     crates, changed = needs(), sys.argv[1:]
     if not changed or set(changed) - set(crates):
         sys.exit(__doc__ if not changed else f"no such crate: {' '.join(sorted(set(changed) - set(crates)))}")
-    again = set(changed)
-    for name, named in crates.items():
-        if again & set(named):
-            again.add(name)
+    again = {name for name in crates if {name, *below(name, crates)} & set(changed)}
     print(f"{len(again)} of {len(crates)} crates are proved again:")
     edits = tests = 0
     for name in [it for it in crates if it in again]:
@@ -41,4 +43,5 @@ def main():
     print(f"gate:   rt ci {' '.join(changed)}; then .ci/run")
 
 
-main()
+if __name__ == "__main__":
+    main()

@@ -16,6 +16,7 @@ import sys
 ROOT = pathlib.Path(__file__).resolve().parent.parent
 sys.path.insert(0, str(ROOT / "tools/cases"))
 
+import affected
 import commands
 import crossed
 import lengths
@@ -37,7 +38,7 @@ WRITERS = {
 SLOW = {"hostile"}
 WRONG = "wrong"
 # Where a page states a number.
-PAGES = ["README.md", "CONTRIBUTING.md", "docs/inside/TESTING.md", "crates/cap_cases/README.md"]
+PAGES = ["README.md", "CONTRIBUTING.md", "docs/LIBRARY.md", "docs/inside/TESTING.md", "crates/cap_cases/README.md"]
 STATED = {
     "cases": r"([\d,]{3,}) cases\b",
     "wrong cases": r"(\d+) that are\s+wrong",
@@ -46,6 +47,9 @@ STATED = {
     "tests": r"(\d+) tests\b",
     "random rounds": r"(\d+) random rounds",
     "runs in random rounds": r"([\d,]+) runs in\s+all",
+    "crates below the library": r"the (\d+) crates below it",
+    "crates of the library": r"only \d+ of the (\d+) are left",
+    "crates of the library that the program hasn't": r"only (\d+) of the \d+ are left",
 }
 
 
@@ -73,6 +77,8 @@ def counted():
     """What is counted, by its name."""
     sizes = {name: len(notation.Table((DATA / name).read_text()).cases) for name in (DATA / "tables").read_text().split()}
     stdout = (CRATE / "stdout").read_text()
+    crates = affected.needs()
+    library, program = (affected.below(name, crates) for name in ("capkit_c", "capkit_main"))
     return {
         "cases": sum(sizes.values()) - sizes[WRONG],
         "wrong cases": sizes[WRONG],
@@ -81,6 +87,9 @@ def counted():
         "tests": sum(text.read_text().count("#[test]") for text in ROOT.glob("crates/*/src/**/*.rt")),
         "random rounds": int((CRATE / "args").read_text().split()[1]),
         "runs in random rounds": int(re.search(r"^a run ends with .*: (\d+)$", stdout, re.M)[1]),
+        "crates below the library": len(library),
+        "crates of the library": len(library) + 1,
+        "crates of the library that the program hasn't": len(library - program) + 1,
     }
 
 
