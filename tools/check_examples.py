@@ -57,7 +57,8 @@ def checkout(folder, capkit):
     """Makes of the folder a checkout, as far as the set-up needs it, and returns what a shell there is called with."""
     for name in FOLDERS:
         shutil.copytree(ROOT / name, folder / name, ignore=shutil.ignore_patterns("__pycache__"))
-    (folder / "capkit").symlink_to(pathlib.Path(capkit).resolve())
+    for name in ("capkit", "try"):
+        (folder / name).symlink_to(pathlib.Path(capkit).resolve())
     kept = {"PATH": os.environ["PATH"], "TZ": "UTC", "LC_ALL": "C", "HOME": str(folder)}
     package = {"PYTHONPATH": str(ROOT / "library" / "python" / "src"), "CAPKIT_LIBRARY": str(LIBRARY)}
     kept.update(package, PYTHONDONTWRITEBYTECODE="1")
@@ -69,7 +70,9 @@ def run(commands, capkit):
     """What each of the commands prints, in one shell and a new folder."""
     script = set_up("in a checkout") + "\n"
     for command in commands:
-        script += f"__status=$?; printf '{MARK}\\n'; (exit $__status)\n{command}\n"
+        # What is called by ./ is called at the top.
+        typed = f"(cd ../../.. && {command})" if command.startswith("./") else command
+        script += f"__status=$?; printf '{MARK}\\n'; (exit $__status)\n{typed}\n"
     with tempfile.TemporaryDirectory() as temporary:
         done = subprocess.run(["bash", "-c", script], **checkout(pathlib.Path(temporary), capkit))
     printed = done.stdout.decode(errors="replace").split(MARK + "\n")[1:]
