@@ -98,7 +98,7 @@ Suggests: python3-capkit, python3-jinja2
 Section: net
 Description: workbench for saved packet captures
  Edits, merges, reports on and filters saved packet captures (pcap and
- pcapng), and compiles expressions as those of tcpdump to listings of a
+ pcapng), and compiles expressions such as those of tcpdump to listings of a
  packet-filter machine. It is meant to be trusted with damaged and hostile
  files: its functions are proved to meet their contracts.
 END
