@@ -202,6 +202,9 @@ fn joined_claim(claim: Claim, other: Claim) -> Claim
 fn joined_fact(fact: Fact, others: &[Fact]) -> Fact
     ensures { JoinsFact fact others.now result }
 {
+    if claims_nothing(fact.claim) {
+        return NOTHING_CLAIMED;
+    }
     for other in others {
         if same_field(fact.field, other.field) {
             let claim = joined_claim(fact.claim, other.claim);

@@ -32,7 +32,7 @@ use std::alloc::{AllocError, Allocator};
 const FUEL: usize = 128;
 
 /// The walks that each target may have, each from the end of the one before it.
-const WALKS: usize = 64;
+const WALKS: usize = 32;
 
 /// The further walks for each instruction of the code, which all targets share.
 const SHARED_WALKS: usize = 8;
