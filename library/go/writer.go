@@ -63,7 +63,7 @@ func NewWriter(out io.Writer, format Format) *Writer {
 // other packets can be. Any other error is that of the output, which every later call has too: the output
 // has all packets before this one, and of this one's bytes as many as it took. After Close it is
 // os.ErrClosed. A pcap file has packets of one link type, a pcapng file at most 4,096 interfaces (link
-// type, snapshot length and name), of which a Reader reads the first 256.
+// type, snap length and name), of which a Reader reads the first 256.
 func (w *Writer) Write(packet Packet) error {
 	if w.failure != nil {
 		return w.failure

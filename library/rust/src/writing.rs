@@ -59,7 +59,7 @@ impl<W: Write> Writer<W> {
     /// as many as it took.
     ///
     /// In a pcap file all packets have the link type of the first. A pcapng file has at most 4,096 interfaces
-    /// (link type, snapshot length and name), of which [`Packets`](crate::Packets) reads the first 256.
+    /// (link type, snap length and name), of which [`Packets`](crate::Packets) reads the first 256.
     pub fn write(&mut self, packet: &Packet) -> Result<(), WriteError> {
         let units = match self.format {
             Format::Pcapng => self.block(packet)?,
