@@ -1,12 +1,11 @@
 #!/usr/bin/env python3
-"""Writes the manual pages and completions of capkit into a folder.
+"""Writes the manual pages and completions of capkit into a folder, for packages and for installing by hand.
 
 usage: packaging/pages.py FOLDER           (needs python3-jinja2)
 
-A page is a template of packaging/pages/, filled in with what the command line says of itself. The table
-crates/cap_cases/data/lines has that: cases in which words ask for the version, or for the help of the program or of a
-command, with the lines of the answer. `rt ci` compares these with what the program says.
-capkit-filter(7) is docs/FILTER.md in the form of a manual page.
+A page is a template of packaging/pages/. Its usage, arguments, options and examples are those of the help texts, which the
+table crates/cap_cases/data/lines has: cases in which words ask for help or for the version, with the lines that are printed.
+The gate compares these with the program. capkit-filter(7) is docs/FILTER.md in the form of a manual page.
 """
 import pathlib
 import re
@@ -21,11 +20,11 @@ STORED = ROOT / "crates/cap_cases/data/lines"
 COLUMNS = 80
 TEMPLATES = ROOT / "packaging/pages"
 LANGUAGE = ROOT / "docs/FILTER.md"
-# How far a manual page stands in from the left, and a display of it.
+# The left margin of a manual page, and that of a display in it, in columns.
 MARGIN, DISPLAY = 5, 6
 # The values and arguments that name files.
 FILES = {"IN", "OUT", "FILE", "LISTING", "MORE"}
-# What stands before the values that an option may have, at the end of its line or on one of its own.
+# What precedes the values that an option may have, at the end of its line or on the next line.
 CHOICES = "[possible values: "
 
 
@@ -54,7 +53,7 @@ class Entry:
 
 
 class Help:
-    """The parts of the help of a command; an empty name: of the program."""
+    """The parts of the help of a command, or of the program if the name is empty."""
 
     def __init__(self, name, text):
         text = re.sub(r"\n +" + re.escape(CHOICES), " " + CHOICES, text)
@@ -153,7 +152,7 @@ def code(lines):
 
 
 def points(lines):
-    """A list; a point goes on where a line stands deeper."""
+    """A list; an indented line continues its point."""
     shown = [".Bl -bullet"]
     for line in lines:
         shown += [".It"] * line.startswith("- ") + [roff_text(line[2:].strip())]

@@ -1,12 +1,12 @@
 #!/usr/bin/env python3
-"""Runs the lines of docs/FROM_TCPDUMP.md, those of the other tools and those of capkit, and looks whether what the page says
-of them is true.
+"""Checks the tables of docs/FROM_TCPDUMP.md: runs each row's line of the other tool and its line of capkit, and compares what
+they write as the last cell claims. For whoever changes that page or what capkit does.
 
 usage: check_equivalents.py [--capkit PROGRAM]
 
-Each line is run in a folder of its own with a copy of samples/ and with TZ=UTC. What it writes is the file OUT, or else its
-standard output. Times and lengths of packets are compared by editcap. Both lines end with the same status where the page
-doesn't name it: "status 1 here and 2 there", "both end with status 1".
+Each line runs in its own folder with a copy of samples/, with TZ=UTC. What it writes is the file OUT, or else its standard
+output. editcap compares times and lengths of packets. Both lines must end with the same status, unless the claim names it: "the
+status is 1 here and 2 there", "both end with status 1". The last line counts the rows that aren't true.
 """
 import argparse
 import pathlib
@@ -19,7 +19,7 @@ import tempfile
 from built import ROOT, built_program, folder_with
 
 TOOLS = ["tcpdump", "editcap", "mergecap", "capinfos"]
-# Rows of these are left out where they aren't installed.
+# Rows of these are left out if they aren't installed.
 OTHER_TOOLS = ["captype", "reordercap", "text2pcap", "tcpslice", "pcapfix"]
 # Files that the page makes of the samples.
 MADE = [

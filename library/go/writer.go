@@ -105,7 +105,7 @@ func (w *Writer) WriteAll(packets []Packet) (written int, err error) {
 	return written, err
 }
 
-// Close writes the file's header where there was no packet. It neither flushes nor closes the output.
+// Close writes the file's header if there was no packet. It neither flushes nor closes the output.
 func (w *Writer) Close() error {
 	if w.failure == os.ErrClosed {
 		return nil
@@ -128,7 +128,7 @@ func first(text string, most int) string {
 	return text
 }
 
-// stage puts packets, one at least, to where one call of the library finds them.
+// stage collects packets, at least one, for one call of the library.
 func (w *Writer) stage(packets []Packet) {
 	w.staged, w.bytes = w.staged[:0], w.bytes[:0]
 	for i := range packets {
@@ -179,7 +179,7 @@ func (w *Writer) makeRoom(count, length int) {
 	}
 }
 
-// put writes so many bytes of the buffer, and returns how many the output took.
+// put writes this many bytes of the buffer, and returns how many the output took.
 func (w *Writer) put(length int) (count int, err error) {
 	if w.out == nil {
 		w.failure = os.ErrInvalid

@@ -41,8 +41,8 @@ pub(super) const NO_PACKET: Packet = Packet {
     link_type: 77,
 };
 
-/// A packet: its time and place, its captured and original length, its interface with snapshot
-/// length and link type, its comment.
+/// A packet: its time and place, its captured and original length, its interface with snap length
+/// and link type, its comment.
 type Seen = ((u64, usize), (u32, u32), (u32, u32, u16), &'static [u8]);
 
 /// The room of the table, the number that a call returns, and the packet that it finds.
