@@ -3,9 +3,10 @@
 
 usage: packaging/pages.py FOLDER           (needs python3-jinja2)
 
-A page is a template of packaging/pages/. Its usage, arguments, options and examples are those of the help texts, which the
-table crates/cap_cases/data/lines has: cases in which words ask for help or for the version, with the lines that are printed.
-The gate compares these with the program. capkit-filter(7) is docs/FILTER.md in the form of a manual page.
+A page is a template of packaging/pages/. Its usage and examples are those of the help texts, which the table
+crates/cap_cases/data/lines has: cases in which words ask for help or for the version, with the lines that are printed. The gate
+compares these with the program. A page describes each argument and option of its command once (`help.item`): this script refuses
+one that misses some. capkit-filter(7) is docs/FILTER.md in the form of a manual page.
 """
 import pathlib
 import re
@@ -66,12 +67,19 @@ class Help:
         self.usage = [Entry(word) for word in usage[1].split()] if usage else []
         needed = {"--help", *(name for word in self.usage for name in word.names)}
         self.free = [option for option in self.options if not needed.intersection(option.names)]
+        # The arguments and options, by their last names, that no item of a manual page describes yet.
+        self.undescribed = {(entry.names or [entry.value])[-1]: entry for entry in [*self.arguments, *self.options]}
         self.flags = " ".join(name for option in self.options for name in option.names)
         self.has_files = any(argument.is_file for argument in self.arguments)
         # Command lines stand deeper than their descriptions.
         examples = re.findall(r"((?:^  \S.*\n)+)((?:^    .*\n)+)", text.partition("\nExamples:\n")[2], re.MULTILINE)
         self.examples = [(textwrap.dedent(told).rstrip(), "\n".join(map(folded, commands.split("\n")[:-1])))
                          for told, commands in examples]
+
+
+    def item(self, name):
+        """The tag of an argument or option, which a manual page describes once, in the text after it."""
+        return f".It {self.undescribed.pop(name).tag}"
 
 
 def folded(line):
@@ -175,6 +183,11 @@ def language():
 
 # ---- all pages
 
+def undescribed(help, page):
+    """The arguments and options that the page has no item for, and the values of options that it doesn't name."""
+    return [*help.undescribed, *(value for option in help.options for value in option.choices if not re.search(rf"\b{value}\b", page))]
+
+
 def pages():
     """Yields all pages with their names."""
     helps, version = stored_texts()
@@ -191,6 +204,8 @@ def pages():
         for indent, display in re.findall(r"^\.Bd -literal( .*)?\n((?:.*\n)*?)\.Ed$", page, re.MULTILINE):
             # \&, \(aq, \- and \e as long as they are shown
             narrow(name, re.sub(r"\\(?:&|\(a)?", "", display), MARGIN + DISPLAY * bool(indent))
+        if name in own and (missing := undescribed(own[name], page)):
+            sys.exit(f"{name} doesn't describe {', '.join(missing)}")
         yield name, page
 
 

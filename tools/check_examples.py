@@ -8,7 +8,7 @@ usage: check_examples.py [--capkit PROGRAM] [--update] [PAGE..]
   it. Standard output and standard error are shown together.
 - The examples of one section run one after another in one shell, in their own folder, after the line of docs/RECIPES.md that
   sets up a checkout. Its line for a package must make the same files.
-- The examples of the manual pages must end with status 0.
+- The examples of the manual pages must succeed on copies of samples/day.pcap, if jinja2 is installed.
 - any.sh must write the IP packets, and only these, of frames of each kind that `tcpdump -i any` has.
 
 A section whose programs aren't all installed, or that needs the library (`make -C library`), is left out with a message.
@@ -36,6 +36,9 @@ EXAMPLE = re.compile(r"^(\$ .*\n(?:> .*\n)*)((?:(?!\$ |```).*\n)*)", re.MULTILIN
 FOLDERS = ["samples", "bench", "examples", "teach"]
 INSTALLED = "/usr/share/doc/capkit"
 LIBRARY = ROOT / "library" / "out" / "libcapkit_batch.so"
+# The displays of examples in a manual page, and the captures that they name.
+MANUAL_EXAMPLE = re.compile(r"^\.Bd -literal -offset indent\n((?:.*\n)*?)\.Ed$", re.MULTILINE)
+CAPTURE = re.compile(r"\b[\w-]+\.pcap(?:ng|\d)?(?:\.gz)?\b")
 # What is called by examples that need the library.
 NEEDS_LIBRARY = re.compile(r"\.\./teach/|import capkit")
 
@@ -157,6 +160,33 @@ def check_page(name, capkit, is_update):
     return len(changes)
 
 
+def manual_examples():
+    """The examples of the manual pages, each with its page; none without jinja2, by which the pages are made."""
+    with tempfile.TemporaryDirectory() as temporary:
+        made = subprocess.run([sys.executable, ROOT / "packaging" / "pages.py", temporary], stderr=subprocess.PIPE, text=True)
+        if made.returncode:
+            print(f"manual pages: left out, packaging/pages.py fails: {made.stderr.strip().splitlines()[-1]}")
+        for page in sorted(pathlib.Path(temporary).glob("*.1")):
+            for display in MANUAL_EXAMPLE.findall(page.read_text().partition(".Sh EXAMPLES\n")[2]):
+                yield page.name, display.replace(r"\(aq", "'").replace(r"\-", "-").replace(r"\e", "\\")
+
+
+def check_manual(capkit):
+    """Runs the examples of the manual pages over copies of day.pcap with the names that they use; returns how many fail."""
+    count = failed = 0
+    for name, example in manual_examples():
+        with tempfile.TemporaryDirectory() as temporary:
+            how = checkout(pathlib.Path(temporary), capkit)
+            names = " ".join(set(CAPTURE.findall(example)))
+            script = f"{set_up('in a checkout')}\nfor name in {names}; do cp day.pcap ${{name%.gz}}; done\ngzip -k day.pcap\n"
+            done = subprocess.run(["bash", "-e", "-c", script + example], **how)
+        count, failed = count + 1, failed + bool(done.returncode)
+        if done.returncode:
+            print(f"{name}: {example}\nstatus {done.returncode}: {done.stdout.decode(errors='replace')}")
+    print(f"manual pages: {count} examples, {failed} fail")
+    return failed
+
+
 def main():
     parser = argparse.ArgumentParser(description=__doc__.split("\n")[0])
     parser.add_argument("--capkit", default=None)
@@ -166,6 +196,7 @@ def main():
     capkit = arguments.capkit or built_program()
     names = arguments.pages or [page for page in PAGES if (ROOT / page).exists()]
     wrong = sum(check_page(name, capkit, arguments.update) for name in names)
+    wrong += 0 if arguments.pages else check_manual(capkit)
     if not same_set_up(capkit):
         wrong += 1
         print("docs/RECIPES.md: the two lines of the set-up don't leave the same files")
