@@ -1,19 +1,18 @@
 #!/usr/bin/env python3
-"""Measures capkit beside editcap, mergecap, capinfos and tcpdump, where these are installed, and prints a table.
+"""Compares the CPU time and memory of capkit with those of editcap, mergecap, capinfos and tcpdump, and prints a table. For
+whoever changes code that runs once per packet, and for the figures on pages.
 
 usage: run.py [--packets N] [--rounds N] [--seconds N] [--capkit PROGRAM] [--instructions | --page] [NAME..]
 
-A capture is made in a temporary folder, and captures are written to a file there: set TMPDIR to a folder on a disk.
-Each job is run by all programs in turn, ROUNDS times (15), or until it has taken SECONDS (60) in 3 rounds or more, and
-the best time of each counts: processor time, the user's and the system's, in seconds. Memory is the most that was
-resident, in MiB, as GNU time tells it, where that is installed. What capkit and the other tool write is compared
-first, after the file header; a report is compared by its number of packets. NAMEs choose jobs; none means all.
---page prints rows as docs/inside/TESTING.md has them.
+It makes a capture of N packets (1,000,000) in a temporary folder. The programs write their captures there too: set TMPDIR to a
+folder on a disk. The programs run each job in turn, ROUNDS times (15), or until it has taken SECONDS (60) in 3 rounds or more, and the
+best CPU time of each counts (user and system, in seconds). Memory is the greatest resident size in MiB, if GNU time is installed.
+First it compares what capkit and the other tool write (after the file header; for reports, the number of packets). NAMEs choose
+jobs; without one, all run. Tools that aren't installed are left out. --page prints rows as docs/inside/TESTING.md has them.
 
-Beside some jobs hand-written C is measured (floor.c, where there is a C compiler), which does the least that such
-a job can do. Instructions a packet are counted by valgrind's callgrind, where that is installed, as the difference
-between a capture of 30,000 packets and its first 10,000: they are the same again on a busy machine.
---instructions counts them alone.
+For some jobs it also measures floor.c, a C program that does only what such a job can't avoid, if there is a C compiler. If
+valgrind is installed, callgrind counts the instructions per packet: the difference between a capture of 30,000 packets and its
+first 10,000, which doesn't depend on the load of the machine. --instructions does only this.
 """
 import argparse
 import ipaddress
@@ -133,7 +132,7 @@ def jobs(capkit, floor, capture, folder):
 
 
 def compiled_floor(folder):
-    """The program that floor.c is, or None where there is no C compiler."""
+    """Compiles floor.c, and returns the program; None without a C compiler."""
     compiler = shutil.which("cc") or shutil.which("gcc") or shutil.which("clang")
     if compiler is None:
         return None
@@ -181,7 +180,7 @@ def packets_of(path):
 
 
 def counted(words):
-    """The number of packets that a report tells."""
+    """The number of packets in a report."""
     report = subprocess.run(words, capture_output=True, text=True, check=True).stdout
     counts = re.findall(r"^(?:Packets|Number of packets): *(?:= *)?(\d+)", report, re.MULTILINE)
     return counts[0] if counts else None
@@ -223,7 +222,7 @@ def small_jobs(capkit, floor, folder):
 
 
 def counts_of(few, many):
-    """Instructions a packet of capkit and of floor.c, as texts, by the words of a job for either small capture."""
+    """Instructions per packet of capkit and of floor.c, as texts; `few` and `many` are the words of a job for the two captures."""
     counts = {}
     for which in {"own", "floor"} & few.keys():
         counts[which] = str(round((instructions_of(many[which]) - instructions_of(few[which])) / (MANY - FEW)))
