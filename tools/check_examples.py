@@ -167,7 +167,7 @@ def manual_examples():
         made = subprocess.run([sys.executable, ROOT / "packaging" / "pages.py", temporary], stderr=subprocess.PIPE, text=True)
         if made.returncode:
             print(f"manual pages: left out, packaging/pages.py fails: {made.stderr.strip().splitlines()[-1]}")
-        for page in sorted(pathlib.Path(temporary).glob("*.1")):
+        for page in sorted(pathlib.Path(temporary).glob("*.[17]")):
             for display in MANUAL_EXAMPLE.findall(page.read_text().partition(".Sh EXAMPLES\n")[2]):
                 yield page.name, display.replace(r"\(aq", "'").replace(r"\-", "-").replace(r"\e", "\\")
 
