@@ -1,7 +1,7 @@
 #!/bin/sh
-# Builds libcapkit, its callers and its packages, and runs them over samples/. Where valgrind, a C++ compiler, cargo, go,
-# python3, libpcap's headers and capkit itself are there it uses them too, and says which are missing. The last line
-# says whether all was as it should be.
+# Tests libcapkit: builds it, its callers and its packages, and runs them over samples/. It also uses valgrind, a C++ compiler,
+# cargo, go, python3, libpcap's headers and capkit itself, and prints which of them are missing. The last line says whether
+# everything is as it should be.
 #
 # usage: library/check.sh [ROUNDS [INPUTS]]   ROUNDS of random programs and packets (100000);
 #                                             INPUTS damaged under each sanitizer (5000)

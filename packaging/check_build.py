@@ -1,5 +1,7 @@
 #!/usr/bin/env python3
-"""Tries how ./capkit and build.py prove and build, on small crates with a stub for the kit. The last line counts failures."""
+"""Tests ./capkit and build.py on small crates with a stub instead of the kit: order of proofs, changes, interrupts, failures.
+For whoever changes the launcher. The last line counts the failures. usage: check_build.py
+"""
 import os
 import pathlib
 import shutil

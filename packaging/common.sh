@@ -1,7 +1,7 @@
 # shellcheck shell=sh disable=SC2034,SC2154  # the scripts that read it set and use these names
-# What the scripts that make packages have in common. They set root and architecture (arm64, or empty for the machine's own), and
-# read this file: it sets release, version, architecture, name, email, built, SOURCE_DATE_EPOCH, a scratch folder work, and for
-# another machine cross and target, the prefix of the tools and rattle's name of it.
+# The common part of make_deb.sh and make_library_deb.sh. They set root and architecture (arm64, or empty for the machine's own), and
+# read this file. It sets release, version, architecture, name, email, built, SOURCE_DATE_EPOCH and a scratch folder work, and for
+# another processor cross (the prefix of its tools) and target (rattle's name for it).
 
 release=$(cat "$root/packaging/version")
 # This revision sorts before -1, that of the first package that a distribution makes.

@@ -1,6 +1,6 @@
 #!/bin/sh
-# Makes a folder to build for Linux on ARM64 with: Debian's cross compiler and C library, unpacked and not installed, and of these
-# a toolchain for rattle's linker. It needs apt-get and dpkg-deb, and no rights of root.
+# Makes a folder with what a build for Linux on ARM64 needs: Debian's cross compiler and C library, unpacked but not installed, and
+# made of them a toolchain for rattle's linker. make_deb.sh calls it. It needs apt-get and dpkg-deb, but not root.
 #
 # usage: packaging/cross_arm64.sh FOLDER
 #

@@ -1,8 +1,8 @@
 #!/usr/bin/env python3
-"""Writes captures that are damaged at random to a folder: each a sample with some bytes changed, cut, left out or
-doubled, or with a number in it that is at a limit.
+"""Writes captures that are damaged at random to a folder, for check_packages.sh: samples with some bytes changed, cut, left
+out or doubled, or with a number at a limit. The same COUNT gives the same bytes every time.
 
-usage: damaged_captures.py FOLDER COUNT SAMPLE..     (the seed is fixed)
+usage: damaged_captures.py FOLDER COUNT SAMPLE..
 """
 import pathlib
 import random

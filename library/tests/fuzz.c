@@ -1,5 +1,5 @@
-/* Random instructions, and captures that are damaged or cut, right after a page that can't be
- * touched or right before one. usage: fuzz SEED ROUNDS FILE.. */
+/* Runs random instructions, and reads damaged and cut captures, in memory next to a page that can't be
+ * touched, before it or after it. usage: fuzz SEED ROUNDS FILE.. */
 #include <pcap/pcap.h>
 #include <stdio.h>
 #include <stdlib.h>

@@ -1,6 +1,6 @@
 #!/bin/sh
-# Damaged captures, expressions and listings by every call (mutants.c), under the sanitizers of addresses and undefined
-# behaviour, and then of threads. It wants libcapkit.a (make).
+# Gives damaged captures, expressions and listings to every call (mutants.c), under the sanitizers of addresses and undefined
+# behaviour, and then of threads. It needs libcapkit.a (make).
 #
 # usage: library/tests/fuzz.sh [INPUTS]       of damaged captures for each (100000)
 set -eu

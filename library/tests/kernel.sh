@@ -1,5 +1,5 @@
 #!/bin/bash
-# Linux runs capkit's programs: attached to a packet socket (socket_filter), in a rule of iptables and in a filter of tc, if
+# Tests that Linux runs capkit's programs: attached to a packet socket (socket_filter), in a rule of iptables and in a filter of tc, if
 # these are installed. Two datagrams cross the loopback interface of a separate network; each must match one of them.
 #
 # usage: unshare -rn tests/kernel.sh      in library/

@@ -1,6 +1,6 @@
-/* The calls that end in _in, in memory of many sizes between pages that can't be touched: each does
- * what its other form does, or has no memory, and gives the memory back. Prints the least memory
- * that is enough, and holds it against what capkit.h says. usage: lent FILE (an expression a line) */
+/* Tests the calls that end in _in, in memory of many sizes between pages that can't be touched: each
+ * must do what its other form does, or have no memory, and give the memory back. Prints the least
+ * memory that is enough, and compares it with capkit.h. usage: lent FILE (one expression per line) */
 #include <capkit.h>
 #include <signal.h>
 #include <stdio.h>

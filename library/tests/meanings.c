@@ -1,4 +1,4 @@
-/* Holds what capkit_explain writes against capkit_compile and libpcap. usage: meanings COUNT FILE..
+/* Compares what capkit_explain writes with capkit_compile and libpcap. usage: meanings COUNT FILE..
  *
  * Programs and meanings of the expressions of standard input, up to COUNT that aren't refused, are
  * put into buffers of any room. A meaning is its own meaning, and has the same program. For

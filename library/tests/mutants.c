@@ -1,5 +1,5 @@
-/* Damaged captures, expressions and listings, by every call that reads or writes one, in threads that
- * share what the calls only read. usage: mutants SEED INPUTS THREADS FILE..
+/* Gives damaged captures, expressions and listings to every call that reads or writes one, in threads
+ * that share what the calls only read. usage: mutants SEED INPUTS THREADS FILE..
  *
  * Buffers end or begin at a page that can't be touched. What is put reads back as it was read, a
  * call that refuses doesn't change its memory, and the calls agree with one another. */

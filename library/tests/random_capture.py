@@ -1,5 +1,5 @@
-"""Writes a pcap capture, as many packets as are asked for, half of them random beyond what an
-expression looks at first. usage: random_capture.py COUNT [LINK-TYPE (1, 101 or 113)]"""
+"""Writes a pcap capture of COUNT packets; half of them are random past the fields that an expression
+tests first. usage: random_capture.py COUNT [LINK-TYPE (1, 101 or 113)]"""
 import random
 import struct
 import sys

@@ -1,5 +1,5 @@
-/* Writes units between pages that can't be touched, and holds their bytes against a second encoder.
- * usage: writes SEED ROUNDS */
+/* Writes units between pages that can't be touched, and compares their bytes with those of a second
+ * encoder. usage: writes SEED ROUNDS */
 #include <capkit.h>
 #include <stdio.h>
 #include <stdlib.h>
