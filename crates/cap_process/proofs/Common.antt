@@ -35,7 +35,8 @@ pub use Rattle.cap_process.specs.Verdict.{Policy, Edit, EditRule, Filter, filter
 pub use Rattle.cap_process.specs.Whole.{CopyEnds, EditEnds, EndsAs, EndsUnlessRefused, HasCarried, InfosEnds, MergeEnds, PrintEnds, end_by_decision, is_reached,
     print_work, rule_end, edit_work, event_packets, file_packets, first_refusal, infos_work, merge_work, no_options, packets_in_order, AreRead, NegationParts,
     is_rejected_on, is_rejection, packets_rejected, CutsGivePrefixes, EditKeeps, EditWrites, EditsAlike, MergesOne, copy_of, InfosReports, MergeWrites,
-    PrintLines, PrintWrites, closing_if, reports_by, reports_of, packets_written, written_text, written_unless}
+    PrintLines, PrintWrites, closing_if, reports_by, reports_of, packets_written, written_text, written_unless, EndsBy, IsRefused, file_events,
+    packets_edited, packets_merged, packets_printed}
 pub use Rattle.cap_process.specs.inside.Selector.{IsWindowFor, ReturnsVerdict, PolicyState, count_limit, TakesTally, verdict_if, verdict_of, IsVerdict,
     GrowsByOne, HasFewMarks}
 pub use Rattle.cap_process.specs.Marks.{has_same, last, mark_of, is_same_mark}
