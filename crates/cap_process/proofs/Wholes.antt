@@ -59,10 +59,10 @@ command-writes : (work : Work) (names : List (List ℕ)) (rs : List InputItems) 
     → (outcome work names rs).output ≡ written_text work.form (outcome work names rs).status (first_link rs) (packets_written work.form [] ps)
 command-writes work names rs ps judges of_packets is =
     ap (λ (l : List ℕ). l ++ text_at_end final.end work.form (first_link rs) final.packets) (of_packets final.packets final.reports
-        ∙ ap (λ (l : List Captured). output_text work.form l []) packets)
+    ∙ ap (λ (l : List Captured). output_text work.form l []) packets)
     ∙ ap (λ (l : List ℕ). output_text work.form (packets_written work.form [] ps) [] ++ l)
-        (ap (λ (l : List Captured). text_at_end final.end work.form (first_link rs) l) packets ∙ final-end work.form (first_link rs)
-        (packets_written work.form [] ps) w.end w s.end refl)
+    (ap (λ (l : List Captured). text_at_end final.end work.form (first_link rs) l) packets ∙ final-end work.form (first_link rs)
+    (packets_written work.form [] ps) w.end w s.end refl)
   where
     s : Sequence
     s = sequence_of work.order rs
@@ -194,7 +194,7 @@ one-end : (a : Policy) (r : InputItems) (e : Ending) → unwrap_or (policy_end a
     ≡ unwrap_or (policy_end a 0 initial_state (packet_events 0 r.items.packets)) (end_of 0 e)
 one-end a r End =
     ap (λ (es : List Event). unwrap_or (policy_end a 0 initial_state es) Complete)
-        (append-nil (packet_events 0 r.items.packets ++ InputEnd 0 (kind_of r.items.declared) r.size ∷ []))
+    (append-nil (packet_events 0 r.items.packets ++ InputEnd 0 (kind_of r.items.declared) r.size ∷ []))
     ∙ ap (λ (o : Option SequenceEnd). unwrap_or o Complete) (before-end a 0 initial_state r.items.packets (kind_of r.items.declared) r.size)
 one-end a r (FaultAt fault offset) = refl
 
@@ -251,7 +251,7 @@ printed rule count file some less = prints rule count file some less (file_event
 pub print_writes : PrintWrites
 print_writes rule count format names file some less =
     command-writes (print_work rule count (AsCapture format)) names (whole_input file ∷ []) _ refl (capture-of-packets format)
-        (printed rule count file some less)
+    (printed rule count file some less)
 
 -- lines have no start
 no-close : (options : Options) (n : ℕ) (link : Option ℕ) (ps : List Captured) → closing_if n (AsLines options) link ps ≡ []
@@ -283,7 +283,7 @@ print_ends rule count form names file some less =
 pub merge_writes : MergeWrites
 merge_writes order format names rs less =
     command-writes (merge_work order format) names rs (packets_in_order order rs) refl (capture-of-packets format)
-        (merged 0 initial_state (sequence_of order rs).events (omega (arith, less))).0
+    (merged 0 initial_state (sequence_of order rs).events (omega (arith, less))).0
 
 pub merge_ends : MergeEnds
 merge_ends order format names rs less =
@@ -324,15 +324,15 @@ report-next names input r rs next k state reports none = by_ending r.items.endin
         ++ reports_by e (report input r (tally_of (packets_of r.items.packets))) more
     by_ending End =
         ap (λ (es : List Event). (apply_events Count (AsReports names) (under_way k state [] reports) es).reports)
-            (append_assoc (packet_events input r.items.packets) (ended ∷ []) later)
+        (append_assoc (packet_events input r.items.packets) (ended ∷ []) later)
         ∙ count-packets (λ w. w.reports ≡ whole (tally_of (packets_of r.items.packets))) names input r.items.packets k state [] reports (ended ∷ later) none
         (λ k' state' is. next k' (record { passed = state'.passed; window = state'.window; tally = nothing_counted })
-            (reports ++ report input r state'.tally ∷ []) refl
+        (reports ++ report input r state'.tally ∷ []) refl
         ∙ append_assoc reports (report input r state'.tally ∷ []) more
         ∙ ap whole is)
     by_ending (FaultAt fault offset) =
         ap (λ (es : List Event). (apply_events Count (AsReports names) (under_way k state [] reports) es).reports)
-            (sym (append-nil (packet_events input r.items.packets)))
+        (sym (append-nil (packet_events input r.items.packets)))
         ∙ count-packets (λ w. w.reports ≡ reports ++ []) names input r.items.packets k state [] reports [] none (λ k' state' is. sym (append-nil reports))
 
 reported : (names : List (List ℕ)) (input : ℕ) (rs : List InputItems) → Reported names input rs
@@ -355,7 +355,7 @@ nothing-following-reports names link (p ∷ ps) (Some (FaultIn input fault offse
 pub infos_reports : InfosReports
 infos_reports names rs =
     ap (λ (l : List ℕ). l ++ text_at_end final.end (AsReports names) (first_link rs) final.packets)
-        (ap (reports_text names) (same-reports w.end w s.end ∙ reported names 0 rs 0 initial_state [] refl))
+    (ap (reports_text names) (same-reports w.end w s.end ∙ reported names 0 rs 0 initial_state [] refl))
     ∙ ap (λ (l : List ℕ). reports_text names (reports_of 0 rs) ++ l) (nothing-following-reports names (first_link rs) final.packets final.end)
     ∙ append-nil (reports_text names (reports_of 0 rs))
   where
@@ -374,7 +374,7 @@ infos-go-on names k state reports [] = refl
 infos-go-on names k state reports (Packet input p ∷ es) = infos-go-on names (k + 1) (judge Count state (k + 1) p.packet).state reports es
 infos-go-on names k state reports (InputEnd input kind size ∷ es) =
     infos-go-on names k (apply_event Count (AsReports names) (under_way k state [] reports) (InputEnd input kind size)).state
-        (apply_event Count (AsReports names) (under_way k state [] reports) (InputEnd input kind size)).reports es
+    (apply_event Count (AsReports names) (under_way k state [] reports) (InputEnd input kind size)).reports es
 
 pub infos_ends : InfosEnds
 infos_ends names rs =
@@ -389,7 +389,7 @@ same-packet : (p : Captured) → edited_packet_with no_options p p.time ≡ p
 same-packet p =
     let all : length p.bytes - 0 ≡ length p.bytes = omega arith in
     ap (λ (bytes : List ℕ). record { link = p.link; snap = p.snap; name = p.name; time = p.time; orig = p.orig; bytes = bytes; comment = p.comment })
-        (ap (λ (n : ℕ). take n p.bytes) all ∙ take-length p.bytes)
+    (ap (λ (n : ℕ). take n p.bytes) all ∙ take-length p.bytes)
 
 same-judge : (state : SelectorState) (number : ℕ) (p : Captured) → judge KeepAll state number p ≡ judge (Edit no_options) state number p
 same-judge state number p = by_number (nat_le (2 ^ 63) number)
@@ -453,7 +453,7 @@ unless-end (FaultAt fault offset) = refl
 
 one-by-time : (greatest : ℕ) (ending : Ending) (ps : List Placed)
     → unless_fault (end_after 0 ending ps) (sequence_of_entries (sort_entries (entries_of 0 ending greatest ps))) ≡ record
-        { events = packet_events 0 ps; end = end_of 0 ending }
+    { events = packet_events 0 ps; end = end_of 0 ending }
 one-by-time greatest ending [] = unless-end ending
 one-by-time greatest ending (p ∷ ps) = ap sequence_of_entries (sorted 0 ending greatest (p ∷ ps)) ∙ of-entries 0 ending greatest p ps
 
@@ -476,7 +476,7 @@ ended-same a f w input kind size judges = by_end w.end
 
 in-turn : (a : Policy) (f : Form) (r : InputItems) (ending : Ending) → is_count a ≡ false
     → final_progress a f (record { events = packet_events 0 r.items.packets; end = end_of 0 ending }) ≡ final_progress a f
-        (input_sequence 0 r ending (record { events = []; end = Complete }))
+    (input_sequence 0 r ending (record { events = []; end = Complete }))
 in-turn a f r (FaultAt fault offset) judges = refl
 in-turn a f r End judges =
     let es = packet_events 0 r.items.packets in
@@ -484,7 +484,7 @@ in-turn a f r End judges =
     let w = apply_events a f no_progress es in
     ap (λ (u : JobProgress). end_unless_ended u Complete)
     (sym (ap (apply_events a f no_progress) (append-nil (es ++ ended ∷ [])) ∙ progress-append a f no_progress es (ended ∷ [])
-        ∙ ended-same a f w 0 (kind_of r.items.declared) r.size judges))
+    ∙ ended-same a f w 0 (kind_of r.items.declared) r.size judges))
 
 same-order : (a : Policy) (f : Form) (r : InputItems) (order : PacketOrder) → is_count a ≡ false → final_progress a f (sequence_of order (r ∷ [])) ≡
     final_progress a f (sequence_in_turn 0 (r ∷ []))
@@ -497,7 +497,7 @@ merges_one order format names file =
     let f = AsCapture format in
     ap (outcome_at (merge_work order format) names (r ∷ [])) (same-order KeepAll f r order refl)
     ∙ ap (λ (w : JobProgress). outcome_at (merge_work order format) names (r ∷ []) (end_unless_ended w (sequence_in_turn 0 (r ∷ [])).end))
-        (same-events f no_progress (sequence_in_turn 0 (r ∷ [])).events)
+    (same-events f no_progress (sequence_in_turn 0 (r ∷ [])).events)
 
 -- ---- what a format carries
 
@@ -517,11 +517,14 @@ nothing-closes format (suc n) link p ps = refl
 -- the packets of such a file are all unique and selected, and none is refused
 copied : (format : Format) (file : List ℕ) (p : Captured) (ps : List Captured) → HasCarried format file p ps
     → (unique_after None [] (packets_selected no_options 1 (file_packets file)) ≡ p ∷ ps) × (packets_written (AsCapture format) [] (p ∷ ps) ≡ p ∷ ps)
-        × (first_refusal (AsCapture format) [] (p ∷ ps) ≡ None)
+    × (first_refusal (AsCapture format) [] (p ∷ ps) ≡ None)
 copied format file p ps h =
-    let none = none-refused (AsCapture format) [] (p ∷ ps) (λ xs q ys is. (h.carried.each xs q ys is).taken) in
-    (ap (λ (l : List Captured). unique_after None [] (packets_selected no_options 1 l)) h.packets ∙ ap (unique_after None [])
-        (all-selected 1 (p ∷ ps)) ∙ all-unique [] (p ∷ ps), none.0, none.1)
+    let none = none-refused (AsCapture format) [] (p ∷ ps) (λ xs q ys is. (h.carried.each xs q ys is).taken) in (
+      ap (λ (l : List Captured). unique_after None [] (packets_selected no_options 1 l)) h.packets ∙ ap (unique_after None [])
+          (all-selected 1 (p ∷ ps)) ∙ all-unique [] (p ∷ ps),
+      none.0,
+      none.1,
+    )
 
 few-carried : (format : Format) (file : List ℕ) (p : Captured) (ps : List Captured) → HasCarried format file p ps → length (file_packets file) < 2 ^ 63
 few-carried format file p ps h = subst (λ (l : List Captured). length l < 2 ^ 63) (sym h.packets) h.few
@@ -578,9 +581,11 @@ cuts_give_prefixes file n =
     let rest : List ℕ = c.rest ++ drop n file in
     let following : List Placed = (items_from c.declared (0 + length c.done) rest).packets in
     let file_is : file ≡ c.done ++ rest = sym (take-append-drop n file) ∙ ap (λ (l : List ℕ). l ++ drop n file) c.cut.joined
-        ∙ append_assoc c.done c.rest (drop n file) in
+    ∙ append_assoc c.done c.rest (drop n file) in
     let whole : file_packets file ≡ packets_of (c.packets ++ following) = ap (λ (i : Items). packets_of i.packets)
-        (ap items file_is ∙ items_from-units c.cut.units rest) in
-    let front : file_packets (take n file) ≡ packets_of c.packets = ap (λ (i : Items). packets_of i.packets) (cut_tells (take n file) c).items in
-    (packets_of following, whole ∙ map-append (λ (p : Placed). p.packet) c.packets following ∙ ap (λ (l : List Captured). l ++ packets_of following)
-        (sym front))
+    (ap items file_is ∙ items_from-units c.cut.units rest) in
+    let front : file_packets (take n file) ≡ packets_of c.packets = ap (λ (i : Items). packets_of i.packets) (cut_tells (take n file) c).items in (
+      packets_of following,
+      whole ∙ map-append (λ (p : Placed). p.packet) c.packets following ∙ ap (λ (l : List Captured). l ++ packets_of following)
+          (sym front),
+    )
