@@ -28,18 +28,19 @@ pub use Rattle.cap_process.specs.Outcome.{outcome, end_input, end_unless_ended, 
 pub use Rattle.cap_process.specs.Outcome.{first_link}
 pub use Rattle.cap_process.specs.Output.{Target, Capture, Text, Lines, HasWrittenTo, form_to, written_to, failures_to}
 pub use Rattle.cap_process.specs.Reports.{Report, Tally, lines, size_lines, time_lines, tally_with, report_text, reports_text, nothing_counted}
-pub use Rattle.cap_process.specs.Selector.{is_count, state_of, spent_by, spent_by_verdict, marks_in, places, SelectorView, most_spent, policy_of, programs_in,
-    window_of}
-pub use Rattle.cap_process.specs.Verdict.{Policy, Edit, EditRule, Filter, filters, is_last, KeepAll, Count, Judgement, SelectorState, initial_state, Verdict,
-    Pass, PassLast, Skip, Refuse, is_selected, is_too_many, judge, passes, unique, skip_judgement, edited_packet_with, shifted_time, refuses, selects,
-    with_mark, judge_by}
-pub use Rattle.cap_process.specs.Whole.{CopyEnds, EditEnds, EndsAs, EndsUnlessRefused, HasCarried, InfosEnds, MergeEnds, PrintEnds, end_by_decision, is_reached,
-    print_work, rule_end, edit_work, event_packets, file_packets, first_refusal, infos_work, merge_work, no_options, packets_in_order, AreRead, NegationParts,
-    is_rejected_on, is_rejection, packets_rejected, CutsGivePrefixes, EditKeeps, EditWrites, EditsAlike, MergesOne, copy_of, InfosReports, MergeWrites,
-    PrintLines, PrintWrites, closing_if, reports_by, reports_of, packets_written, written_text, written_unless, EndsBy, IsRefused, file_events,
-    packets_edited, packets_merged, packets_printed}
-pub use Rattle.cap_process.specs.inside.Selector.{IsWindowFor, ReturnsVerdict, PolicyState, count_limit, TakesTally, verdict_if, verdict_of, IsVerdict,
-    GrowsByOne, HasFewMarks}
+pub use Rattle.cap_process.specs.Selector.{is_count, state_of, spent_by, spent_by_verdict, marks_in, places, SelectorView, most_spent, policy_of, programs_in}
+pub use Rattle.cap_process.specs.Selector.{window_of}
+pub use Rattle.cap_process.specs.Verdict.{Policy, Edit, EditRule, Filter, filters, is_last, KeepAll, Count, Judgement, SelectorState, initial_state, Verdict}
+pub use Rattle.cap_process.specs.Verdict.{Pass, PassLast, Skip, Refuse, is_selected, is_too_many, judge, passes, unique, skip_judgement, edited_packet_with}
+pub use Rattle.cap_process.specs.Verdict.{shifted_time, refuses, selects, with_mark, judge_by}
+pub use Rattle.cap_process.specs.Whole.{CopyEnds, EditEnds, EndsAs, EndsUnlessRefused, HasCarried, InfosEnds, MergeEnds, PrintEnds, end_by_decision, is_reached}
+pub use Rattle.cap_process.specs.Whole.{print_work, rule_end, edit_work, event_packets, file_packets, first_refusal, infos_work, merge_work, no_options}
+pub use Rattle.cap_process.specs.Whole.{packets_in_order, AreRead, NegationParts, is_rejected_on, is_rejection, packets_rejected, CutsGivePrefixes, EditKeeps}
+pub use Rattle.cap_process.specs.Whole.{EditWrites, EditsAlike, MergesOne, copy_of, InfosReports, MergeWrites, PrintLines, PrintWrites, closing_if, reports_by}
+pub use Rattle.cap_process.specs.Whole.{reports_of, packets_written, written_text, written_unless, EndsBy, IsRefused, file_events, packets_edited}
+pub use Rattle.cap_process.specs.Whole.{packets_merged, packets_printed}
+pub use Rattle.cap_process.specs.inside.Selector.{IsWindowFor, ReturnsVerdict, PolicyState, count_limit, TakesTally, verdict_if, verdict_of, IsVerdict}
+pub use Rattle.cap_process.specs.inside.Selector.{GrowsByOne, HasFewMarks}
 pub use Rattle.cap_process.specs.Marks.{has_same, last, mark_of, is_same_mark}
 pub use Rattle.cap_process.specs.{Window.WindowView, Window.window, declared.links.Links.Links, declared.mark.Mark.Mark}
 pub use Rattle.std.proofs.lemmas.Bool.{cases_order, eq-eqb, eqb-true}

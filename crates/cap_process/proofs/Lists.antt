@@ -281,26 +281,26 @@ placed-next a f k state out reports input p es next fault hit = by (judge a stat
     passing : (q : Captured) → verdict ≡ Pass q → (o : Option Fault) → form_refuses f out q ≡ o → AtRefused a f k state out reports (Packet input p ∷ es) fault
     passing q is None taken =
         further (Pass q) is (out ++ q ∷ []) (λ ds. ap (λ (o : Option Fault). option_or o (first_refusal f (out ++ q ∷ []) (rest ds))) taken)
-            (ap (λ (o : Option Fault). (apply_events a f (unless_refused o w input p (decide w after (q ∷ []) None)) es).end) taken)
+        (ap (λ (o : Option Fault). (apply_events a f (unless_refused o w input p (decide w after (q ∷ []) None)) es).end) taken)
     passing q is (Some x) refused =
         let why : Some x ≡ Some fault =
-            sym (ap (λ (o : Option Fault). option_or o (first_refusal f (out ++ q ∷ []) (rest es))) refused)
-            ∙ sym (ap (λ (u : Verdict). refusal_by u es) is) ∙ hit in
+        sym (ap (λ (o : Option Fault). option_or o (first_refusal f (out ++ q ∷ []) (rest es))) refused)
+        ∙ sym (ap (λ (u : Verdict). refusal_by u es) is) ∙ hit in
         here (Pass q) is (ap (λ (o : Option Fault). option_or o None) refused ∙ why)
-            (ap (λ (o : Option Fault). (apply_events a f (unless_refused o w input p (decide w after (q ∷ []) None)) es).end) refused ∙ ended x
-                ∙ ap (λ (o : Option Fault). option_map (λ (y : Fault). FaultIn input y p.offset) o) why)
+        (ap (λ (o : Option Fault). (apply_events a f (unless_refused o w input p (decide w after (q ∷ []) None)) es).end) refused ∙ ended x
+        ∙ ap (λ (o : Option Fault). option_map (λ (y : Fault). FaultIn input y p.offset) o) why)
 
     last_one : (q : Captured) → verdict ≡ PassLast q → (o : Option Fault) → form_refuses f out q ≡ o
         → AtRefused a f k state out reports (Packet input p ∷ es) fault
     last_one q is None taken =
         let why : None ≡ Some fault =
-            sym (ap (λ (o : Option Fault). option_or o None) taken) ∙ sym (ap (λ (u : Verdict). refusal_by u es) is) ∙ hit in (cc)
+        sym (ap (λ (o : Option Fault). option_or o None) taken) ∙ sym (ap (λ (u : Verdict). refusal_by u es) is) ∙ hit in (cc)
     last_one q is (Some x) refused =
         let why : Some x ≡ Some fault =
-            sym (ap (λ (o : Option Fault). option_or o None) refused) ∙ sym (ap (λ (u : Verdict). refusal_by u es) is) ∙ hit in
+        sym (ap (λ (o : Option Fault). option_or o None) refused) ∙ sym (ap (λ (u : Verdict). refusal_by u es) is) ∙ hit in
         here (PassLast q) is (ap (λ (o : Option Fault). option_or o None) refused ∙ why)
-            (ap (λ (o : Option Fault). (apply_events a f (unless_refused o w input p (decide w after (q ∷ []) (Some Complete))) es).end) refused ∙ ended x
-                ∙ ap (λ (o : Option Fault). option_map (λ (y : Fault). FaultIn input y p.offset) o) why)
+        (ap (λ (o : Option Fault). (apply_events a f (unless_refused o w input p (decide w after (q ∷ []) (Some Complete))) es).end) refused ∙ ended x
+        ∙ ap (λ (o : Option Fault). option_map (λ (y : Fault). FaultIn input y p.offset) o) why)
 
     by : (v : Verdict) → verdict ≡ v → AtRefused a f k state out reports (Packet input p ∷ es) fault
     by (Pass q) is = passing q is (form_refuses f out q) refl

@@ -1,19 +1,23 @@
 -- What whole commands write, and how they end: the verdicts on packets make a list, of which the form refuses the rest.
-use Rattle.cap_process.proofs.Common.{◌≡◌, ℕ, zero, suc, ◌+◌, ◌-◌, ◌^◌, ◌<◌, ◌&&◌, Bool, true, false, if◌then◌else◌, nat_le, max, List, [], ◌∷◌, ◌++◌, length,
-    take, Option, None, Some, refl, sym, ◌∙◌, ap, arith, subst, append_assoc, append-nil, length-map, IfSome, unwrap_or, nat_lt, nat_eq, nat_tests, take-length,
-    Captured, Fault, TooManyPackets, Format, Kind, Placed, Ending, End, FaultAt, items, kind_of, ItemsBack, text, Options, Rule, Event, Packet, InputEnd,
-    SequenceEnd, Complete, FaultIn, Sequence, PacketOrder, InTurn, ByTime, InputItems, whole_input, Entry, packet_events, input_sequence, sequence_in_turn,
-    sequence_of, end_of, end_after, entries_of, comes_before, insert_entry, sort_entries, sequence_of_entries, sequence_by_time, first_end, unless_fault,
-    with_front, Policy, Edit, EditRule, Filter, KeepAll, Count, Judgement, SelectorState, initial_state, edited_packet_with, is_selected, judge, judge_by,
-    passes, refuses, Report, Tally, nothing_counted, reports_text, Form, AsCapture, AsReports, AsLines, JobProgress, Work, no_progress, apply_verdict,
-    apply_event, apply_events, next_progress, end_input, end_with, unless_ended, end_unless_ended, final_progress, output_text, text_at_end, first_link,
-    lines_text, message, status, outcome_at, outcome, is_count, packets_selected, unique_after, at_most, end_at_time, first_without_time, packets_kept,
-    packets_of, tally_of, Mark, mark_of, CopyEnds, EditEnds, EditKeeps, EditWrites, EditsAlike, EndsAs, EndsUnlessRefused, HasCarried, InfosEnds, MergeEnds,
-    MergesOne, PrintEnds, copy_of, no_options, InfosReports, MergeWrites, PrintLines, PrintWrites, closing_if, edit_work, event_packets, infos_work, merge_work,
-    file_packets, packets_in_order, print_work, reports_by, reports_of, packets_written, first_refusal, written_text, drop, map-append, take-append-drop, Items,
-    items_from, CutsGivePrefixes, EndsBy, IsRefused, file_events, packets_edited, packets_merged, packets_printed, ◌≤◌, length-append}
-use Rattle.cap_process.proofs.Lists.{AtRefused, EndsSo, comes, placed, count-packets, end-stays, ends_without_time, filtered-first, judged, judged_by, judged-is, none-refused,
-    packets-of-input, policy_end, under_way, verdict_end}
+use Rattle.cap_process.proofs.Common.{◌≡◌, ℕ, zero, suc, ◌+◌, ◌-◌, ◌^◌, ◌<◌, ◌&&◌, Bool, true, false, if◌then◌else◌, nat_le, max, List, [], ◌∷◌, ◌++◌, length}
+use Rattle.cap_process.proofs.Common.{take, Option, None, Some, refl, sym, ◌∙◌, ap, arith, subst, append_assoc, append-nil, length-map, IfSome, unwrap_or}
+use Rattle.cap_process.proofs.Common.{nat_lt, nat_eq, nat_tests, take-length, Captured, Fault, TooManyPackets, Format, Kind, Placed, Ending, End, FaultAt}
+use Rattle.cap_process.proofs.Common.{items, kind_of, ItemsBack, text, Options, Rule, Event, Packet, InputEnd, SequenceEnd, Complete, FaultIn, Sequence}
+use Rattle.cap_process.proofs.Common.{PacketOrder, InTurn, ByTime, InputItems, whole_input, Entry, packet_events, input_sequence, sequence_in_turn, sequence_of}
+use Rattle.cap_process.proofs.Common.{end_of, end_after, entries_of, comes_before, insert_entry, sort_entries, sequence_of_entries, sequence_by_time, first_end}
+use Rattle.cap_process.proofs.Common.{unless_fault, with_front, Policy, Edit, EditRule, Filter, KeepAll, Count, Judgement, SelectorState, initial_state}
+use Rattle.cap_process.proofs.Common.{edited_packet_with, is_selected, judge, judge_by, passes, refuses, Report, Tally, nothing_counted, reports_text, Form}
+use Rattle.cap_process.proofs.Common.{AsCapture, AsReports, AsLines, JobProgress, Work, no_progress, apply_verdict, apply_event, apply_events, next_progress}
+use Rattle.cap_process.proofs.Common.{end_input, end_with, unless_ended, end_unless_ended, final_progress, output_text, text_at_end, first_link, lines_text}
+use Rattle.cap_process.proofs.Common.{message, status, outcome_at, outcome, is_count, packets_selected, unique_after, at_most, end_at_time, first_without_time}
+use Rattle.cap_process.proofs.Common.{packets_kept, packets_of, tally_of, Mark, mark_of, CopyEnds, EditEnds, EditKeeps, EditWrites, EditsAlike, EndsAs}
+use Rattle.cap_process.proofs.Common.{EndsUnlessRefused, HasCarried, InfosEnds, MergeEnds, MergesOne, PrintEnds, copy_of, no_options, InfosReports, MergeWrites}
+use Rattle.cap_process.proofs.Common.{PrintLines, PrintWrites, closing_if, edit_work, event_packets, infos_work, merge_work, file_packets, packets_in_order}
+use Rattle.cap_process.proofs.Common.{print_work, reports_by, reports_of, packets_written, first_refusal, written_text, drop, map-append, take-append-drop}
+use Rattle.cap_process.proofs.Common.{Items, items_from, CutsGivePrefixes, EndsBy, IsRefused, file_events, packets_edited, packets_merged, packets_printed, ◌≤◌}
+use Rattle.cap_process.proofs.Common.{length-append}
+use Rattle.cap_process.proofs.Lists.{AtRefused, EndsSo, comes, placed, count-packets, end-stays, ends_without_time, filtered-first, judged, judged_by}
+use Rattle.cap_process.proofs.Lists.{judged-is, none-refused, packets-of-input, policy_end, under_way, verdict_end}
 use Rattle.cap_process.proofs.{Outcomes.progress-append, Selectors.upper_bound}
 use Rattle.std.proofs.lemmas.Bool.{and_right}
 use Rattle.cap_io.proofs.{Cuts.cut_tells, Cuts.has_cut, Cuts.items_from-units}
@@ -118,8 +122,8 @@ event-packets-append (InputEnd input kind size ∷ es) fs = event-packets-append
 front-shorter : (ds es all : List Event) → all ≡ ds ++ es → length (event_packets ds) ≤ length (event_packets all)
 front-shorter ds es all is =
     let sum : length (event_packets all) ≡ length (event_packets ds) + length (event_packets es) =
-        ap (λ (l : List Event). length (event_packets l)) is ∙ ap length (event-packets-append ds es)
-        ∙ length-append (event_packets ds) (event_packets es) in
+    ap (λ (l : List Event). length (event_packets l)) is ∙ ap length (event-packets-append ds es)
+    ∙ length-append (event_packets ds) (event_packets es) in
     omega (arith, sum)
 
 -- the place of the first packet that is refused
@@ -134,13 +138,13 @@ refused-at work passing es fault passes at = record {
   taken = sym (ap (first_refusal work.form []) (passes at.before (front-shorter at.before (Packet at.input at.p ∷ at.later) es at.are))) ∙ at.taken;
   refused = sym (ap (first_refusal work.form []) (passes (at.before ++ Packet at.input at.p ∷ [])
       (front-shorter (at.before ++ Packet at.input at.p ∷ []) at.later es
-          (at.are ∙ sym (append_assoc at.before (Packet at.input at.p ∷ []) at.later))))) ∙ at.refused;
+      (at.are ∙ sym (append_assoc at.before (Packet at.input at.p ∷ []) at.later))))) ∙ at.refused;
 }
 
 command-ends : (work : Work) (names : List (List ℕ)) (rs : List InputItems) (passing : List Captured → List Captured) → is_count work.policy ≡ false
     → Passes work.policy passing (sequence_of work.order rs).events
     → EndsUnlessRefused names work.form passing (sequence_of work.order rs).events
-        (unwrap_or (policy_end work.policy 0 initial_state (sequence_of work.order rs).events) (sequence_of work.order rs).end) (outcome work names rs)
+    (unwrap_or (policy_end work.policy 0 initial_state (sequence_of work.order rs).events) (sequence_of work.order rs).end) (outcome work names rs)
 command-ends work names rs passing judges passes = by_refusal (first_refusal work.form [] (passing (event_packets s.events))) refl
   where
     s : Sequence
@@ -163,7 +167,7 @@ command-ends work names rs passing judges passes = by_refusal (first_refusal wor
         → EndsBy names work.form passing s.events r (unwrap_or by_policy s.end) (outcome work names rs)
     by_refusal None none =
         let so : EndsSo None by_policy w.end = subst (λ (r : Option Fault). EndsSo r by_policy w.end) (ap (first_refusal work.form []) is ∙ none)
-            (comes work.policy work.form 0 initial_state [] [] s.events judges).1 in
+        (comes work.policy work.form 0 initial_state [] [] s.events judges).1 in
         ends-as work names rs (final_progress work.policy work.form s) (unwrap_or by_policy s.end) (final by_policy so)
     by_refusal (Some fault) hit =
         let at = placed work.policy work.form 0 initial_state [] [] s.events judges fault (ap (first_refusal work.form []) is ∙ hit) in
@@ -230,10 +234,10 @@ pub edit_ends : EditEnds
 edit_ends s format names file less =
     let r = whole_input file in
     subst (λ (c : SequenceEnd). EndsUnlessRefused names (AsCapture format) (packets_edited s) (file_events file) c
-        (outcome (edit_work s format) names (r ∷ [])))
+    (outcome (edit_work s format) names (r ∷ [])))
     (one-end (Edit s) r r.items.ending
     ∙ ap (λ (o : Option SequenceEnd). unwrap_or o (end_of 0 r.items.ending)) (sym (judged-is (Edit s) r.items.packets refl).1
-        ∙ (ends_without_time s r.items.packets (few-placed file less)).0))
+    ∙ (ends_without_time s r.items.packets (few-placed file less)).0))
     (command-ends (edit_work s format) names (r ∷ []) (packets_edited s) refl (edits s file less))
 
 -- ---- print
@@ -274,7 +278,7 @@ pub print_ends : PrintEnds
 print_ends rule count form names file some less =
     let r = whole_input file in
     subst (λ (c : SequenceEnd). EndsUnlessRefused names form (packets_printed rule count) (file_events file) c
-        (outcome (print_work rule count form) names (r ∷ [])))
+    (outcome (print_work rule count form) names (r ∷ [])))
     (one-end (Filter rule count) r r.items.ending ∙ (filtered-first rule count r.items.ending r.items.packets some (few-placed file less)).1)
     (command-ends (print_work rule count form) names (r ∷ []) (packets_printed rule count) refl (prints rule count file some less))
 
@@ -290,9 +294,9 @@ merge_ends order format names rs less =
     let s = sequence_of order rs in
     let all = merged 0 initial_state s.events (omega (arith, less)) in
     subst (λ (e : Option SequenceEnd). EndsUnlessRefused names (AsCapture format) packets_merged s.events (unwrap_or e s.end)
-        (outcome (merge_work order format) names rs)) all.1
+    (outcome (merge_work order format) names rs)) all.1
     (command-ends (merge_work order format) names rs packets_merged refl
-        (λ es fewer. (merged 0 initial_state es (omega (arith, less, fewer))).0))
+    (λ es fewer. (merged 0 initial_state es (omega (arith, less, fewer))).0))
 
 -- ---- infos
 
@@ -568,11 +572,11 @@ copy_ends format names file p ps h =
     let r = whole_input file in
     let all = copied format file p ps h in
     subst (λ (t : Option Fault). EndsBy names (AsCapture format) (packets_edited no_options) (file_events file) t (end_of 0 r.items.ending)
-        (outcome (edit_work no_options format) names (r ∷ [])))
-        (ap (λ (l : List Captured). first_refusal (AsCapture format) [] (packets_edited no_options l)) (file-packets file)
-            ∙ ap (first_refusal (AsCapture format) []) all.0 ∙ all.2)
+    (outcome (edit_work no_options format) names (r ∷ [])))
+    (ap (λ (l : List Captured). first_refusal (AsCapture format) [] (packets_edited no_options l)) (file-packets file)
+    ∙ ap (first_refusal (AsCapture format) []) all.0 ∙ all.2)
     (subst (λ (t : Option ℕ). EndsUnlessRefused names (AsCapture format) (packets_edited no_options) (file_events file)
-        (unwrap_or (end_at_time t) (end_of 0 r.items.ending)) (outcome (edit_work no_options format) names (r ∷ []))) (all-in-time 1 r.items.packets)
+    (unwrap_or (end_at_time t) (end_of 0 r.items.ending)) (outcome (edit_work no_options format) names (r ∷ []))) (all-in-time 1 r.items.packets)
     (edit_ends no_options format names file (few-carried format file p ps h)))
 
 pub cuts_give_prefixes : CutsGivePrefixes
