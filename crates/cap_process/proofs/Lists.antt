@@ -313,8 +313,8 @@ placed-next a f k state out reports input p es next fault hit = by (judge a stat
 pub placed : (a : Policy) (f : Form) (k : ℕ) (state : SelectorState) (out : List Captured) (reports : List Report) (es : List Event)
     → is_count a ≡ false → IsPlaced a f k state out reports es
 placed a f k state out reports [] judges fault hit = (cc)
-placed a f k state out reports (Packet input p ∷ es) judges =
-    placed-next a f k state out reports input p es (λ state' out'. placed a f (k + 1) state' out' reports es judges)
+placed a f k state out reports (Packet input p ∷ es) judges fault hit =
+    placed-next a f k state out reports input p es (λ state' out'. placed a f (k + 1) state' out' reports es judges) fault hit
 placed a f k state out reports (InputEnd input kind size ∷ es) judges fault hit =
     let there = placed a f k state out reports es judges fault hit in
     record {

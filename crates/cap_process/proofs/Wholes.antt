@@ -99,7 +99,7 @@ ends-as work names rs w Complete is = record { messages = ap (message names) is;
 ends-as work names rs w (FaultIn input fault offset) is = record { messages = ap (message names) is; status = ap status is }
 
 -- the packets of these events, in their places
-placed_of : List Event → List Placed
+abbrev placed_of : List Event → List Placed
 placed_of [] = []
 placed_of (Packet input p ∷ es) = p ∷ placed_of es
 placed_of (InputEnd input kind size ∷ es) = placed_of es
@@ -145,6 +145,7 @@ command-ends : (work : Work) (names : List (List ℕ)) (rs : List InputItems) (p
     → Passes work.policy passing (sequence_of work.order rs).events
     → EndsUnlessRefused names work.form passing (sequence_of work.order rs).events
     (unwrap_or (policy_end work.policy 0 initial_state (sequence_of work.order rs).events) (sequence_of work.order rs).end) (outcome work names rs)
+unfolding refused-at
 command-ends work names rs passing judges passes = by_refusal (first_refusal work.form [] (passing (event_packets s.events))) refl
   where
     s : Sequence
