@@ -14,7 +14,8 @@ use Rattle.cap_process.proofs.Common.{packets_kept, packets_of, tally_of, Mark, 
 use Rattle.cap_process.proofs.Common.{EndsUnlessRefused, HasCarried, InfosEnds, MergeEnds, MergesOne, PrintEnds, copy_of, no_options, InfosReports, MergeWrites}
 use Rattle.cap_process.proofs.Common.{PrintLines, PrintWrites, closing_if, edit_work, event_packets, infos_work, merge_work, file_packets, packets_in_order}
 use Rattle.cap_process.proofs.Common.{print_work, reports_by, reports_of, packets_written, first_refusal, written_text, drop, map-append, take-append-drop}
-use Rattle.cap_process.proofs.Common.{Items, items_from, CutsGivePrefixes, EndsByRefusal, IsFirstRefused, file_events, packets_edited, packets_merged, packets_printed, ◌≤◌}
+use Rattle.cap_process.proofs.Common.{Items, items_from, CutsGivePrefixes, EndsByRefusal, IsFirstRefused, file_events, packets_edited, packets_merged}
+use Rattle.cap_process.proofs.Common.{packets_printed, ◌≤◌}
 use Rattle.cap_process.proofs.Common.{length-append}
 use Rattle.cap_process.proofs.Lists.{AtRefused, EndsSo, comes, placed, count-packets, end-stays, ends_without_time, filtered-first, judged, judged_by}
 use Rattle.cap_process.proofs.Lists.{judged-is, none-refused, packets-of-input, policy_end, under_way, verdict_end}

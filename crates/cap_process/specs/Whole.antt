@@ -76,9 +76,9 @@ first_refusal form before [] = None
 first_refusal form before (p ∷ ps) =
     option_or (form_refuses form before p) (first_refusal form (before ++ p ∷ []) ps)
 
--- The first packet of these events that the form refuses, and why: of the packets that pass with the
--- events before it none is refused, and with the packet one is. `passing` has those that pass of
--- packets.
+-- The first packet among these events that the form refuses, and why: no packet that passes with the
+-- events before it is refused, and one is if it comes with them. `passing` gives the packets that
+-- pass.
 pub record IsFirstRefused (form : Form) (passing : List Captured → List Captured) (es : List Event)
     (fault : Fault) : Type 0 where
   pub before : List Event
