@@ -1,11 +1,11 @@
 -- The order of a merge is sorted, has each packet once, and keeps those of each input in their
 -- places.
 use Rattle.cap_io.proofs.Common.{◌≡◌, inl, inr, ℕ, ◌+◌, ◌<◌, ◌≤◌, Bool, true, false, if◌then◌else◌, max, List, [], ◌∷◌, ◌++◌, refl, sym, ◌∙◌, ap, arith, nat_eq}
-use Rattle.cap_io.proofs.Common.{IsPermutation, Placed, Ending}
+use Rattle.cap_io.proofs.Common.{subst, IsPermutation, Placed, Ending}
 use Rattle.std.proofs.lemmas.Bool.{cases_order, Decides.nat_tests}
 use Rattle.std.specs.List.{AllByRecursion}
 use Rattle.std.proofs.lemmas.List.Sorted.{IsPermutation-refl, IsPermutation-trans, IsPermutation-cons, IsPermutation-middle}
-use Rattle.cap_io.specs.Merging.{AreSorted, IsNoLater, IsNoLaterThan, MergesSort, events_of, of_input}
+use Rattle.cap_io.specs.Merging.{AreSorted, IsNoLater, IsNoLaterThan, MergesSort, StopAtFault, StopsBy, events_of, of_input}
 use Rattle.cap_io.specs.Sequence.{Entry, Event, Packet, SequenceEnd, Complete, FaultIn, Sequence, InputItems, all_entries, comes_before, end_after, entries_of}
 use Rattle.cap_io.specs.Sequence.{fault_without_packets, insert_entry, sequence_of_entries, sort_entries, unless_fault, with_front}
 
@@ -168,34 +168,46 @@ places input (e ∷ es) each = places-insert input e (sort_entries es) (each-sor
 
 -- ---- those that come
 
-record Come (es : List Entry) (s : Sequence) : Type 0 where
+-- those of sorted entries that come in a sequence, unless the order ends so before it
+record Come (c : SequenceEnd) (es : List Entry) (s : Sequence) : Type 0 where
   come : List Entry
   later : List Entry
   parts : es ≡ come ++ later
   events : s.events ≡ events_of come
   whole : s.end ≡ Complete → later ≡ []
+  stops : StopsBy c come s.end (StopAtFault come later s.end)
 
-comes : (es : List Entry) → Come es (sequence_of_entries es)
-comes [] = record { come = []; later = []; parts = refl; events = refl; whole = λ is. refl }
-comes (e ∷ es) = by_end (comes es) e.end
+comes : (es : List Entry) → Come Complete es (sequence_of_entries es)
+comes [] = record { come = []; later = []; parts = refl; events = refl; whole = λ is. refl; stops = (refl, refl) }
+comes (e ∷ es) = by_end (comes es) e.end refl
   where
-    by_end : Come es (sequence_of_entries es) → (c : SequenceEnd)
-        → Come (e ∷ es) (with_front (Packet e.input e.p ∷ []) (unless_fault c (sequence_of_entries es)))
-    by_end more Complete =
+    by_end : Come Complete es (sequence_of_entries es) → (c : SequenceEnd) → e.end ≡ c
+        → Come Complete (e ∷ es) (with_front (Packet e.input e.p ∷ []) (unless_fault c (sequence_of_entries es)))
+    by_end more Complete is =
+        let end = (sequence_of_entries es).end in
         record {
           come = e ∷ more.come;
           later = more.later;
           parts = ap (λ (l : List Entry). e ∷ l) more.parts;
           events = ap (λ (l : List Event). Packet e.input e.p ∷ l) more.events;
           whole = more.whole;
+          stops = subst (λ (x : SequenceEnd). StopsBy x more.come end (StopAtFault more.come more.later end)) (sym is) more.stops;
         }
-    by_end more (FaultIn input fault offset) =
-        record { come = e ∷ []; later = es; parts = refl; events = refl; whole = λ is. (cc) }
+    by_end more (FaultIn input fault offset) is =
+        let end = FaultIn input fault offset in
+        record {
+          come = e ∷ [];
+          later = es;
+          parts = refl;
+          events = refl;
+          whole = λ is. (cc);
+          stops = subst (λ (x : SequenceEnd). StopsBy x [] end (StopAtFault [] es end)) (sym is) (refl, refl);
+        }
 
-comes-unless : (c : SequenceEnd) (es : List Entry) → Come es (unless_fault c (sequence_of_entries es))
+comes-unless : (c : SequenceEnd) (es : List Entry) → Come c es (unless_fault c (sequence_of_entries es))
 comes-unless Complete es = comes es
 comes-unless (FaultIn input fault offset) es =
-    record { come = []; later = es; parts = refl; events = refl; whole = λ is. (cc) }
+    record { come = []; later = es; parts = refl; events = refl; whole = λ is. (cc); stops = (refl, refl) }
 
 pub merges-sort : MergesSort
 merges-sort rs =
@@ -211,4 +223,5 @@ merges-sort rs =
       parts = c.parts;
       events = c.events;
       whole = c.whole;
+      stops = c.stops;
     }

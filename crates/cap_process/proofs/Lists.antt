@@ -11,6 +11,7 @@ use Rattle.cap_process.proofs.Common.{is_repeated, packets_selected, unique_afte
 use Rattle.cap_process.proofs.Common.{first_refusal, end_by_decision, is_reached, rule_end, at_most, end_at_time, first_without_time, packets_of, tally_of}
 use Rattle.cap_process.proofs.{Marks.last-last, Outcomes.progress-ended, Selectors.upper_bound}
 use Rattle.std.proofs.lemmas.List.{length-append}
+use Rattle.std.specs.Option.{option_map}
 use Rattle.cap_filter.specs.FilterRules as chosen
 use Rattle.cap_process.specs.Lists.{CountsAll, EndsWithoutTime, HasLastMarks, PassesFiltered, ascends, final, greatest, packets_kept as kept, least, marks}
 use Rattle.cap_process.specs.Lists.{times}
@@ -121,12 +122,12 @@ policy_end a k state (Packet input p ∷ es) =
     verdict_end input p (judge a state (k + 1) p.packet).verdict (policy_end a (k + 1) (judge a state (k + 1) p.packet).state es)
 policy_end a k state (InputEnd input kind size ∷ es) = policy_end a k state es
 
--- it ends at a packet that is refused for this; where none is, so
+-- where no packet is refused, it ends so
 abbrev pub EndsSo : Option Fault → Option SequenceEnd → Option SequenceEnd → Type 0
 EndsSo None e end = end ≡ e
-EndsSo (Some fault) e end = (input : ℕ) × (offset : ℕ) × (end ≡ Some (FaultIn input fault offset))
+EndsSo (Some fault) e end = Unit {0}
 
--- a job has these packets, and ends at one that is refused, or so
+-- a job has these packets; it ends so if none is refused
 abbrev pub Comes : List Captured → Option Fault → Option SequenceEnd → JobProgress → Type 0
 Comes written refusal e w = (w.packets ≡ written) × EndsSo refusal e w.end
 
@@ -160,10 +161,7 @@ packet-next a f k state out reports input p es next = by_verdict (judge a state 
     stopped fault = progress-ended a f (end_with w (FaultIn input fault p.offset)) es (FaultIn input fault p.offset) refl
 
     refused : (fault : Fault) (e : Option SequenceEnd) → Comes (out ++ []) (Some fault) e (apply_events a f (end_with w (FaultIn input fault p.offset)) es)
-    refused fault e = (
-      ap (λ (u : JobProgress). u.packets) (stopped fault) ∙ sym (append-nil out),
-      (input, p.offset, ap (λ (u : JobProgress). u.end) (stopped fault)),
-    )
+    refused fault e = (ap (λ (u : JobProgress). u.packets) (stopped fault) ∙ sym (append-nil out), tt)
 
     passing : (q : Captured) (o : Option Fault)
         → Comes (out ++ written_unless o q (packets_written f (out ++ q ∷ []) rest)) (option_or o (first_refusal f (out ++ q ∷ []) rest)) more
@@ -205,6 +203,130 @@ comes a f k state out reports (InputEnd input kind size ∷ es) judges =
     subst (λ (w : JobProgress). Comes (out ++ packets_written f out (judged a k state (event_packets es)))
     (first_refusal f out (judged a k state (event_packets es))) (policy_end a k state es) (apply_events a f w es))
     (sym (end-stays a (under_way k state out reports) input kind size judges)) (comes a f k state out reports es judges)
+
+-- ---- the packet at which it ends
+
+-- a job that goes on from there ends at one of these events, the first packet that is refused, for this
+pub record AtRefused (a : Policy) (f : Form) (k : ℕ) (state : SelectorState) (out : List Captured) (reports : List Report) (es : List Event)
+    (fault : Fault) : Type 0 where
+  pub before : List Event
+  pub input : ℕ
+  pub p : Placed
+  pub later : List Event
+  pub are : es ≡ before ++ Packet input p ∷ later
+  pub taken : first_refusal f out (judged a k state (event_packets before)) ≡ None
+  pub refused : first_refusal f out (judged a k state (event_packets (before ++ Packet input p ∷ []))) ≡ Some fault
+  pub ends : (apply_events a f (under_way k state out reports) es).end ≡ Some (FaultIn input fault p.offset)
+
+abbrev IsPlaced : Policy → Form → ℕ → SelectorState → List Captured → List Report → List Event → Type 0
+IsPlaced a f k state out reports es =
+    (fault : Fault) → first_refusal f out (judged a k state (event_packets es)) ≡ Some fault → AtRefused a f k state out reports es fault
+
+-- one packet, where a refused one among those after it has its place
+placed-next : (a : Policy) (f : Form) (k : ℕ) (state : SelectorState) (out : List Captured) (reports : List Report) (input : ℕ) (p : Placed) (es : List Event)
+    → ((state' : SelectorState) (out' : List Captured) → IsPlaced a f (k + 1) state' out' reports es) → IsPlaced a f k state out reports (Packet input p ∷ es)
+placed-next a f k state out reports input p es next fault hit = by (judge a state (k + 1) p.packet).verdict refl
+  where
+    w : JobProgress
+    w = under_way k state out reports
+
+    after : SelectorState
+    after = (judge a state (k + 1) p.packet).state
+
+    rest : List Event → List Captured
+    rest ds = judged a (k + 1) after (event_packets ds)
+
+    verdict : Verdict
+    verdict = (judge a state (k + 1) p.packet).verdict
+
+    ended : (fault : Fault) → (apply_events a f (end_with w (FaultIn input fault p.offset)) es).end ≡ Some (FaultIn input fault p.offset)
+    ended fault = ap (λ (u : JobProgress). u.end) (progress-ended a f (end_with w (FaultIn input fault p.offset)) es (FaultIn input fault p.offset) refl)
+
+    refusal_by : Verdict → List Event → Option Fault
+    refusal_by v ds = first_refusal f out (judged_by v (rest ds))
+
+    end_by : Verdict → Option SequenceEnd
+    end_by v = (apply_events a f (apply_verdict f w input p v after) es).end
+
+    here : (v : Verdict) → verdict ≡ v → refusal_by v [] ≡ Some fault → end_by v ≡ Some (FaultIn input fault p.offset)
+        → AtRefused a f k state out reports (Packet input p ∷ es) fault
+    here v is refused ends = record {
+      before = [];
+      input = input;
+      p = p;
+      later = es;
+      are = refl;
+      taken = refl;
+      refused = ap (λ (u : Verdict). refusal_by u []) is ∙ refused;
+      ends = ap end_by is ∙ ends;
+    }
+
+    further : (v : Verdict) → verdict ≡ v → (out' : List Captured) → ((ds : List Event) → refusal_by v ds ≡ first_refusal f out' (rest ds))
+        → end_by v ≡ (apply_events a f (under_way (k + 1) after out' reports) es).end → AtRefused a f k state out reports (Packet input p ∷ es) fault
+    further v is out' same ends =
+        let there = next after out' fault (sym (same es) ∙ sym (ap (λ (u : Verdict). refusal_by u es) is) ∙ hit) in
+        record {
+          before = Packet input p ∷ there.before;
+          input = there.input;
+          p = there.p;
+          later = there.later;
+          are = ap (λ (ds : List Event). Packet input p ∷ ds) there.are;
+          taken = ap (λ (u : Verdict). refusal_by u there.before) is ∙ same there.before ∙ there.taken;
+          refused = ap (λ (u : Verdict). refusal_by u (there.before ++ Packet there.input there.p ∷ [])) is
+              ∙ same (there.before ++ Packet there.input there.p ∷ []) ∙ there.refused;
+          ends = ap end_by is ∙ ends ∙ there.ends;
+        }
+
+    -- whether the form refuses a packet that passes
+    passing : (q : Captured) → verdict ≡ Pass q → (o : Option Fault) → form_refuses f out q ≡ o → AtRefused a f k state out reports (Packet input p ∷ es) fault
+    passing q is None taken =
+        further (Pass q) is (out ++ q ∷ []) (λ ds. ap (λ (o : Option Fault). option_or o (first_refusal f (out ++ q ∷ []) (rest ds))) taken)
+        (ap (λ (o : Option Fault). (apply_events a f (unless_refused o w input p (decide w after (q ∷ []) None)) es).end) taken)
+    passing q is (Some x) refused =
+        let why : Some x ≡ Some fault =
+        sym (ap (λ (o : Option Fault). option_or o (first_refusal f (out ++ q ∷ []) (rest es))) refused)
+        ∙ sym (ap (λ (u : Verdict). refusal_by u es) is) ∙ hit in
+        here (Pass q) is (ap (λ (o : Option Fault). option_or o None) refused ∙ why)
+        (ap (λ (o : Option Fault). (apply_events a f (unless_refused o w input p (decide w after (q ∷ []) None)) es).end) refused ∙ ended x
+        ∙ ap (λ (o : Option Fault). option_map (λ (y : Fault). FaultIn input y p.offset) o) why)
+
+    last_one : (q : Captured) → verdict ≡ PassLast q → (o : Option Fault) → form_refuses f out q ≡ o
+        → AtRefused a f k state out reports (Packet input p ∷ es) fault
+    last_one q is None taken =
+        let why : None ≡ Some fault =
+        sym (ap (λ (o : Option Fault). option_or o None) taken) ∙ sym (ap (λ (u : Verdict). refusal_by u es) is) ∙ hit in (cc)
+    last_one q is (Some x) refused =
+        let why : Some x ≡ Some fault =
+        sym (ap (λ (o : Option Fault). option_or o None) refused) ∙ sym (ap (λ (u : Verdict). refusal_by u es) is) ∙ hit in
+        here (PassLast q) is (ap (λ (o : Option Fault). option_or o None) refused ∙ why)
+        (ap (λ (o : Option Fault). (apply_events a f (unless_refused o w input p (decide w after (q ∷ []) (Some Complete))) es).end) refused ∙ ended x
+        ∙ ap (λ (o : Option Fault). option_map (λ (y : Fault). FaultIn input y p.offset) o) why)
+
+    by : (v : Verdict) → verdict ≡ v → AtRefused a f k state out reports (Packet input p ∷ es) fault
+    by (Pass q) is = passing q is (form_refuses f out q) refl
+    by (PassLast q) is = last_one q is (form_refuses f out q) refl
+    by Skip is = further Skip is out (λ ds. refl)
+        (ap (λ (o : List Captured). (apply_events a f (under_way (k + 1) after o reports) es).end) (append-nil out))
+    by (Refuse x) is = let why : None ≡ Some fault = sym (ap (λ (u : Verdict). refusal_by u es) is) ∙ hit in (cc)
+
+-- a job ends at the first packet that is refused
+pub placed : (a : Policy) (f : Form) (k : ℕ) (state : SelectorState) (out : List Captured) (reports : List Report) (es : List Event)
+    → is_count a ≡ false → IsPlaced a f k state out reports es
+placed a f k state out reports [] judges fault hit = (cc)
+placed a f k state out reports (Packet input p ∷ es) judges fault hit =
+    placed-next a f k state out reports input p es (λ state' out'. placed a f (k + 1) state' out' reports es judges) fault hit
+placed a f k state out reports (InputEnd input kind size ∷ es) judges fault hit =
+    let there = placed a f k state out reports es judges fault hit in
+    record {
+      before = InputEnd input kind size ∷ there.before;
+      input = there.input;
+      p = there.p;
+      later = there.later;
+      are = ap (λ (ds : List Event). InputEnd input kind size ∷ ds) there.are;
+      taken = there.taken;
+      refused = there.refused;
+      ends = ap (λ (w : JobProgress). (apply_events a f w es).end) (end-stays a (under_way k state out reports) input kind size judges) ∙ there.ends;
+    }
 
 -- packets of which the form refuses none, wherever it comes among them, are all written
 pub none-refused : (f : Form) (before ps : List Captured) → ((xs : List Captured) (p : Captured) (ys : List Captured) → before ++ ps ≡ xs ++ p ∷ ys

@@ -14,9 +14,11 @@ use Rattle.cap_process.proofs.Common.{packets_kept, packets_of, tally_of, Mark, 
 use Rattle.cap_process.proofs.Common.{EndsUnlessRefused, HasCarried, InfosEnds, MergeEnds, MergesOne, PrintEnds, copy_of, no_options, InfosReports, MergeWrites}
 use Rattle.cap_process.proofs.Common.{PrintLines, PrintWrites, closing_if, edit_work, event_packets, infos_work, merge_work, file_packets, packets_in_order}
 use Rattle.cap_process.proofs.Common.{print_work, reports_by, reports_of, packets_written, first_refusal, written_text, drop, map-append, take-append-drop}
-use Rattle.cap_process.proofs.Common.{Items, items_from, CutsGivePrefixes}
-use Rattle.cap_process.proofs.Lists.{EndsSo, comes, count-packets, end-stays, ends_without_time, filtered-first, judged, judged_by, judged-is, none-refused}
-use Rattle.cap_process.proofs.Lists.{packets-of-input, policy_end, under_way, verdict_end}
+use Rattle.cap_process.proofs.Common.{Items, items_from, CutsGivePrefixes, EndsByRefusal, IsFirstRefused, file_events, packets_edited, packets_merged}
+use Rattle.cap_process.proofs.Common.{packets_printed, ◌≤◌}
+use Rattle.cap_process.proofs.Common.{length-append}
+use Rattle.cap_process.proofs.Lists.{AtRefused, EndsSo, comes, placed, count-packets, end-stays, ends_without_time, filtered-first, judged, judged_by}
+use Rattle.cap_process.proofs.Lists.{judged-is, none-refused, packets-of-input, policy_end, under_way, verdict_end}
 use Rattle.cap_process.proofs.{Outcomes.progress-append, Selectors.upper_bound}
 use Rattle.std.proofs.lemmas.Bool.{and_right}
 use Rattle.cap_io.proofs.{Cuts.cut_tells, Cuts.has_cut, Cuts.items_from-units}
@@ -97,14 +99,55 @@ ends-as : (work : Work) (names : List (List ℕ)) (rs : List InputItems) (w : Jo
 ends-as work names rs w Complete is = record { messages = ap (message names) is; status = ap status is }
 ends-as work names rs w (FaultIn input fault offset) is = record { messages = ap (message names) is; status = ap status is }
 
-command-ends : (work : Work) (names : List (List ℕ)) (rs : List InputItems) (ps : List Captured) → is_count work.policy ≡ false
-    → judged work.policy 0 initial_state (event_packets (sequence_of work.order rs).events) ≡ ps
-    → EndsUnlessRefused names (first_refusal work.form [] ps) (unwrap_or (policy_end work.policy 0 initial_state (sequence_of work.order rs).events)
-    (sequence_of work.order rs).end) (outcome work names rs)
-command-ends work names rs ps judges is =
-    by_refusal (first_refusal work.form [] ps)
-    (subst (λ (l : List Captured). EndsSo (first_refusal work.form [] l) by_policy w.end) is
-    (comes work.policy work.form 0 initial_state [] [] s.events judges).1)
+-- the packets of these events, in their places
+abbrev placed_of : List Event → List Placed
+placed_of [] = []
+placed_of (Packet input p ∷ es) = p ∷ placed_of es
+placed_of (InputEnd input kind size ∷ es) = placed_of es
+
+placed-packets : (es : List Event) → packets_of (placed_of es) ≡ event_packets es
+placed-packets [] = refl
+placed-packets (Packet input p ∷ es) = ap (λ (l : List Captured). p.packet ∷ l) (placed-packets es)
+placed-packets (InputEnd input kind size ∷ es) = placed-packets es
+
+-- of at most as many packets as these events have, those that the policy passes are these
+abbrev Passes : Policy → (List Captured → List Captured) → List Event → Type 0
+Passes a passing es =
+    (ds : List Event) → length (event_packets ds) ≤ length (event_packets es) → judged a 0 initial_state (event_packets ds) ≡ passing (event_packets ds)
+
+event-packets-append : (es fs : List Event) → event_packets (es ++ fs) ≡ event_packets es ++ event_packets fs
+event-packets-append [] fs = refl
+event-packets-append (Packet input p ∷ es) fs = ap (λ (l : List Captured). p.packet ∷ l) (event-packets-append es fs)
+event-packets-append (InputEnd input kind size ∷ es) fs = event-packets-append es fs
+
+front-shorter : (ds es all : List Event) → all ≡ ds ++ es → length (event_packets ds) ≤ length (event_packets all)
+front-shorter ds es all is =
+    let sum : length (event_packets all) ≡ length (event_packets ds) + length (event_packets es) =
+    ap (λ (l : List Event). length (event_packets l)) is ∙ ap length (event-packets-append ds es)
+    ∙ length-append (event_packets ds) (event_packets es) in
+    omega (arith, sum)
+
+-- the place of the first packet that is refused
+refused-at : (work : Work) (passing : List Captured → List Captured) (es : List Event) (fault : Fault) → Passes work.policy passing es
+    → AtRefused work.policy work.form 0 initial_state [] [] es fault → IsFirstRefused work.form passing es fault
+refused-at work passing es fault passes at = record {
+  before = at.before;
+  input = at.input;
+  p = at.p;
+  later = at.later;
+  are = at.are;
+  taken = sym (ap (first_refusal work.form []) (passes at.before (front-shorter at.before (Packet at.input at.p ∷ at.later) es at.are))) ∙ at.taken;
+  refused = sym (ap (first_refusal work.form []) (passes (at.before ++ Packet at.input at.p ∷ [])
+      (front-shorter (at.before ++ Packet at.input at.p ∷ []) at.later es
+      (at.are ∙ sym (append_assoc at.before (Packet at.input at.p ∷ []) at.later))))) ∙ at.refused;
+}
+
+command-ends : (work : Work) (names : List (List ℕ)) (rs : List InputItems) (passing : List Captured → List Captured) → is_count work.policy ≡ false
+    → Passes work.policy passing (sequence_of work.order rs).events
+    → EndsUnlessRefused names work.form passing (sequence_of work.order rs).events
+    (unwrap_or (policy_end work.policy 0 initial_state (sequence_of work.order rs).events) (sequence_of work.order rs).end) (outcome work names rs)
+unfolding refused-at
+command-ends work names rs passing judges passes = by_refusal (first_refusal work.form [] (passing (event_packets s.events))) refl
   where
     s : Sequence
     s = sequence_of work.order rs
@@ -115,24 +158,28 @@ command-ends work names rs ps judges is =
     by_policy : Option SequenceEnd
     by_policy = policy_end work.policy 0 initial_state s.events
 
+    is : judged work.policy 0 initial_state (event_packets s.events) ≡ passing (event_packets s.events)
+    is = passes s.events (omega arith)
+
     final : (o : Option SequenceEnd) → w.end ≡ o → (final_progress work.policy work.form s).end ≡ Some (unwrap_or o s.end)
     final o ends =
         final-is w.end w s.end refl ∙ ap (λ (e : Option SequenceEnd). Some (unwrap_or e s.end)) ends
 
-    by_refusal : (r : Option Fault) → EndsSo r by_policy w.end → EndsUnlessRefused names r (unwrap_or by_policy s.end) (outcome work names rs)
-    by_refusal None so = ends-as work names rs (final_progress work.policy work.form s) (unwrap_or by_policy s.end) (final by_policy so)
-    by_refusal (Some fault) so = record {
-      input = so.0;
-      offset = so.1;
-      by = ends-as work names rs (final_progress work.policy work.form s) (FaultIn so.0 fault so.1) (final (Some (FaultIn so.0 fault so.1)) so.2);
-    }
+    by_refusal : (r : Option Fault) → first_refusal work.form [] (passing (event_packets s.events)) ≡ r
+        → EndsByRefusal names work.form passing s.events r (unwrap_or by_policy s.end) (outcome work names rs)
+    by_refusal None none =
+        let so : EndsSo None by_policy w.end = subst (λ (r : Option Fault). EndsSo r by_policy w.end) (ap (first_refusal work.form []) is ∙ none)
+        (comes work.policy work.form 0 initial_state [] [] s.events judges).1 in
+        ends-as work names rs (final_progress work.policy work.form s) (unwrap_or by_policy s.end) (final by_policy so)
+    by_refusal (Some fault) hit =
+        let at = placed work.policy work.form 0 initial_state [] [] s.events judges fault (ap (first_refusal work.form []) is ∙ hit) in
+        record {
+          first = refused-at work passing s.events fault passes at;
+          by = ends-as work names rs (final_progress work.policy work.form s) (FaultIn at.input fault at.p.offset)
+              (final (Some (FaultIn at.input fault at.p.offset)) at.ends);
+        }
 
 -- ---- one input
-
-event-packets-append : (es fs : List Event) → event_packets (es ++ fs) ≡ event_packets es ++ event_packets fs
-event-packets-append [] fs = refl
-event-packets-append (Packet input p ∷ es) fs = ap (λ (l : List Captured). p.packet ∷ l) (event-packets-append es fs)
-event-packets-append (InputEnd input kind size ∷ es) fs = event-packets-append es fs
 
 one-input : (r : InputItems) (e : Ending) → event_packets (input_sequence 0 r e (sequence_in_turn 1 [])).events ≡ packets_of r.items.packets
 one-input r End =
@@ -141,10 +188,6 @@ one-input r End =
     ∙ append-nil (event_packets (packet_events 0 r.items.packets))
     ∙ packets-of-input 0 r.items.packets
 one-input r (FaultAt fault offset) = packets-of-input 0 r.items.packets
-
-in-file : (a : Policy) (file : List ℕ) → judged a 0 initial_state (event_packets (sequence_in_turn 0 (whole_input file ∷ [])).events) ≡ judged a 0
-    initial_state (file_packets file)
-in-file a file = ap (judged a 0 initial_state) (one-input (whole_input file) (items file).ending)
 
 before-end : (a : Policy) (k : ℕ) (state : SelectorState) (ps : List Placed) (kind : Option Kind) (size : ℕ)
     → policy_end a k state (packet_events 0 ps ++ InputEnd 0 kind size ∷ []) ≡ policy_end a k state (packet_events 0 ps)
@@ -164,13 +207,27 @@ one-end a r (FaultAt fault offset) = refl
 few-placed : (file : List ℕ) → length (file_packets file) < 2 ^ 63 → length (items file).packets < 2 ^ 63
 few-placed file less = let e = length-map (items file).packets (λ (p : Placed). p.packet) in omega (arith, e, less)
 
+file-packets : (file : List ℕ) → event_packets (file_events file) ≡ file_packets file
+file-packets file = one-input (whole_input file) (items file).ending
+
+few-events : (file : List ℕ) (es : List Event) → length (file_packets file) < 2 ^ 63 → length (event_packets es) ≤ length (event_packets (file_events file))
+    → length (placed_of es) < 2 ^ 63
+few-events file es less fewer =
+    let a = length-map (placed_of es) (λ (p : Placed). p.packet) in
+    let b = ap length (placed-packets es) in
+    let c = ap length (file-packets file) in
+    omega (arith, a, b, c, less, fewer)
+
 -- ---- edit
 
+edits : (s : EditRule) (file : List ℕ) → length (file_packets file) < 2 ^ 63 → Passes (Edit s) (packets_edited s) (file_events file)
+edits s file less es fewer =
+    subst (λ (l : List Captured). judged (Edit s) 0 initial_state l ≡ packets_edited s l) (placed-packets es)
+    (sym (judged-is (Edit s) (placed_of es) refl).0 ∙ (ends_without_time s (placed_of es) (few-events file es less fewer)).1)
+
 edited : (s : EditRule) (file : List ℕ) → length (file_packets file) < 2 ^ 63
-    → judged (Edit s) 0 initial_state (event_packets (sequence_in_turn 0 (whole_input file ∷ [])).events) ≡ unique_after s.window []
-    (packets_selected s 1 (file_packets file))
-edited s file less = in-file (Edit s) file ∙ sym (judged-is (Edit s) (items file).packets refl).0
-    ∙ (ends_without_time s (items file).packets (few-placed file less)).1
+    → judged (Edit s) 0 initial_state (event_packets (file_events file)) ≡ packets_edited s (file_packets file)
+edited s file less = edits s file less (file_events file) (omega arith) ∙ ap (packets_edited s) (file-packets file)
 
 pub edit_writes : EditWrites
 edit_writes s format names file less = command-writes (edit_work s format) names (whole_input file ∷ []) _ refl (capture-of-packets format) (edited s file less)
@@ -178,19 +235,24 @@ edit_writes s format names file less = command-writes (edit_work s format) names
 pub edit_ends : EditEnds
 edit_ends s format names file less =
     let r = whole_input file in
-    let ps = unique_after s.window [] (packets_selected s 1 (file_packets file)) in
-    subst (λ (c : SequenceEnd). EndsUnlessRefused names (first_refusal (AsCapture format) [] ps) c (outcome (edit_work s format) names (r ∷ [])))
+    subst (λ (c : SequenceEnd). EndsUnlessRefused names (AsCapture format) (packets_edited s) (file_events file) c
+    (outcome (edit_work s format) names (r ∷ [])))
     (one-end (Edit s) r r.items.ending
     ∙ ap (λ (o : Option SequenceEnd). unwrap_or o (end_of 0 r.items.ending)) (sym (judged-is (Edit s) r.items.packets refl).1
     ∙ (ends_without_time s r.items.packets (few-placed file less)).0))
-    (command-ends (edit_work s format) names (r ∷ []) ps refl (edited s file less))
+    (command-ends (edit_work s format) names (r ∷ []) (packets_edited s) refl (edits s file less))
 
 -- ---- print
 
+prints : (rule : Rule) (count : Option ℕ) (file : List ℕ) → IfSome count (λ (n : ℕ). 0 < n) → length (file_packets file) < 2 ^ 63
+    → Passes (Filter rule count) (packets_printed rule count) (file_events file)
+prints rule count file some less es fewer =
+    subst (λ (l : List Captured). judged (Filter rule count) 0 initial_state l ≡ packets_printed rule count l) (placed-packets es)
+    (filtered-first rule count End (placed_of es) some (few-events file es less fewer)).0
+
 printed : (rule : Rule) (count : Option ℕ) (file : List ℕ) → IfSome count (λ (n : ℕ). 0 < n) → length (file_packets file) < 2 ^ 63
-    → judged (Filter rule count) 0 initial_state (event_packets (sequence_in_turn 0 (whole_input file ∷ [])).events) ≡ at_most count
-    (packets_kept rule (file_packets file))
-printed rule count file some less = in-file (Filter rule count) file ∙ (filtered-first rule count End (items file).packets some (few-placed file less)).0
+    → judged (Filter rule count) 0 initial_state (event_packets (file_events file)) ≡ packets_printed rule count (file_packets file)
+printed rule count file some less = prints rule count file some less (file_events file) (omega arith) ∙ ap (packets_printed rule count) (file-packets file)
 
 pub print_writes : PrintWrites
 print_writes rule count format names file some less =
@@ -217,10 +279,10 @@ print_lines rule count options names file some less =
 pub print_ends : PrintEnds
 print_ends rule count form names file some less =
     let r = whole_input file in
-    let ps = at_most count (packets_kept rule (file_packets file)) in
-    subst (λ (c : SequenceEnd). EndsUnlessRefused names (first_refusal form [] ps) c (outcome (print_work rule count form) names (r ∷ [])))
+    subst (λ (c : SequenceEnd). EndsUnlessRefused names form (packets_printed rule count) (file_events file) c
+    (outcome (print_work rule count form) names (r ∷ [])))
     (one-end (Filter rule count) r r.items.ending ∙ (filtered-first rule count r.items.ending r.items.packets some (few-placed file less)).1)
-    (command-ends (print_work rule count form) names (r ∷ []) ps refl (printed rule count file some less))
+    (command-ends (print_work rule count form) names (r ∷ []) (packets_printed rule count) refl (prints rule count file some less))
 
 -- ---- merge
 
@@ -233,9 +295,10 @@ pub merge_ends : MergeEnds
 merge_ends order format names rs less =
     let s = sequence_of order rs in
     let all = merged 0 initial_state s.events (omega (arith, less)) in
-    subst (λ (e : Option SequenceEnd). EndsUnlessRefused names (first_refusal (AsCapture format) [] (packets_in_order order rs)) (unwrap_or e s.end)
+    subst (λ (e : Option SequenceEnd). EndsUnlessRefused names (AsCapture format) packets_merged s.events (unwrap_or e s.end)
     (outcome (merge_work order format) names rs)) all.1
-    (command-ends (merge_work order format) names rs (packets_in_order order rs) refl all.0)
+    (command-ends (merge_work order format) names rs packets_merged refl
+    (λ es fewer. (merged 0 initial_state es (omega (arith, less, fewer))).0))
 
 -- ---- infos
 
@@ -510,10 +573,11 @@ pub copy_ends : CopyEnds
 copy_ends format names file p ps h =
     let r = whole_input file in
     let all = copied format file p ps h in
-    let selected = packets_selected no_options 1 (file_packets file) in
-    subst (λ (t : Option Fault). EndsUnlessRefused names t (end_of 0 r.items.ending) (outcome (edit_work no_options format) names (r ∷ [])))
-    (ap (first_refusal (AsCapture format) []) all.0 ∙ all.2)
-    (subst (λ (t : Option ℕ). EndsUnlessRefused names (first_refusal (AsCapture format) [] (unique_after None [] selected))
+    subst (λ (t : Option Fault). EndsByRefusal names (AsCapture format) (packets_edited no_options) (file_events file) t (end_of 0 r.items.ending)
+    (outcome (edit_work no_options format) names (r ∷ [])))
+    (ap (λ (l : List Captured). first_refusal (AsCapture format) [] (packets_edited no_options l)) (file-packets file)
+    ∙ ap (first_refusal (AsCapture format) []) all.0 ∙ all.2)
+    (subst (λ (t : Option ℕ). EndsUnlessRefused names (AsCapture format) (packets_edited no_options) (file_events file)
     (unwrap_or (end_at_time t) (end_of 0 r.items.ending)) (outcome (edit_work no_options format) names (r ∷ []))) (all-in-time 1 r.items.packets)
     (edit_ends no_options format names file (few-carried format file p ps h)))
 
