@@ -14,7 +14,7 @@ no_cases : (cs : List Case) → nat_eq (length cs) 0 ≡ true → cs ≡ []
 no_cases [] e = refl
 no_cases (c ∷ cs) e = (let none : length (c ∷ cs) ≡ 0 = eqb-true _ _ e in absurd (omega (arith, none)))
 
-some_cases : (link : Link) (group : Group) (cs : List Case) → nat_eq (length cs) 0 ≡ false → together_formula link group cs ≡ cases_formula link group.qualifiers.direction group.first_key cs group.entries
+some_cases : (link : Link) (group : Group) (cs : List Case) → nat_eq (length cs) 0 ≡ false → together_formula link group cs ≡ cases_formula link group.qualifiers.direction cs
 some_cases link group [] e = cc
 some_cases link group (c ∷ cs) e = refl
 
@@ -23,12 +23,12 @@ returns-then-not-is_empty g c =
     let a = c.args in
     let i = c.self.inside in
     let r = c.emit_cases in
-    let group : Group = record { qualifiers = i.qualifiers; is_plain = i.is_plain; first = i.first; all = i.all.items; cases = i.cases.items; first_key = i.first_key; entries = i.entries } in
+    let group : Group = record { qualifiers = i.qualifiers; is_plain = i.is_plain; first = i.first; all = i.all.items; cases = i.cases.items; entries = i.entries } in
     let is : group ≡ a.self.now = c.self.view_is in
     let searched : is_searched a.self.now ≡ true = sym c.is_searched.ensures ∙ c.if-not-is_searched.false in
     let some : nat_eq (length i.cases.items) 0 ≡ false = search rules in
     subst (λ (f : Formula). EmitsFormula a.link f a.to a.code.now r.result r.new.self)
-    (ap₂ (cases_formula a.link i.qualifiers.direction i.first_key) c.deref.ensures.value c.entries-entries.ensures ∙ sym (ap (group_formula a.link) (sym is) ∙ together_is a.link group i.cases.items (ap is_searched is ∙ searched) refl ∙ some_cases a.link group i.cases.items some))
+    (ap (cases_formula a.link i.qualifiers.direction) c.deref.ensures.value ∙ sym (ap (group_formula a.link) (sym is) ∙ together_is a.link group i.cases.items (ap is_searched is ∙ searched) refl ∙ some_cases a.link group i.cases.items some))
     r.ensures
 
 pub returns : goal.returns
@@ -36,7 +36,7 @@ returns g c =
     let a = c.args in
     let i = c.self.inside in
     let r = c.emit_several in
-    let group : Group = record { qualifiers = i.qualifiers; is_plain = i.is_plain; first = i.first; all = i.all.items; cases = i.cases.items; first_key = i.first_key; entries = i.entries } in
+    let group : Group = record { qualifiers = i.qualifiers; is_plain = i.is_plain; first = i.first; all = i.all.items; cases = i.cases.items; entries = i.entries } in
     let is : group ≡ a.self.now = c.self.view_is in
     let searched : is_searched a.self.now ≡ true = sym c.is_searched.ensures ∙ c.if-not-is_searched.false in
     let none : nat_eq (length i.cases.items) 0 ≡ true = search rules in
