@@ -11,6 +11,7 @@ usage: check_model.py [CRATE..]
 3. The definition of `Name.field` has this field; `path::name` is an item, in CONTRACTS' tables a public one; the clauses
    that CONTRACTS' rows name are those of the row's functions; files exist; and any other name in backquotes is a word of
    some source, edit or script. Words in capitals, as NAME, stand for others.
+4. No line of a proof file has over 160 columns.
 
 The status is 1 where something is listed.
 """
@@ -23,6 +24,7 @@ from meaning import TOGETHER, Meaning, figures
 from sources import ROOT, Sources
 
 INSIDE = ROOT / "docs" / "inside"
+MOST_COLUMNS = 160
 FILE = re.compile(r"[\w./-]+\.(?:rt|antt|md|py|h|c|sh|txt|edit)")
 CLAUSE = re.compile(r"(?:requires|ensures)\*?\s+(\w+)\s*\{")
 FIELD = re.compile(r"^\s*(?:pub )?(?:ghost )?(\w+)\s*:(?!:)", re.MULTILINE)
@@ -56,6 +58,14 @@ def misplaced_definitions(sources):
         count, lines = figures(sources, meaning.closure_of(TOGETHER.get(name, [name])))
         if shown != [f"{count:,}", f"{lines:,}"]:
             yield f"docs/inside/CONTRACTS.md: {name} rests on {count:,} definitions of {lines:,} lines"
+
+
+def long_lines():
+    """Yields the lines of proof files that nobody can read at once."""
+    for path in sorted(ROOT.glob("crates/*/proofs/**/*.antt")):
+        for number, line in enumerate(path.read_text().split("\n"), 1):
+            if len(line) > MOST_COLUMNS:
+                yield f"{path.relative_to(ROOT)}:{number}: {len(line)} columns"
 
 
 def plain(text):
@@ -189,7 +199,7 @@ def main():
     sources = Sources()
     names = Names(Sources(left_out=()))
     faults = [*sources.unknown, *uncommented_definitions(sources, sys.argv[1:]), *misplaced_definitions(sources)]
-    faults += shown_contracts(sources)
+    faults += [*shown_contracts(sources), *long_lines()]
     faults += [fault for page in sorted(INSIDE.glob("*.md")) for fault in stale_names(names, page.name)]
     print(*faults, sep="\n", end="\n" if faults else "")
     print(f"{len(faults)} faults")
