@@ -4,13 +4,13 @@ use Rattle.std.specs.List.{list_all, insert}
 use Rattle.std.specs.Prelude.{ℕ, zero, suc, ◌+◌, ◌-◌, ◌/◌, ◌^◌, ◌==◌, ◌&&◌, nat_lt, nat_le, min, Bool, true, false, if◌then◌else◌, List, [], ◌∷◌, length, take, drop, slice_get, count_by, is_none, Option, Some, None}
 use Rattle.flt_words.specs.declared.token.{Comparison.TheVariants.AtLeast, Protocol.Protocol}
 use Rattle.flt_words.specs.declared.token.ValueType.{ValueType}
-use Rattle.flt_words.specs.declared.token.Side.TheVariants.{Source, Destination}
+use Rattle.flt_words.specs.declared.token.Side.TheVariants.{Source}
 use Rattle.flt_words.specs.declared.token.ValueType.TheVariants.{Host, Net, Proto}
 use Rattle.flt_ast.specs.declared.{qualifiers.Direction.Direction, value.Value.Value}
 use Rattle.cap_octet.specs.{Link.network_offset, declared.link.Link.Link}
 use Rattle.flt_gen.specs.Elementary.{with, kind_test, has_ip_proto, has_ip6_proto}
 use Rattle.flt_gen.specs.Formula.{Formula, Single, Both, Either, Split, all_of, guarded_formula}
-use Rattle.flt_gen.specs.{Numbers.accessor_tests, Primitives.mac_tests, Primitives.ip6_test, Primitives.ip6_tests}
+use Rattle.flt_gen.specs.{Numbers.accessor_tests, Primitives.mac_tests, Primitives.ip6_tests}
 use Rattle.flt_gen.specs.inside.{Emitted.equals, Emitted.needed_tests, Relations.relation_test}
 use Rattle.flt_gen.specs.declared.cases.Bound.{Bound}
 use Rattle.flt_gen.specs.declared.cases.Bound.TheVariants.{Below, From, Exactly}
