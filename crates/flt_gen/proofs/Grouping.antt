@@ -240,10 +240,10 @@ listed_is link group h searched (c ∷ cs) e =
     let d = group.qualifiers.direction in
     let by = case_tests link d in
     let few = h.counted link in
-    let some = some_front link h.kind in
     let front : case_front link c ≡ case_front link h.kind = (alike link d h.kind c (subst (Likes h.kind) (sym e) h.like).0).1 in
     let fronts = ap (λ (ts : List Elementary). length ts) front in
-    let rest = ap (λ ds. sizes (rows by 0 ds) + length ds) e in
+    let rest : sizes (rows by 0 (c ∷ cs)) + length (c ∷ cs) ≡ sizes (rows by 0 group.cases) + length group.cases =
+        ap (λ ds. sizes (rows by 0 ds) + length ds) e in
     let long = length-map cs by in
     let good = decision_good link by _ MOST_DECISIONS 0 (fields_of link d h.kind) (c ∷ cs)
         (shapes_of link d h.kind (c ∷ cs) (subst (Likes h.kind) (sym e) h.like)) in (
