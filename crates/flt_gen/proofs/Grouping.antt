@@ -311,6 +311,8 @@ or_stands link f a group k s same = record { counts = sizes group.entries (λ l.
 protocols_are : (a b : Option Protocol) → same_protocol a b ≡ true → b ≡ a
 protocols_are None None e = refl
 protocols_are (Some Ip) (Some Ip) e = refl
+protocols_are (Some protocol.Arp) (Some protocol.Arp) e = refl
+protocols_are (Some protocol.Rarp) (Some protocol.Rarp) e = refl
 protocols_are (Some Tcp) (Some Tcp) e = refl
 protocols_are (Some Udp) (Some Udp) e = refl
 protocols_are _ _ e = cc

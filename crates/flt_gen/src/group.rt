@@ -95,14 +95,16 @@ fn same_type(one: ValueType, other: ValueType) -> bool
     }
 }
 
-/// Whether both have no protocol, or the same of `ip`, `tcp` and `udp`. Any other counts as never
-/// the same: it isn't looked for together.
+/// Whether both have no protocol, or the same of `ip`, `arp`, `rarp`, `tcp` and `udp`. Any other
+/// counts as never the same: it isn't looked for together.
 fn same_protocol(one: Option<Protocol>, other: Option<Protocol>) -> bool
     ensures { result ≡ same_protocol one other }
 {
     match (one, other) {
         (None, None) => true,
         (Some(Protocol::Ip), Some(Protocol::Ip)) => true,
+        (Some(Protocol::Arp), Some(Protocol::Arp)) => true,
+        (Some(Protocol::Rarp), Some(Protocol::Rarp)) => true,
         (Some(Protocol::Tcp), Some(Protocol::Tcp)) => true,
         (Some(Protocol::Udp), Some(Protocol::Udp)) => true,
         _ => false,

@@ -3,7 +3,7 @@
 use Rattle.std.specs.Prelude.{ℕ, ◌+◌, ◌-◌, ◌^◌, ◌==◌, nat_lt, nat_le, min, max, bit_and, not, Bool, true, false, ◌&&◌, if◌then◌else◌, List, [], ◌∷◌, length, Option, Some, None}
 use Rattle.flt_words.specs.declared.token.Join.TheVariants.{And, Or}
 use Rattle.flt_words.specs.declared.token.Protocol.{Protocol}
-use Rattle.flt_words.specs.declared.token.Protocol.TheVariants.{Ip, Tcp, Udp}
+use Rattle.flt_words.specs.declared.token.Protocol.TheVariants.{Ip, Arp, Rarp, Tcp, Udp}
 use Rattle.flt_words.specs.declared.token.Side.TheVariants.{Source, Destination}
 use Rattle.flt_words.specs.declared.token.ValueType.{ValueType}
 use Rattle.flt_words.specs.declared.token.ValueType.TheVariants.{Host, Net, Port, PortRange}
@@ -89,10 +89,12 @@ same_type PortRange Port = true
 same_type PortRange PortRange = true
 same_type _ _ = false
 
--- both have no protocol, or the same of ip, tcp and udp
+-- both have no protocol, or the same of ip, arp, rarp, tcp and udp
 abbrev pub same_protocol : Option Protocol → Option Protocol → Bool
 same_protocol None None = true
 same_protocol (Some Ip) (Some Ip) = true
+same_protocol (Some Arp) (Some Arp) = true
+same_protocol (Some Rarp) (Some Rarp) = true
 same_protocol (Some Tcp) (Some Tcp) = true
 same_protocol (Some Udp) (Some Udp) = true
 same_protocol _ _ = false
