@@ -6,7 +6,7 @@ use Rattle.flt_gen.proofs.Common.{◌≡◌, ℕ, ◌+◌, ◌-◌, ◌*◌, ◌
     subst, arith, ◌==◌, ◌||◌, ◌&&◌, nat_lt, nat_le, if◌then◌else◌, suc-mul, nat_tests, and_parts, or_parts, Protocol, Ip, Tcp, Udp, Source, Destination, And,
     Or, ValueType, Host, Net, Port, PortRange, Direction, CompleteQualifiers, Value, Interval, Sides, FrameKind, network_offset, not, map, and-false, inl, inr,
     Sought, sought_tests, is_address, joined_all, left_out, high_mask, cut, address_places, port_places, ip_transport, ip6_transport, sought, Entry, TruthTree,
-    check, cast, sized, bare, valued, qualified, compared, denied, joined, is_unfilled, any_primitive, Link, MatchResult, Several, Formula, Both, Either,
+    check, cast, sized, bare, valued, qualified, compared, denied, joined, is_unfilled, any_primitive, Link, Several, Formula, Both, Either,
     Except, is_in, is_within, both, either, negation, Numbers, reads, check_formula, cast_formula, sized_formula, hosts_formula, port_test, port_formula,
     relation_formula, qualified_needed, formula, first_ends, Group, no_group, entry, with_member, same_type, same_protocol, same_direction, goes_with,
     member_of, group_and, larger_group, is_searched, numbers_of, several_formula, all_of, accessor_tests, accessor_test_count, guarded_formula, Elementary,
@@ -24,7 +24,7 @@ use Rattle.flt_gen.proofs.Together.{Fitting, fitting_small, unmasked_fitting, ad
 use Rattle.std.specs.Prelude.{◌⊎◌, count_by}
 use Rattle.flt_words.specs.declared.token.Protocol.TheVariants as protocol
 use Rattle.flt_gen.specs.declared.{address.Hosts.Hosts, cases.Case.Case}
-use Rattle.flt_gen.specs.inside.Cases.{case_of, same_words, key_of, insert_case, case_front, case_tests, MOST_DECISIONS}
+use Rattle.flt_gen.specs.inside.Cases.{case_of, same_words, key_of, case_front, case_tests, MOST_DECISIONS}
 use Rattle.flt_gen.specs.inside.Group.{with_case, has_none, shares_words, case_goes_with, larger_with, together_formula, entry_formula, entry_of, leaf_formula,
     fewest}
 use Rattle.std.proofs.lemmas.List.{length-map}
