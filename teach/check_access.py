@@ -1,7 +1,7 @@
 """What a check of accessibility looks at, found out in the browser.
 
 axe-core isn't in Debian, so check_access.js has those of its rules that apply to such a page.
-Here is what only a browser that is driven from outside can tell: the focus, the tree of a screen
+This script checks what only a browser that is driven from outside can show: the focus, the tree of a screen
 reader, a narrow window, paper.
 """
 import pathlib

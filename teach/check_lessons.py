@@ -100,7 +100,7 @@ def number(value):
 
 
 def expected_rows(program, packet):
-    """What the rows of a run are to show, by the package's own trace."""
+    """What the rows of a run must show, by the package's own trace."""
     steps = program.trace(packet.data, packet.original_length)
     return [
         [str(at), f"({step.index:03})", number(step.a), number(step.x)]
@@ -280,7 +280,7 @@ def check_second_lesson(tab, folder):
 
 
 def check_third_lesson(tab, folder):
-    """The same of lesson 3, but for tcpdump's programs, which another part looks at."""
+    """The same of lesson 3, without tcpdump's programs, which another part checks."""
     rows = library.capkit.Filter("tcp port 80", 1).listing.split("\n")
     rows[0], rows[2], rows[4] = "18", "21 0 7 2048", "21 0 13 6"
     pathlib.Path(folder, "shorter").write_text("\n".join(rows[:5] + rows[7:]))
@@ -428,7 +428,7 @@ def check_too_large(tab, folder):
 
 
 def check_forms(tab, folder):
-    """Dark and light, narrow and wide, on paper; names, order and contrast of what is there."""
+    """Dark and light, narrow and wide, on paper; names, order and contrast of what is shown."""
     for name in ("day", "two", "mixed", "empty"):
         lesson = Lesson(tab, folder, name)
         if name != "empty":

@@ -30,7 +30,7 @@ ARP = {
 }  # fmt: skip
 HEADER_FIELDS = {
     "IPv4": IPV4, "IPv6": IPV6, "ARP": ARP, "RARP": ARP,
-    # What is no network header that is known here has no fields, but a first byte.
+    # Any other network header has only a first byte.
     "other": {(0, 1): "version and header length"},
 }  # fmt: skip
 

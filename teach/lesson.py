@@ -3,11 +3,11 @@
 
 The page has the expression and what it means, its tree, the program with its ways, and the
 packets. A click on a packet shows its bytes, the way through the program, what A and X are at
-each step, and why the packet matched or didn't. With --beside it shows two filters, and on which
+each step, and why the packet matched or didn't. With `--beside` it shows two filters, and on which
 packets they differ: EXPRESSION is filter A, the other one is filter B.
 
-Statuses: 0; 1 where the capture ends with a fault or can't be read, though the packets before it
-are on the page; 2 where the command line, an expression or a listing is refused.
+Statuses: 0; 1 if the capture ends with a fault or can't be read (the packets before it are on the
+page); 2 if the command line, an expression or a listing is refused.
 """
 import argparse
 import pathlib
@@ -56,7 +56,7 @@ def arguments_of(words):
 
 
 def refuse_expression(text, error):
-    """Says why an expression is refused, with a mark where the fault is."""
+    """Says why an expression is refused, and marks the place of the fault."""
     lines = [f"expression: {error}"]
     if error.place is not None and text.isprintable():
         before = text.encode(errors="surrogateescape")[: error.place - 1]
@@ -98,7 +98,7 @@ def shown_name(name):
 
 
 def packets_of(name, most):
-    """The first packets of a capture, what is to be told of its end, and whether it has a fault."""
+    """The first packets of a capture, notes on its end, and whether it has a fault."""
     packets, notes, source = [], [], name
     if name == "-":
         with listing.opened(name) as file:

@@ -1,6 +1,6 @@
 "use strict";
 // Shows what the data of the page holds. It finds out nothing itself: what a packet matches, each
-// step of its run and each reason are in the data. Texts of a capture become text nodes alone.
+// step of its run and each reason are in the data. Texts of a capture only become text nodes.
 
 const lesson = JSON.parse(document.getElementById("lesson").textContent);
 const count = lesson.lines.length;
@@ -49,7 +49,7 @@ function choose(show) {
   tellShown(shown);
 }
 
-// The packet that is some shown ones further; the last one where there are fewer.
+// The packet a number of shown ones further; the last one if there are fewer.
 function further(place, steps) {
   const shown = [...list.querySelectorAll("[role=option]:not([hidden])")].map((item) => item.id.slice(7) - 1);
   const ahead = steps > 0 ? shown.filter((it) => it > place) : shown.filter((it) => it < place).reverse();
@@ -76,7 +76,7 @@ function hex(number, digits) {
   return number.toString(16).padStart(digits, "0");
 }
 
-// The places of bytes that a run reads: 1, or 2 where the last load reads it.
+// The places of bytes that a run reads: 1, or 2 for those of the last load.
 function readPlaces(runs) {
   const places = new Map();
   runs.forEach((run, number) => {
@@ -133,7 +133,7 @@ function showAbout(place) {
 
 // ---- the way through a program
 
-// How many packets before each have the same path: where its values are in the path's columns.
+// How many packets before each have the same path: the index of its values in the path's columns.
 function rowsOf(side) {
   side.paths.forEach((path) => { path.rows = 0; });
   return side.path.map((path) => (path < 0 ? 0 : side.paths[path].rows++));
@@ -156,7 +156,7 @@ function placesOf(path) {
   return places;
 }
 
-// The run of the chosen packet: of each step its instruction, A, X, memory, and where a load reads.
+// The run of the chosen packet: each step's instruction, A, X, memory, and the place that a load reads.
 function runOf(number) {
   const side = lesson.sides[number];
   const path = side.paths[side.path[chosen]];
@@ -187,7 +187,7 @@ function words(memory) {
   return Object.entries(memory).map(([word, value]) => "M[" + word + "] " + number(value)).join(", ");
 }
 
-// Writes a text where it isn't there yet.
+// Writes a text unless the node has it already.
 function write(node, text) {
   if (node.data !== text) node.data = text;
 }
@@ -209,7 +209,7 @@ function clearRow(row) {
 
 const shownWays = lesson.sides.map(() => ({ rows: new Set(), boxes: new Set(), lines: [], drawn: [] }));
 
-// Puts back what isn't on the way that is to be shown.
+// Resets what isn't on the way that will be shown.
 function clearWay(shown, rows, boxes) {
   for (const row of shown.rows) if (!rows.has(row)) clearRow(row);
   for (const box of shown.boxes) if (!boxes.has(box)) box.classList.remove("on-way");
@@ -221,8 +221,8 @@ function clearWay(shown, rows, boxes) {
   shown.drawn = [];
 }
 
-// Marks a line of a picture. Of a jump, which shares a rail with others, the whole way is drawn, in
-// each strip from where it begins to where it ends.
+// Marks a line of a picture. A jump shares a rail with others, so its whole way is drawn, in each
+// strip from its beginning to its end.
 function markLine(line, target, shown, strips) {
   if (!line.dataset.whole) {
     line.classList.add("on-way");
@@ -363,7 +363,7 @@ function go(steps) {
   document.getElementById("step").textContent = "Step " + (next + 1) + ". " + told.join(" ");
 }
 
-// The packet that the address names, from 0; -1 where it names none.
+// The packet that the address names, from 0; -1 if it names none.
 function named() {
   const found = /^#packet-([0-9]+)$/.exec(location.hash);
   return found && found[1] >= 1 && found[1] <= count ? found[1] - 1 : -1;

@@ -2,7 +2,7 @@
 
 The browser takes no script and no style but these two, by their digests in the page's policy, and
 fetches nothing. What comes from a capture is text, which the template escapes, or data (JSON in
-which `<` is written as a number), which the script puts on the page as text alone.
+which `<` is written as a number), which the script puts on the page only as text.
 """
 import base64
 import hashlib
@@ -107,7 +107,7 @@ class Taken:
                 parts.add(packet)
 
     def differences(self):
-        """On which packets the two sides differ; none where there is one."""
+        """The packets on which the two sides differ; none if there is only one side."""
         if len(self.runs) == 1:
             return []
         kept = [[verdict == runs.KEPT for verdict in run.verdicts] for run in self.runs]
@@ -176,7 +176,7 @@ def notes_of_size(packets, count, shown):
 
 
 def page_of(sides, capture, packets, notes):
-    """The bytes of the page, of at most 20 MiB, and what is to be told of its size."""
+    """The bytes of the page, of at most 20 MiB, and notes on its size."""
     count = len(packets)
     if not packets:
         # There is a program to look at, all the same.

@@ -6,7 +6,7 @@ import html
 
 import words
 
-# Sizes in pixels: of a letter of the fixed-width font, a row, and a box.
+# Sizes in pixels: the width of a letter of the fixed-width font, the height of a row, and a box.
 LETTER = 7.9
 ROW = 26
 BOX = 20
@@ -22,7 +22,7 @@ def width_of(text):
 
 
 def svg(width, height, name, parts, kind):
-    """A picture with a name, which who can't see it is told."""
+    """A picture with a name, which a screen reader says."""
     return (
         f'<svg class="{kind}" xmlns="http://www.w3.org/2000/svg" role="img"'
         f' aria-label="{html.escape(name)}" viewBox="0 0 {width} {height}"'
@@ -78,7 +78,7 @@ def tree_picture(root, name):
 def lanes_of(instructions):
     """The jumps past the next instruction, gathered by their kind and their target, each in a lane.
 
-    A lane is beside others that it overlaps with: {(kind, target): (lane, first place, sources)}.
+    A lane is next to others that it overlaps with: {(kind, target): (lane, first place, sources)}.
     """
     sources = {}
     for place, insn in enumerate(instructions):
@@ -113,12 +113,12 @@ def y_of(place):
 
 
 def short_text(text):
-    """An instruction's text without where it leads, which the lines show."""
+    """An instruction's text without its targets, which the lines show."""
     return " ".join(text.split("jt")[0].split())
 
 
 class Flow:
-    """Where the boxes and lines of a program's picture are."""
+    """The places of the boxes and lines of a program's picture."""
 
     def __init__(self, program):
         self.instructions = program.instructions
@@ -192,7 +192,7 @@ def flow_picture(program, name):
 
 
 def flow_strips(program, name):
-    """The same in strips, of which a browser draws those alone that are seen."""
+    """The same in strips: a browser draws only those that are seen."""
     flow, count = Flow(program), len(program.instructions)
     strips = []
     for first in range(0, count, STRIP):

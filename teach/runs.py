@@ -1,8 +1,8 @@
 """The runs of programs on packets, as a page has them.
 
 Packets whose runs meet the same instructions share a path: the indexes of these instructions.
-What a register is before a step is written down only where the instruction before wrote to it,
-and where it is the same on all packets of the path only once. So 10,000 runs of 1,000 steps are
+The value of a register before a step is stored only if the previous instruction wrote to it, and
+only once if it is the same on all packets of the path. So 10,000 runs of 1,000 steps are
 some megabytes.
 """
 import library
@@ -20,7 +20,7 @@ TWO_DIGITS = [first + second for first in DIGITS for second in DIGITS]
 
 
 def size_of(code):
-    """How many bytes of the packet an instruction loads; 0 where it loads none."""
+    """How many bytes of the packet an instruction loads; 0 if it loads none."""
     kind, mode = code & words.CLASS, code & 0xE0
     is_load = kind == words.LOAD and mode in (0x20, 0x40) or kind == words.LOAD_X and mode == 0xA0
     return words.SIZES[code & 0x18] if is_load else 0
@@ -58,7 +58,7 @@ class Path:
         insns = map(program.instructions.__getitem__, places)
         ways = map(words.way_to, insns, places, [*places[1:], -1])
         self.goes = "".join(map(SIGNS.get, ways))
-        """Of each step whether a test held: y, n, or - where it is no test."""
+        """For each step whether a test held: y, n, or - for another instruction."""
         self.columns = []
         """What changes: (the step, what, its values)."""
         self.varying = set()
@@ -81,7 +81,7 @@ class Path:
                 self.varying.add(column)
 
     def value(self, program, trace, step, what):
-        """What something is before a step: a register, a word of memory, where a load reads."""
+        """A value before a step: a register, a word of memory, or the place that a load reads."""
         if what == "a":
             return trace.accumulators[step]
         if what == "x":
@@ -103,7 +103,7 @@ class Path:
 
 
 def packed(values):
-    """Numbers as one where they are all the same, else as digits of 6 bits, as many for each."""
+    """Numbers as one if they are all the same, else as digits of 6 bits, the same number for each."""
     if len(set(values)) == 1:
         return values[0]
     width = -(-max(values).bit_length() // 6)
@@ -114,7 +114,7 @@ def packed(values):
 
 
 def read_at(insn, index):
-    """Where the bytes begin that a load reads."""
+    """The start of the bytes that a load reads."""
     return (insn.k + index) % (1 << 32) if is_indexed(insn.code) else insn.k
 
 
@@ -249,7 +249,7 @@ class Parts:
         self.rows = []
 
     def programs_of(self, link_type):
-        """The program of each node; None where its text is no expression of its own."""
+        """The program of each node; None if its text isn't an expression by itself."""
         if link_type not in self.programs:
             self.programs[link_type] = [program_of(node.text, link_type) for node in self.nodes]
         return self.programs[link_type]

@@ -1,5 +1,5 @@
 #!/usr/bin/env python3
-"""Shows a listing as `tcpdump -d` prints a program, and beside each instruction what it does.
+"""Shows a listing as `tcpdump -d` prints a program, and after each instruction what it does.
 
 usage: show.py [--link ethernet|raw|cooked] [--plain] [LISTING]     (else standard input)
 
@@ -19,7 +19,7 @@ LINKS = {
     "ethernet": library.capkit.LINK_ETHERNET, "raw": library.capkit.LINK_RAW,
     "cooked": library.capkit.LINK_COOKED,
 }  # fmt: skip
-# Where the words begin: most instructions are shorter.
+# The column of the words: most instructions are shorter.
 COLUMN = 48
 
 
@@ -34,7 +34,7 @@ def arguments_of(arguments):
 
 
 def lines_of(program, link_type):
-    """Each instruction, and its words where they are wanted."""
+    """Each instruction, with its words if they are wanted."""
     texts = program.texts()
     if link_type is None:
         return texts

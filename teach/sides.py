@@ -5,7 +5,7 @@ import tree
 import words
 from fields import LINKS
 
-# A larger tree is told and not drawn, and its parts aren't asked one by one.
+# A larger tree isn't drawn: the page says so, and its parts aren't evaluated one by one.
 MOST_NODES = 300
 MOST_PARTS = 60
 # capkit.h's CAPKIT_LINK_TYPE.
@@ -27,7 +27,7 @@ class Side:
         self._numbers = {}
 
     def number_of(self, link_type):
-        """The number of the program for packets of a link type; None where none is made for it."""
+        """The number of the program for packets of a link type; None if none is made for it."""
         if link_type not in self._numbers:
             self._numbers[link_type] = self._add(link_type)
         return self._numbers[link_type]
@@ -47,7 +47,7 @@ class Side:
         return len(self.programs) - 1
 
     def parts(self):
-        """What asks the parts of the tree one by one; None where there are too many, or is one."""
+        """Evaluates the parts of the tree one by one; None if there are too many, or only one."""
         return runs.Parts(self.nodes) if 1 < len(self.nodes) <= MOST_PARTS else None
 
 

@@ -1,5 +1,5 @@
 #!/usr/bin/env python3
-"""Tests of the tools on input that is bad: each gives a message, and a page where there is one.
+"""Tests of the tools on bad input: each gives a message, and a page if there is one.
 
 usage: python3 -m unittest test_tools.py            (in this folder)
 """
@@ -48,7 +48,7 @@ class Tools(unittest.TestCase):
 
 
 class Listings(Tools):
-    """What is no listing, or not of a valid program."""
+    """Texts that aren't listings, or not of valid programs."""
 
     BAD = [
         (b"", "it is empty"),
@@ -134,7 +134,7 @@ class Listings(Tools):
 
 
 class Expressions(Tools):
-    """Expressions that are refused, and what is told of them."""
+    """Expressions that are refused, and the messages on them."""
 
     def test_where(self):
         told = "expression: unknown word (at byte 5)"

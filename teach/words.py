@@ -1,9 +1,9 @@
 """What each instruction of a program does, in words of the field.
 
-These words are a reading aid, written beside the instructions: which field of a packet a load reads
+These words are a reading aid, written next to the instructions: which field of a packet a load reads
 depends on the tests before it, so what is known of the frame is carried along all ways through the
-program. Where the ways don't agree, or the place is no field's, the words name the bytes alone. No
-answer on a page rests on them.
+program. If the ways don't agree, or the place isn't that of a field, the words name only the bytes. No
+result on a page depends on them.
 """
 from typing import NamedTuple, Optional
 
@@ -29,11 +29,11 @@ class Known(NamedTuple):
     networks: frozenset
     transports: frozenset
     field: Optional[str]
-    """What A is, where it is one field."""
+    """The field that A holds, if it is one."""
     is_header: bool
     """Whether X is the length of the IPv4 header."""
     subject: Optional[str] = None
-    """What A was loaded from, where all ways loaded the same."""
+    """What A was loaded from, if all ways loaded the same."""
     mask: Optional[int] = None
     """The bits that were kept of it."""
 
@@ -82,7 +82,7 @@ def transports_of(known):
 
 
 def load_field(known, link, code, k):
-    """The field that a load reads, or None where it isn't one."""
+    """The field that a load reads, or None if it isn't one."""
     size = SIZES.get(code & 0x18)
     if code & 0xE0 == 0x20:
         found = fields_at(known, link, k, size)
@@ -175,7 +175,7 @@ NETWORKS = {"EtherType": ETHERTYPE_NAMES, "version": {0x40: "IPv4", 0x60: "IPv6"
 
 
 def narrowed(known, code, k, holds):
-    """What is known where a test holds, or where it doesn't: more of a test for equality."""
+    """What is known after a test that holds, or that doesn't: more after a test for equality."""
     name = NETWORKS.get(known.field, {}).get(k)
     if code == 0x15 and name in HEADER_FIELDS:
         here = known.networks & {name} or frozenset({name})
@@ -234,7 +234,7 @@ def glosses_of(instructions, link_type):
 
 
 def ways_of(insn, place):
-    """Where an instruction leads: (the index there, "yes", "no" or "next")."""
+    """The targets of an instruction: (the index there, "yes", "no" or "next")."""
     code, jt, jf, k = insn
     if code & CLASS == RETURN:
         return []

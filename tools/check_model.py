@@ -1,19 +1,17 @@
 #!/usr/bin/env python3
-"""Compares docs/inside/ with the sources, and lists with page and line what is no longer so.
+"""Compares docs/inside/ with the sources, and lists each statement that is out of date with its page and line. The gate runs it.
 
-usage: check_model.py [CRATE..]
+usage: check_model.py [CRATE..]      the first check only for these crates
 
-1. Each definition that a public function's contract cites has a comment. With crates, those of these crates. A function is public
-   if other crates can name it, or C.
-   The folders specs/ and specs/inside/ have the definitions that meaning.py states, and CONTRACTS.md's table of lines its counts.
-2. A contract in a fenced block of a page, and a clause in backquotes, stands in src/ as it is shown; `..` stands for
-   what is left out.
-3. The definition of `Name.field` has this field; `path::name` is an item, in CONTRACTS' tables a public one; the clauses
-   that CONTRACTS' rows name are those of the row's functions; files exist; and any other name in backquotes is a word of
-   some source, edit or script. Words in capitals, as NAME, stand for others.
+1. Each definition that a public function's contract cites has a comment. A function is public if other crates or C can name it.
+   A definition is in specs/ or specs/inside/ as meaning.py states, and CONTRACTS.md's table of lines has the right counts.
+2. A contract in a fenced block of a page, and a clause in backquotes, is in src/ as it is shown; `..` is text that was left out.
+3. A field `Name.field` and a file exist; `path::name` is an item, in CONTRACTS' tables a public one; the clauses that
+   CONTRACTS' rows name are those of the row's functions; and any other name in backquotes is a word of some source, edit or
+   script. Words in capitals, such as NAME, are placeholders.
 4. No line of a proof file has over 160 columns.
 
-The status is 1 where something is listed.
+The status is 1 if something is listed.
 """
 import functools
 import os
@@ -127,18 +125,18 @@ class Names:
 
 
 def left_out(folders):
-    """Takes out of a walk what no checkout has."""
+    """Removes the folders that no checkout has from a walk."""
     folders[:] = [name for name in folders if name not in (".git", "out", "__pycache__")]
 
 
 def ends(path):
-    """A path from each of its parts on, but the last alone."""
+    """The path, and what remains without its first parts, up to its last two."""
     parts = path.split("::")
     return ["::".join(parts[at:]) for at in range(len(parts) - 1)]
 
 
 def stale_names(names, page):
-    """Yields what a page names and the sources don't have."""
+    """Yields the names on a page that the sources don't have."""
     crates, is_fenced, is_table = [], False, False
     for number, line in enumerate((INSIDE / page).read_text().split("\n"), 1):
         if line.startswith("#"):

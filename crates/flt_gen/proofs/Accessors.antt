@@ -1,6 +1,6 @@
 -- Tests of accessors and members of a group, one more at a time.
-use Rattle.flt_gen.proofs.Common.{◌≡◌, ℕ, ◌+◌, ◌<◌, List, [], ◌∷◌, ◌++◌, length, take, get_or, refl, ap, ◌∙◌, add-one, reverse, take-suc, reverse-append,
-    Insn, Protocol, Link, accessor_tests, Block, block, emit_all, emit_accessor_tests, Entry, rows_formula}
+use Rattle.flt_gen.proofs.Common.{◌≡◌, ℕ, ◌+◌, ◌<◌, List, [], ◌∷◌, ◌++◌, length, take, get_or, refl, ap, ◌∙◌, add-one, reverse, take-suc, reverse-append, Insn}
+use Rattle.flt_gen.proofs.Common.{Protocol, Link, accessor_tests, Block, block, emit_all, emit_accessor_tests, Entry, rows_formula}
 use Rattle.flt_gen.specs.inside.{Code.emit_formula, Group.entry_formula}
 
 -- one more, and the last is the first

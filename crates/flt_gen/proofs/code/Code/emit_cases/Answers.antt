@@ -13,5 +13,5 @@ returns g c =
     (sym (ap (λ (x : Formula). emit_formula a.link x a.to.yes a.to.no a.self.now) (cases_put a.link a.direction a.cases.now _ c.in-len1-up.len_at_least)
     ∙ guarded_emitted a.link front _ a.to.yes a.to.no a.self.now ∙ ap (λ (e : Block). emit_all front e.entry a.to.no e.code)
     (ap (λ k. emit_formula a.link (decision k MOST_DECISIONS (case_tests a.link a.direction) 0 a.cases.now) a.to.yes a.to.no a.self.now)
-        (sym c.few_of-few.ensures) ∙ c.in_ok-yes.ensures)))
+    (sym c.few_of-few.ensures) ∙ c.in_ok-yes.ensures)))
     r.ensures
