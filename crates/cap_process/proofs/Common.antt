@@ -37,7 +37,7 @@ pub use Rattle.cap_process.specs.Whole.{CopyEnds, EditEnds, EndsAs, EndsUnlessRe
 pub use Rattle.cap_process.specs.Whole.{print_work, rule_end, edit_work, event_packets, file_packets, first_refusal, infos_work, merge_work, no_options}
 pub use Rattle.cap_process.specs.Whole.{packets_in_order, AreRead, NegationParts, is_rejected_on, is_rejection, packets_rejected, CutsGivePrefixes, EditKeeps}
 pub use Rattle.cap_process.specs.Whole.{EditWrites, EditsAlike, MergesOne, copy_of, InfosReports, MergeWrites, PrintLines, PrintWrites, closing_if, reports_by}
-pub use Rattle.cap_process.specs.Whole.{reports_of, packets_written, written_text, written_unless, EndsBy, IsRefused, file_events, packets_edited}
+pub use Rattle.cap_process.specs.Whole.{reports_of, packets_written, written_text, written_unless, EndsByRefusal, IsFirstRefused, file_events, packets_edited}
 pub use Rattle.cap_process.specs.Whole.{packets_merged, packets_printed}
 pub use Rattle.cap_process.specs.inside.Selector.{IsWindowFor, ReturnsVerdict, PolicyState, count_limit, TakesTally, verdict_if, verdict_of, IsVerdict}
 pub use Rattle.cap_process.specs.inside.Selector.{GrowsByOne, HasFewMarks}

@@ -14,7 +14,8 @@ use Rattle.cap_process.proofs.Common.{packets_kept, packets_of, tally_of, Mark, 
 use Rattle.cap_process.proofs.Common.{EndsUnlessRefused, HasCarried, InfosEnds, MergeEnds, MergesOne, PrintEnds, copy_of, no_options, InfosReports, MergeWrites}
 use Rattle.cap_process.proofs.Common.{PrintLines, PrintWrites, closing_if, edit_work, event_packets, infos_work, merge_work, file_packets, packets_in_order}
 use Rattle.cap_process.proofs.Common.{print_work, reports_by, reports_of, packets_written, first_refusal, written_text, drop, map-append, take-append-drop}
-use Rattle.cap_process.proofs.Common.{Items, items_from, CutsGivePrefixes, EndsBy, IsRefused, file_events, packets_edited, packets_merged, packets_printed, ◌≤◌}
+use Rattle.cap_process.proofs.Common.{Items, items_from, CutsGivePrefixes, EndsByRefusal, IsFirstRefused, file_events, packets_edited, packets_merged}
+use Rattle.cap_process.proofs.Common.{packets_printed, ◌≤◌}
 use Rattle.cap_process.proofs.Common.{length-append}
 use Rattle.cap_process.proofs.Lists.{AtRefused, EndsSo, comes, placed, count-packets, end-stays, ends_without_time, filtered-first, judged, judged_by}
 use Rattle.cap_process.proofs.Lists.{judged-is, none-refused, packets-of-input, policy_end, under_way, verdict_end}
@@ -128,7 +129,7 @@ front-shorter ds es all is =
 
 -- the place of the first packet that is refused
 refused-at : (work : Work) (passing : List Captured → List Captured) (es : List Event) (fault : Fault) → Passes work.policy passing es
-    → AtRefused work.policy work.form 0 initial_state [] [] es fault → IsRefused work.form passing es fault
+    → AtRefused work.policy work.form 0 initial_state [] [] es fault → IsFirstRefused work.form passing es fault
 refused-at work passing es fault passes at = record {
   before = at.before;
   input = at.input;
@@ -165,7 +166,7 @@ command-ends work names rs passing judges passes = by_refusal (first_refusal wor
         final-is w.end w s.end refl ∙ ap (λ (e : Option SequenceEnd). Some (unwrap_or e s.end)) ends
 
     by_refusal : (r : Option Fault) → first_refusal work.form [] (passing (event_packets s.events)) ≡ r
-        → EndsBy names work.form passing s.events r (unwrap_or by_policy s.end) (outcome work names rs)
+        → EndsByRefusal names work.form passing s.events r (unwrap_or by_policy s.end) (outcome work names rs)
     by_refusal None none =
         let so : EndsSo None by_policy w.end = subst (λ (r : Option Fault). EndsSo r by_policy w.end) (ap (first_refusal work.form []) is ∙ none)
         (comes work.policy work.form 0 initial_state [] [] s.events judges).1 in
@@ -572,7 +573,7 @@ pub copy_ends : CopyEnds
 copy_ends format names file p ps h =
     let r = whole_input file in
     let all = copied format file p ps h in
-    subst (λ (t : Option Fault). EndsBy names (AsCapture format) (packets_edited no_options) (file_events file) t (end_of 0 r.items.ending)
+    subst (λ (t : Option Fault). EndsByRefusal names (AsCapture format) (packets_edited no_options) (file_events file) t (end_of 0 r.items.ending)
     (outcome (edit_work no_options format) names (r ∷ [])))
     (ap (λ (l : List Captured). first_refusal (AsCapture format) [] (packets_edited no_options l)) (file-packets file)
     ∙ ap (first_refusal (AsCapture format) []) all.0 ∙ all.2)

@@ -76,10 +76,10 @@ first_refusal form before [] = None
 first_refusal form before (p ∷ ps) =
     option_or (form_refuses form before p) (first_refusal form (before ++ p ∷ []) ps)
 
--- The first packet of these events that the form refuses, and why: of the packets that pass with the
--- events before it none is refused, and with the packet one is. `passing` has those that pass of
--- packets.
-pub record IsRefused (form : Form) (passing : List Captured → List Captured) (es : List Event)
+-- The first packet among these events that the form refuses, and why: no packet that passes with the
+-- events before it is refused, and one is if it comes with them. `passing` gives the packets that
+-- pass.
+pub record IsFirstRefused (form : Form) (passing : List Captured → List Captured) (es : List Event)
     (fault : Fault) : Type 0 where
   pub before : List Event
   pub input : ℕ
@@ -93,20 +93,20 @@ pub record IsRefused (form : Form) (passing : List Captured → List Captured) (
 -- it ends by this fault, at the first packet that the form refuses
 pub record EndsAtPacket (names : List (List ℕ)) (form : Form) (passing : List Captured → List Captured)
     (es : List Event) (fault : Fault) (o : Outcome) : Type 0 where
-  pub first : IsRefused form passing es fault
+  pub first : IsFirstRefused form passing es fault
   pub by : EndsByFault names first.input fault first.p.offset o
 
 -- if the form refuses a packet for this, it ends at the first such packet; else like this
-abbrev pub EndsBy : List (List ℕ) → Form → (List Captured → List Captured) → List Event → Option Fault
+abbrev pub EndsByRefusal : List (List ℕ) → Form → (List Captured → List Captured) → List Event → Option Fault
     → SequenceEnd → Outcome → Type 0
-EndsBy names form passing es None end o = EndsAs names end o
-EndsBy names form passing es (Some fault) end o = EndsAtPacket names form passing es fault o
+EndsByRefusal names form passing es None end o = EndsAs names end o
+EndsByRefusal names form passing es (Some fault) end o = EndsAtPacket names form passing es fault o
 
 -- It ends at the first packet of these events that the form refuses; if it refuses none, like this.
 abbrev pub EndsUnlessRefused : List (List ℕ) → Form → (List Captured → List Captured) → List Event
     → SequenceEnd → Outcome → Type 0
 EndsUnlessRefused names form passing es end o =
-    EndsBy names form passing es (first_refusal form [] (passing (event_packets es))) end o
+    EndsByRefusal names form passing es (first_refusal form [] (passing (event_packets es))) end o
 
 -- the packets and the end of a file
 abbrev pub file_events : List ℕ → List Event
