@@ -12,7 +12,7 @@ use Rattle.flt_gen.proofs.Common.{is_within, both, either, negation, Numbers, re
 use Rattle.flt_gen.proofs.Common.{port_formula, relation_formula, qualified_needed, formula, first_ends, Group, no_group, entry, with_member, same_type}
 use Rattle.flt_gen.proofs.Common.{same_protocol, same_direction, goes_with, member_of, group_and, larger_group, is_searched, numbers_of, several_formula}
 use Rattle.flt_gen.proofs.Common.{all_of, accessor_tests, accessor_test_count, guarded_formula, Elementary, with, Tcp, value_formula, Proto, rows_formula}
-use Rattle.flt_gen.proofs.Common.{group_formula, or_any, or_group, choice, grouped_formula, MOST_TOGETHER, FEWEST_RANGES, suc}
+use Rattle.flt_gen.proofs.Common.{group_formula, or_any, or_group, choice, grouped_formula, MOST_TOGETHER, FEWEST_RANGES}
 use Rattle.flt_gen.proofs.Counted.{Sized, Bare, bare_within, bare_some, bare_both, bare_either, bare_else, bare_after, bare_sought, bare_check, bare_cast}
 use Rattle.flt_gen.proofs.Counted.{of_kinds, bare_hosts, bare_ports}
 use Rattle.flt_gen.proofs.Deciding.{fields_of, some_fields, some_front, shapes_of, rows, read_all, sizes, decision_good, Likes, likes_put, sizes_put}
