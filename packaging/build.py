@@ -1,13 +1,13 @@
 #!/usr/bin/env python3
-"""Proves the crates that a program or a library for C needs, in parallel, and builds it. The launcher and library/Makefile call it.
+"""Proves the crates that a program or a library for C needs, side by side, and builds it.
 
 usage: build.py CRATE PRODUCT [TARGET TOOLCHAIN]
 
-For another processor TARGET is its name for rattle, and TOOLCHAIN what cross_arm64.sh makes: only the last crate is proved again.
+TARGET is another than the kit's own, and TOOLCHAIN is made for it (cross_arm64.sh): only the last crate is proved again for it.
 
-A crate is proved once those that it needs are; the crate with the longest chain of crates above it has priority (`nice`). Each
-proof is one call of rattle, the prover of rt's kit, as `rt ci` makes it. A library keeps only its statements, which halves the
-check of the program. A crate with work of `rt check` (in out/incremental) continues from it.
+A crate is proved as soon as those that it needs are. Others stand back (`nice`) for the one with the longest chain. Each
+is one call of rattle, the prover of rt's kit, as `rt ci` makes it: a library has its statements only, which halves what
+the program's own check takes. A crate with work of `rt check` (in out/incremental) is proved over that.
 """
 import fcntl
 import hashlib
