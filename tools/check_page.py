@@ -39,6 +39,7 @@ MARKUP = [
     b"\x1b[31mred\x07\x00", "\u202etxt.exe\u2028\u200b".encode(), b"\xff\xfe not UTF-8", b"javascript:document.title='taken'",
     b"${document.title = 'taken'}", b"{{constructor.constructor('document.title=1')()}}",
 ]  # fmt: skip
+ANY = len(files.Capture((SAMPLES / "any.pcap").read_bytes()).packets)
 KEPT, NOT_KEPT, REJECTED = "matches", "doesn't match", "is rejected"
 
 FILL = """((id, text) => {
@@ -173,12 +174,12 @@ class Page:
         return None
 
     def same_file(self, capture, text, *words):
-        """Compares what is saved with what `capkit print -w` writes."""
+        """Compares what is saved with what `capkit print -w` writes; if a damage comes before the first match, that is no file."""
         made = self.folder / "made"
         made.unlink(missing_ok=True)
         self.run("print", *words, "-w", made, capture, *([text] if text else []))
-        saved = self.saved()
-        self.true(f"saved: {pathlib.Path(capture).name} {text[:60]!r}", saved == made.read_bytes())
+        expected = made.read_bytes() if made.exists() else files.SECTION
+        self.true(f"saved: {pathlib.Path(capture).name} {text[:60]!r}", self.saved() == expected)
 
 
 def check_packet(page, number, packet, listings):
@@ -196,7 +197,7 @@ def check_packet(page, number, packet, listings):
         rows = page.value(ROWS, f"#rows-{place}")
         expected = [[str(at), f"({index:03})", register(a), register(x)] for at, (index, a, x) in enumerate(steps, 1)]
         page.equal(f"{what}: rows", [[row[0], row[1], row[4], row[5]] for row in rows], expected)
-        page.true(f"{what}: {reason}", reason.startswith("It " + verdict) and reason.endswith(f" {len(steps)} step{'s' * (len(steps) > 1)}."))
+        page.true(f"{what}: {reason}", reason.startswith("It " + verdict) and reason.endswith(f" {len(steps):,} step{'s' * (len(steps) > 1)}."))
         for (_, _, x), row in zip(steps, rows):
             load = LOAD.match(f"{row[1]} {row[2]}")
             if load:
@@ -250,7 +251,7 @@ REFUSED = [
     ("tcp port", "not an expression", "tcp port"), ("(" * 101 + "tcp" + ")" * 101, "nested too deep", None),
     ("host 80", "qualifiers do not fit", "host 80"), ("port 70000", "value out of range", "port 70000"),
     ("net 10.0.0.1/8", "bits set past the mask", "net 10.0.0.1/8"), ("len / 0 = 1", "division by zero", "len / 0 = 1"),
-    ("a" * 65537, "too long", None), ("tcp \x1b[31m", "unknown character (at byte 5)", "\x1b"),
+    ("a" * 65537, "longer than 65536 bytes", None), ("tcp \x1b[31m", "unknown character (at byte 5)", "\x1b"),
     (" or ".join(["port 80"] * 3000), "program too long", None),
 ]  # fmt: skip
 
@@ -274,7 +275,7 @@ def check_refused(page):
 LISTINGS = [
     ("", "not a listing (line 1)", ""), ("two\n", "not a listing (line 1)", "two"), ("2\n6 0 0 0\n", "not a listing", None),
     ("1\n6 0 256 0\n", "not a listing (line 2)", "6 0 256 0"), ("0\n", "empty: no packet is run on it", None),
-    ("2\n5 0 0 7\n6 0 0 0\n", "jump out of the program (instruction 0): no packet is run on it", "5 0 0 7"),
+    ("2\n5 0 0 7\n6 0 0 0\n", "jump out (instruction 0): no packet is run on it", "5 0 0 7"),
     ("2\n0 0 0 1\n200 0 0 0\n", "unknown code (instruction 1): no packet is run on it", "200 0 0 0"),
     ("1\n48 0 0 0\n", "no return at the end: no packet is run on it", None),
 ]  # fmt: skip
@@ -283,10 +284,11 @@ LISTINGS = [
 def check_listing(page):
     """Programs as listings: that of an expression, others, refused ones."""
     page.fill(FIRST)
+    matching = page.packets("+")
     page.fill("listing", name="kind")
     listing = listing_of(page, FIRST)
     page.equal("the listing of an expression", page.value("document.getElementById('text-0').value").encode(), listing)
-    page.equal("it matches the same", len(page.packets("+")), 8 if False else len(page.packets("+")))
+    page.equal("it matches the same", page.packets("+"), matching)
     odd = b"3\n128 0 0 0\n84 0 0 1\n22 0 0 0\n"
     page.fill(odd.decode())
     day = files.Capture((SAMPLES / "day.pcap").read_bytes())
@@ -348,13 +350,13 @@ def check_captures(page):
     for name, data, told in (("none", b"", "it is damaged at byte 0"), ("text", b"this isn't a capture", "it is damaged at byte 0 (not a capture file)")):
         page.load(write(page, name, data), 0)
         page.true(page.text("#about"), told in page.text("#about"))
-    page.load(SAMPLES / "any.pcap", 10)
+    page.load(SAMPLES / "any.pcap", ANY)
     told = page.text("#message-0")
-    page.true(told, "0 of 10 packets match" in told and told.endswith("276, so 10 packets of it can't match"))
+    page.true(told, f"0 of {ANY} packets match" in told and told.endswith(f"276, so {ANY} packets of it can't match"))
     page.packets("all")
     page.equal("told", page.text("#reasons .reason"), "It isn't filtered: its link type is 276.")
     page.fill("")
-    page.equal("the empty expression", len(page.packets("+")), 10)
+    page.equal("the empty expression", len(page.packets("+")), ANY)
     page.sample("two-sections.pcapng")
     page.fill("ip")
     page.packets("all")
@@ -371,8 +373,7 @@ def check_captures(page):
         fault = f"; it is damaged at byte {capture.at} ({capture.fault}), so nothing is read from there on" if capture.fault else ""
         page.true(f"{about}: {fault}", about.endswith(f"packet{'' if len(capture.packets) == 1 else 's'}{fault}"))
         page.fill("")
-        page.equal("lines", [line[line.index("  ") + 2 :] for line in page.texts("[role=option]")] if capture.packets else [],
-                   [printing.line(it).rstrip("\n") for it in capture.packets])
+        page.equal("lines", [re.search(r"\d+  (.*)", line)[1] for line in page.texts("[role=option]")], [printing.line(it).rstrip("\n") for it in capture.packets])
 
 
 def check_saved(page):
@@ -383,7 +384,7 @@ def check_saved(page):
         for text in ("", "tcp port 80", "not tcp", "len < 60", "arp or ip[8] > 63"):
             page.fill(text)
             page.same_file(SAMPLES / name, text)
-    page.load(SAMPLES / "any.pcap", 10)
+    page.load(SAMPLES / "any.pcap", ANY)
     page.fill("")
     page.same_file(SAMPLES / "any.pcap", "")
 
@@ -391,8 +392,9 @@ def check_saved(page):
 def check_hostile(page):
     """Markup and control characters of a capture are text, and the page fetches nothing."""
     writer = files.Writer("pcapng")
-    written = b"".join(writer.put(files.Packet(1, 0, text, 10**9, len(text), text, text)) for text in MARKUP)
-    page.load(write(page, "<b>hostile.pcapng", written), len(MARKUP))
+    for text in MARKUP:
+        writer.put(files.Packet(1, 0, text, 10**9, len(text), text, text))
+    page.load(write(page, "<b>hostile.pcapng", b"".join(writer.pieces)), len(MARKUP))
     page.fill("ether[0] = 60 or tcp")
     page.packets("all")
     for number, text in enumerate(MARKUP, 1):
@@ -470,8 +472,7 @@ def check_lessons(page):
     shown = re.search(r"```text\n(\(000\).*?)```", (ROOT / "docs" / "TEACHING.md").read_text(), re.DOTALL)[1]
     page.fill("tcp port 80")
     rows = page.value("[...document.querySelectorAll('#rows-0 tr')].map((row) => [...row.cells].slice(1, 4).map((it) => it.textContent))")
-    page.equal("the program", [re.split(r"\s{2,}", line.strip(), maxsplit=0) for line in shown.splitlines()],
-               [[f"{index} {text}", words] for index, text, words in rows])
+    page.equal("the program", [" ".join(line.split()) for line in shown.splitlines()], [" ".join(row) for row in rows])
     page.packets("all")
     for number, steps in ((1, 4), (3, 5), (5, 12), (6, 10)):
         page.driver.click(f"#packet-{number}")
@@ -497,24 +498,22 @@ def check_lessons(page):
     page.driver.click(f"#packet-{rejected[0]}")
     for reason in page.texts("#reasons .reason"):
         page.true(reason, "it loads bytes 34 to 35, counted from 0, and 30 were captured" in reason)
-    for text, told in (("net 10.0.0.0/8", "is the source network 10.0.0.0/8? Yes, it is 10."), ("len > 1000", "is the length above 1000? No, it is 60"),
-                       ("arp host 10.0.0.1", "is the operation")):  # fmt: skip
-        Page.count += 0
-    check_lists_of_words(page)
+    page.driver.click("#beside")
+    page.sample("day.pcap")
+    check_words(page)
 
 
 WORDS = [
-    ("udp dst port 53", 1, ["A is the EtherType (2 bytes from byte 12)", "is the EtherType IPv4?", "is it a later fragment?",
-                            "is the destination port 53?", "keep the packet", "don't keep it"]),
-    ("arp host 10.0.0.1", 1, ["is the sender's IPv4 address 10.0.0.1?"]), ("net 10.0.0.0/8", 1, ["is the source network 10.0.0.0/8?"]),
+    ("udp dst port 53", ["A is the EtherType (2 bytes from byte 12)", "is the EtherType IPv4?", "is it a later fragment?",
+                         "is the destination port 53?", "keep the packet", "don't keep it"]),
+    ("arp host 10.0.0.1", ["is the sender's IPv4 address 10.0.0.1?"]), ("net 10.0.0.0/8", ["is the source network 10.0.0.0/8?"]),
+    ("ip6 host ::1 or icmp[0] = 8 or len / 3 > 5", ["divide A by 3", "is the ICMP type 8?"]),
 ]  # fmt: skip
 
 
-def check_lists_of_words(page):
+def check_words(page):
     """Instructions and reasons in words."""
-    page.driver.click("#beside")
-    page.sample("day.pcap")
-    for text, _, wanted in WORDS:
+    for text, wanted in WORDS:
         page.fill(text)
         words = page.texts("#rows-0 td:nth-child(4)")
         page.equal(f"{text}: in words", [it for it in wanted if it not in words], [])

@@ -18,7 +18,7 @@ import sys
 
 from source_files import ROOT, blanked
 
-PAGES = ["*.md", "docs/**/*.md", "library/*.md", "library/*/*.md", "samples/*.md", "teach/*.md", "packaging/pages/*"]
+PAGES = ["*.md", "docs/**/*.md", "library/*.md", "library/*/*.md", "samples/*.md", "teach/*.md", "web/*.md", "packaging/pages/*"]
 CODE = ["library/include/*.h", "crates/*/src/**/*.rt", "crates/*/specs/**/*.antt"]
 # The crates whose texts a user of the program reads.
 PROGRAM = {"capkit", "cap_command"}

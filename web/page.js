@@ -78,11 +78,13 @@ function addSide() {
   return side;
 }
 
+// What a filter is called before something of it: nothing if it is the only one.
+const letterOf = (place, after) => (sides.length > 1 ? `Filter ${'AB'[place]}${after}` : '');
 function nameSides() {
   sides.forEach(({ parts, run }, place) => {
-    const letter = sides.length > 1 ? ` ${'AB'[place]}` : '';
-    parts.title.textContent = `Filter${letter}`;
-    run.program.textContent = letter ? `The program of filter${letter}` : 'The program';
+    parts.title.textContent = letterOf(place, '') || 'Filter';
+    parts.parts.textContent = letterOf(place, ': its parts') || 'Its parts';
+    run.program.textContent = letterOf(place, ': the program') || 'The program';
   });
   $('beside').setAttribute('aria-pressed', sides.length > 1);
   const option = $('show').querySelector('[value=differ]');
@@ -329,7 +331,7 @@ function showFacts(it, i) {
 
 function showReasons(it) {
   $('reasons').replaceChildren(...(it ? sides : []).map((side, place) => {
-    const { look, trace } = side, letter = sides.length > 1 ? `Filter ${'AB'[place]}: ` : '', paragraph = made('p', letter);
+    const { look, trace } = side, paragraph = made('p', letterOf(place, ': '));
     const reason = trace ? `${reasonOf(look.instructions, look.glosses, trace, it.captured)} ${counted(trace.states.length, 'step')}.`
       : `It isn't filtered: its link type is ${it.link}.`;
     paragraph.append(made('span', reason, `reason mark-${OUTCOMES[trace?.verdict ?? NOT_FILTERED][2]}`));
@@ -458,16 +460,16 @@ function showBytes() {
 
 function showStep() {
   const told = [];
-  for (const { rows, trace, look, run } of sides) {
+  sides.forEach(({ rows, trace, look, run }, place) => {
     for (const row of run.rows.querySelectorAll('.here')) row.classList.remove('here');
     const state = trace?.states[step], row = state && rows.get(state.index);
     row?.classList.add('here');
     row?.scrollIntoView({ block: 'nearest' });
     if (state) {
       const { text } = look.glosses[state.index], insn = look.instructions[state.index].text.replace(/\s+/g, ' ');
-      told.push(`${insn}: ${text}. Before it A is ${register(state.a)} and X is ${register(state.x)}.`);
+      told.push(`${letterOf(place, ': ')}${insn}: ${text}. Before it A is ${register(state.a)} and X is ${register(state.x)}.`);
     }
-  }
+  });
   say($('step'), step < 0 ? '' : `Step ${step + 1}. ${told.join(' ')}`);
   showBytes();
 }

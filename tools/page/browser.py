@@ -20,7 +20,7 @@ import time
 import urllib.request
 
 ELEMENT = "element-6066-11e4-a52e-4f735466cecf"
-SECONDS = 120
+SECONDS = 40
 # Of a machine without a display, and of root, whose processes Chromium doesn't put into a sandbox.
 OPTIONS = ["--headless=new", "--no-sandbox", "--disable-gpu", "--disable-background-networking", "--hide-scrollbars", "--force-color-profile=srgb"]
 KEYS = {"Tab": "\ue004", "Enter": "\ue007", "Space": " ", "PageUp": "\ue00e", "PageDown": "\ue00f", "End": "\ue010", "Home": "\ue011",
@@ -97,8 +97,7 @@ class Browser:
 
     def to_element(self, selector, name, marionette, **parameters):
         found = self.send("element", "WebDriver:FindElement", using="css selector", value=selector)
-        element = found.get("value", found)[ELEMENT]
-        self.send(f"element/{element}/{name}", marionette, id=element, **parameters)
+        self.send(f"element/{found[ELEMENT]}/{name}", marionette, id=found[ELEMENT], **parameters)
 
 
 class Chromium(Browser):
@@ -150,7 +149,7 @@ class Chromium(Browser):
         """The addresses that pages asked for since this was asked last, but files and what they made themselves."""
         events = [json.loads(it["message"])["message"] for it in self.log("performance")]
         asked = [it["params"]["request"]["url"] for it in events if it["method"] == "Network.requestWillBeSent"]
-        return [it for it in asked if not it.startswith(("file:", "blob:", "about:", "data:"))]
+        return [it for it in asked if not it.startswith(("file:", "blob:", "about:", "data:", "chrome:"))]
 
     def picture(self):
         return base64.b64decode(self.call("Page.captureScreenshot", format="png", captureBeyondViewport=True)["data"])
