@@ -3,8 +3,8 @@
 # python3, libpcap's headers and capkit itself are there it uses them too, and says which are missing. The last line
 # says whether all was as it should be.
 #
-# usage: library/check.sh [ROUNDS [INPUTS]]   ROUNDS of random programs and packets, 100000 where none are given;
-#                                             INPUTS damaged under each sanitizer, 5000 where none are given
+# usage: library/check.sh [ROUNDS [INPUTS]]   ROUNDS of random programs and packets (100000);
+#                                             INPUTS damaged under each sanitizer (5000)
 set -eu
 cd "$(dirname "$0")"
 rounds=${1:-100000}
@@ -64,7 +64,7 @@ sleep 0.2
 test "$(wc -l <out/live.txt)" = 1 || { echo 'stream: no packet of a live pipe'; bad=1; }
 exec 3>&-
 wait $! || bad=1
-# A fault is told at once, though more bytes may come.
+# A fault is reported at once, though more bytes may come.
 { cat ../samples/damaged.pcap && sleep 10; } | timeout 8 out/stream >/dev/null 2>out/stream.txt || true
 test "$(cat out/stream.txt)" = 'stream: -: offset 2631: too long' || { echo 'stream: a fault after the end'; bad=1; }
 # What an expression means; and a refused one.

@@ -18,7 +18,7 @@ wrong() {
     printf '%s\n' "$*"
     bad=1
 }
-# Debian's Python has the tools that build a wheel, where the first one in PATH may not.
+# The tools that build a wheel may be missing in the first Python in PATH; Debian's has them.
 for python in python3 /usr/bin/python3 none; do
     "$python" -c 'import setuptools, wheel, venv, pip' 2>/dev/null && break
 done
@@ -47,7 +47,7 @@ check_python() {
     "$packages/venv/bin/pip" -q --disable-pip-version-check install --no-index out/python/capkit-*.whl
     (cd "$packages" && CAPKIT_SAMPLES=$samples venv/bin/python -I -W error -m unittest discover -q -s "$library/python/tests") ||
         wrong 'Python: tests'
-    # The source package alone, and a folder without a library.
+    # Only the source package, and a folder without a library.
     tar -C "$packages" -xzf out/python/capkit-"$version".tar.gz
     test -e "$packages/capkit-$version/libcapkit.so.0" || wrong 'Python: the source package has no library'
     rm "$packages/capkit-$version/libcapkit.so.0"
@@ -94,7 +94,7 @@ check_rust() {
 
 check_go() {
     make -s go
-    # A cache would keep where the library was the last time.
+    # A cache would keep the library's place of the last time.
     export GOFLAGS=-mod=mod GOPROXY=off CGO_ENABLED=1 GOCACHE="$packages/go-cache"
     test -z "$(gofmt -l go)" || wrong 'Go: layout'
     # With the race detector: goroutines share what may be shared.
@@ -178,7 +178,7 @@ check_keep() {
     done
     expect 1 'too long' '' keep tcp "$samples/damaged.pcap" "$kept"
     test "$(linked "$packages/c-filter" '' "$kept" | tail -n 1)" = '22 of 22 packets match' || wrong "$language: not all are kept"
-    # What is refused leaves the output.
+    # A refused run doesn't change the output.
     cp "$samples/day.pcap" "$packages/self.pcap"
     printf 'some text\n' >"$packages/text"
     expect 2 'is the input too' '' keep tcp "$packages/self.pcap" "$packages/self.pcap"

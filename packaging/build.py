@@ -32,8 +32,8 @@ C_CODE = [KIT / "c/libos_c.a", KIT / "c/liblibc_c.a"] if TARGET == OWN else [TOO
 MALLOC = "allocating"
 LOGIC = ["--antt-project", KIT / "rattle/logic/antt-project.json", "--logic-built", KIT / "logic_built"]
 LINK = [KIT / "bin/rattle-link", "--target", TARGET, "--toolchain", TOOLCHAIN]
-# What a job takes of memory. A byte of code costs as much to check as CODE bytes of definitions and proofs. A crate has one
-# job more for each LARGE of these at most, and no more than MOST_JOBS, since each loads anew what the crate stands on.
+# The memory of a job, in bytes. A byte of code costs as much to check as CODE bytes of definitions and proofs. A crate has at most
+# one more job for each LARGE of these, and at most MOST_JOBS, since each job loads all crates below it.
 MEMORY, CODE, LARGE, MOST_JOBS = 2_000_000_000, 13, 100_000, 3
 
 join = lambda words: shlex.join(map(str, words))
@@ -129,7 +129,7 @@ def crates_below(top):
 def jobs_for(crate, ready, waiting, running, room, beyond):
     """As many jobs as keep all else from waiting for the longest chain, or as no other crate can use; without room none."""
     free = room + beyond - (taken := sum(it.jobs for it in running))
-    # What each processor has left to do: of what runs, half on average.
+    # The work left for each processor: half of what runs, on average.
     share = (sum(it.size for it in waiting) + sum(it.size for it in running) / 2) / max(room - 1, 1)
     wanted = max(int(1.2 * crate.chain / max(share, 1)), room - len(ready) - taken)
     return max(min(wanted, free, MOST_JOBS, 1 + crate.size // LARGE), min(free, 1), not running)

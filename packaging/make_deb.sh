@@ -31,7 +31,7 @@ else
     fi
 fi
 
-# The program tells its version itself, and has the text of it, since one for another machine can't be run here.
+# The program prints its version; a program for another processor can't be run here, so its text is searched for.
 version_of() { # PROGRAM
     if [ -n "$cross" ]; then
         printf 'capkit %s\n' "$(grep -ao '[0-9.]* (rattle-kit-[^)]*)' "$1")"
@@ -73,7 +73,7 @@ for page in "$work"/pages/*; do
 done
 gzip -9n "$tree"/usr/share/man/man?/*
 
-# The documents that a user reads, the samples, and what the recipes call beside them.
+# The pages for users, the samples, and the scripts that recipes call.
 install -m 644 "$root"/samples/* "$documents/samples/"
 install -m 644 "$root/bench/make_capture.py" "$documents/bench/"
 for file in draw library listing pictures; do

@@ -6,7 +6,7 @@ usage: draw.py [--dot] [LISTING] > ways.svg     (else standard input)
   capkit compile tcp port 80 | draw.py > ways.svg
   capkit compile tcp port 80 | draw.py --dot | dot -Tsvg > ways.svg
 
-Solid arrows go where a test holds, dashed ones where it doesn't. The names are those of `tcpdump
+Solid arrows are for a test that holds, dashed ones for one that doesn't. The names are those of `tcpdump
 -d`. No other program is needed; --dot is for those who have Graphviz. A listing that isn't one of
 a valid program is refused with status 2.
 """

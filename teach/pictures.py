@@ -2,7 +2,7 @@
 import html
 
 CLASS, JUMP, RETURN, GO_ON = 7, 5, 6, 5
-# Sizes in pixels: of a letter of the fixed-width font, a row, and a box.
+# Sizes in pixels: the width of a letter of the fixed-width font, the height of a row, and a box.
 LETTER = 7.9
 ROW = 26
 BOX = 20
@@ -15,7 +15,7 @@ def width_of(text):
 
 
 def svg(width, height, name, parts):
-    """A picture with a name, which who can't see it is told."""
+    """A picture with a name, which a screen reader says."""
     return (
         f'<svg xmlns="http://www.w3.org/2000/svg" role="img"'
         f' aria-label="{html.escape(name)}" viewBox="0 0 {width} {height}"'
@@ -35,7 +35,7 @@ def box(x, y, width, text, attributes):
 
 
 def ways_of(insn, place):
-    """To where an instruction leads: (the index there, "yes", "no" or "next")."""
+    """The ways from an instruction: (the index there, "yes", "no" or "next")."""
     code, jt, jf, k = insn
     if code & CLASS == RETURN:
         return []
@@ -49,7 +49,7 @@ def ways_of(insn, place):
 def lanes_of(instructions):
     """The jumps past the next instruction, gathered by their kind and their target, each in a lane.
 
-    A lane is beside others that it overlaps with: {(kind, target): (lane, first place, sources)}.
+    A lane is next to others that it overlaps with: {(kind, target): (lane, first place, sources)}.
     """
     sources = {}
     for place, insn in enumerate(instructions):
@@ -84,12 +84,12 @@ def y_of(place):
 
 
 def short_text(text):
-    """An instruction's text without where it leads, which the lines show."""
+    """An instruction's text without its targets, which the lines show."""
     return " ".join(text.split("jt")[0].split())
 
 
 class Flow:
-    """Where the boxes and lines of a program's picture are."""
+    """The places of the boxes and lines of a program's picture."""
 
     def __init__(self, program):
         self.instructions = program.instructions

@@ -38,7 +38,7 @@ class Listings(unittest.TestCase):
         self.assertEqual((done.returncode, done.stdout), (status, b""), said)
         return said
 
-    # What is no listing, or not of a valid program.
+    # Texts that aren't listings, or not of valid programs.
     BAD = [
         (b"", "it is empty"),
         (b"\n\n", "it is empty"),

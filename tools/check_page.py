@@ -5,7 +5,7 @@ usage: check_page.py [--page FILE] [--capkit PROGRAM] [--only WORD] [--calls FIL
 
 Lines, bytes, verdicts, steps and registers are compared with tools/cases/, which shares nothing with capkit's code; listings and
 saved files with the program. --calls makes the calls that tools/port/calls.py wrote in the page's module, and compares every byte of
-every buffer. --pictures leaves pictures of the page in a folder. --only runs the parts whose name has a word. It needs gcc, and
+every buffer. --pictures writes pictures of the page to a folder. --only runs the parts whose name has a word. It needs gcc, and
 Debian's packages chromium, chromium-driver and firefox-esr. The last line counts what is wrong; if it isn't 0 the status is 1.
 """
 import argparse
@@ -174,7 +174,7 @@ class Page:
         return None
 
     def same_file(self, capture, text, *words):
-        """Compares what is saved with what `capkit print -w` writes; if a damage comes before the first match, that is no file."""
+        """Compares what is saved with what `capkit print -w` writes; if a damage comes before the first match, it writes none."""
         made = self.folder / "made"
         made.unlink(missing_ok=True)
         self.run("print", *words, "-w", made, capture, *([text] if text else []))
@@ -319,7 +319,7 @@ def check_beside(page):
     """Two filters side by side: on which packets they differ, and the runs of both."""
     other = "tcp port 80 or (443 and host 10.0.0.6)"
     page.fill(FIRST)
-    page.driver.click("#beside")
+    page.driver.click("#second")
     page.fill(other, 1)
     day = files.Capture((SAMPLES / "day.pcap").read_bytes())
     differ = [at for at, it in enumerate(day.packets, 1) if verdict_of(FIRST, it) != verdict_of(other, it)]
@@ -331,7 +331,7 @@ def check_beside(page):
         check_packet(page, number, day.packets[number - 1], listings)
     page.show("all")
     page.equal("marked", page.value("[...document.querySelectorAll('.differs')].map((it) => Number(it.id.slice(7)))"), differ)
-    page.driver.click("#beside")
+    page.driver.click("#second")
     page.equal("one again", page.texts("h2")[1], "Filter")
 
 
@@ -421,7 +421,7 @@ def tab_to(page, name):
 
 
 def check_keys(page):
-    """The keyboard alone: an expression, the list, steps, a second filter, saving."""
+    """Only the keyboard: an expression, the list, steps, a second filter, saving."""
     page.value("document.querySelector('.skip').focus()")
     tab_to(page, "text-0")
     page.value("document.getElementById('text-0').select()")
@@ -452,14 +452,14 @@ def check_keys(page):
     page.driver.keys("ArrowUp")
     page.equal("another packet", page.texts(".here"), [])
     page.value("document.querySelector('.skip').focus()")
-    tab_to(page, "beside")
+    tab_to(page, "second")
     page.driver.keys("Enter")
     page.equal("the second filter has the focus", page.value("document.activeElement.id"), "text-1")
 
 
 def check_address(page):
     """What the address of the page names is opened."""
-    page = Page(page.driver, "#filter=tcp+port+80&beside=not+tcp+port+80&sample=short.pcap&packet=7")
+    page = Page(page.driver, "#filter=tcp+port+80&with=not+tcp+port+80&sample=short.pcap&packet=7")
     page.equal("packet", page.text("#packet"), "Packet 7")
     page.equal("filters", page.value("[...document.querySelectorAll('textarea')].map((it) => it.value)"), ["tcp port 80", "not tcp port 80"])
     page.true("sample", page.text("#about").startswith("short.pcap"))
@@ -480,7 +480,7 @@ def check_lessons(page):
     for text, count in (("tcp port 80", 9), ("arp", 2), ("udp", 4), ("icmp", 4), ("tcp", 34), ("ip6", 2), ("ip6 and udp", 2), ("not port 53", 40)):
         page.fill(text)
         page.equal(text, len(page.packets("+")), count)
-    page.driver.click("#beside")
+    page.driver.click("#second")
     ten = [1, 2, 3, 4, 14, 15, 16, 17, 34, 35]
     for sample, one, other, differ in (
         ("day.pcap", "host 10.0.0.5 and tcp port 80 or 443", "host 10.0.0.5 and (tcp port 80 or 443)", 9),
@@ -498,7 +498,7 @@ def check_lessons(page):
     page.driver.click(f"#packet-{rejected[0]}")
     for reason in page.texts("#reasons .reason"):
         page.true(reason, "it loads bytes 34 to 35, counted from 0, and 30 were captured" in reason)
-    page.driver.click("#beside")
+    page.driver.click("#second")
     page.sample("day.pcap")
     check_words(page)
 
@@ -635,14 +635,14 @@ def unnamed(driver):
 
 
 def check_forms(page):
-    """Light and dark, 320 to 1,300 pixels, on paper; names, order, focus and contrast of what is there."""
+    """Light and dark, 320 to 1,300 pixels, on paper; names, order, focus and contrast of its elements."""
     if isinstance(page.driver, browser.Firefox):
         return
     driver, script = page.driver, (HERE / "access.js").read_text()
     for text, beside in ((FIRST, None), (FIRST, "ip[2:2] - ((ip[0] & 0xf) << 2) > tcp[12] >> 2")):
         page.fill(text)
         if beside:
-            driver.click("#beside")
+            driver.click("#second")
             page.fill(beside, 1)
         page.packets("all")
         driver.click("#packet-7")
@@ -706,7 +706,7 @@ def check_layout(page_text):
 
 
 def check_file(path):
-    """The page is small, has its own digests alone, and is what web/ makes of its module; returns what isn't so."""
+    """The page is small, its policy has only its own digests, and web/ makes it from its module; returns the faults."""
     import base64
     import gzip
 

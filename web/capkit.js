@@ -53,7 +53,7 @@ function openCapkit(calls) {
   };
   const at = Object.fromEntries(Object.entries(sizes).map(([name, size]) => [name, memory.reserve(size)]));
   const base = memory.end, most = BigInt(CAPKIT.MOST_INTERFACES), room = BigInt(ROOM);
-  // Where the programs begin: after the capture.
+  // The place of the first program: after the capture.
   let programs = base;
 
   const field = (start, offset) => Number(start) + offset;
@@ -68,7 +68,7 @@ function openCapkit(calls) {
     if (memory.view.getBigUint64(field(at.memory, MEMORY.start), true)) return at.memory;
     throw new Error('a call kept the memory that it was lent');
   }
-  // A call that is given a text: what `made` makes of the number that it leaves, or why the text is refused, and where.
+  // A call that is given a text: what `made` returns for its number, or why the text is refused, and where.
   function withText(text, call, made) {
     const written = new TextEncoder().encode(text);
     if (written.length > MOST_LISTING) return { status: -1, message: `longer than ${MOST_LISTING} bytes`, place: 0 };
@@ -133,7 +133,7 @@ function openCapkit(calls) {
 
   const begin = () => bytes(at.reader, READER.bytes).fill(0);
   const readerForm = () => memory.view.getUint8(field(at.reader, READER.form));
-  // The name of the interface of the packet that was found last: where it is, and its length. Only pcapng has a table of them.
+  // The name of the interface of the packet that was found last: its place and length. Only pcapng has a table of them.
   function interfaceName() {
     const interfaceNumber = memory.view.getUint32(field(at.packet, PACKET.interface), true);
     const entry = at.table + BigInt(INTERFACE.bytes * interfaceNumber);

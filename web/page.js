@@ -10,7 +10,7 @@ const OUTCOMES = {
   [NOT_FILTERED]: ['–', "isn't filtered", 'odd'], '.': ['', 'not evaluated', 'not-asked'], '?': ['', 'too deep to evaluate by itself', 'not-asked'],
 };
 
-// The packets that are listed, as indexes of the capture; where the shown ones begin, which is chosen, and the step of its runs (-1: none).
+// The packets that are listed, as indexes of the capture; the first shown one, the chosen one, and the step of its runs (-1: none).
 let capkit, capture, fileName = '', listed = [], first = 0, at = -1, step = -1, waiting;
 const sides = [];
 
@@ -86,7 +86,7 @@ function nameSides() {
     parts.parts.textContent = letterOf(place, ': its parts') || 'Its parts';
     run.program.textContent = letterOf(place, ': the program') || 'The program';
   });
-  $('beside').setAttribute('aria-pressed', sides.length > 1);
+  $('second').setAttribute('aria-pressed', sides.length > 1);
   const option = $('show').querySelector('[value=differ]');
   option.hidden = option.disabled = sides.length < 2;
   if (option.disabled && $('show').value === 'differ') $('show').value = KEPT;
@@ -380,7 +380,7 @@ function showParts(side, it) {
 const usesMemory = ({ code }) => [KIND.STORE, KIND.STORE_X].includes(code & 7);
 const memoryText = (words) => words.flatMap((value, word) => (value ? [`M[${word}] ${register(value)}`] : [])).join(', ');
 
-// A row of a program: what the instruction is, and what the run is there.
+// A row of a program: the instruction, and cells for the state of a run before it.
 function rowOf({ instructions, glosses }, index) {
   const row = made('tr'), text = instructions[index].text.replace(/^\(\d+\)\s*/, '').split(/\s+/).join(' ');
   const index_ = made('th', indexText(index));
@@ -513,14 +513,14 @@ const sample = async (name) => {
   open(await unpacked(`sample-${name}`), name);
 };
 
-// What the address names: #filter=..&beside=..&sample=..&packet=..
+// What the address names: #filter=..&with=..&sample=..&packet=..
 async function follow() {
   const named = new URLSearchParams(location.hash.slice(1)), name = named.get('sample');
   if (named.has('filter')) Object.assign(sides[0].parts.text, { value: named.get('filter') });
   sides[0].isNew = true;
   if (name !== null || !capture) await sample([...$('sample').options].some(({ value }) => value && value === name) ? name : 'day.pcap');
-  if (named.has('beside') && sides.length > 1) compare();
-  if (named.has('beside')) compare(named.get('beside')); else update();
+  if (named.has('with') && sides.length > 1) compare();
+  if (named.has('with')) compare(named.get('with')); else update();
   if (named.has('packet')) choosePacket(Number(named.get('packet')) - 1);
 }
 
@@ -535,7 +535,7 @@ const listen = (id, event, action) => $(id).addEventListener(event, guarded(acti
 function listenToAll() {
   listen('file', 'change', () => load($('file').files[0]));
   listen('sample', 'change', () => $('sample').value && sample($('sample').value));
-  listen('beside', 'click', () => capture && compare());
+  listen('second', 'click', () => capture && compare());
   listen('show', 'change', () => capture && list());
   listen('earlier', 'click', () => capture && turn(-1));
   listen('later', 'click', () => capture && turn(1));

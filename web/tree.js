@@ -1,8 +1,8 @@
 'use strict';
 // The tree of an expression, read from what the library says that it means.
 //
-// capkit_explain puts each operand of `and`, `or` and `not` in parentheses, unless it is one word. So the tree is where the
-// parentheses are, and finding them isn't a second reading of the language. A chain of one operator is one node here, as
+// capkit_explain puts each operand of `and`, `or` and `not` in parentheses, unless it is one word. So the parentheses
+// are the tree, and finding them isn't a second reading of the language. A chain of one operator is one node here, as
 // (a or b) or c is a or b or c.
 
 const JOINS = ['and', 'or'];

@@ -1,10 +1,10 @@
 'use strict';
 // What each instruction of a program does, in words of the field, and why a packet matches or doesn't.
 //
-// The words are a reading aid beside the instructions: which field of a packet a load reads depends on the tests before it, so what
-// is known of the packet is carried along all ways through the program. If the ways don't agree, or the place is no field's, the
-// words name the bytes. No result on the page rests on them. The places are those of IEEE 802.3, RFC 791, 826, 8200, 9293, 768 and
-// 792, and of LINKTYPE_LINUX_SLL; a field's key is its place and its size.
+// The words are a reading aid next to the instructions: which field of a packet a load reads depends on the tests before it, so what
+// is known of the packet is carried along all ways through the program. If the ways don't agree, or a field doesn't have that place,
+// the words name the bytes. No result on the page rests on them. The places are those of IEEE 802.3, RFC 791, 826, 8200, 9293, 768
+// and 792, and of LINKTYPE_LINUX_SLL; a field's key is its place and its size.
 
 const QUARTERS = ['first', 'second', 'third', 'last'];
 const quartersFrom = (place, address) => QUARTERS.map((name, i) => [`${place + 4 * i},4`, `${name} quarter of the ${address} address`]);
@@ -96,7 +96,7 @@ function sizeOf({ code }) {
 }
 const placeOf = ({ code, k }, x) => ((code & 0xe0) === 0x40 ? (k + x) % 2 ** 32 : k);
 
-// To where an instruction leads: [index, 'yes', 'no' or 'next'].
+// The ways from an instruction: [index, 'yes', 'no' or 'next'].
 function waysOf(insn, index) {
   const { code, jt, jf, k } = insn;
   if (kindOf(insn) === KIND.RETURN) return [];

@@ -55,7 +55,7 @@
     return same || name;
   }
 
-  // Which arguments of a call have 32 bits or 16, as capkit.h has them; WebAssembly tells them apart.
+  // Which arguments of a call have 32 bits or 16, as in capkit.h; in WebAssembly they have types of their own.
   const narrows = {
     capkit_compile: [2], capkit_run: [4], capkit_matches: [4], capkit_run_unchecked: [4], capkit_matches_unchecked: [4], capkit_trace: [4],
     capkit_insn_text: [1], capkit_next_match: [7], capkit_line: [0, 2, 5], capkit_text: [0], capkit_write_file_header: [0, 1],
