@@ -9,10 +9,10 @@ every buffer. --pictures writes pictures of the page to a folder. --only runs th
 Debian's packages chromium, chromium-driver and firefox-esr. The last line counts what is wrong; if it isn't 0 the status is 1.
 """
 import argparse
-import collections
 import pathlib
 import random
 import re
+import shutil
 import struct
 import subprocess
 import sys
@@ -58,6 +58,7 @@ MARKED = """[...document.querySelectorAll("#bytes mark")].map((mark) => {
   return 16 * (rows.length - 1) + Math.floor((rows[rows.length - 1].length - 6) / 3);
 })"""
 PARTS = """[...document.querySelectorAll("#tree-0 li")].map((it) => [it.children[0].textContent, it.children[1].textContent])"""
+PROGRAM = """[...document.querySelectorAll("#rows-0 tr")].map((row) => `${row.cells[1].textContent} ${row.cells[2].textContent}`)"""
 HANDLERS = """[...document.querySelectorAll("*")].filter((it) => [...it.attributes].some((a) =>
   /^on/i.test(a.name) || /javascript:/i.test(a.value))).length"""
 # A script, an image and a connection that are put into the page from elsewhere.
@@ -239,7 +240,7 @@ def check_day(page):
     page.packets("all")
     page.driver.click("#packet-1")
     outcomes = dict(page.value(PARTS))
-    page.equal("an ARP packet", [outcomes[it] for it in ("and", "or", "ip", "arp", "tcp")], ["✗ doesn't match", "✓ matches", "✗ doesn't match", "✓ matches", "✗ doesn't match"])
+    page.equal("an ARP packet", [outcomes[it][0] for it in ("and", "or", "ip", "arp", "tcp")], ["✗", "✓", "✗", "✓", "✗"])
     page.fill("")
     page.true("the empty expression", "every packet matches" in page.text("#meaning-0"))
     page.equal("the empty expression", len(page.packets("+")), 44)
@@ -302,6 +303,10 @@ def check_listing(page):
         page.true(f"{text!r}: {told}", told.startswith(message) and page.value("document.getElementById('message-0').className.includes('bad')"))
         if part is not None:
             page.equal(f"{text!r}: underlined", page.text("#mirror-0 u"), part)
+    for text in ("tcp port 80", "ip6 host ::1 or arp", "len > 9 and ether[0] & 1 = 0", "vlan") if shutil.which("tcpdump") else ():
+        theirs, expected = (subprocess.run(["tcpdump", "-y", "EN10MB", it, text], capture_output=True, check=True).stdout for it in ("-ddd", "-d"))
+        page.fill(theirs.decode())
+        page.equal(f"as tcpdump -d shows {text}", page.value(PROGRAM), [" ".join(line.split()) for line in expected.decode().splitlines()])
     every = b"2\n%d 0 0 0\n6 0 0 1\n"
     for code in range(256):
         page.fill((every % code).decode())
@@ -373,7 +378,8 @@ def check_captures(page):
         fault = f"; it is damaged at byte {capture.at} ({capture.fault}), so nothing is read from there on" if capture.fault else ""
         page.true(f"{about}: {fault}", about.endswith(f"packet{'' if len(capture.packets) == 1 else 's'}{fault}"))
         page.fill("")
-        page.equal("lines", [re.search(r"\d+  (.*)", line)[1] for line in page.texts("[role=option]")], [printing.line(it).rstrip("\n") for it in capture.packets])
+        shown = [re.search(r"\d+  (.*)", line)[1] for line in page.texts("[role=option]")]
+        page.equal("lines", shown, [printing.line(it).rstrip("\n") for it in capture.packets])
 
 
 def check_saved(page):
@@ -517,8 +523,10 @@ def check_words(page):
         page.fill(text)
         words = page.texts("#rows-0 td:nth-child(4)")
         page.equal(f"{text}: in words", [it for it in wanted if it not in words], [])
-    for text, number, told in (("net 10.0.0.0/8", 3, "is the source network 10.0.0.0/8? Yes, it is 10.0.0.5."), ("len > 1000", 1, "is the length above 1000? No, it is 60."),
-                               ("ether[0] = 255", 1, "Yes, it is 255 (0xff).")):  # fmt: skip
+    for text, number, told in (
+        ("net 10.0.0.0/8", 3, "is the source network 10.0.0.0/8? Yes, it is 10.0.0.5."), ("ether[0] = 255", 1, "Yes, it is 255 (0xff)."),
+        ("len > 1000", 1, "is the length above 1000? No, it is 60."),
+    ):  # fmt: skip
         page.fill(text)
         page.packets("all")
         page.driver.click(f"#packet-{number}")
@@ -545,7 +553,7 @@ def check_many(page):
         page.run("print", "-w", made, capture, *([text] if text else []))
         matching = sum(1 for _ in blocks(made.read_bytes()))
         page.true(told, told.startswith(f"{matching:,} of 1,000,000 packets match, in "))
-        page.true("at most 2 s", int(re.search(r"in ([\d,]+) ms", told)[1].replace(",", "")) <= 2000)
+        page.true("at most 3 s", int(re.search(r"in (\d+) ms", told)[1]) <= 3000)
     page.same_file(capture, "tcp port 80")
     page.show("+")
     page.true(page.text("#shown"), page.text("#shown").endswith("of which 1 to 1,000 are listed"))
@@ -613,7 +621,6 @@ def check_trap(page):
     page.equal("after it", len(page.packets("+")), 9)
 
 
-UNNAMED = ("button", "textbox", "combobox", "listbox", "region", "link")
 FOCUS = """(() => {
   const it = document.activeElement, style = getComputedStyle(it);
   return [it.id || it.className, style.outlineStyle !== "none" && parseFloat(style.outlineWidth) >= 2];
@@ -711,7 +718,7 @@ def check_file(path):
     import gzip
 
     data = path.read_text()
-    policy = re.search(r'Content-Security-Policy" content="([^"]*)"', data)[1]
+    policy = re.search(r'Content-Security-Policy"\s+content="([^"]*)"', data)[1]
     plain = re.sub(r"'sha256-[A-Za-z0-9+/=]*'", "DIGEST", policy)
     wanted = "default-src 'none'; script-src 'wasm-unsafe-eval' DIGEST; style-src DIGEST; base-uri 'none'; form-action 'none'"
     module = gzip.decompress(base64.b64decode(re.search(r'id="module">(.*?)<', data)[1]))

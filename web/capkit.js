@@ -25,6 +25,9 @@ const LENT = 1 << 24, MOST_LISTING = 1 << 20, ROOM = 1 << 22, MOST_COMMENT = 655
 const RETURN = 6;
 const KEPT = '+', NOT_KEPT = '-', REJECTED = '!', NOT_FILTERED = ' ';
 
+// A number of 64 bits, of which a size or a place needs at most 53.
+const numberAt = (view, place) => view.getUint32(place, true) + 2 ** 32 * view.getUint32(place + 4, true);
+
 // Memory from the end of the module's own data on. What is reserved last can be given back.
 function memoryOf({ memory, __heap_base }) {
   let end = BigInt(__heap_base.value), view = new DataView(memory.buffer);
@@ -57,7 +60,7 @@ function openCapkit(calls) {
   let programs = base;
 
   const field = (start, offset) => Number(start) + offset;
-  const number = () => Number(memory.view.getBigUint64(field(at.number, 0), true));
+  const number = () => numberAt(memory.view, field(at.number, 0));
   const textOf = (size) => new TextDecoder().decode(bytes(at.out, size));
   const nameOf = (status) => textOf(calls.capkit_text(status, at.out, room));
 
@@ -160,11 +163,11 @@ function openCapkit(calls) {
       const link = memory.view.getUint16(field(at.packet, PACKET.link_type), true);
       links.set(link, (links.get(link) ?? 0) + 1);
     }
-    const offset = Number(memory.view.getBigUint64(field(at.reader, READER.offset), true));
-    const fields = new DataView(found.buffer), place = (i) => fields.getBigUint64(PACKET.bytes * i + PACKET.at, true);
+    const offset = numberAt(memory.view, field(at.reader, READER.offset));
+    const fields = new DataView(found.buffer), place = (i) => numberAt(fields, PACKET.bytes * i + PACKET.at);
     const linkOf = (i) => fields.getUint16(PACKET.bytes * i + PACKET.link_type, true);
     const packet = (i) => ({
-      time: fields.getBigUint64(PACKET.bytes * i + PACKET.time, true), address: start + place(i), link: linkOf(i),
+      time: fields.getBigUint64(PACKET.bytes * i + PACKET.time, true), address: start + BigInt(place(i)), link: linkOf(i),
       captured: fields.getUint32(PACKET.bytes * i + PACKET.captured, true), original: fields.getUint32(PACKET.bytes * i + PACKET.original, true),
     });
 
@@ -183,7 +186,7 @@ function openCapkit(calls) {
       for (let i = 0; ; i++) {
         const told = calls.capkit_next_match(at.reader, at.table, most, start, size, first.program, first.count, first.link, at.packet);
         if (told !== CAPKIT.PACKET && told !== CAPKIT.ANOTHER_LINK_TYPE) return kept;
-        const where = memory.view.getBigUint64(field(at.packet, PACKET.at), true);
+        const where = numberAt(memory.view, field(at.packet, PACKET.at));
         while (place(i) !== where) i++;
         const other = told === CAPKIT.PACKET ? undefined : programsByLink.get(linkOf(i));
         kept[i] = told === CAPKIT.PACKET || (other && matches(packet(i), other)) ? 1 : 0;

@@ -197,7 +197,8 @@ function match(side) {
   }
   const matching = side.kept.reduce((sum, it) => sum + it, 0);
   const unread = [...side.unread].map(([link, message]) => `; ${message} ${link}, so ${counted(capture.links.get(link) ?? 0, 'packet')} of it can't match`);
-  say(side.parts.message, `${number(matching)} of ${counted(capture.count, 'packet')} match, in ${side.took.toFixed(0)} ms${unread.join('')}`, unread.length > 0);
+  const told = `${number(matching)} of ${counted(capture.count, 'packet')} match, in ${side.took.toFixed(0)} ms${unread.join('')}`;
+  say(side.parts.message, told, unread.length > 0);
 }
 
 const differences = () => Array.from(sides[0].kept.keys()).filter((i) => sides[0].kept[i] !== sides[1].kept[i]);
