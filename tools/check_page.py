@@ -152,7 +152,7 @@ class Page:
         """Gives the page a file; waits until its packets are counted."""
         self.value("document.getElementById('about').textContent = ''")
         self.driver.type("#file", path)
-        self.driver.wait("document.getElementById('about').textContent && document.getElementById('message-0').textContent.includes(arguments[0])",
+        self.driver.wait("/packets?/.test(document.getElementById('about').textContent) && document.getElementById('message-0').textContent.includes(arguments[0])",
                          f"of {count:,} packet" if count is not None else "")
 
     def run(self, *words):

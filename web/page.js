@@ -3,6 +3,8 @@
 
 const $ = (id) => document.getElementById(id);
 const MOST_LINES = 1000, MOST_BYTES = 4096, MOST_ROWS = 2000, MOST_NODES = 300;
+// Lines may be wider than their boxes: their beginning is shown.
+const NEAREST = { block: 'nearest', inline: 'start' };
 // A larger capture or a longer text waits for a pause in typing.
 const MANY_PACKETS = 1e5, LONG_TEXT = 2000, PAUSE = 250;
 const OUTCOMES = {
@@ -160,6 +162,7 @@ function showFilter(side) {
   parts.text.rows = Math.min(8, Math.max(2, text.split('\n').length));
   parts.text.setAttribute('aria-invalid', !!refusal);
   parts.save.disabled = !!refusal;
+  parts.explained.classList.toggle('stale', !!refusal);
   if (refusal) return say(parts.message, refusalText(side), true);
   parts.explained.hidden = side.listing;
   if (side.listing) return undefined;
@@ -274,7 +277,7 @@ function select(place) {
   $('list').querySelector('[aria-selected]')?.removeAttribute('aria-selected');
   const option = $('list').children[place - first];
   option?.setAttribute('aria-selected', 'true');
-  option?.scrollIntoView({ block: 'nearest' });
+  option?.scrollIntoView(NEAREST);
   if (option) $('list').setAttribute('aria-activedescendant', option.id); else $('list').removeAttribute('aria-activedescendant');
   showPacket();
 }
@@ -465,7 +468,7 @@ function showStep() {
     for (const row of run.rows.querySelectorAll('.here')) row.classList.remove('here');
     const state = trace?.states[step], row = state && rows.get(state.index);
     row?.classList.add('here');
-    row?.scrollIntoView({ block: 'nearest' });
+    row?.scrollIntoView(NEAREST);
     if (state) {
       const { text } = look.glosses[state.index], insn = look.instructions[state.index].text.replace(/\s+/g, ' ');
       told.push(`${letterOf(place, ': ')}${insn}: ${text}. Before it A is ${register(state.a)} and X is ${register(state.x)}.`);
@@ -507,6 +510,7 @@ const guarded = (action) => async (event) => {
 const load = async (file) => {
   if (!file) return;
   $('sample').value = '';
+  say($('about'), `${visible(file.name)}: it is read`);
   open(new Uint8Array(await file.arrayBuffer()), file.name);
 };
 const sample = async (name) => {
