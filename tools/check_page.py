@@ -9,6 +9,8 @@ every buffer. --pictures writes pictures of the page to a folder. --only runs th
 Debian's packages chromium, chromium-driver and firefox-esr. The last line counts what is wrong; if it isn't 0 the status is 1.
 """
 import argparse
+import base64
+import gzip
 import pathlib
 import random
 import re
@@ -712,19 +714,24 @@ def check_layout(page_text):
     return len(claimed), differ
 
 
+PACKED = re.compile(r'(?<=<script type="text/plain" id=)("[^"]*">)([^<]*)')
+
+
+def unpacked(page):
+    """What a page's packed parts are, by their names, and the page without them: another zlib packs them in another way."""
+    parts = {name: gzip.decompress(base64.b64decode(text)) for name, text in PACKED.findall(page)}
+    return parts, PACKED.sub(r"\1", page)
+
+
 def check_file(path):
     """The page is small, its policy has only its own digests, and web/ makes it from its module; returns the faults."""
-    import base64
-    import gzip
-
-    data = path.read_text()
-    policy = re.search(r'Content-Security-Policy"\s+content="([^"]*)"', data)[1]
-    plain = re.sub(r"'sha256-[A-Za-z0-9+/=]*'", "DIGEST", policy)
+    page = path.read_text()
+    policy = re.search(r'Content-Security-Policy"\s+content="([^"]*)"', page)[1]
     wanted = "default-src 'none'; script-src 'wasm-unsafe-eval' DIGEST; style-src DIGEST; base-uri 'none'; form-action 'none'"
-    module = gzip.decompress(base64.b64decode(re.search(r'id="module">(.*?)<', data)[1]))
     found = [f"{path.stat().st_size} bytes"] if path.stat().st_size >= MOST_BYTES else []
-    found += [f"policy: {policy}"] if plain != wanted else []
-    return found + ([] if make_page.page_of(module) == data else ["web/make_page.py makes another page of its module"])
+    found += [f"policy: {policy}"] if re.sub(r"'sha256-[A-Za-z0-9+/=]*'", "DIGEST", policy) != wanted else []
+    made = make_page.page_of(unpacked(page)[0]['"module">'])
+    return found + ([] if unpacked(made) == unpacked(page) else ["web/make_page.py makes another page of its module"])
 
 
 def check_calls(page, path):
