@@ -273,6 +273,15 @@ def check_refused(page):
         page.fill("tcp port 80")
         page.driver.wait("!document.getElementById('message-0').className.includes('bad')")
     page.equal("read again", len(page.packets("+")), 9)
+    page.fill("tcp prt")
+    page.sample("cooked.pcap")
+    page.equal("another capture while it is refused", [page.packets("+"), page.packets("all"), page.text("#packet")], [[], [1, 2], "Packet 1"])
+    page.driver.click("#second")
+    page.driver.click("#packet-2")
+    page.fill("tcp", 1)
+    page.equal("the other filter is", page.text("#packet"), "Packet 2")
+    page.fill("tcp")
+    page.equal("both are read", [page.packets("+"), page.packets("differ")], [[1], []])
 
 
 LISTINGS = [

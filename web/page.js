@@ -58,16 +58,21 @@ function open(data, name) {
   const { count, fault, offset } = capture;
   const damage = fault && `; it is damaged at byte ${offset} (${fault}), so nothing is read from there on`;
   say($('about'), `${visible(name)}: ${counted(data.length, 'byte')}, ${counted(count, 'packet')}${damage}`, !!fault);
-  at = -1;
-  for (const side of sides) side.isNew = true;
+  [listed, at] = [[], -1];
+  for (const side of sides) Object.assign(side, { isNew: true, kept: new Uint8Array(count) }, noPrograms());
   update();
+  // While a filter is refused, no packet of this capture matches.
+  if (sides.some(({ refusal }) => refusal)) list();
 }
 
 // ---- filters
 
+// The programs of a filter by link types, why it has none, the programs as they are shown, and those of its parts.
+const noPrograms = () => ({ programs: new Map(), unread: new Map(), looks: new Map(), partPrograms: new Map() });
+
 function addSide() {
   const place = sides.length, parts = cloned('filter', place), run = cloned('run', place);
-  const side = { parts, run, isNew: true, programs: new Map() };
+  const side = { parts, run, isNew: true, kept: new Uint8Array(capture?.count ?? 0), ...noPrograms() };
   sides.push(side);
   $('filters').append(parts.section);
   $('runs').append(run.section);
@@ -127,7 +132,7 @@ function check(side) {
 // Its programs, one for each link type.
 function compile(side) {
   const { value } = side.parts.text, links = capture.links.size ? [...capture.links.keys()] : [CAPKIT.LINK_ETHERNET];
-  Object.assign(side, { programs: new Map(), unread: new Map(), looks: new Map(), partPrograms: new Map() });
+  Object.assign(side, noPrograms());
   for (const link of links) {
     const program = side.listing ? { ...capkit.readListing(value), link } : capkit.compile(value, link);
     if (program.program) side.programs.set(link, program); else side.unread.set(link, program.message);
